@@ -1,12 +1,12 @@
 -- Texts of several lines: the lines before a word, and so many bytes.
-use Rattle.commands.proofs.Words.{◌≡◌, ℕ, ◌+◌, ◌-◌, ◌<◌, ◌≤◌, ◌==◌, Bool, true, false, cond, List, [], ◌∷◌, ◌++◌, Option, Some, None, option_map, slice_index, count_by, if◌then◌else◌, refl, slice_split, onto_first, join_with_byte, bytes_eq, sym, ◌∙◌, ap, arith, length, take, drop, get_or, append_assoc, append-nil, length-append, length-drop, suc, take_at, drop_at, take-append-drop, drop_more, take_all, length-take-le, count_by-le-length, join_with_byte-slice_split, slice_split-cons_yes, slice_split-cons_no, length-slice_split, eqb-true, LINE_FEED, split_at, Remaining, IsPast, lines_before, first_bytes, bytes_before}
+use Rattle.commands.proofs.Words.{◌≡◌, ℕ, ◌+◌, ◌-◌, ◌<◌, ◌≤◌, ◌==◌, Bool, true, false, cond, List, [], ◌∷◌, ◌++◌, Option, Some, None, option_map, slice_index, count_by, if◌then◌else◌, refl, slice_split, onto_first, join_with_byte, bytes_eq, sym, ◌∙◌, ap, arith, length, take, drop, get_or, append_assoc, append-nil, length-append, length-drop, suc, take_at, drop_at, take-append-drop, drop_more, take_all, length-take-le, count_by-le-length, join_with_byte-slice_split, slice_split-cons_yes, slice_split-cons_no, length-slice_split, eqb-true, LINE_FEED, split_at, RemainingLines, IsAdvanced, lines_before, first_bytes, bytes_before}
 
 -- lines, each with its line feed
 abbrev pub with_feeds : List (List ℕ) → List ℕ
 with_feeds [] = []
 with_feeds (line ∷ lines) = line ++ LINE_FEED ∷ with_feeds lines
 
--- what is found after lines that are passed
+-- the text found after lines that are passed
 abbrev pub passed_by : List (List ℕ) → Option (List ℕ × ℕ) → Option (List ℕ × ℕ)
 passed_by front found = option_map (λ t. (with_feeds front ++ t.0, t.1 + length front)) found
 
@@ -166,8 +166,8 @@ split_two [] ys = refl
 split_two (x ∷ xs) ys = split_two_more x xs ys (x == LINE_FEED) refl (split_two xs ys)
 
 -- the bytes before a place, the line feed there, and those after it
-at_place : (n : ℕ) (bytes : List ℕ) → n < length bytes → get_or bytes n 0 ≡ LINE_FEED → bytes ≡ take n bytes ++ LINE_FEED ∷ drop (n + 1) bytes
-at_place n bytes inside feed =
+at_index : (n : ℕ) (bytes : List ℕ) → n < length bytes → get_or bytes n 0 ≡ LINE_FEED → bytes ≡ take n bytes ++ LINE_FEED ∷ drop (n + 1) bytes
+at_index n bytes inside feed =
     sym (take-append-drop n bytes) ∙ ap (λ l. take n bytes ++ l) (drop_more bytes n 0 inside ∙ ap (λ b. b ∷ drop (n + 1) bytes) feed)
 
 module _ (n : ℕ) (bytes : List ℕ) where
@@ -187,7 +187,7 @@ module _ (n : ℕ) (bytes : List ℕ) where
 
   module _ (inside : n < length bytes) (feed : get_or bytes n 0 ≡ LINE_FEED) where
     lines_at : split_at LINE_FEED bytes ≡ split_at LINE_FEED (take n bytes) ++ split_at LINE_FEED (drop (n + 1) bytes)
-    lines_at = ap (split_at LINE_FEED) (at_place n bytes inside feed) ∙ split_two (take n bytes) (drop (n + 1) bytes)
+    lines_at = ap (split_at LINE_FEED) (at_index n bytes inside feed) ∙ split_two (take n bytes) (drop (n + 1) bytes)
 
     count_at : length (split_at LINE_FEED (take n bytes)) ≡ count_by (λ b. b == LINE_FEED) (take n bytes) + 1
     count_at = length-slice_split (λ b. b == LINE_FEED) (take n bytes)
@@ -216,12 +216,12 @@ text_and_rest n bytes lines feeds all inside is counted =
     )
 
 -- a text that is taken, by the number of its lines
-pub past_taken : (find : List (List ℕ) → Option (List ℕ × ℕ)) (old : Remaining) (number : ℕ) (lines rest : List (List ℕ)) (text : List ℕ) (count : ℕ)
+pub past_taken : (find : List (List ℕ) → Option (List ℕ × ℕ)) (old : RemainingLines) (number : ℕ) (lines rest : List (List ℕ)) (text : List ℕ) (count : ℕ)
     → old ≡ record { number = number; lines = lines } → find lines ≡ Some (text, count) → rest ≡ drop count lines
-    → (x : ℕ) × (find old.lines ≡ Some (text, x)) × IsPast x old (record { number = number + count; lines = rest })
+    → (x : ℕ) × (find old.lines ≡ Some (text, x)) × IsAdvanced x old (record { number = number + count; lines = rest })
 past_taken find old number lines rest text count is found taken =
-    let same : old.lines ≡ lines = ap (λ (r : Remaining). r.lines) is in
-    let counted : old.number ≡ number = ap (λ (r : Remaining). r.number) is in
+    let same : old.lines ≡ lines = ap (λ (r : RemainingLines). r.lines) is in
+    let counted : old.number ≡ number = ap (λ (r : RemainingLines). r.number) is in
     (count, ap find same ∙ found, record { number = ap (λ k. k + count) (sym counted); lines = taken ∙ ap (drop count) (sym same) })
 
 -- a text has at most one line more than it has bytes

@@ -1,19 +1,19 @@
 -- The words in which this crate is proved, passed on from one place.
-pub use Rattle.commands.specs.LineWords.{Words, by_first, entry_at, line_by}
-pub use Rattle.commands.specs.NodeLines.{stands_alone, text_or}
-pub use Rattle.commands.specs.Offered.{names_of, numbers_of, text_offered}
+pub use Rattle.commands.specs.LineWords.{Words, by_first_word, entry_at, line_by_first_word}
+pub use Rattle.commands.specs.NodeLines.{without_text, text_line_or_else}
+pub use Rattle.commands.specs.OfferedEntry.{names_of, numbers_of, text_offer}
 pub use Rattle.commands.specs.Pieces.{split_at}
-pub use Rattle.commands.specs.PlayLines.{or_node_line, play_alone, play_line_by, play_line_of, play_text_form, world_line}
-pub use Rattle.commands.specs.Remaining.{IsPast, Remaining}
-pub use Rattle.commands.specs.Scripts.{Parses, ParsesLine, followed, script_from, script_of, with_line}
-pub use Rattle.commands.specs.ServeLines.{added_or, serve_line_by, serve_line_of, submit_form}
-pub use Rattle.commands.specs.SessionLines.{help_or}
+pub use Rattle.commands.specs.PlayLines.{line_or_node_line, play_without_text, play_line_by, play_line_of, play_text_form, play_only_line}
+pub use Rattle.commands.specs.RemainingLines.{IsAdvanced, RemainingLines}
+pub use Rattle.commands.specs.Scripts.{Parses, ParsesLine, prepended, script_from, script_of, with_line}
+pub use Rattle.commands.specs.ServeLines.{add_line_or_else, serve_line_by, serve_line_of, submit_form}
+pub use Rattle.commands.specs.SessionLines.{help_or_line}
 pub use Rattle.commands.specs.Texts.{bytes_before, first_bytes, lines_before, text_at}
-pub use Rattle.commands.specs.declared.line_words.EntryAt.{EntryAt}
+pub use Rattle.commands.specs.declared.line_words.NodeEntryId.{NodeEntryId}
 pub use Rattle.commands.specs.declared.line_words.TheConstants.{SPACE}
 pub use Rattle.commands.specs.declared.node_line.NodeLine.{NodeLine}
 pub use Rattle.commands.specs.declared.node_line.NodeLine.TheVariants.{Begin, Offer}
-pub use Rattle.commands.specs.declared.offered.Offered.{Offered}
+pub use Rattle.commands.specs.declared.offered_entry.OfferedEntry.{OfferedEntry}
 pub use Rattle.commands.specs.declared.play_line.PlayLine.TheVariants.{Node}
 pub use Rattle.commands.specs.declared.script.LineFault.{LineFault}
 pub use Rattle.commands.specs.declared.script.TheConstants.{LINE_FEED}

@@ -1,8 +1,8 @@
 pub mod Pieces
 pub mod LineWords
-pub mod Remaining
+pub mod RemainingLines
 pub mod Texts
-pub mod Offered
+pub mod OfferedEntry
 pub mod NodeQuestions
 pub mod NodeLines
 pub mod PlayLines

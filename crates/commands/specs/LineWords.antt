@@ -5,7 +5,7 @@ use Rattle.std.specs.Prelude.{ℕ, Bool, true, false, List, [], ◌∷◌, Optio
 use Rattle.numbers.specs.Numbers.{number_of}
 use Rattle.commands.specs.Pieces.{split_at}
 use Rattle.commands.specs.declared.line_words.TheConstants.{SPACE}
-use Rattle.commands.specs.declared.line_words.EntryAt.{EntryAt}
+use Rattle.commands.specs.declared.line_words.NodeEntryId.{NodeEntryId}
 use Rattle.commands.specs.declared.line_words.NodePair.{NodePair}
 
 infixl 10 ◌>>=◌
@@ -17,13 +17,13 @@ abbrev pub Words : Type 0
 Words = List (List ℕ)
 
 -- a line by its first word and the words after it
-abbrev pub by_first : {L : Type 0} → (List ℕ → Words → Option L) → Words → Option L
-by_first by [] = None
-by_first by (verb ∷ ws) = by verb ws
+abbrev pub by_first_word : {L : Type 0} → (List ℕ → Words → Option L) → Words → Option L
+by_first_word by [] = None
+by_first_word by (verb ∷ ws) = by verb ws
 
 -- a line by its verb, which is its first word, and the words after it, with a space between words
-abbrev pub line_by : {L : Type 0} → (List ℕ → Words → Option L) → List ℕ → Option L
-line_by by line = by_first by (split_at SPACE line)
+abbrev pub line_by_first_word : {L : Type 0} → (List ℕ → Words → Option L) → List ℕ → Option L
+line_by_first_word by line = by_first_word by (split_at SPACE line)
 
 -- a number
 abbrev pub number_at : Words → Option (ℕ × Words)
@@ -31,19 +31,19 @@ number_at [] = None
 number_at (w ∷ ws) = option_map (λ n. (n, ws)) (number_of w)
 
 -- the value, if no word follows it
-abbrev pub alone : {A : Type 0} → A × Words → Option A
-alone (x, []) = Some x
-alone (x, w ∷ ws) = None
+abbrev pub last_value : {A : Type 0} → A × Words → Option A
+last_value (x, []) = Some x
+last_value (x, w ∷ ws) = None
 
 -- no word is left
-abbrev pub nothing_left : Words → Bool
-nothing_left [] = true
-nothing_left (w ∷ ws) = false
+abbrev pub has_no_words : Words → Bool
+has_no_words [] = true
+has_no_words (w ∷ ws) = false
 
 abbrev pub one_number : Words → Option ℕ
 one_number ws = do
   n ← number_at ws
-  alone n
+  last_value n
 
 -- the node with a number, or 255 if the number is greater; no cluster has a node 255
 abbrev pub node_of : ℕ → ℕ
@@ -64,14 +64,14 @@ two_nodes ws = do
   Some (record { first = j.0; second = k })
 
 -- K AUTHOR SERIAL
-abbrev pub entry_at : Words → Option (EntryAt × Words)
+abbrev pub entry_at : Words → Option (NodeEntryId × Words)
 entry_at ws = do
   k ← number_at ws
   a ← number_at k.1
   s ← number_at a.1
   Some (record { node = node_of k.0; author = a.0; serial = s.0 }, s.1)
 
-abbrev pub one_entry : Words → Option EntryAt
+abbrev pub one_entry : Words → Option NodeEntryId
 one_entry ws = do
   e ← entry_at ws
-  alone e
+  last_value e

@@ -19,8 +19,8 @@ label_question_of verb =
     if bytes_eq verb (codes "proof") then Some Proof else None))))
 
 -- K LABEL
-abbrev pub question_asked : LabelQuestion → Words → Option NodeQuestion
-question_asked kind ws = do
+abbrev pub node_question_of : LabelQuestion → Words → Option NodeQuestion
+node_question_of kind ws = do
   k ← node_at ws
   label ← one_word k.1
   Some (record { node = k.0; kind = kind; label = label })

@@ -9,43 +9,43 @@ use Rattle.commands.specs.declared.script.ScriptFault.{ScriptFault}
 use Rattle.commands.specs.declared.script.ScriptFault.TheVariants.{BadLine, Memory}
 use Rattle.commands.specs.declared.script.TheConstants.{LINE_FEED}
 use Rattle.commands.specs.Pieces.{split_at}
-use Rattle.commands.specs.Remaining.{Remaining, IsPast}
+use Rattle.commands.specs.RemainingLines.{RemainingLines, IsAdvanced}
 
--- the result of parsing a line that by definition is `said`
+-- the result of parsing a line that by definition is `expected`
 abbrev pub Parses : {A : Type 0} → Option A → Result A LineFault → Type 0
-Parses said (Ok x) = said ≡ Some x
-Parses said (Err Bad) = said ≡ None
-Parses said (Err NoMemory) = IsSome said
+Parses expected (Ok x) = expected ≡ Some x
+Parses expected (Err Bad) = expected ≡ None
+Parses expected (Err NoMemory) = IsSome expected
 
--- the result of parsing a line that by definition is `said`, given the lines after it; the lines of its text are taken
-abbrev pub ParsesLine : {A : Type 0} → Option (A × ℕ) → Remaining → Remaining → Result A LineFault → Type 0
-ParsesLine {A = A} said old new (Ok x) = (count : ℕ) × (said ≡ Some (x, count)) × IsPast count old new
-ParsesLine {A = A} said old new (Err Bad) = said ≡ None
-ParsesLine {A = A} said old new (Err NoMemory) = (found : A × ℕ) × (said ≡ Some found) × IsPast found.1 old new
+-- the result of parsing a line that by definition is `expected`, given the lines after it; the lines of its text are taken
+abbrev pub ParsesLine : {A : Type 0} → Option (A × ℕ) → RemainingLines → RemainingLines → Result A LineFault → Type 0
+ParsesLine {A = A} expected old new (Ok x) = (count : ℕ) × (expected ≡ Some (x, count)) × IsAdvanced count old new
+ParsesLine {A = A} expected old new (Err Bad) = expected ≡ None
+ParsesLine {A = A} expected old new (Err NoMemory) = (found : A × ℕ) × (expected ≡ Some found) × IsAdvanced found.1 old new
 
 -- a line, and the result of the lines after it
-abbrev pub followed : {L : Type 0} → L → Result (List L) ℕ → Result (List L) ℕ
-followed line (Ok lines) = Ok (line ∷ lines)
-followed line (Err bad) = Err bad
+abbrev pub prepended : {L : Type 0} → L → Result (List L) ℕ → Result (List L) ℕ
+prepended line (Ok lines) = Ok (line ∷ lines)
+prepended line (Err bad) = Err bad
 
 -- a line, and the result of those after it once `found.1` of them are taken as its text
 abbrev pub with_line : {L : Type 0} → ℕ → Option (L × ℕ) → (ℕ → Result (List L) ℕ) → Result (List L) ℕ
 with_line number None rest = Err number
-with_line number (Some found) rest = followed found.0 (rest found.1)
+with_line number (Some found) rest = prepended found.0 (rest found.1)
 
 -- the result of lines numbered from `number`, the first `count` of which are a text; empty lines are skipped
 abbrev pub script_from : {L : Type 0} → (List ℕ → List (List ℕ) → Option (L × ℕ)) → ℕ → ℕ → List (List ℕ) → Result (List L) ℕ
-script_from said number count [] = Ok []
-script_from said number (suc count) (line ∷ lines) = script_from said (number + 1) count lines
-script_from said number zero ([] ∷ lines) = script_from said (number + 1) zero lines
-script_from said number zero ((c ∷ cs) ∷ lines) =
-    with_line number (said (c ∷ cs) lines) (λ count. script_from said (number + 1) count lines)
+script_from expected number count [] = Ok []
+script_from expected number (suc count) (line ∷ lines) = script_from expected (number + 1) count lines
+script_from expected number zero ([] ∷ lines) = script_from expected (number + 1) zero lines
+script_from expected number zero ((c ∷ cs) ∷ lines) =
+    with_line number (expected (c ∷ cs) lines) (λ count. script_from expected (number + 1) count lines)
 
 abbrev pub script_of : {L : Type 0} → (List ℕ → List (List ℕ) → Option (L × ℕ)) → List ℕ → Result (List L) ℕ
-script_of said script = script_from said 1 0 (split_at LINE_FEED script)
+script_of expected script = script_from expected 1 0 (split_at LINE_FEED script)
 
--- the result of parsing a script that by definition is `said`
+-- the result of parsing a script that by definition is `expected`
 abbrev pub ParsesScript : {L : Type 0} → Result (List L) ℕ → Result (Vec L Global) ScriptFault → Type 0
-ParsesScript said (Ok lines) = said ≡ Ok lines.items
-ParsesScript said (Err (BadLine number)) = said ≡ Err number
-ParsesScript said (Err Memory) = IsOk said
+ParsesScript expected (Ok lines) = expected ≡ Ok lines.items
+ParsesScript expected (Err (BadLine number)) = expected ≡ Err number
+ParsesScript expected (Err Memory) = IsOk expected

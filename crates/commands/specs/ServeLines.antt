@@ -5,11 +5,11 @@ use Rattle.std.specs.Prelude.{ℕ, List, codes, Option, Some, None, option_map, 
 use Rattle.std.specs.Str.{bytes_eq}
 use Rattle.commands.specs.declared.serve_line.ServeLine.{ServeLine}
 use Rattle.commands.specs.declared.serve_line.ServeLine.TheVariants.{Node, Settle, Add}
-use Rattle.commands.specs.LineWords.{Words, line_by, one_entry}
+use Rattle.commands.specs.LineWords.{Words, line_by_first_word, one_entry}
 use Rattle.commands.specs.declared.text_form.TextForm.{TextForm}
 use Rattle.commands.specs.declared.node_line.NodeLine.TheVariants.{Offer}
 use Rattle.commands.specs.Texts.{form_by}
-use Rattle.commands.specs.NodeLines.{node_line, stands_alone, text_or}
+use Rattle.commands.specs.NodeLines.{node_line, without_text, text_line_or_else}
 
 -- the form of the text that a verb submits, and of the text that a verb adds
 abbrev pub submit_form : List ℕ → Option TextForm
@@ -19,25 +19,25 @@ abbrev pub add_form : List ℕ → Option TextForm
 add_form verb = form_by (codes "add") (codes "add-lines") (codes "add-bytes") verb
 
 -- the line without a text that `play` does not have
-abbrev pub settle_line : List ℕ → Words → Option ServeLine
-settle_line verb ws = if bytes_eq verb (codes "settle") then option_map (λ e. Settle e) (one_entry ws) else None
+abbrev pub serve_only_line : List ℕ → Words → Option ServeLine
+serve_only_line verb ws = if bytes_eq verb (codes "settle") then option_map (λ e. Settle e) (one_entry ws) else None
 
 -- this line if it is one, else a line that both commands have
-abbrev pub or_node_line : Option ServeLine → List ℕ → Words → Option ServeLine
-or_node_line (Some line) verb ws = Some line
-or_node_line None verb ws = option_map (λ l. Node l) (node_line verb ws)
+abbrev pub line_or_node_line : Option ServeLine → List ℕ → Words → Option ServeLine
+line_or_node_line (Some line) verb ws = Some line
+line_or_node_line None verb ws = option_map (λ l. Node l) (node_line verb ws)
 
 -- a line that gives no text
-abbrev pub serve_alone : List (List ℕ) → List ℕ → Words → Option (ServeLine × ℕ)
-serve_alone lines verb ws = stands_alone (or_node_line (settle_line verb ws) verb ws)
+abbrev pub serve_without_text : List (List ℕ) → List ℕ → Words → Option (ServeLine × ℕ)
+serve_without_text lines verb ws = without_text (line_or_node_line (serve_only_line verb ws) verb ws)
 
 -- a line that submits no text
-abbrev pub added_or : List (List ℕ) → List ℕ → Words → Option (ServeLine × ℕ)
-added_or lines verb ws = text_or (λ o. Add o) (add_form verb) (serve_alone lines verb ws) ws lines
+abbrev pub add_line_or_else : List (List ℕ) → List ℕ → Words → Option (ServeLine × ℕ)
+add_line_or_else lines verb ws = text_line_or_else (λ o. Add o) (add_form verb) (serve_without_text lines verb ws) ws lines
 
 abbrev pub serve_line_by : List (List ℕ) → List ℕ → Words → Option (ServeLine × ℕ)
-serve_line_by lines verb ws = text_or (λ o. Node (Offer o)) (submit_form verb) (added_or lines verb ws) ws lines
+serve_line_by lines verb ws = text_line_or_else (λ o. Node (Offer o)) (submit_form verb) (add_line_or_else lines verb ws) ws lines
 
 -- the line of `serve` that these bytes are, given the lines that follow, and how many of those are its text
 abbrev pub serve_line_of : List ℕ → List (List ℕ) → Option (ServeLine × ℕ)
-serve_line_of line lines = line_by (serve_line_by lines) line
+serve_line_of line lines = line_by_first_word (serve_line_by lines) line

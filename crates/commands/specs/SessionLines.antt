@@ -10,23 +10,23 @@ use Rattle.commands.specs.declared.text_form.TextForm.{TextForm}
 use Rattle.commands.specs.declared.text_form.TextForm.TheVariants.{Rest, Lines, Bytes}
 use Rattle.commands.specs.declared.session_texts.TextEnd.{TextEnd}
 use Rattle.commands.specs.declared.session_texts.TextEnd.TheVariants.{AtWord, AfterBytes}
-use Rattle.commands.specs.LineWords.{◌>>=◌, Words, line_by, entry_at, one_number}
+use Rattle.commands.specs.LineWords.{◌>>=◌, Words, line_by_first_word, entry_at, one_number}
 use Rattle.commands.specs.Texts.{one_word}
 use Rattle.commands.specs.ServeLines.{submit_form, add_form, serve_line_of}
 
 -- `help`, which scripts do not have, or a line that they have
-abbrev pub help_or : Bool → Option (ServeLine × ℕ) → Option (SessionLine × ℕ)
-help_or true said = Some (Help, 0)
-help_or false said = option_map (λ l. (Serve l.0, l.1)) said
+abbrev pub help_or_line : Bool → Option (ServeLine × ℕ) → Option (SessionLine × ℕ)
+help_or_line true otherwise = Some (Help, 0)
+help_or_line false otherwise = option_map (λ l. (Serve l.0, l.1)) otherwise
 
 -- the line of a session that these bytes are, given the lines that follow, and how many of those are its text
 abbrev pub session_line_of : List ℕ → List (List ℕ) → Option (SessionLine × ℕ)
-session_line_of line lines = help_or (bytes_eq line (codes "help")) (serve_line_of line lines)
+session_line_of line lines = help_or_line (bytes_eq line (codes "help")) (serve_line_of line lines)
 
 -- the first form if there is one, else the other
-abbrev pub or_form : Option TextForm → Option TextForm → Option TextForm
-or_form (Some form) other = Some form
-or_form None other = other
+abbrev pub first_form : Option TextForm → Option TextForm → Option TextForm
+first_form (Some form) other = Some form
+first_form None other = other
 
 -- where a text ends: at the first line that is a word alone, or at a line feed after a number of bytes
 pub data End : Type 0 where
@@ -45,10 +45,10 @@ end_by Bytes ws = option_map (λ n. bytes n) (one_number ws)
 
 abbrev pub text_end_by : List ℕ → Words → Option End
 text_end_by verb ws = do
-  form ← or_form (submit_form verb) (add_form verb)
+  form ← first_form (submit_form verb) (add_form verb)
   e ← entry_at ws
   end_by form e.1
 
 -- the end of the text of a line, if the text is on the lines that follow
 abbrev pub text_end_of : List ℕ → Option End
-text_end_of line = line_by text_end_by line
+text_end_of line = line_by_first_word text_end_by line

@@ -8,7 +8,7 @@ use Rattle.commands.specs.declared.line_words.TheConstants.{SPACE}
 use Rattle.commands.specs.declared.script.TheConstants.{LINE_FEED}
 use Rattle.commands.specs.declared.text_form.TextForm.{TextForm}
 use Rattle.commands.specs.declared.text_form.TextForm.TheVariants.{Rest, Lines, Bytes}
-use Rattle.commands.specs.LineWords.{◌>>=◌, Words, alone, one_number}
+use Rattle.commands.specs.LineWords.{◌>>=◌, Words, last_value, one_number}
 
 -- the form of the text that a verb gives: `rest` on the line, `lines` on lines that follow, `bytes` as a number of bytes
 abbrev pub form_by : List ℕ → List ℕ → List ℕ → List ℕ → Option TextForm
@@ -36,7 +36,7 @@ bytes_before n lines = first_bytes n (join_with_byte LINE_FEED lines)
 abbrev pub one_word : Words → Option (List ℕ)
 one_word [] = None
 one_word ([] ∷ ws) = None
-one_word ((c ∷ cs) ∷ ws) = alone (c ∷ cs, ws)
+one_word ((c ∷ cs) ∷ ws) = last_value (c ∷ cs, ws)
 
 -- the text that the words give in this form, given the lines that follow, and how many of those it takes
 abbrev pub text_at : TextForm → Words → List (List ℕ) → Option (List ℕ × ℕ)

@@ -5,7 +5,8 @@ use crate::grammar::{commands, matches_of};
 use crate::hints::push_hint;
 use crate::pictured::pictured_steps;
 use crate::request::{
-    Asked, ProofForm, ProofQuestion, Question, Request, Serving, SiteQuestion, WordsFault,
+    CommandLineFault, DatabaseQuestion, ProofForm, ProofQuestion, Question, Request, ServeOptions,
+    SiteRequest,
 };
 use crate::weights::{WorkerCount, parse_weights};
 use clap::error::ErrorKind;
@@ -19,43 +20,50 @@ use synod::{MOST_NODES, Weights};
 /// Parses the words of a command line, without the program's own name.
 ///
 /// Errors: `Bad` if they are a bad command line or ask for help; `Memory` if an allocation fails.
-pub fn parse_words<'a>(alloc: Global, words: &'a [&'a str]) -> Result<Request<'a>, WordsFault> {
+pub fn parse_command_line<'a>(
+    alloc: Global,
+    words: &'a [&'a str],
+) -> Result<Request<'a>, CommandLineFault> {
     match matches_of(alloc, words) {
         Ok(matches) => request(alloc, &matches),
-        Err(error) => answered(alloc, &error, words),
+        Err(error) => request_of_error(alloc, &error, words),
     }
 }
 
 /// Returns the request for the version, or the fault of a bad command line or a request for help.
-fn answered<'a>(alloc: Global, error: &Error, words: &[&str]) -> Result<Request<'a>, WordsFault> {
+fn request_of_error<'a>(
+    alloc: Global,
+    error: &Error,
+    words: &[&str],
+) -> Result<Request<'a>, CommandLineFault> {
     match error.kind() {
-        ErrorKind::OutOfMemory => Err(WordsFault::Memory),
+        ErrorKind::OutOfMemory => Err(CommandLineFault::Memory),
         ErrorKind::DisplayVersion => Ok(Request::Version),
-        ErrorKind::UnknownArgument | ErrorKind::InvalidSubcommand => Err(WordsFault::Bad {
+        ErrorKind::UnknownArgument | ErrorKind::InvalidSubcommand => Err(CommandLineFault::Bad {
             text: with_hint(alloc, error, words)?,
         }),
-        _ => Err(WordsFault::Bad {
+        _ => Err(CommandLineFault::Bad {
             text: format!(in alloc; "{error}")?,
         }),
     }
 }
 
 /// Returns the text of an error, after a hint if a file is among the words.
-fn with_hint(alloc: Global, error: &Error, words: &[&str]) -> Result<String, WordsFault> {
+fn with_hint(alloc: Global, error: &Error, words: &[&str]) -> Result<String, CommandLineFault> {
     let mut text = String::new(alloc);
     push_hint(alloc, words, &mut text)?;
-    let told = format!(in alloc; "{error}")?;
-    text.push_str(told.as_str())?;
+    let message = format!(in alloc; "{error}")?;
+    text.push_str(message.as_str())?;
     Ok(text)
 }
 
 /// Returns the request that a command makes with its options.
-fn request<'a>(alloc: Global, matches: &ArgMatches<'a>) -> Result<Request<'a>, WordsFault> {
+fn request<'a>(alloc: Global, matches: &ArgMatches<'a>) -> Result<Request<'a>, CommandLineFault> {
     match matches.subcommand() {
         Some(("outline", options)) => Ok(Request::Outline {
             name: options.get_str("name"),
         }),
-        Some(("pages", options)) => Ok(Request::Pages(SiteQuestion {
+        Some(("pages", options)) => Ok(Request::Pages(SiteRequest {
             folder: options.get_str("folder").unwrap_or(""),
             name: options.get_str("name"),
             assumes: options.get_flag("assume"),
@@ -72,14 +80,14 @@ fn request<'a>(alloc: Global, matches: &ArgMatches<'a>) -> Result<Request<'a>, W
             let nodes = node_count(alloc, options)?;
             let workers = worker_count(alloc, options)?;
             let weather = weather_seed(alloc, options)?;
-            Ok(Request::Serve(Serving {
+            Ok(Request::Serve(ServeOptions {
                 weights: weights(alloc, options, nodes)?,
                 workers,
                 weather,
                 is_live: options.get_flag("live"),
             }))
         }
-        Some((command, options)) => Ok(Request::Ask(Asked {
+        Some((command, options)) => Ok(Request::Ask(DatabaseQuestion {
             question: question(alloc, command, options)?,
             name: options.get_str("name"),
             assumes: options.get_flag("assume"),
@@ -93,7 +101,7 @@ fn question<'a>(
     alloc: Global,
     name: &str,
     options: &ArgMatches<'a>,
-) -> Result<Question<'a>, WordsFault> {
+) -> Result<Question<'a>, CommandLineFault> {
     let label = options.get_str("label").unwrap_or("").as_bytes();
     Ok(match name {
         "check" if options.get_flag("all") => Question::CheckEach,
@@ -113,7 +121,7 @@ fn question<'a>(
         }),
         "extract" => Question::Extract(labels(alloc, options)?),
         "show" => Question::Show(labels(alloc, options)?),
-        "find" => Question::Find(sought(alloc, options)?),
+        "find" => Question::Find(search_query(alloc, options)?),
         _ => return Err(no_command(alloc)),
     })
 }
@@ -124,23 +132,26 @@ fn labels<'a>(alloc: Global, options: &ArgMatches<'a>) -> Result<Vec<&'a str>, A
 }
 
 /// Returns the search that the options of `find` give.
-fn sought<'a>(alloc: Global, options: &ArgMatches<'a>) -> Result<SearchQuery<'a>, WordsFault> {
+fn search_query<'a>(
+    alloc: Global,
+    options: &ArgMatches<'a>,
+) -> Result<SearchQuery<'a>, CommandLineFault> {
     let text = options.get_str("pattern").unwrap_or("");
     if options.get_flag("words") {
         return match SearchWords::new(text) {
             Some(words) => Ok(SearchQuery::Words(words)),
-            None => Err(invalid(alloc, "a word is wanted")),
+            None => Err(invalid_value(alloc, "a word is wanted")),
         };
     }
     match Pattern::parse(alloc, text) {
         Ok(pattern) if options.get_flag("hypotheses") => Ok(SearchQuery::WithHypotheses(pattern)),
         Ok(pattern) => Ok(SearchQuery::Pattern(pattern)),
-        Err(BadPattern::UnknownWord(_)) => Err(invalid(
+        Err(BadPattern::UnknownWord(_)) => Err(invalid_value(
             alloc,
             "a word of a pattern is $?, $* or a symbol, which has no $",
         )),
-        Err(BadPattern::NoSymbol) => Err(invalid(alloc, "a pattern has a symbol")),
-        Err(BadPattern::Memory) => Err(WordsFault::Memory),
+        Err(BadPattern::NoSymbol) => Err(invalid_value(alloc, "a pattern has a symbol")),
+        Err(BadPattern::Memory) => Err(CommandLineFault::Memory),
     }
 }
 
@@ -156,7 +167,7 @@ fn proof_form(options: &ArgMatches) -> ProofForm {
 }
 
 /// Returns the count of nodes, which is 1 to 9.
-fn node_count(alloc: Global, options: &ArgMatches) -> Result<u8, WordsFault>
+fn node_count(alloc: Global, options: &ArgMatches) -> Result<u8, CommandLineFault>
     ensures { IfOk result (λ nodes. (1 ≤ nodes) × (nodes ≤ MOST_NODES)) }
 {
     if let Some(number) = number(options, "nodes")
@@ -165,25 +176,25 @@ fn node_count(alloc: Global, options: &ArgMatches) -> Result<u8, WordsFault>
     {
         return Ok(number as u8);
     }
-    Err(invalid(alloc, "--nodes is a number from 1 to 9"))
+    Err(invalid_value(alloc, "--nodes is a number from 1 to 9"))
 }
 
 /// Returns the count of workers.
-fn worker_count(alloc: Global, options: &ArgMatches) -> Result<WorkerCount, WordsFault> {
+fn worker_count(alloc: Global, options: &ArgMatches) -> Result<WorkerCount, CommandLineFault> {
     match number(options, "workers").and_then(WorkerCount::new) {
         Some(workers) => Ok(workers),
-        None => Err(invalid(alloc, "--workers is a number from 1 to 16")),
+        None => Err(invalid_value(alloc, "--workers is a number from 1 to 16")),
     }
 }
 
 /// Returns the seed of the weather, if one is given.
-fn weather_seed(alloc: Global, options: &ArgMatches) -> Result<Option<u64>, WordsFault> {
+fn weather_seed(alloc: Global, options: &ArgMatches) -> Result<Option<u64>, CommandLineFault> {
     let Some(text) = options.get_str("weather") else {
         return Ok(None);
     };
     match parse_number(text.as_bytes()) {
         Some(seed) => Ok(Some(seed)),
-        None => Err(invalid(alloc, "--weather is a number")),
+        None => Err(invalid_value(alloc, "--weather is a number")),
     }
 }
 
@@ -193,16 +204,16 @@ pub(crate) fn number(options: &ArgMatches, name: &str) -> Option<u64> {
 }
 
 /// Returns the weights of `nodes` nodes. Without the option each node has weight 1.
-fn weights(alloc: Global, options: &ArgMatches, nodes: u8) -> Result<Weights, WordsFault>
+fn weights(alloc: Global, options: &ArgMatches, nodes: u8) -> Result<Weights, CommandLineFault>
     requires { (1 ≤ nodes) × (nodes ≤ MOST_NODES) }
 {
-    let given = match options.get_str("weights") {
+    let parsed = match options.get_str("weights") {
         Some(text) => parse_weights(text.as_bytes(), nodes),
         None => Some(Weights::equal(nodes)),
     };
-    match given {
+    match parsed {
         Some(weights) => Ok(weights),
-        None => Err(WordsFault::Bad {
+        None => Err(CommandLineFault::Bad {
             text: format!(in alloc;
                 "bad weights\n--weights needs {nodes} numbers from 1 to 100, parted by commas\n"
             )?,
@@ -211,19 +222,19 @@ fn weights(alloc: Global, options: &ArgMatches, nodes: u8) -> Result<Weights, Wo
 }
 
 /// Returns the fault of a bad value, with this text.
-pub(crate) fn invalid(alloc: Global, text: &str) -> WordsFault {
-    refused(alloc, ErrorKind::InvalidValue, text)
+pub(crate) fn invalid_value(alloc: Global, text: &str) -> CommandLineFault {
+    fault_of_kind(alloc, ErrorKind::InvalidValue, text)
 }
 
-fn no_command(alloc: Global) -> WordsFault {
-    refused(alloc, ErrorKind::MissingSubcommand, "a command is wanted")
+fn no_command(alloc: Global) -> CommandLineFault {
+    fault_of_kind(alloc, ErrorKind::MissingSubcommand, "a command is wanted")
 }
 
 /// Returns the fault of this kind, with this text.
-fn refused(alloc: Global, kind: ErrorKind, text: &str) -> WordsFault {
+fn fault_of_kind(alloc: Global, kind: ErrorKind, text: &str) -> CommandLineFault {
     match refusal_text(alloc, kind, text) {
-        Ok(text) => WordsFault::Bad { text },
-        Err(AllocError) => WordsFault::Memory,
+        Ok(text) => CommandLineFault::Bad { text },
+        Err(AllocError) => CommandLineFault::Memory,
     }
 }
 

@@ -165,7 +165,7 @@ const DOT: Argument = Argument {
 const HTML: Argument = Argument {
     name: "html",
     form: Form::Flag,
-    help: "A page that stands alone",
+    help: "A page that stands last_value",
 };
 
 /// A command: its name, its usage, its help, and its arguments.

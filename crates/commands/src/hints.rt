@@ -25,13 +25,13 @@ pub(crate) fn push_hint(
         return Ok(());
     }
     for step in 0..words.len() {
-        let place = words.len() - 1 - step;
-        if may_be_file(words, place) {
-            let others = without(alloc, words, place)?;
+        let index = words.len() - 1 - step;
+        if may_be_file(words, index) {
+            let others = without(alloc, words, index)?;
             if let Some(source) = source_of(alloc, others.as_slice())
-                && (source == Source::Database || is_file_name(words[place]))
+                && (source == Source::Database || is_file_name(words[index]))
             {
-                return push_file(text, source, others.as_slice(), words[place]);
+                return push_file(text, source, others.as_slice(), words[index]);
             }
         }
     }
@@ -40,9 +40,9 @@ pub(crate) fn push_hint(
 
 /// Returns whether the word at an index may be the name of a file: it is not an option, and it is
 /// the last word or has a full stop or a slash.
-fn may_be_file(words: &[&str], place: usize) -> bool {
-    match words.get(place) {
-        Some(word) => { !word.starts_with('-') && (place + 1 == words.len() || is_file_name(word)) }
+fn may_be_file(words: &[&str], index: usize) -> bool {
+    match words.get(index) {
+        Some(word) => { !word.starts_with('-') && (index + 1 == words.len() || is_file_name(word)) }
         None => false,
     }
 }
@@ -53,10 +53,10 @@ fn is_file_name(word: &str) -> bool {
 }
 
 /// Returns the words without the one at an index.
-fn without<'a>(alloc: Global, words: &[&'a str], place: usize) -> Result<Vec<&'a str>, AllocError> {
+fn without<'a>(alloc: Global, words: &[&'a str], index: usize) -> Result<Vec<&'a str>, AllocError> {
     let mut others = Vec::new(alloc);
     for (at, word) in words.iter().enumerate() {
-        if at != place {
+        if at != index {
             others.push(*word)?;
         }
     }

@@ -1,16 +1,16 @@
 //! The parsers of command lines, and of the lines of the scripts of `play` and `serve`.
 //!
-//! Crates above use `parse_words`, which returns the `Request` of a command line, and one contract:
+//! Crates above use `parse_command_line`, which returns the `Request` of a command line, and one contract:
 //! `parse_script` returns the lines by the definition of the command's lines (`specs/PlayLines`,
 //! `specs/ServeLines`, `specs/SessionLines`), or the number of the first bad line. No other crate
 //! depends on `clap`.
 //!
-//! Reading order: `request` (what a command line asks for), `weights` (numbers of a command line),
+//! Reading order: `request` (the request of a command line), `weights` (numbers of a command line),
 //! `grammar` (its commands and options) with `script_help`, `hints` (on files among the words),
 //! `pictured`, `command_line`; `pieces` (a text between separators), `line_words` (the words of a
 //! line), `lines` (the lines of a script), `text_form` (a text on the line or on those that
-//! follow), `offered` (entries), `node_question` (labels), `node_line`, `play_line`, `serve_line`
-//! and `session_line` (what a line asks for), `session_texts` (where a text ends), `script` (all
+//! follow), `offered_entry`, `node_question` (labels), `node_line`, `play_line`, `serve_line`
+//! and `session_line` (the request of a line), `session_texts` (where a text ends), `script` (all
 //! lines).
 #![tactic(auto)]
 
@@ -21,7 +21,7 @@ mod line_words;
 mod lines;
 mod node_line;
 mod node_question;
-mod offered;
+mod offered_entry;
 mod pictured;
 mod pieces;
 mod play_line;
@@ -34,20 +34,20 @@ mod session_texts;
 mod text_form;
 mod weights;
 
-pub use command_line::parse_words;
+pub use command_line::parse_command_line;
 pub use grammar::VERSION;
-pub use line_words::{EntryAt, NodePair};
+pub use line_words::{NodeEntryId, NodePair};
 pub use lines::Lines;
 pub use node_line::NodeLine;
 pub use node_question::{LabelQuestion, NodeQuestion};
-pub use offered::Offered;
+pub use offered_entry::OfferedEntry;
 pub use play_line::PlayLine;
 pub use request::{
-    Asked, PicturedSteps, ProofForm, ProofQuestion, Question, Request, Serving, SiteQuestion,
-    WordsFault,
+    CommandLineFault, DatabaseQuestion, PicturedSteps, ProofForm, ProofQuestion, Question, Request,
+    ServeOptions, SiteRequest,
 };
 pub use script::{LINE_FEED, Line, LineFault, ScriptFault, parse_script};
-pub use script_help::{SERVE_LINES, first_word, wanted_line};
+pub use script_help::{SERVE_LINES, expected_form, first_word};
 pub use serve_line::ServeLine;
 pub use session_line::SessionLine;
 pub use session_texts::{TextEnd, text_end};

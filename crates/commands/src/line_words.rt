@@ -2,7 +2,7 @@
 ghost use Rattle.std.specs.Prelude.{◌≡◌, option_map};
 ghost use Rattle.std.specs.List.{join_with_byte};
 ghost use Rattle.commands.specs.LineWords.{number_at, one_number, node_of, node_at, one_node};
-ghost use Rattle.commands.specs.LineWords.{entry_at, one_entry, nothing_left, two_nodes};
+ghost use Rattle.commands.specs.LineWords.{entry_at, one_entry, has_no_words, two_nodes};
 
 use crate::pieces::Pieces;
 use numbers::parse_number;
@@ -15,7 +15,7 @@ pub(crate) type Words<'a> = Pieces<'a, SPACE>;
 
 /// A node, and the author and serial number of an entry.
 #[derive(Clone, Copy, Debug, PartialEq, Eq)]
-pub struct EntryAt {
+pub struct NodeEntryId {
     pub node: u8,
     pub author: u64,
     pub serial: u64,
@@ -55,13 +55,13 @@ impl<'a> Pieces<'a, SPACE> {
     }
 
     /// Takes the next three words as `K AUTHOR SERIAL`.
-    pub fn entry(&mut self) -> Option<EntryAt>
+    pub fn entry(&mut self) -> Option<NodeEntryId>
         ensures { option_map (λ entry. (entry, self.new)) result ≡ entry_at self.old }
     {
         let node = node(self.number()?);
         let author = self.number()?;
         let serial = self.number()?;
-        Some(EntryAt {
+        Some(NodeEntryId {
             node,
             author,
             serial,
@@ -87,8 +87,8 @@ impl<'a> Pieces<'a, SPACE> {
     }
 
     /// Returns whether no word is left.
-    pub fn is_done(mut self) -> bool
-        ensures { result ≡ nothing_left self.entry }
+    pub fn has_no_words(mut self) -> bool
+        ensures { result ≡ has_no_words self.entry }
     {
         self.take().is_none()
     }
@@ -104,7 +104,7 @@ impl<'a> Pieces<'a, SPACE> {
 
     /// Returns the three remaining words as `K AUTHOR SERIAL`, or `None` unless exactly three
     /// numbers are left.
-    pub fn only_entry(mut self) -> Option<EntryAt>
+    pub fn only_entry(mut self) -> Option<NodeEntryId>
         ensures { result ≡ one_entry self.entry }
     {
         let entry = self.entry()?;

@@ -1,7 +1,7 @@
 //! The lines of a script.
 ghost use Rattle.std.specs.Prelude.{◌≡◌, ℕ, ◌+◌, [], ◌∷◌, Some, None, MatchOption};
 ghost use Rattle.commands.specs.Pieces.{split_at};
-ghost use Rattle.commands.specs.Remaining.{IsPast};
+ghost use Rattle.commands.specs.RemainingLines.{IsAdvanced};
 ghost use Rattle.commands.specs.Texts.{bytes_before, lines_before};
 
 use crate::pieces::Pieces;
@@ -18,9 +18,9 @@ pub struct Lines<'a> {
 
 impl<'a> Model for Lines<'a> {
     ghost use Rattle.std.specs.Prelude.{◌+◌, ◌^◌, ◌<◌, length};
-    ghost use Rattle.commands.specs.Remaining.{Remaining};
+    ghost use Rattle.commands.specs.RemainingLines.{RemainingLines};
 
-    ghost Value = { Remaining };
+    ghost Value = { RemainingLines };
 
     ghost view = { λ l. record { number = l.number; lines = l.rest } };
 
@@ -66,7 +66,7 @@ impl<'a> Lines<'a> {
             (lines_before word.now self.old.lines ≡ None)
             (λ text. (count : ℕ)
             × (lines_before word.now self.old.lines ≡ Some (text.now, count))
-            × IsPast count self.old self.new) }
+            × IsAdvanced count self.old self.new) }
     {
         let taken = self.rest.take_until(word)?;
         self.number += taken.count;
@@ -80,7 +80,7 @@ impl<'a> Lines<'a> {
             (bytes_before count self.old.lines ≡ None)
             (λ text. (taken : ℕ)
             × (bytes_before count self.old.lines ≡ Some (text.now, taken))
-            × IsPast taken self.old self.new) }
+            × IsAdvanced taken self.old self.new) }
     {
         let taken = self.rest.take_bytes(count)?;
         self.number += taken.count;

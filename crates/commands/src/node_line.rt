@@ -1,11 +1,11 @@
 //! The lines that scripts of `play` and of `serve` have in common.
 ghost use Rattle.std.specs.Prelude.{◌≡◌};
 ghost use Rattle.commands.specs.Scripts.{Parses};
-ghost use Rattle.commands.specs.NodeLines.{about_node, node_line, short_node_line};
+ghost use Rattle.commands.specs.NodeLines.{overview_line, node_line, node_line_without_label};
 
-use crate::line_words::{EntryAt, NodePair, Words};
+use crate::line_words::{NodeEntryId, NodePair, Words};
 use crate::node_question::{NodeQuestion, label_question, parse_question};
-use crate::offered::{Offered, parse_charter};
+use crate::offered_entry::{OfferedEntry, parse_charter};
 use crate::script::LineFault;
 use std::alloc::Global;
 
@@ -13,7 +13,7 @@ use std::alloc::Global;
 #[derive(Drop)]
 pub enum NodeLine {
     /// `charter K AUTHOR SERIAL NAME ..`, `offer` and `submit`: an entry is offered.
-    Offer(Offered),
+    Offer(OfferedEntry),
     /// `begin K`: the node begins a ballot.
     Begin { node: u8 },
     /// `restart K`: the node restarts.
@@ -27,9 +27,9 @@ pub enum NodeLine {
     /// `state K`: the role of the node, its promise, and what it learned and applied.
     State { node: u8 },
     /// `status K AUTHOR SERIAL`: the verdict of the node's library.
-    Status(EntryAt),
+    Status(NodeEntryId),
     /// `why K AUTHOR SERIAL`: the reason why the node's library refused the entry.
-    Why(EntryAt),
+    Why(NodeEntryId),
     /// `trace K LABEL`, `tree`, `usage`, `show` and `proof`: a question about a label.
     Ask(NodeQuestion),
     /// `compare J K`: which of two nodes has the library with more statements.
@@ -57,13 +57,13 @@ pub(crate) fn parse_node_line(
             let question = parse_question(alloc, kind, words)?;
             Ok(NodeLine::Ask(question))
         }
-        None => parse_short(verb, words).ok_or(LineFault::Bad),
+        None => parse_without_label(verb, words).ok_or(LineFault::Bad),
     }
 }
 
 /// Parses the words after a verb that offers no entry and asks about no label.
-fn parse_short(verb: &[u8], words: Words<'_>) -> Option<NodeLine>
-    ensures { result ≡ short_node_line verb.now words.entry }
+fn parse_without_label(verb: &[u8], words: Words<'_>) -> Option<NodeLine>
+    ensures { result ≡ node_line_without_label verb.now words.entry }
 {
     if verb == b"begin".as_slice() {
         Some(NodeLine::Begin {
@@ -80,13 +80,13 @@ fn parse_short(verb: &[u8], words: Words<'_>) -> Option<NodeLine>
     } else if verb == b"compare".as_slice() {
         Some(NodeLine::Compare(words.only_pair()?))
     } else {
-        parse_about_node(verb, words)
+        parse_overview(verb, words)
     }
 }
 
 /// Parses a question about a whole library or log, about the state of a node or about the history.
-fn parse_about_node(verb: &[u8], words: Words<'_>) -> Option<NodeLine>
-    ensures { result ≡ about_node verb.now words.entry }
+fn parse_overview(verb: &[u8], words: Words<'_>) -> Option<NodeLine>
+    ensures { result ≡ overview_line verb.now words.entry }
 {
     if verb == b"list".as_slice() {
         Some(NodeLine::List {
@@ -104,7 +104,7 @@ fn parse_about_node(verb: &[u8], words: Words<'_>) -> Option<NodeLine>
         Some(NodeLine::State {
             node: words.only_node()?,
         })
-    } else if verb == b"events".as_slice() && words.is_done() {
+    } else if verb == b"events".as_slice() && words.has_no_words() {
         Some(NodeLine::Events)
     } else {
         None

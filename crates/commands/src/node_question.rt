@@ -1,7 +1,7 @@
 //! Questions about a label in the library of a node.
 ghost use Rattle.std.specs.Prelude.{◌≡◌};
 ghost use Rattle.commands.specs.Scripts.{Parses};
-ghost use Rattle.commands.specs.NodeQuestions.{label_question_of, question_asked};
+ghost use Rattle.commands.specs.NodeQuestions.{label_question_of, node_question_of};
 
 use crate::line_words::Words;
 use crate::request::{ProofForm, ProofQuestion, Question};
@@ -42,7 +42,11 @@ impl LabelQuestion {
     /// a label that is not UTF-8 is replaced by the empty label; no statement has either.
     ///
     /// Errors: an allocation fails.
-    pub fn about(self, alloc: Global, label: &[u8]) -> Result<Question<'_>, AllocError> {
+    pub fn database_question(
+        self,
+        alloc: Global,
+        label: &[u8],
+    ) -> Result<Question<'_>, AllocError> {
         Ok(match self {
             LabelQuestion::Trace => Question::Trace(label),
             LabelQuestion::Tree => Question::Tree(label),
@@ -93,7 +97,7 @@ pub(crate) fn parse_question(
     kind: LabelQuestion,
     mut words: Words<'_>,
 ) -> Result<NodeQuestion, LineFault>
-    ensures { Parses (question_asked kind words.entry) result }
+    ensures { Parses (node_question_of kind words.entry) result }
 {
     let node = words.node().ok_or(LineFault::Bad)?;
     let label = only_word(words).ok_or(LineFault::Bad)?;

@@ -1,6 +1,6 @@
 //! The options of `play` for a picture.
-use crate::command_line::{invalid, number};
-use crate::request::{PicturedSteps, WordsFault};
+use crate::command_line::{invalid_value, number};
+use crate::request::{CommandLineFault, PicturedSteps};
 use clap::ArgMatches;
 use std::alloc::Global;
 use timelines::MOST_ROWS;
@@ -9,7 +9,7 @@ use timelines::MOST_ROWS;
 pub(crate) fn pictured_steps(
     alloc: Global,
     options: &ArgMatches,
-) -> Result<Option<PicturedSteps>, WordsFault> {
+) -> Result<Option<PicturedSteps>, CommandLineFault> {
     if !options.get_flag("picture") {
         return Ok(None);
     }
@@ -19,23 +19,23 @@ pub(crate) fn pictured_steps(
 }
 
 /// Returns the first step, 0 without the option.
-fn first_step(alloc: Global, options: &ArgMatches) -> Result<u64, WordsFault> {
+fn first_step(alloc: Global, options: &ArgMatches) -> Result<u64, CommandLineFault> {
     if options.get_str("from").is_none() {
         return Ok(0);
     }
     match number(options, "from") {
         Some(from) => Ok(from),
-        None => Err(invalid(alloc, "--from is a number")),
+        None => Err(invalid_value(alloc, "--from is a number")),
     }
 }
 
 /// Returns how many steps are shown, if the option says so.
-fn step_count(alloc: Global, options: &ArgMatches) -> Result<Option<u64>, WordsFault> {
+fn step_count(alloc: Global, options: &ArgMatches) -> Result<Option<u64>, CommandLineFault> {
     if options.get_str("events").is_none() {
         return Ok(None);
     }
     match number(options, "events") {
         Some(count) if 1 <= count && count <= MOST_ROWS => Ok(Some(count)),
-        _ => Err(invalid(alloc, "--events is a number from 1 to 200")),
+        _ => Err(invalid_value(alloc, "--events is a number from 1 to 200")),
     }
 }

@@ -40,14 +40,14 @@ impl<'a, const SEPARATOR: u8> Pieces<'a, SEPARATOR> {
             ((self.old ≡ []) × (self.new ≡ []))
             (λ piece. self.old ≡ piece.now ∷ self.new) }
     {
-        let (piece, rest) = cut(self.rest?, SEPARATOR);
+        let (piece, rest) = split_first_piece(self.rest?, SEPARATOR);
         self.rest = rest;
         Some(piece)
     }
 }
 
 /// Returns the bytes before the first separator, and those after it if there is one.
-pub(crate) fn cut(bytes: &[u8], separator: u8) -> (&[u8], Option<&[u8]>)
+pub(crate) fn split_first_piece(bytes: &[u8], separator: u8) -> (&[u8], Option<&[u8]>)
     ensures { split_at separator bytes.now
         ≡ result.0.now ∷ pieces_left separator (option_map (λ rest. rest.now) result.1) }
 {

@@ -1,12 +1,12 @@
 //! The lines of `play`.
 ghost use Rattle.std.specs.Prelude.{◌≡◌};
 ghost use Rattle.commands.specs.Scripts.{Parses};
-ghost use Rattle.commands.specs.PlayLines.{or_node_line, play_line_of, play_text_form, world_line};
+ghost use Rattle.commands.specs.PlayLines.{line_or_node_line, play_line_of, play_text_form, play_only_line};
 
 use crate::line_words::Words;
 use crate::lines::Lines;
 use crate::node_line::{NodeLine, parse_node_line};
-use crate::offered::parse_text;
+use crate::offered_entry::parse_text;
 use crate::script::{Line, LineFault};
 use crate::text_form::{TextForm, form_of};
 use std::alloc::Global;
@@ -25,7 +25,7 @@ pub enum PlayLine {
 }
 
 impl Line for PlayLine {
-    ghost said = { play_line_of };
+    ghost by_definition = { play_line_of };
 
     fn parse<'a>(
         alloc: Global,
@@ -39,7 +39,7 @@ impl Line for PlayLine {
                 let offered = parse_text(alloc, form, words, lines)?;
                 Ok(PlayLine::Node(NodeLine::Offer(offered)))
             }
-            None => parse_alone(alloc, verb, words),
+            None => parse_without_text(alloc, verb, words),
         }
     }
 }
@@ -57,18 +57,18 @@ fn text_form(verb: &[u8]) -> Option<TextForm>
 }
 
 /// Parses the words after a verb that offers no text.
-fn parse_alone(alloc: Global, verb: &[u8], words: Words<'_>) -> Result<PlayLine, LineFault>
-    ensures { Parses (or_node_line (world_line verb.now words.entry) verb.now words.entry) result }
+fn parse_without_text(alloc: Global, verb: &[u8], words: Words<'_>) -> Result<PlayLine, LineFault>
+    ensures { Parses (line_or_node_line (play_only_line verb.now words.entry) verb.now words.entry) result }
 {
-    if let Some(line) = parse_world_line(verb, words.copy()) {
+    if let Some(line) = parse_play_only(verb, words.copy()) {
         return Ok(line);
     }
     Ok(PlayLine::Node(parse_node_line(alloc, verb, words)?))
 }
 
 /// Parses the words after a verb that `serve` does not have.
-fn parse_world_line(verb: &[u8], words: Words<'_>) -> Option<PlayLine>
-    ensures { result ≡ world_line verb.now words.entry }
+fn parse_play_only(verb: &[u8], words: Words<'_>) -> Option<PlayLine>
+    ensures { result ≡ play_only_line verb.now words.entry }
 {
     if verb == b"deliver".as_slice() {
         Some(PlayLine::Deliver {

@@ -15,9 +15,9 @@ pub enum Request<'a> {
         name: Option<&'a str>,
     },
     /// A question about a database.
-    Ask(Asked<'a>),
+    Ask(DatabaseQuestion<'a>),
     /// `pages`: a site of a database.
-    Pages(SiteQuestion<'a>),
+    Pages(SiteRequest<'a>),
     /// `play`: a script drives nodes, event by event.
     Play {
         weights: Weights,
@@ -28,12 +28,12 @@ pub enum Request<'a> {
         steps: PicturedSteps,
     },
     /// `serve`: nodes that are threads carry out lines.
-    Serve(Serving),
+    Serve(ServeOptions),
 }
 
 /// The nodes that `serve` starts, and how their lines are read.
 #[derive(Drop)]
-pub struct Serving {
+pub struct ServeOptions {
     pub weights: Weights,
     /// How many threads read one entry and check its proofs.
     pub workers: WorkerCount,
@@ -54,7 +54,7 @@ pub struct PicturedSteps {
 
 /// A question about a database, with the options about the database.
 #[derive(Drop)]
-pub struct Asked<'a> {
+pub struct DatabaseQuestion<'a> {
     pub question: Question<'a>,
     /// `--name`: the name that is printed before each line and column.
     pub name: Option<&'a str>,
@@ -64,7 +64,7 @@ pub struct Asked<'a> {
 
 /// A request for a site of a database, with the options about the database.
 #[derive(Clone, Copy)]
-pub struct SiteQuestion<'a> {
+pub struct SiteRequest<'a> {
     /// The path of the folder that the pages are written into.
     pub folder: &'a str,
     /// `--name`: the name that is printed before each line and column.
@@ -126,15 +126,15 @@ pub enum ProofForm {
 
 /// Why the words of a command line are not parsed.
 #[derive(Drop)]
-pub enum WordsFault {
+pub enum CommandLineFault {
     /// They are a bad command line, or ask for help. The text is for standard error.
     Bad { text: String },
     /// An allocation failed.
     Memory,
 }
 
-impl From<AllocError> for WordsFault {
-    fn from(_error: AllocError) -> WordsFault {
-        WordsFault::Memory
+impl From<AllocError> for CommandLineFault {
+    fn from(_error: AllocError) -> CommandLineFault {
+        CommandLineFault::Memory
     }
 }

@@ -32,14 +32,14 @@ pub trait Line: Sized + Drop {
 
     /// The line that these bytes are by definition, given the lines that follow, and how many of
     /// those are its text; `None` if they are not a line of the command.
-    ghost said: { List ℕ → List (List ℕ) → Option (Self × ℕ) };
+    ghost by_definition: { List ℕ → List (List ℕ) → Option (Self × ℕ) };
 
     /// Parses the bytes between two line feeds as a line, and takes the lines of its text.
     ///
     /// Errors: `Bad` if they are not a line of the command, or the end of its text is missing; else
     /// `Memory` if an allocation fails.
     fn parse<'a>(alloc: Global, line: &'a [u8], lines: &mut Lines<'a>) -> Result<Self, LineFault>
-        ensures { ParsesLine (said line.now lines.old.lines) lines.old lines.new result };
+        ensures { ParsesLine (by_definition line.now lines.old.lines) lines.old lines.new result };
 }
 
 /// Parses the lines of a script. Each ends with a line feed, which the last may lack; empty ones
@@ -48,7 +48,7 @@ pub trait Line: Sized + Drop {
 /// Errors: `BadLine` with the number of the first bad line; else `Memory` if an allocation fails.
 /// Cost: the size of the script.
 pub fn parse_script<L: Line>(alloc: Global, script: &[u8]) -> Result<Vec<L>, ScriptFault>
-    ensures { ParsesScript (script_of L.said script.now) result }
+    ensures { ParsesScript (script_of L.by_definition script.now) result }
 {
     let mut rest = Lines::new(script);
     let mut lines = Vec::new(alloc);

@@ -1,12 +1,12 @@
 //! The lines of scripts, as listed in the help of `play` and `serve`.
 use crate::line_words::SPACE;
-use crate::pieces::cut;
+use crate::pieces::split_first_piece;
 
 /// The help on the lines of `play`: two spaces, a line, two spaces or more, and its meaning.
 pub(crate) const PLAY_LINES: &str = "\
 Lines, K a node from 0:
   offer K AUTHOR SERIAL TEXT         offer a text at node K
-  offer-lines K AUTHOR SERIAL WORD   the same, the lines up to WORD alone
+  offer-lines K AUTHOR SERIAL WORD   the same, the lines up to WORD last_value
   offer-bytes K AUTHOR SERIAL N      the same, the N bytes after the line
   charter K AUTHOR SERIAL NAME ..    offer a charter of authors
   begin K                            begin a ballot
@@ -33,10 +33,10 @@ Lines, K a node from 0:
 pub const SERVE_LINES: &str = "\
 Lines, K a node from 0:
   add K AUTHOR SERIAL TEXT           submit a text until it is decided
-  add-lines K AUTHOR SERIAL WORD     the same, the lines up to WORD alone
+  add-lines K AUTHOR SERIAL WORD     the same, the lines up to WORD last_value
   add-bytes K AUTHOR SERIAL N        the same, the N bytes after the line
   submit K AUTHOR SERIAL TEXT        submit a text at node K
-  submit-lines K AUTHOR SERIAL WORD  the same, the lines up to WORD alone
+  submit-lines K AUTHOR SERIAL WORD  the same, the lines up to WORD last_value
   submit-bytes K AUTHOR SERIAL N     the same, the N bytes after the line
   charter K AUTHOR SERIAL NAME ..    submit a charter of authors
   begin K                            begin a ballot
@@ -64,7 +64,7 @@ const SESSION_VERBS: &str = "add, add-lines, add-bytes, submit, submit-lines, su
     proof, show, compare, events or help";
 
 /// Returns the form of the line of a session that begins with a verb, or all verbs if none does.
-pub fn wanted_line(verb: &[u8]) -> &'static str {
+pub fn expected_form(verb: &[u8]) -> &'static str {
     for line in SERVE_LINES.lines() {
         if let Some(line) = line.strip_prefix("  ") {
             let form = match line.split_once("  ") {
@@ -81,5 +81,5 @@ pub fn wanted_line(verb: &[u8]) -> &'static str {
 
 /// Returns the bytes before the first space.
 pub fn first_word(line: &[u8]) -> &[u8] {
-    cut(line, SPACE).0
+    split_first_piece(line, SPACE).0
 }

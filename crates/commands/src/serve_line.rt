@@ -1,13 +1,13 @@
 //! The lines of `serve`.
 ghost use Rattle.std.specs.Prelude.{◌≡◌};
 ghost use Rattle.commands.specs.Scripts.{Parses, ParsesLine};
-ghost use Rattle.commands.specs.ServeLines.{add_form, added_or, or_node_line, serve_line_of};
-ghost use Rattle.commands.specs.ServeLines.{settle_line, submit_form};
+ghost use Rattle.commands.specs.ServeLines.{add_form, add_line_or_else, line_or_node_line, serve_line_of};
+ghost use Rattle.commands.specs.ServeLines.{serve_only_line, submit_form};
 
-use crate::line_words::{EntryAt, Words};
+use crate::line_words::{NodeEntryId, Words};
 use crate::lines::Lines;
 use crate::node_line::{NodeLine, parse_node_line};
-use crate::offered::{Offered, parse_text};
+use crate::offered_entry::{OfferedEntry, parse_text};
 use crate::script::{Line, LineFault};
 use crate::text_form::{TextForm, form_of};
 use std::alloc::Global;
@@ -18,13 +18,13 @@ pub enum ServeLine {
     /// A line that both commands have; `submit`, `submit-lines` and `submit-bytes` offer a text.
     Node(NodeLine),
     /// `settle K AUTHOR SERIAL`: the verdict of the node's library, as soon as it is known.
-    Settle(EntryAt),
+    Settle(NodeEntryId),
     /// `add`, `add-lines` and `add-bytes`: a text is submitted until its verdict is known.
-    Add(Offered),
+    Add(OfferedEntry),
 }
 
 impl Line for ServeLine {
-    ghost said = { serve_line_of };
+    ghost by_definition = { serve_line_of };
 
     fn parse<'a>(
         alloc: Global,
@@ -38,7 +38,7 @@ impl Line for ServeLine {
                 let offered = parse_text(alloc, form, words, lines)?;
                 Ok(ServeLine::Node(NodeLine::Offer(offered)))
             }
-            None => parse_added(alloc, verb, words, lines),
+            None => parse_add_or_else(alloc, verb, words, lines),
         }
     }
 }
@@ -68,13 +68,13 @@ pub(crate) fn added_form(verb: &[u8]) -> Option<TextForm>
 }
 
 /// Parses the words after a verb that submits no text.
-fn parse_added<'a>(
+fn parse_add_or_else<'a>(
     alloc: Global,
     verb: &[u8],
     words: Words<'a>,
     lines: &mut Lines<'a>,
 ) -> Result<ServeLine, LineFault>
-    ensures { ParsesLine (added_or lines.old.lines verb.now words.entry)
+    ensures { ParsesLine (add_line_or_else lines.old.lines verb.now words.entry)
         lines.old lines.new result }
 {
     match added_form(verb) {
@@ -82,23 +82,23 @@ fn parse_added<'a>(
             let offered = parse_text(alloc, form, words, lines)?;
             Ok(ServeLine::Add(offered))
         }
-        None => parse_alone(alloc, verb, words),
+        None => parse_without_text(alloc, verb, words),
     }
 }
 
 /// Parses the words after a verb that gives no text.
-fn parse_alone(alloc: Global, verb: &[u8], words: Words<'_>) -> Result<ServeLine, LineFault>
-    ensures { Parses (or_node_line (settle_line verb.now words.entry) verb.now words.entry) result }
+fn parse_without_text(alloc: Global, verb: &[u8], words: Words<'_>) -> Result<ServeLine, LineFault>
+    ensures { Parses (line_or_node_line (serve_only_line verb.now words.entry) verb.now words.entry) result }
 {
-    if let Some(line) = parse_settle(verb, words.copy()) {
+    if let Some(line) = parse_serve_only(verb, words.copy()) {
         return Ok(line);
     }
     Ok(ServeLine::Node(parse_node_line(alloc, verb, words)?))
 }
 
 /// Parses the words after a verb that `play` does not have.
-fn parse_settle(verb: &[u8], words: Words<'_>) -> Option<ServeLine>
-    ensures { result ≡ settle_line verb.now words.entry }
+fn parse_serve_only(verb: &[u8], words: Words<'_>) -> Option<ServeLine>
+    ensures { result ≡ serve_only_line verb.now words.entry }
 {
     if verb == b"settle".as_slice() {
         Some(ServeLine::Settle(words.only_entry()?))

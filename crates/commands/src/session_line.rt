@@ -11,12 +11,12 @@ use std::alloc::Global;
 pub enum SessionLine {
     /// A line that scripts have too.
     Serve(ServeLine),
-    /// `help`: the lines of a session, and what each asks for.
+    /// `help`: the lines of a session, and the request that each makes.
     Help,
 }
 
 impl Line for SessionLine {
-    ghost said = { session_line_of };
+    ghost by_definition = { session_line_of };
 
     fn parse<'a>(
         alloc: Global,

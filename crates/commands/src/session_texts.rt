@@ -1,6 +1,6 @@
 //! The end of a text that a line of `serve` gives on the lines that follow it.
 ghost use Rattle.std.specs.Prelude.{◌≡◌, option_map};
-ghost use Rattle.commands.specs.SessionLines.{end_by, end_view, or_form, text_end_of};
+ghost use Rattle.commands.specs.SessionLines.{end_by, end_view, first_form, text_end_of};
 ghost use Rattle.commands.specs.ServeLines.{add_form, submit_form};
 
 use crate::line_words::Words;
@@ -29,7 +29,7 @@ pub fn text_end(line: &[u8]) -> Option<TextEnd<'_>>
 
 /// Returns the form of the text that a verb gives, if it gives one.
 fn text_form(verb: &[u8]) -> Option<TextForm>
-    ensures { result ≡ or_form (submit_form verb.now) (add_form verb.now) }
+    ensures { result ≡ first_form (submit_form verb.now) (add_form verb.now) }
 {
     match submitted_form(verb) {
         Some(form) => Some(form),

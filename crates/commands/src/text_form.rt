@@ -2,7 +2,7 @@
 ghost use Rattle.std.specs.Prelude.{◌≡◌, ℕ, ◌==◌, ◌≤◌, Some, None, MatchOption, length, drop};
 ghost use Rattle.std.specs.Prelude.{count_by, option_map, slice_index, IsTrue, ◌<◌};
 ghost use Rattle.commands.specs.Pieces.{split_at};
-ghost use Rattle.commands.specs.Remaining.{IsPast};
+ghost use Rattle.commands.specs.RemainingLines.{IsAdvanced};
 ghost use Rattle.commands.specs.Texts.{bytes_before, form_by, lines_before, one_word, text_at};
 
 use crate::line_words::Words;
@@ -49,7 +49,7 @@ pub(crate) fn take_text<'a>(
         (text_at form words.entry lines.old.lines ≡ None)
         (λ text. (count : ℕ)
         × (text_at form words.entry lines.old.lines ≡ Some (text.now, count))
-        × IsPast count lines.old lines.new) }
+        × IsAdvanced count lines.old lines.new) }
 {
     match form {
         TextForm::Rest => Some(words.text()),
@@ -71,7 +71,7 @@ pub(crate) fn only_word<'a>(mut words: Words<'a>) -> Option<&'a [u8]>
 
 /// A text that was taken, and the count of the lines that it takes.
 #[derive(Clone, Copy, Debug)]
-pub(crate) struct Taken<'a> {
+pub(crate) struct TakenText<'a> {
     pub text: &'a [u8],
     pub count: usize,
 }
@@ -79,7 +79,7 @@ pub(crate) struct Taken<'a> {
 impl<'a> Pieces<'a, LINE_FEED> {
     /// Takes the lines up to the first that is `word` alone, and returns those before it, each with
     /// its line feed. Returns `None` if there is no such line.
-    pub fn take_until(&mut self, word: &[u8]) -> Option<Taken<'a>>
+    pub fn take_until(&mut self, word: &[u8]) -> Option<TakenText<'a>>
         ensures text { MatchOption result
             (lines_before word.now self.old ≡ None)
             (λ t. lines_before word.now self.old ≡ Some (t.text.now, t.count)) }
@@ -94,7 +94,7 @@ impl<'a> Pieces<'a, LINE_FEED> {
 
     /// Takes `count` bytes and the line feed that follows them, and returns the bytes. Returns
     /// `None` if no line feed follows.
-    pub fn take_bytes(&mut self, count: u64) -> Option<Taken<'a>>
+    pub fn take_bytes(&mut self, count: u64) -> Option<TakenText<'a>>
         ensures text { MatchOption result
             (bytes_before count self.old ≡ None)
             (λ t. bytes_before count self.old ≡ Some (t.text.now, t.count)) }
@@ -107,7 +107,7 @@ impl<'a> Pieces<'a, LINE_FEED> {
         if is_line_feed_at(all, len) {
             self.rest = Some(&all[len + 1..]);
             let text = &all[..len];
-            return Some(Taken {
+            return Some(TakenText {
                 text,
                 count: line_feeds(text) + 1,
             });
@@ -118,7 +118,7 @@ impl<'a> Pieces<'a, LINE_FEED> {
 
 /// Returns the lines before the first that is `word` alone, and those after it. Returns `None` if
 /// there is no such line.
-fn lines_until<'a>(all: &'a [u8], word: &[u8]) -> Option<(Taken<'a>, Pieces<'a, LINE_FEED>)>
+fn lines_until<'a>(all: &'a [u8], word: &[u8]) -> Option<(TakenText<'a>, Pieces<'a, LINE_FEED>)>
     ensures { MatchOption result
         (lines_before word.now (split_at LINE_FEED all.now) ≡ None)
         (λ found. (lines_before word.now (split_at LINE_FEED all.now)
@@ -133,7 +133,7 @@ fn lines_until<'a>(all: &'a [u8], word: &[u8]) -> Option<(Taken<'a>, Pieces<'a, 
         count += 1;
         if line == word {
             let text = &all[..len];
-            return Some((Taken { text, count }, lines));
+            return Some((TakenText { text, count }, lines));
         }
         len += line.len() + 1;
     }
@@ -142,11 +142,11 @@ fn lines_until<'a>(all: &'a [u8], word: &[u8]) -> Option<(Taken<'a>, Pieces<'a, 
 
 /// Returns whether the byte at this index is a line feed.
 #[tactic(auto, using(std::proofs::lemmas::List::get_or_past))]
-fn is_line_feed_at(bytes: &[u8], place: usize) -> bool
-    ensures feed { result ≡ (slice_index bytes.now place == LINE_FEED) }
-    ensures inside { IsTrue result → place < length bytes.now }
+fn is_line_feed_at(bytes: &[u8], index: usize) -> bool
+    ensures feed { result ≡ (slice_index bytes.now index == LINE_FEED) }
+    ensures inside { IsTrue result → index < length bytes.now }
 {
-    place < bytes.len() && bytes[place] == LINE_FEED
+    index < bytes.len() && bytes[index] == LINE_FEED
 }
 
 /// Counts the line feeds of a text.

@@ -2,7 +2,7 @@
 ghost use Rattle.std.specs.Prelude.{◌≡◌, ◌≤◌, ◌<◌, ◌⊎◌, MatchOption};
 ghost use Rattle.commands.specs.declared.weights.TheConstants.{MOST_WORKERS};
 
-use crate::pieces::cut;
+use crate::pieces::split_first_piece;
 use numbers::parse_number;
 use synod::{MOST_NODES, Weights};
 
@@ -40,9 +40,9 @@ pub(crate) fn parse_weights(text: &[u8], nodes: u8) -> Option<Weights>
 {
     let mut weights = [0u8; MOST_NODES];
     let mut rest = Some(text);
-    for place in 0..nodes as usize {
-        let (word, left) = cut(rest?, b',');
-        weights[place] = u8::try_from(parse_number(word)?).ok()?;
+    for index in 0..nodes as usize {
+        let (word, left) = split_first_piece(rest?, b',');
+        weights[index] = u8::try_from(parse_number(word)?).ok()?;
         rest = left;
     }
     if rest.is_some() {

@@ -1,17 +1,17 @@
 -- A script of the lines of events.
-use Rattle.event_lines.proofs.Words.{◌≡◌, ℕ, ◌+◌, ◌^◌, ◌<◌, ◌==◌, Bool, true, false, List, [], ◌∷◌, ◌++◌, codes, count_by, decimal, map, flat_map, Some, Result, Ok, refl, AllByRecursion, list_any, sym, ◌∙◌, ap, arith, length, take, drop, get_or, append_assoc, append-nil, length-append, subst, take_at, drop_at, get_or_at, Entry, Text, Charter, AreNames, Submission, Event, Offer, Begin, Deliver, Restart, Carried, PlayLine, Node, split_at, followed, script_from, script_of, with_line, play_line_of, bytes_before, text_passed, bytes_found, bytes_rest, Fits, FitsEntry, FitsText, event_text, events_text, entry_text, offer_text, line_of, led, entry_words}
+use Rattle.event_lines.proofs.Words.{◌≡◌, ℕ, ◌+◌, ◌^◌, ◌<◌, ◌==◌, Bool, true, false, List, [], ◌∷◌, ◌++◌, codes, count_by, decimal, map, flat_map, Some, Result, Ok, refl, AllByRecursion, list_any, sym, ◌∙◌, ap, arith, length, take, drop, get_or, append_assoc, append-nil, length-append, subst, take_at, drop_at, get_or_at, Entry, Text, Charter, AreNames, Submission, Event, Offer, Begin, Deliver, Restart, Carried, PlayLine, Node, split_at, prepended, script_from, script_of, with_line, play_line_of, bytes_before, text_passed, bytes_found, bytes_rest, EventIsInRange, EntryIsInRange, TextIsInRange, event_text, events_text, offer_lines, text_offer_lines, play_line_of_event, spaced, entry_words}
 use Rattle.commands.specs.declared.node_line.NodeLine.TheVariants.{Offer as OfferLine}
 use Rattle.event_lines.proofs.DecimalLemmas.{without-decimal}
-use Rattle.event_lines.proofs.WordsLemmas.{Without, without-append, without-led, split_before}
+use Rattle.event_lines.proofs.WordsLemmas.{Without, without-append, without-spaced, split_before}
 use Rattle.event_lines.proofs.LinesLemmas.{begin_says, restart_says, deliver_says, offer_says, bytes_say, charter_says}
 
--- the lines of a text, and what a script says that begins with them
+-- the lines of a text, and the result of parsing a script that begins with them
 abbrev lines_say : ℕ → List ℕ → Result (List PlayLine) ℕ
 lines_say number bytes = script_from play_line_of number 0 (split_at 10 bytes)
 
 -- a text at the front of a script is this line
 abbrev IsRead : List ℕ → PlayLine → Type 0
-IsRead text line = (number : ℕ) (rest : List ℕ) → (next : ℕ) × (lines_say number (text ++ rest) ≡ followed line (lines_say next rest))
+IsRead text line = (number : ℕ) (rest : List ℕ) → (next : ℕ) × (lines_say number (text ++ rest) ≡ prepended line (lines_say next rest))
 
 module _ (line : List ℕ) (free : Without 10 line) (some : 0 < length line) where
   -- the first line, and those after it
@@ -24,9 +24,9 @@ module _ (line : List ℕ) (free : Without 10 line) (some : 0 < length line) whe
       by [] none = absurd (omega arith)
       by (c ∷ cs) more = refl
 
-  -- a line that alone says something
-  read_alone : (x : PlayLine) → ((lines : List (List ℕ)) → play_line_of line lines ≡ Some (x, 0)) → IsRead (line ++ codes "\n") x
-  read_alone x says = λ number rest. (
+  -- a line without a text
+  read_without_text : (x : PlayLine) → ((lines : List (List ℕ)) → play_line_of line lines ≡ Some (x, 0)) → IsRead (line ++ codes "\n") x
+  read_without_text x says = λ number rest. (
     number + 1,
     ap (lines_say number) (append_assoc line (codes "\n") rest)
         ∙ (one_line number rest
@@ -55,7 +55,7 @@ module _ (line : List ℕ) (free : Without 10 line) (some : 0 < length line) whe
           ap (lines_say number) form
               ∙ (one_line number all
               ∙ (ap (λ o. with_line number o (λ count. script_from play_line_of (number + 1) count (split_at 10 all))) (says rest)
-              ∙ ap (followed x) (text_passed play_line_of (number + 1) count (split_at 10 all)
+              ∙ ap (prepended x) (text_passed play_line_of (number + 1) count (split_at 10 all)
               ∙ ap (script_from play_line_of (number + 1 + count) 0) (sym after)))),
         )
 
@@ -82,96 +82,96 @@ names_free : (c : ℕ) (names : List ℕ) → c < 48 → AllByRecursion (λ n. n
 names_free c [] low small = tt
 names_free c (n ∷ names) low (small, others) = (free_of c n low small, names_free c names low others)
 
-led-append : (xs ys : List (List ℕ)) → led (xs ++ ys) ≡ led xs ++ led ys
-led-append [] ys = refl
-led-append (x ∷ xs) ys = ap (λ l. (codes " " ++ x) ++ l) (led-append xs ys) ∙ sym (append_assoc (codes " " ++ x) (led xs) (led ys))
+spaced-append : (xs ys : List (List ℕ)) → spaced (xs ++ ys) ≡ spaced xs ++ spaced ys
+spaced-append [] ys = refl
+spaced-append (x ∷ xs) ys = ap (λ l. (codes " " ++ x) ++ l) (spaced-append xs ys) ∙ sym (append_assoc (codes " " ++ x) (spaced xs) (spaced ys))
 
 module _ (k a s : ℕ) (node : k < 256) (author : a < 2 ^ 64) (serial : s < 2 ^ 64) where
-  place_free : (c : ℕ) → c < 48 → (words : List (List ℕ)) → AllByRecursion (Without c) words → AllByRecursion (Without c) (entry_words k a s ++ words)
-  place_free c low words others = (free_of c k low (wide k node), (free_of c a low author, (free_of c s low serial, others)))
+  entry_words_free : (c : ℕ) → c < 48 → (words : List (List ℕ)) → AllByRecursion (Without c) words → AllByRecursion (Without c) (entry_words k a s ++ words)
+  entry_words_free c low words others = (free_of c k low (wide k node), (free_of c a low author, (free_of c s low serial, others)))
 
   -- an offer of a text without line feeds
   read_offer : (text : List ℕ) → Without 10 text
-      → IsRead (codes "offer" ++ led (entry_words k a s) ++ codes " " ++ text ++ codes "\n")
+      → IsRead (codes "offer" ++ spaced (entry_words k a s) ++ codes " " ++ text ++ codes "\n")
       (Node (OfferLine (record { node = k; entry = Text (record { author = a; serial = s; text = text }) })))
   read_offer text none =
-      let place : List ℕ = led (entry_words k a s) in
+      let place : List ℕ = spaced (entry_words k a s) in
       let line : List ℕ = codes "offer" ++ (place ++ codes " " ++ text) in
       let form : line ≡ codes "offer" ++ place ++ codes " " ++ text
       = sym (append_assoc (codes "offer" ++ place) (codes " ") text ∙ (append_assoc (codes "offer") place (codes " " ++ text) ∙ ap (λ l. codes "offer" ++ l) (sym (append_assoc place (codes " ") text)))) in
       let free : Without 10 line = without-append 10 (codes "offer") (place ++ codes " " ++ text) refl
-      (without-append 10 (place ++ codes " ") text (without-append 10 place (codes " ") (without-led 10 (entry_words k a s) refl (place_free 10 (omega arith) [] tt)) refl) none) in
+      (without-append 10 (place ++ codes " ") text (without-append 10 place (codes " ") (without-spaced 10 (entry_words k a s) refl (entry_words_free 10 (omega arith) [] tt)) refl) none) in
       let P : List ℕ → Type 0 = λ l. IsRead (l ++ codes "\n") (Node (OfferLine (record { node = k; entry = Text (record { author = a; serial = s; text = text }) }))) in
-      subst P form (read_alone line free (longer (codes "offer") (place ++ codes " " ++ text) (omega arith)) _ (λ lines. offer_says k a s lines node author serial text (place_free 32 (omega arith) [] tt)))
+      subst P form (read_without_text line free (longer (codes "offer") (place ++ codes " " ++ text) (omega arith)) _ (λ lines. offer_says k a s lines node author serial text (entry_words_free 32 (omega arith) [] tt)))
 
   -- an offer of the bytes of a text
   read_bytes_offer : (text : List ℕ) → length text < 2 ^ 64
-      → IsRead (codes "offer-bytes" ++ led (entry_words k a s) ++ led (decimal (length text) ∷ []) ++ codes "\n" ++ text ++ codes "\n")
+      → IsRead (codes "offer-bytes" ++ spaced (entry_words k a s) ++ spaced (decimal (length text) ∷ []) ++ codes "\n" ++ text ++ codes "\n")
       (Node (OfferLine (record { node = k; entry = Text (record { author = a; serial = s; text = text }) })))
   read_bytes_offer text small =
       let n : List (List ℕ) = decimal (length text) ∷ [] in
-      let line : List ℕ = codes "offer-bytes" ++ led (entry_words k a s ++ n) in
-      let form : line ≡ codes "offer-bytes" ++ led (entry_words k a s) ++ led n
-      = ap (λ l. codes "offer-bytes" ++ l) (led-append (entry_words k a s) n) ∙ sym (append_assoc (codes "offer-bytes") (led (entry_words k a s)) (led n)) in
-      let free : Without 10 line = without-append 10 (codes "offer-bytes") (led (entry_words k a s ++ n)) refl
-      (without-led 10 (entry_words k a s ++ n) refl (place_free 10 (omega arith) n (free_of 10 (length text) (omega arith) small, tt))) in
+      let line : List ℕ = codes "offer-bytes" ++ spaced (entry_words k a s ++ n) in
+      let form : line ≡ codes "offer-bytes" ++ spaced (entry_words k a s) ++ spaced n
+      = ap (λ l. codes "offer-bytes" ++ l) (spaced-append (entry_words k a s) n) ∙ sym (append_assoc (codes "offer-bytes") (spaced (entry_words k a s)) (spaced n)) in
+      let free : Without 10 line = without-append 10 (codes "offer-bytes") (spaced (entry_words k a s ++ n)) refl
+      (without-spaced 10 (entry_words k a s ++ n) refl (entry_words_free 10 (omega arith) n (free_of 10 (length text) (omega arith) small, tt))) in
       let P : List ℕ → Type 0 = λ l. IsRead (l ++ codes "\n" ++ text ++ codes "\n") (Node (OfferLine (record { node = k; entry = Text (record { author = a; serial = s; text = text }) }))) in
-      subst P form (read_bytes line free (longer (codes "offer-bytes") (led (entry_words k a s ++ n)) (omega arith)) text _
+      subst P form (read_bytes line free (longer (codes "offer-bytes") (spaced (entry_words k a s ++ n)) (omega arith)) text _
       (λ rest. bytes_say k a s (split_at 10 (text ++ 10 ∷ rest)) node author serial (length text) (count_by (λ b. b == 10) text + 1) text small (bytes_at text rest)
-      (place_free 32 (omega arith) n (free_of 32 (length text) (omega arith) small, tt))))
+      (entry_words_free 32 (omega arith) n (free_of 32 (length text) (omega arith) small, tt))))
 
   -- a charter
   read_charter : (names : List ℕ) → AreNames names → AllByRecursion (λ n. n < 2 ^ 64) names
-      → IsRead (codes "charter" ++ led (entry_words k a s) ++ led (map decimal names) ++ codes "\n")
+      → IsRead (codes "charter" ++ spaced (entry_words k a s) ++ spaced (map decimal names) ++ codes "\n")
       (Node (OfferLine (record { node = k; entry = Charter a s names })))
   read_charter names are small =
-      let line : List ℕ = codes "charter" ++ led (entry_words k a s ++ map decimal names) in
-      let form : line ≡ codes "charter" ++ led (entry_words k a s) ++ led (map decimal names)
-      = ap (λ l. codes "charter" ++ l) (led-append (entry_words k a s) (map decimal names)) ∙ sym (append_assoc (codes "charter") (led (entry_words k a s)) (led (map decimal names))) in
-      let free : Without 10 line = without-append 10 (codes "charter") (led (entry_words k a s ++ map decimal names)) refl
-      (without-led 10 (entry_words k a s ++ map decimal names) refl (place_free 10 (omega arith) (map decimal names) (names_free 10 names (omega arith) small))) in
+      let line : List ℕ = codes "charter" ++ spaced (entry_words k a s ++ map decimal names) in
+      let form : line ≡ codes "charter" ++ spaced (entry_words k a s) ++ spaced (map decimal names)
+      = ap (λ l. codes "charter" ++ l) (spaced-append (entry_words k a s) (map decimal names)) ∙ sym (append_assoc (codes "charter") (spaced (entry_words k a s)) (spaced (map decimal names))) in
+      let free : Without 10 line = without-append 10 (codes "charter") (spaced (entry_words k a s ++ map decimal names)) refl
+      (without-spaced 10 (entry_words k a s ++ map decimal names) refl (entry_words_free 10 (omega arith) (map decimal names) (names_free 10 names (omega arith) small))) in
       let P : List ℕ → Type 0 = λ l. IsRead (l ++ codes "\n") (Node (OfferLine (record { node = k; entry = Charter a s names }))) in
-      subst P form (read_alone line free (longer (codes "charter") (led (entry_words k a s ++ map decimal names)) (omega arith)) _
-      (λ lines. charter_says k a s lines node author serial names are small (place_free 32 (omega arith) (map decimal names) (names_free 32 names (omega arith) small))))
+      subst P form (read_without_text line free (longer (codes "charter") (spaced (entry_words k a s ++ map decimal names)) (omega arith)) _
+      (λ lines. charter_says k a s lines node author serial names are small (entry_words_free 32 (omega arith) (map decimal names) (names_free 32 names (omega arith) small))))
 
 read_number : (verb : List ℕ) (n : ℕ) (x : PlayLine) → Without 10 verb → 0 < length verb → n < 2 ^ 64
-    → ((lines : List (List ℕ)) → play_line_of (verb ++ led (decimal n ∷ [])) lines ≡ Some (x, 0)) → IsRead (verb ++ led (decimal n ∷ []) ++ codes "\n") x
+    → ((lines : List (List ℕ)) → play_line_of (verb ++ spaced (decimal n ∷ [])) lines ≡ Some (x, 0)) → IsRead (verb ++ spaced (decimal n ∷ []) ++ codes "\n") x
 read_number verb n x free some small says =
-    read_alone (verb ++ led (decimal n ∷ []))
-    (without-append 10 verb (led (decimal n ∷ [])) free (without-led 10 (decimal n ∷ []) refl (free_of 10 n (omega arith) small, tt)))
-    (longer verb (led (decimal n ∷ [])) some) x says
+    read_without_text (verb ++ spaced (decimal n ∷ []))
+    (without-append 10 verb (spaced (decimal n ∷ [])) free (without-spaced 10 (decimal n ∷ []) refl (free_of 10 n (omega arith) small, tt)))
+    (longer verb (spaced (decimal n ∷ [])) some) x says
 
-read_text : (k : ℕ) (s : Submission) (b : Bool) → list_any (λ b. b == 10) s.text ≡ b → k < 256 → FitsText s → IsRead (offer_text k s) (line_of (Offer k (record { 0 = Text s })))
+read_text : (k : ℕ) (s : Submission) (b : Bool) → list_any (λ b. b == 10) s.text ≡ b → k < 256 → TextIsInRange s → IsRead (text_offer_lines k s) (play_line_of_event (Offer k (record { 0 = Text s })))
 read_text k s true feed node fits = rw feed (read_bytes_offer k s.author s.serial node fits.0 fits.1 s.text fits.2)
 read_text k s false feed node fits = rw feed (read_offer k s.author s.serial node fits.0 fits.1 s.text feed)
 
-read_entry : (k : ℕ) (e : Entry) → k < 256 → FitsEntry e → IsRead (entry_text k e) (line_of (Offer k (record { 0 = e })))
+read_entry : (k : ℕ) (e : Entry) → k < 256 → EntryIsInRange e → IsRead (offer_lines k e) (play_line_of_event (Offer k (record { 0 = e })))
 read_entry k (Text s) node fits = read_text k s (list_any (λ b. b == 10) s.text) refl node fits
 read_entry k (Charter a s names) node fits = read_charter k a s node fits.0 fits.1 names fits.2 fits.3
 
 -- the lines of an event are read as its line
-read_event : (e : Event Carried) → Fits e → IsRead (event_text e) (line_of e)
+read_event : (e : Event Carried) → EventIsInRange e → IsRead (event_text e) (play_line_of_event e)
 read_event (Offer k v) fits = read_entry k v.0 fits.0 fits.1
 read_event (Begin k) fits = read_number (codes "begin") k _ refl (omega arith) (wide k fits) (λ lines. begin_says k lines fits (free_of 32 k (omega arith) (wide k fits), tt))
 read_event (Deliver n) fits = read_number (codes "deliver") n _ refl (omega arith) fits (λ lines. deliver_says n lines fits (free_of 32 n (omega arith) fits, tt))
 read_event (Restart k) fits = read_number (codes "restart") k _ refl (omega arith) (wide k fits) (λ lines. restart_says k lines fits (free_of 32 k (omega arith) (wide k fits), tt))
 
 -- so are the lines of events
-read_events : (es : List (Event Carried)) (number : ℕ) → AllByRecursion Fits es → lines_say number (events_text es) ≡ Ok (map line_of es)
+read_events : (es : List (Event Carried)) (number : ℕ) → AllByRecursion EventIsInRange es → lines_say number (events_text es) ≡ Ok (map play_line_of_event es)
 read_events [] number fits = refl
 read_events (e ∷ es) number (first, others) =
     let at = read_event e first number (events_text es) in
-    at.1 ∙ ap (followed (line_of e)) (read_events es at.0 others)
+    at.1 ∙ ap (prepended (play_line_of_event e)) (read_events es at.0 others)
 
-pub events_parse : (es : List (Event Carried)) → AllByRecursion Fits es → script_of play_line_of (events_text es) ≡ Ok (map line_of es)
+pub events_parse : (es : List (Event Carried)) → AllByRecursion EventIsInRange es → script_of play_line_of (events_text es) ≡ Ok (map play_line_of_event es)
 events_parse es fits = read_events es 1 fits
 
 -- these events are in the text, and their numbers are within their types
 pub record AreWritten (events : List (Event Carried)) (text : List ℕ) : Type 0 where
   pub lines : text ≡ events_text events
-  pub fit : AllByRecursion Fits events
+  pub fit : AllByRecursion EventIsInRange events
 
-fit_more : (es : List (Event Carried)) (e : Event Carried) → AllByRecursion Fits es → Fits e → AllByRecursion Fits (es ++ e ∷ [])
+fit_more : (es : List (Event Carried)) (e : Event Carried) → AllByRecursion EventIsInRange es → EventIsInRange e → AllByRecursion EventIsInRange (es ++ e ∷ [])
 fit_more [] e none fits = (fits, tt)
 fit_more (x ∷ es) e (first, others) fits = (first, fit_more es e others fits)
 
@@ -181,7 +181,7 @@ text_more (x ∷ es) e = ap (λ l. event_text x ++ l) (text_more es e) ∙ sym (
 
 -- one event more
 pub written_more : (es now : List (Event Carried)) (text next : List ℕ) (e : Event Carried) → now ≡ es ++ e ∷ [] → AreWritten es text
-    → next ≡ text ++ event_text e → Fits e → AreWritten now next
+    → next ≡ text ++ event_text e → EventIsInRange e → AreWritten now next
 written_more es now text next e more so appended fits =
     let P : List (Event Carried) → Type 0 = λ l. AreWritten l next in
     subst P (sym more) (record {
@@ -190,5 +190,5 @@ written_more es now text next e more so appended fits =
     })
 
 -- all of them
-pub written_parses : (es : List (Event Carried)) (text : List ℕ) → AreWritten es text → script_of play_line_of text ≡ Ok (map line_of es)
+pub written_parses : (es : List (Event Carried)) (text : List ℕ) → AreWritten es text → script_of play_line_of text ≡ Ok (map play_line_of_event es)
 written_parses es text so = ap (script_of play_line_of) so.lines ∙ events_parse es so.fit

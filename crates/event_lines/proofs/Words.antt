@@ -1,20 +1,20 @@
 -- The words in which this crate is proved, passed on from one place.
 pub use Rattle.commands.proofs.ScriptsLemmas.{text_passed}
 pub use Rattle.commands.proofs.TextsLemmas.{bytes_found, bytes_rest}
-pub use Rattle.commands.specs.LineWords.{Words, alone, by_first, entry_at, node_of, number_at, one_node, one_number}
-pub use Rattle.commands.specs.NodeLines.{stands_alone}
-pub use Rattle.commands.specs.Offered.{are_names, names_of, numbers_of}
+pub use Rattle.commands.specs.LineWords.{Words, last_value, by_first_word, entry_at, node_of, number_at, one_node, one_number}
+pub use Rattle.commands.specs.NodeLines.{without_text}
+pub use Rattle.commands.specs.OfferedEntry.{are_names, names_of, numbers_of}
 pub use Rattle.commands.specs.Pieces.{split_at}
-pub use Rattle.commands.specs.PlayLines.{or_node_line, play_line_by, play_line_of}
-pub use Rattle.commands.specs.Scripts.{followed, script_from, script_of, with_line}
+pub use Rattle.commands.specs.PlayLines.{line_or_node_line, play_line_by, play_line_of}
+pub use Rattle.commands.specs.Scripts.{prepended, script_from, script_of, with_line}
 pub use Rattle.commands.specs.Texts.{bytes_before, text_at}
-pub use Rattle.commands.specs.declared.line_words.EntryAt.{EntryAt}
-pub use Rattle.commands.specs.declared.offered.Offered.{Offered}
+pub use Rattle.commands.specs.declared.line_words.NodeEntryId.{NodeEntryId}
+pub use Rattle.commands.specs.declared.offered_entry.OfferedEntry.{OfferedEntry}
 pub use Rattle.commands.specs.declared.play_line.PlayLine.{PlayLine}
 pub use Rattle.commands.specs.declared.play_line.PlayLine.TheVariants.{Node}
 pub use Rattle.commands.specs.declared.text_form.TextForm.{TextForm}
 pub use Rattle.commands.specs.declared.text_form.TextForm.TheVariants.{Bytes, Rest}
-pub use Rattle.event_lines.specs.EventLines.{Fits, FitsEntry, FitsText, entry_text, event_text, events_text, led, spaced_word, line_of, offer_text, entry_words}
+pub use Rattle.event_lines.specs.EventLines.{EventIsInRange, EntryIsInRange, TextIsInRange, offer_lines, event_text, events_text, spaced, spaced_word, play_line_of_event, text_offer_lines, entry_words}
 pub use Rattle.library.specs.Charters.{AreNames, is_rising}
 pub use Rattle.library.specs.declared.charter.TheConstants.{MOST_NAMES}
 pub use Rattle.library.specs.declared.entry.Entry.{Entry}

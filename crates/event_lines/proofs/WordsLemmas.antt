@@ -1,11 +1,11 @@
 -- Lines made of words, and the words that they are read as.
-use Rattle.event_lines.proofs.Words.{◌≡◌, ℕ, ◌==◌, Bool, true, false, ◌||◌, List, [], ◌∷◌, ◌++◌, codes, flat_map, refl, AllByRecursion, list_any, onto_first, slice_split, sym, ◌∙◌, ap, append_assoc, append-nil, eq-eqb, list_any-append, slice_split-cons_yes, slice_split-cons_no, split_at, led, spaced_word}
+use Rattle.event_lines.proofs.Words.{◌≡◌, ℕ, ◌==◌, Bool, true, false, ◌||◌, List, [], ◌∷◌, ◌++◌, codes, flat_map, refl, AllByRecursion, list_any, onto_first, slice_split, sym, ◌∙◌, ap, append_assoc, append-nil, eq-eqb, list_any-append, slice_split-cons_yes, slice_split-cons_no, split_at, spaced, spaced_word}
 
 -- the byte is not in the text
 abbrev pub Without : ℕ → List ℕ → Type 0
 Without c bytes = list_any (λ b. b == c) bytes ≡ false
 
--- of two tests neither passes
+-- neither of two tests passes
 neither : (a b : Bool) → (a || b) ≡ false → (a ≡ false) × (b ≡ false)
 neither true b h = absurd (cc)
 neither false b h = (refl, h)
@@ -29,27 +29,27 @@ split_before c (x ∷ xs) ys none =
 
 -- words are read as they are
 pub split_words : (word : List ℕ) (words : List (List ℕ)) → Without 32 word → AllByRecursion (Without 32) words
-    → split_at 32 (word ++ led words) ≡ word ∷ words
+    → split_at 32 (word ++ spaced words) ≡ word ∷ words
 split_words word [] one none = ap (split_at 32) (append-nil word) ∙ split_one 32 word one
 split_words word (w ∷ words) one (next, others) =
-    split_before 32 word (w ++ led words) one ∙ ap (λ l. word ∷ l) (split_words w words next others)
+    split_before 32 word (w ++ spaced words) one ∙ ap (λ l. word ∷ l) (split_words w words next others)
 
 -- so are words before a text, whose own words follow them
 pub split_text : (word : List ℕ) (words : List (List ℕ)) (text : List ℕ) → Without 32 word → AllByRecursion (Without 32) words
-    → split_at 32 (word ++ (led words ++ codes " " ++ text)) ≡ (word ∷ words) ++ split_at 32 text
+    → split_at 32 (word ++ (spaced words ++ codes " " ++ text)) ≡ (word ∷ words) ++ split_at 32 text
 split_text word [] text one none = split_before 32 word text one
 split_text word (w ∷ words) text one (next, others) =
-    let more : led (w ∷ words) ++ codes " " ++ text ≡ 32 ∷ (w ++ (led words ++ codes " " ++ text))
-    = append_assoc (led (w ∷ words)) (codes " ") text
-    ∙ (append_assoc (spaced_word w) (led words) (codes " " ++ text)
-    ∙ ap (λ l. 32 ∷ (w ++ l)) (sym (append_assoc (led words) (codes " ") text))) in
+    let more : spaced (w ∷ words) ++ codes " " ++ text ≡ 32 ∷ (w ++ (spaced words ++ codes " " ++ text))
+    = append_assoc (spaced (w ∷ words)) (codes " ") text
+    ∙ (append_assoc (spaced_word w) (spaced words) (codes " " ++ text)
+    ∙ ap (λ l. 32 ∷ (w ++ l)) (sym (append_assoc (spaced words) (codes " ") text))) in
     ap (λ l. split_at 32 (word ++ l)) more
-    ∙ (split_before 32 word (w ++ (led words ++ codes " " ++ text)) one
+    ∙ (split_before 32 word (w ++ (spaced words ++ codes " " ++ text)) one
     ∙ ap (λ l. word ∷ l) (split_text w words text next others))
 
 -- a byte that is in no word, and is no space, is not in the line of words
-pub without-led : (c : ℕ) (words : List (List ℕ)) → (32 == c) ≡ false → AllByRecursion (Without c) words → Without c (led words)
-without-led c [] other none = refl
-without-led c (w ∷ words) other (first, others) =
+pub without-spaced : (c : ℕ) (words : List (List ℕ)) → (32 == c) ≡ false → AllByRecursion (Without c) words → Without c (spaced words)
+without-spaced c [] other none = refl
+without-spaced c (w ∷ words) other (first, others) =
     let own : Without c (spaced_word w) = ap (λ b. b || list_any (λ b. b == c) w) other ∙ first in
-    without-append c (spaced_word w) (led words) own (without-led c words other others)
+    without-append c (spaced_word w) (spaced words) own (without-spaced c words other others)

@@ -19,40 +19,40 @@ use Rattle.commands.specs.declared.play_line.PlayLine.TheVariants.{Node, Deliver
 abbrev pub spaced_word : List ℕ → List ℕ
 spaced_word word = codes " " ++ word
 
-abbrev pub led : List (List ℕ) → List ℕ
-led words = flat_map spaced_word words
+abbrev pub spaced : List (List ℕ) → List ℕ
+spaced words = flat_map spaced_word words
 
 -- the line of a verb and a number
 abbrev pub number_line : List ℕ → ℕ → List ℕ
-number_line verb n = verb ++ led (decimal n ∷ []) ++ codes "\n"
+number_line verb n = verb ++ spaced (decimal n ∷ []) ++ codes "\n"
 
 -- a node, an author and a serial number
 abbrev pub entry_words : ℕ → ℕ → ℕ → List (List ℕ)
 entry_words node author serial = decimal node ∷ decimal author ∷ decimal serial ∷ []
 
 -- the line `offer`, with the text on it
-abbrev pub line_offer : ℕ → Submission → List ℕ
-line_offer node s = codes "offer" ++ led (entry_words node s.author s.serial) ++ codes " " ++ s.text ++ codes "\n"
+abbrev pub offer_line : ℕ → Submission → List ℕ
+offer_line node s = codes "offer" ++ spaced (entry_words node s.author s.serial) ++ codes " " ++ s.text ++ codes "\n"
 
 -- the line `offer-bytes`, which ends with the count of the bytes of the text
-abbrev pub bytes_line : ℕ → Submission → List ℕ
-bytes_line node s = codes "offer-bytes" ++ led (entry_words node s.author s.serial) ++ led (decimal (length s.text) ∷ []) ++ codes "\n"
+abbrev pub offer_bytes_line : ℕ → Submission → List ℕ
+offer_bytes_line node s = codes "offer-bytes" ++ spaced (entry_words node s.author s.serial) ++ spaced (decimal (length s.text) ∷ []) ++ codes "\n"
 
 -- the line `offer-bytes`, and the bytes of the text after it
-abbrev pub bytes_offer : ℕ → Submission → List ℕ
-bytes_offer node s = bytes_line node s ++ s.text ++ codes "\n"
+abbrev pub offer_bytes_text : ℕ → Submission → List ℕ
+offer_bytes_text node s = offer_bytes_line node s ++ s.text ++ codes "\n"
 
 -- the lines that offer a text: `offer-bytes` if it has a line feed, else `offer`
-abbrev pub offer_text : ℕ → Submission → List ℕ
-offer_text node s = if list_any (λ b. b == LINE_FEED) s.text then bytes_offer node s else line_offer node s
+abbrev pub text_offer_lines : ℕ → Submission → List ℕ
+text_offer_lines node s = if list_any (λ b. b == LINE_FEED) s.text then offer_bytes_text node s else offer_line node s
 
-abbrev pub entry_text : ℕ → Entry → List ℕ
-entry_text node (Text submission) = offer_text node submission
-entry_text node (Charter author serial names) = codes "charter" ++ led (entry_words node author serial) ++ led (map decimal names) ++ codes "\n"
+abbrev pub offer_lines : ℕ → Entry → List ℕ
+offer_lines node (Text submission) = text_offer_lines node submission
+offer_lines node (Charter author serial names) = codes "charter" ++ spaced (entry_words node author serial) ++ spaced (map decimal names) ++ codes "\n"
 
 -- the lines of an event
 abbrev pub event_text : Event Carried → List ℕ
-event_text (Offer node value) = entry_text node value.0
+event_text (Offer node value) = offer_lines node value.0
 event_text (Begin node) = number_line (codes "begin") node
 event_text (Deliver number) = number_line (codes "deliver") number
 event_text (Restart node) = number_line (codes "restart") node
@@ -66,23 +66,23 @@ history_text events =
     codes "events " ++ decimal (count_by (λ b. b == LINE_FEED) (events_text events)) ++ codes "\n" ++ events_text events
 
 -- the line of `play` that causes an event
-abbrev pub line_of : Event Carried → PlayLine
-line_of (Offer node value) = Node (OfferLine (record { node = node; entry = value.0 }))
-line_of (Begin node) = Node (BeginLine node)
-line_of (Deliver number) = DeliverLine number
-line_of (Restart node) = Node (RestartLine node)
+abbrev pub play_line_of_event : Event Carried → PlayLine
+play_line_of_event (Offer node value) = Node (OfferLine (record { node = node; entry = value.0 }))
+play_line_of_event (Begin node) = Node (BeginLine node)
+play_line_of_event (Deliver number) = DeliverLine number
+play_line_of_event (Restart node) = Node (RestartLine node)
 
 -- the numbers of an event are within their types
 
-abbrev pub FitsText : Submission → Type 0
-FitsText s = (s.author < 2 ^ 64) × (s.serial < 2 ^ 64) × (length s.text < 2 ^ 64)
+abbrev pub TextIsInRange : Submission → Type 0
+TextIsInRange s = (s.author < 2 ^ 64) × (s.serial < 2 ^ 64) × (length s.text < 2 ^ 64)
 
-abbrev pub FitsEntry : Entry → Type 0
-FitsEntry (Text submission) = FitsText submission
-FitsEntry (Charter author serial names) = (author < 2 ^ 64) × (serial < 2 ^ 64) × AreNames names × AllByRecursion (λ n. n < 2 ^ 64) names
+abbrev pub EntryIsInRange : Entry → Type 0
+EntryIsInRange (Text submission) = TextIsInRange submission
+EntryIsInRange (Charter author serial names) = (author < 2 ^ 64) × (serial < 2 ^ 64) × AreNames names × AllByRecursion (λ n. n < 2 ^ 64) names
 
-abbrev pub Fits : Event Carried → Type 0
-Fits (Offer node value) = (node < 256) × FitsEntry value.0
-Fits (Begin node) = node < 256
-Fits (Deliver number) = number < 2 ^ 64
-Fits (Restart node) = node < 256
+abbrev pub EventIsInRange : Event Carried → Type 0
+EventIsInRange (Offer node value) = (node < 256) × EntryIsInRange value.0
+EventIsInRange (Begin node) = node < 256
+EventIsInRange (Deliver number) = number < 2 ^ 64
+EventIsInRange (Restart node) = node < 256

@@ -3,8 +3,8 @@ ghost use Rattle.std.specs.Prelude.{◌≡◌, ◌++◌, ◌^◌, ◌<◌, ◌==
 ghost use Rattle.commands.specs.PlayLines.{play_line_of};
 ghost use Rattle.commands.specs.Scripts.{script_of};
 ghost use Rattle.commands.specs.declared.script.TheConstants.{LINE_FEED};
-ghost use Rattle.event_lines.specs.EventLines.{Fits, events_text, event_text, history_text};
-ghost use Rattle.event_lines.specs.EventLines.{line_of, number_line};
+ghost use Rattle.event_lines.specs.EventLines.{EventIsInRange, events_text, event_text, history_text};
+ghost use Rattle.event_lines.specs.EventLines.{play_line_of_event, number_line};
 
 use crate::offers::push_offer;
 use commands::LINE_FEED;
@@ -20,7 +20,7 @@ use world::Carried;
 pub fn event_lines(alloc: Global, events: &[Event<Carried>]) -> Result<Vec<u8>, AllocError>
     ensures text { IfOk result (λ text. text.items ≡ events_text events.now) }
     ensures parses { IfOk result
-        (λ text. script_of play_line_of text.items ≡ Ok (map line_of events.now)) }
+        (λ text. script_of play_line_of text.items ≡ Ok (map play_line_of_event events.now)) }
 {
     let mut text = Vec::new(alloc);
     for event in events {
@@ -56,7 +56,7 @@ fn line_feeds(text: &[u8]) -> usize
 /// Appends the lines of an event.
 fn push_event(text: &mut Vec<u8>, event: &Event<Carried>) -> Result<(), AllocError>
     ensures text { OnOk result (text.new.items ≡ text.old.items ++ event_text event.now) }
-    ensures fits { OnOk result (Fits event.now) }
+    ensures in_range { OnOk result (EventIsInRange event.now) }
 {
     match event {
         Event::Offer(node, Carried(entry)) => push_offer(text, *node, entry),
@@ -69,7 +69,7 @@ fn push_event(text: &mut Vec<u8>, event: &Event<Carried>) -> Result<(), AllocErr
 /// Appends a line of a verb and the number of a node.
 fn push_node_line(text: &mut Vec<u8>, verb: &[u8], node: u8) -> Result<(), AllocError>
     ensures text { OnOk result (text.new.items ≡ text.old.items ++ number_line verb.now node) }
-    ensures fits { node < 256 }
+    ensures in_range { node < 256 }
 {
     push_number_line(text, verb, u64::from(node))
 }
@@ -77,7 +77,7 @@ fn push_node_line(text: &mut Vec<u8>, verb: &[u8], node: u8) -> Result<(), Alloc
 /// Appends a line of a verb and a number.
 fn push_number_line(text: &mut Vec<u8>, verb: &[u8], number: u64) -> Result<(), AllocError>
     ensures text { OnOk result (text.new.items ≡ text.old.items ++ number_line verb.now number) }
-    ensures fits { number < 2 ^ 64 }
+    ensures in_range { number < 2 ^ 64 }
 {
     text.extend_from_slice(verb)?;
     text.extend_from_slice(b" ")?;

@@ -2,8 +2,8 @@
 ghost use Rattle.std.specs.Prelude.{◌≡◌, ◌++◌, ◌^◌, ◌<◌, ◌==◌, [], ◌∷◌, codes, decimal, length, map, OnOk};
 ghost use Rattle.std.specs.List.{AllByRecursion, list_any};
 ghost use Rattle.commands.specs.declared.script.TheConstants.{LINE_FEED};
-ghost use Rattle.event_lines.specs.EventLines.{FitsEntry, FitsText, led, offer_text, entry_text};
-ghost use Rattle.event_lines.specs.EventLines.{bytes_line, bytes_offer, line_offer, entry_words};
+ghost use Rattle.event_lines.specs.EventLines.{EntryIsInRange, TextIsInRange, spaced, text_offer_lines, offer_lines};
+ghost use Rattle.event_lines.specs.EventLines.{offer_bytes_line, offer_bytes_text, offer_line, entry_words};
 
 use commands::LINE_FEED;
 use library::{Entry, Submission};
@@ -12,8 +12,8 @@ use std::alloc::AllocError;
 
 /// Appends the lines that offer an entry at a node.
 pub(crate) fn push_offer(text: &mut Vec<u8>, node: u8, entry: &Entry) -> Result<(), AllocError>
-    ensures text { OnOk result (text.new.items ≡ text.old.items ++ entry_text node entry.now) }
-    ensures fits { OnOk result ((node < 256) × FitsEntry entry.now) }
+    ensures text { OnOk result (text.new.items ≡ text.old.items ++ offer_lines node entry.now) }
+    ensures in_range { OnOk result ((node < 256) × EntryIsInRange entry.now) }
 {
     match entry {
         Entry::Text(submission) => push_text(text, node, submission),
@@ -23,8 +23,8 @@ pub(crate) fn push_offer(text: &mut Vec<u8>, node: u8, entry: &Entry) -> Result<
             names,
         } => {
             text.extend_from_slice(b"charter")?;
-            push_place(text, node, *author, *serial)?;
-            push_words(text, names.as_slice())?;
+            push_entry_words(text, node, *author, *serial)?;
+            push_spaced_numbers(text, names.as_slice())?;
             text.extend_from_slice(b"\n")
         }
     }
@@ -32,57 +32,69 @@ pub(crate) fn push_offer(text: &mut Vec<u8>, node: u8, entry: &Entry) -> Result<
 
 /// Appends the lines that offer a text at a node.
 fn push_text(text: &mut Vec<u8>, node: u8, submission: &Submission) -> Result<(), AllocError>
-    ensures text { OnOk result (text.new.items ≡ text.old.items ++ offer_text node submission.now) }
-    ensures fits { OnOk result ((node < 256) × FitsText submission.now) }
+    ensures text { OnOk result (text.new.items ≡ text.old.items ++ text_offer_lines node submission.now) }
+    ensures in_range { OnOk result ((node < 256) × TextIsInRange submission.now) }
 {
     if has_line_feed(submission.text.as_slice()) {
-        push_bytes(text, node, submission)
+        push_offer_bytes_text(text, node, submission)
     } else {
-        push_line(text, node, submission)
+        push_offer_line(text, node, submission)
     }
 }
 
 /// Appends the line `offer-bytes` of a text, and the bytes of the text.
-fn push_bytes(text: &mut Vec<u8>, node: u8, submission: &Submission) -> Result<(), AllocError>
+fn push_offer_bytes_text(
+    text: &mut Vec<u8>,
+    node: u8,
+    submission: &Submission,
+) -> Result<(), AllocError>
     ensures text { OnOk result
-        (text.new.items ≡ text.old.items ++ bytes_offer node submission.now) }
-    ensures fits { OnOk result ((node < 256) × FitsText submission.now) }
+        (text.new.items ≡ text.old.items ++ offer_bytes_text node submission.now) }
+    ensures in_range { OnOk result ((node < 256) × TextIsInRange submission.now) }
 {
-    push_bytes_line(text, node, submission)?;
+    push_offer_bytes_line(text, node, submission)?;
     text.extend_from_slice(submission.text.as_slice())?;
     text.extend_from_slice(b"\n")
 }
 
 /// Appends the line `offer-bytes` of a text, which ends with the count of its bytes.
-fn push_bytes_line(text: &mut Vec<u8>, node: u8, submission: &Submission) -> Result<(), AllocError>
+fn push_offer_bytes_line(
+    text: &mut Vec<u8>,
+    node: u8,
+    submission: &Submission,
+) -> Result<(), AllocError>
     ensures text { OnOk result
-        (text.new.items ≡ text.old.items ++ bytes_line node submission.now) }
-    ensures fits { OnOk result ((node < 256) × FitsText submission.now) }
+        (text.new.items ≡ text.old.items ++ offer_bytes_line node submission.now) }
+    ensures in_range { OnOk result ((node < 256) × TextIsInRange submission.now) }
 {
-    push_bytes_place(text, node, submission)?;
-    push_word(text, submission.text.len() as u64)?;
+    push_offer_bytes_entry(text, node, submission)?;
+    push_spaced_number(text, submission.text.len() as u64)?;
     text.extend_from_slice(b"\n")
 }
 
 /// Appends `offer-bytes`, the node, and the author and serial number of a text.
-fn push_bytes_place(text: &mut Vec<u8>, node: u8, submission: &Submission) -> Result<(), AllocError>
+fn push_offer_bytes_entry(
+    text: &mut Vec<u8>,
+    node: u8,
+    submission: &Submission,
+) -> Result<(), AllocError>
     ensures text { OnOk result (text.new.items ≡ text.old.items
-        ++ (codes "offer-bytes" ++ led (entry_words node submission.now.author submission.now.serial))) }
-    ensures fits { OnOk result ((node < 256)
+        ++ (codes "offer-bytes" ++ spaced (entry_words node submission.now.author submission.now.serial))) }
+    ensures in_range { OnOk result ((node < 256)
         × (submission.now.author < 2 ^ 64) × (submission.now.serial < 2 ^ 64)) }
 {
     text.extend_from_slice(b"offer-bytes")?;
-    push_place(text, node, submission.author, submission.serial)
+    push_entry_words(text, node, submission.author, submission.serial)
 }
 
 /// Appends the line `offer` of a text without line feeds.
-fn push_line(text: &mut Vec<u8>, node: u8, submission: &Submission) -> Result<(), AllocError>
+fn push_offer_line(text: &mut Vec<u8>, node: u8, submission: &Submission) -> Result<(), AllocError>
     ensures text { OnOk result
-        (text.new.items ≡ text.old.items ++ line_offer node submission.now) }
-    ensures fits { OnOk result ((node < 256) × FitsText submission.now) }
+        (text.new.items ≡ text.old.items ++ offer_line node submission.now) }
+    ensures in_range { OnOk result ((node < 256) × TextIsInRange submission.now) }
 {
     text.extend_from_slice(b"offer")?;
-    push_place(text, node, submission.author, submission.serial)?;
+    push_entry_words(text, node, submission.author, submission.serial)?;
     text.extend_from_slice(b" ")?;
     text.extend_from_slice(submission.text.as_slice())?;
     text.extend_from_slice(b"\n")
@@ -96,36 +108,41 @@ fn has_line_feed(bytes: &[u8]) -> bool
 }
 
 /// Appends a node, an author and a serial number, each after a space.
-fn push_place(text: &mut Vec<u8>, node: u8, author: u64, serial: u64) -> Result<(), AllocError>
+fn push_entry_words(
+    text: &mut Vec<u8>,
+    node: u8,
+    author: u64,
+    serial: u64,
+) -> Result<(), AllocError>
     ensures text { OnOk result (text.new.items ≡ text.old.items
-        ++ led (decimal node ∷ decimal author ∷ decimal serial ∷ [])) }
+        ++ spaced (decimal node ∷ decimal author ∷ decimal serial ∷ [])) }
     ensures node { node < 256 }
     ensures author { author < 2 ^ 64 }
     ensures serial { serial < 2 ^ 64 }
 {
-    push_word(text, u64::from(node))?;
-    push_word(text, author)?;
-    push_word(text, serial)
+    push_spaced_number(text, u64::from(node))?;
+    push_spaced_number(text, author)?;
+    push_spaced_number(text, serial)
 }
 
 /// Appends the numbers, each after a space.
-fn push_words(text: &mut Vec<u8>, numbers: &[u64]) -> Result<(), AllocError>
-    ensures text { OnOk result (text.new.items ≡ text.old.items ++ led (map decimal numbers.now)) }
-    ensures fits { OnOk result (AllByRecursion (λ n. n < 2 ^ 64) numbers.now) }
+fn push_spaced_numbers(text: &mut Vec<u8>, numbers: &[u64]) -> Result<(), AllocError>
+    ensures text { OnOk result (text.new.items ≡ text.old.items ++ spaced (map decimal numbers.now)) }
+    ensures in_range { OnOk result (AllByRecursion (λ n. n < 2 ^ 64) numbers.now) }
 {
     match numbers {
         [first, rest @ ..] => {
-            push_word(text, *first)?;
-            push_words(text, rest)
+            push_spaced_number(text, *first)?;
+            push_spaced_numbers(text, rest)
         }
         [] => Ok(()),
     }
 }
 
 /// Appends a space and a number.
-fn push_word(text: &mut Vec<u8>, number: u64) -> Result<(), AllocError>
-    ensures text { OnOk result (text.new.items ≡ text.old.items ++ led (decimal number ∷ [])) }
-    ensures fits { number < 2 ^ 64 }
+fn push_spaced_number(text: &mut Vec<u8>, number: u64) -> Result<(), AllocError>
+    ensures text { OnOk result (text.new.items ≡ text.old.items ++ spaced (decimal number ∷ [])) }
+    ensures in_range { number < 2 ^ 64 }
 {
     text.extend_from_slice(b" ")?;
     push_number(text, number)

@@ -1,5 +1,5 @@
 -- Hypotheses that require other results.
-use Rattle.explain.proofs.Words.{◌≡◌, ℕ, ◌+◌, ◌<◌, List, [], ◌∷◌, ◌++◌, length, take, get_or, map, refl, sym, ◌∙◌, ap, subst, add-one, Some, slice_get, Bor, Vec, take-suc, slice_get-get_or, slice_get_read, take-map, map_push, Name, Stmt, Database, Expr, stmt_at, expr_of, name_at, decode, AreDistinct, Hypothesis, AreBelow, IsRequired, IsOf, IsTypecode, expr_at, option_expr, Fault, Unknown, Inactive, Later, Few, Constant, Expression, Together, Heavy, Unmarked, named, before, hypotheses, images_read, named_images, AreVariables, asks, AllFit, IsOther, BeginsOther, IsOtherConstant, StartsOther, IsFloat, IsSaid, IsMismatch, map-at, name_at-injective, decode-injective}
+use Rattle.explain.proofs.Words.{◌≡◌, ℕ, ◌+◌, ◌<◌, List, [], ◌∷◌, ◌++◌, length, take, get_or, map, refl, sym, ◌∙◌, ap, subst, add-one, Some, slice_get, Bor, Vec, take-suc, slice_get-get_or, slice_get_read, take-map, map_push, Name, Stmt, Database, Expr, stmt_at, expr_of, name_at, decode, AreDistinct, Hypothesis, AreBelow, IsRequired, IsOf, IsTypecode, expr_at, option_expr, Fault, UnknownLabel, Inactive, NotEarlier, TooFewResults, OtherTypecode, OtherExpression, NotDisjoint, TooManySymbols, NoMarkedResult, named_expressions, before, hypotheses, images_read, named_images, AreVariables, required_result, AllMatch, IsFirstMismatch, HasOtherTypecode, HasOtherTypecodeThan, HasOtherTypecodeNumber, IsFloat, IsFaultOfResult, IsMismatchFault, map-at, name_at-injective, decode-injective}
 use Rattle.mm_read.specs.declared.stmt.Stmt.TheVariants as stmt
 use Rattle.entries.specs.declared.assertion_view.Hypothesis.TheVariants as hypothesis
 use Rattle.frame.specs.Substitution.{Images, CodeImages, code_apply, apply as applied}
@@ -11,13 +11,13 @@ expr_is S p s e = ap option_expr e
 
 module _ (S : Database) (names : List Name) (σ : Images) (ps : List ℕ) (results : List (Bor (List ℕ))) (k : ℕ) (r : Bor (List ℕ))
     (within : k < length ps) (inside : k < length results) (here : r ≡ get_or results k r)
-    (before : AllFit S σ (take k ps) (take k (named names results))) where
+    (before : AllMatch S σ (take k ps) (take k (named_expressions names results))) where
   -- this result stands among the results by name
-  result_is : slice_get (named names results) k ≡ Some (decode names r.now)
+  result_is : slice_get (named_expressions names results) k ≡ Some (decode names r.now)
   result_is = map-at (λ v. decode names v.now) results k r (slice_get_read results (length results) k r refl inside here)
 
   -- the results by name up to this one are those before it, and it
-  last_is : take (k + 1) (named names results) ≡ take k (named names results) ++ decode names r.now ∷ []
+  last_is : take (k + 1) (named_expressions names results) ≡ take k (named_expressions names results) ++ decode names r.now ∷ []
   last_is =
       take-map (λ v. decode names v.now) (k + 1) results
       ∙ (ap (λ n. map (λ v. decode names v.now) (take n results)) (add-one k)
@@ -26,17 +26,17 @@ module _ (S : Database) (names : List Name) (σ : Images) (ps : List ℕ) (resul
       ∙ ap (λ l. l ++ decode names r.now ∷ []) (sym (take-map (λ v. decode names v.now) k results)))))
 
   -- one hypothesis more has its result
-  pub fit_more : asks S σ (get_or ps k 0) ≡ decode names r.now → AllFit S σ (take (k + 1) ps) (take (k + 1) (named names results))
+  pub fit_more : required_result S σ (get_or ps k 0) ≡ decode names r.now → AllMatch S σ (take (k + 1) ps) (take (k + 1) (named_expressions names results))
   fit_more e =
-      ap (λ n. map (asks S σ) (take n ps)) (add-one k)
-      ∙ (ap (λ l. map (asks S σ) l) (take-suc ps k 0 within)
-      ∙ (map_push (asks S σ) (take k ps) (get_or ps k 0)
-      ∙ (ap (λ l. l ++ asks S σ (get_or ps k 0) ∷ []) before
-      ∙ (ap (λ x. take k (named names results) ++ x ∷ []) e ∙ sym last_is))))
+      ap (λ n. map (required_result S σ) (take n ps)) (add-one k)
+      ∙ (ap (λ l. map (required_result S σ) l) (take-suc ps k 0 within)
+      ∙ (map_push (required_result S σ) (take k ps) (get_or ps k 0)
+      ∙ (ap (λ l. l ++ required_result S σ (get_or ps k 0) ∷ []) before
+      ∙ (ap (λ x. take k (named_expressions names results) ++ x ∷ []) e ∙ sym last_is))))
 
   -- or it requires another
-  pub other_here : (required : List ℕ) → AreDistinct names → AreBelow (length names) required → AreBelow (length names) r.now → decode names required ≡ asks S σ (get_or ps k 0) → (r.now ≡ required → ⊥)
-      → IsOther S σ ps (named names results) k (get_or ps k 0) (decode names required) (decode names r.now)
+  pub other_here : (required : List ℕ) → AreDistinct names → AreBelow (length names) required → AreBelow (length names) r.now → decode names required ≡ required_result S σ (get_or ps k 0) → (r.now ≡ required → ⊥)
+      → IsFirstMismatch S σ ps (named_expressions names results) k (get_or ps k 0) (decode names required) (decode names r.now)
   other_here required distinct low below is differ = record {
     hypothesis = slice_get-get_or ps k 0 within;
     result = result_is;
@@ -48,15 +48,15 @@ module _ (S : Database) (names : List Name) (σ : Images) (ps : List ℕ) (resul
 -- the fault of the result
 module _ (S : Database) (names : List Name) (distinct : AreDistinct names) (p typecode : ℕ) (kind : Hypothesis) (is : IsRequired S names p typecode kind) where
   -- an expression that does not begin with this number does not begin with its name
-  begins_other : (c : Name) (e : List ℕ) → typecode < length names → name_at names typecode ≡ c → AreBelow (length names) e → StartsOther typecode e → BeginsOther c (decode names e)
+  begins_other : (c : Name) (e : List ℕ) → typecode < length names → name_at names typecode ≡ c → AreBelow (length names) e → HasOtherTypecodeNumber typecode e → HasOtherTypecode c (decode names e)
   begins_other c [] h n below starts = tt
   begins_other c (x ∷ e) h n below starts = λ same. starts (name_at-injective names x typecode distinct below.0 h (same ∙ sym n))
 
   -- the result for a `$f` that begins with another number begins with another constant
-  pub other_constant : (e : List ℕ) → AreBelow (length names) e → IsFloat kind → StartsOther typecode e → IsOtherConstant (stmt_at S p) (decode names e)
-  other_constant e below float starts = subst (λ o. IsOtherConstant o (decode names e)) (sym is.stands) (by is.stmt kind is.first is.is float)
+  pub other_constant : (e : List ℕ) → AreBelow (length names) e → IsFloat kind → HasOtherTypecodeNumber typecode e → HasOtherTypecodeThan (stmt_at S p) (decode names e)
+  other_constant e below float starts = subst (λ o. HasOtherTypecodeThan o (decode names e)) (sym is.stands) (by is.stmt kind is.first is.is float)
     where
-      by : (s : Stmt) (h : Hypothesis) → IsTypecode names typecode (expr_of s) → IsOf names p s h → IsFloat h → IsOtherConstant (Some s) (decode names e)
+      by : (s : Stmt) (h : Hypothesis) → IsTypecode names typecode (expr_of s) → IsOf names p s h → IsFloat h → HasOtherTypecodeThan (Some s) (decode names e)
       by (stmt.Float l c v) h first of float = begins_other c e first.0 first.1 below starts
       by (stmt.Ess l w) (hypothesis.Float x) first of float = absurd of
       by (stmt.Ess l w) (hypothesis.Essential q) first of float = absurd float
@@ -77,34 +77,34 @@ module _ (S : Database) (names : List Name) (distinct : AreDistinct names) (p ty
 
 -- the result that a hypothesis requires, by number
 pub required_is : (S : Database) (names : List Name) → AreDistinct names → (σ : CodeImages) → AreVariables (length names) σ → (p : ℕ) (s : Stmt) → stmt_at S p ≡ Some s
-    → (e : List ℕ) → decode names e ≡ expr_of s → AreBelow (length names) e → (required : List ℕ) → required ≡ code_apply σ e → decode names required ≡ asks S (named_images names σ) p
+    → (e : List ℕ) → decode names e ≡ expr_of s → AreBelow (length names) e → (required : List ℕ) → required ≡ code_apply σ e → decode names required ≡ required_result S (named_images names σ) p
 required_is S names distinct σ variables p s stands e is below required same =
     ap (decode names) same ∙ (apply_same names distinct σ e variables below ∙ ap (λ x. applied (named_images names σ) x) (is ∙ sym (expr_is S p s stands)))
 
 -- the fault is a mismatch
-pub mismatch_is : (S : Database) (names : List Name) (a : ℕ) (s : Stmt) (rs : List Expr) (kind : Hypothesis) (typecode p k : ℕ) (required there : Vec ℕ) (fault : Fault)
-    → IsSaid kind typecode a p required there fault
-    → IsOther S (images_read S (hypotheses (before S a) s) rs) (hypotheses (before S a) s) rs k p (decode names required.items) (decode names there.items)
-    → (IsFloat kind → StartsOther typecode there.items → IsOtherConstant (stmt_at S p) (decode names there.items))
-    → IsMismatch S names a s rs fault
-mismatch_is S names a s rs kind typecode p k required there Unknown said other constant = absurd said
-mismatch_is S names a s rs kind typecode p k required there (Inactive h) said other constant = absurd said
-mismatch_is S names a s rs kind typecode p k required there (Later h) said other constant = absurd said
-mismatch_is S names a s rs kind typecode p k required there (Few b t n) said other constant = absurd said
-mismatch_is S names a s rs kind typecode p k required there (Constant b q r) said other constant =
+pub mismatch_is : (S : Database) (names : List Name) (a : ℕ) (s : Stmt) (rs : List Expr) (kind : Hypothesis) (typecode p k : ℕ) (required actual : Vec ℕ) (fault : Fault)
+    → IsFaultOfResult kind typecode a p required actual fault
+    → IsFirstMismatch S (images_read S (hypotheses (before S a) s) rs) (hypotheses (before S a) s) rs k p (decode names required.items) (decode names actual.items)
+    → (IsFloat kind → HasOtherTypecodeNumber typecode actual.items → HasOtherTypecodeThan (stmt_at S p) (decode names actual.items))
+    → IsMismatchFault S names a s rs fault
+mismatch_is S names a s rs kind typecode p k required actual UnknownLabel said other constant = absurd said
+mismatch_is S names a s rs kind typecode p k required actual (Inactive h) said other constant = absurd said
+mismatch_is S names a s rs kind typecode p k required actual (NotEarlier h) said other constant = absurd said
+mismatch_is S names a s rs kind typecode p k required actual (TooFewResults b t n) said other constant = absurd said
+mismatch_is S names a s rs kind typecode p k required actual (OtherTypecode b q r) said other constant =
     let ps = hypotheses (before S a) s in
     let σ = images_read S ps rs in
-    let P : ℕ → Type 0 = λ p. (IsOther S σ ps rs k p (decode names required.items) (decode names there.items)) × IsOtherConstant (stmt_at S p) (decode names there.items) in
+    let P : ℕ → Type 0 = λ p. (IsFirstMismatch S σ ps rs k p (decode names required.items) (decode names actual.items)) × HasOtherTypecodeThan (stmt_at S p) (decode names actual.items) in
     let at = subst P (sym said.1) (other, constant said.3 said.4) in
-    let Q : Vec ℕ → Type 0 = λ v. (IsOther S σ ps rs k q (decode names required.items) (decode names v.items)) × IsOtherConstant (stmt_at S q) (decode names v.items) in
+    let Q : Vec ℕ → Type 0 = λ v. (IsFirstMismatch S σ ps rs k q (decode names required.items) (decode names v.items)) × HasOtherTypecodeThan (stmt_at S q) (decode names v.items) in
     let both = subst Q (sym said.2) at in
     (said.0, (k, decode names required.items, both.0, both.1))
-mismatch_is S names a s rs kind typecode p k required there (Expression b q e r) said other constant =
+mismatch_is S names a s rs kind typecode p k required actual (OtherExpression b q e r) said other constant =
     let ps = hypotheses (before S a) s in
     let σ = images_read S ps rs in
-    let at = subst (λ p. IsOther S σ ps rs k p (decode names required.items) (decode names there.items)) (sym said.1) other in
-    let next = subst (λ (v : Vec ℕ). IsOther S σ ps rs k q (decode names v.items) (decode names there.items)) (sym said.2) at in
-    (said.0, (k, subst (λ (v : Vec ℕ). IsOther S σ ps rs k q (decode names e.items) (decode names v.items)) (sym said.3) next))
-mismatch_is S names a s rs kind typecode p k required there (Together b x y u v) said other constant = absurd said
-mismatch_is S names a s rs kind typecode p k required there Heavy said other constant = absurd said
-mismatch_is S names a s rs kind typecode p k required there Unmarked said other constant = absurd said
+    let at = subst (λ p. IsFirstMismatch S σ ps rs k p (decode names required.items) (decode names actual.items)) (sym said.1) other in
+    let next = subst (λ (v : Vec ℕ). IsFirstMismatch S σ ps rs k q (decode names v.items) (decode names actual.items)) (sym said.2) at in
+    (said.0, (k, subst (λ (v : Vec ℕ). IsFirstMismatch S σ ps rs k q (decode names e.items) (decode names v.items)) (sym said.3) next))
+mismatch_is S names a s rs kind typecode p k required actual (NotDisjoint b x y u v) said other constant = absurd said
+mismatch_is S names a s rs kind typecode p k required actual TooManySymbols said other constant = absurd said
+mismatch_is S names a s rs kind typecode p k required actual NoMarkedResult said other constant = absurd said

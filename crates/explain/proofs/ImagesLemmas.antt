@@ -1,5 +1,5 @@
 -- The image of a symbol, by the first entry for it, and the symbols of images.
-use Rattle.explain.proofs.Words.{◌≡◌, ℕ, suc, ◌+◌, ◌<◌, Bool, true, false, cond, List, [], ◌∷◌, ◌++◌, length, drop, take, get_or, arith, refl, sym, ◌∙◌, ap, subst, Option, None, Some, Ordering, Less, Equal, Greater, slice_get, ⊎_elim, take-append-drop, append-nil, length-append, IfSome, IfNone, IfOk, Result, Ok, Err, nat_eq, bytes_eq, MatchOption, ◌==◌, ◌↔◌, MatchOrdering, nat_cmp, is_eq, ranked, both_ways, cases_eq, eqb-true, eq-eqb, bytes_eq-Decides, get_or_from_slice_get, slice_get-get_or, drop-cons, take-append_seam, AreBelow, code_image, code_apply, below-append, Image, IsPlaced, code_images, AreImages}
+use Rattle.explain.proofs.Words.{◌≡◌, ℕ, suc, ◌+◌, ◌<◌, Bool, true, false, cond, List, [], ◌∷◌, ◌++◌, length, drop, take, get_or, arith, refl, sym, ◌∙◌, ap, subst, Option, None, Some, Ordering, Less, Equal, Greater, slice_get, ⊎_elim, take-append-drop, append-nil, length-append, IfSome, IfNone, IfOk, Result, Ok, Err, nat_eq, bytes_eq, MatchOption, ◌==◌, ◌↔◌, MatchOrdering, nat_cmp, is_eq, ranked, both_ways, cases_eq, eqb-true, eq-eqb, bytes_eq-Decides, get_or_from_slice_get, slice_get-get_or, drop-cons, take-append_seam, AreBelow, code_image, code_apply, below-append, Image, IsImageIndex, code_images, AreImages}
 use Rattle.std.proofs.Common.{Bor}
 
 -- ---- the index of the first image for each variable
@@ -32,25 +32,25 @@ other_number a b ne = by (nat_eq b a) refl
 
 -- with the image at i before the last ones, its index is that of its variable
 module _ (all : List Image) (i : ℕ) (d : Image) (inside : i < length all) (x : ℕ) where
-  placed_after : (old : Option ℕ) → nat_eq x (get_or all i d).variable ≡ false → IsPlaced all (drop (suc i) all) x old → IsPlaced all (get_or all i d ∷ drop (suc i) all) x old
+  placed_after : (old : Option ℕ) → nat_eq x (get_or all i d).variable ≡ false → IsImageIndex all (drop (suc i) all) x old → IsImageIndex all (get_or all i d ∷ drop (suc i) all) x old
   placed_after None t h = ap (λ b. cond b (get_or all i d).symbols.now (code_image (code_images (drop (suc i) all)) x)) t ∙ h
   placed_after (Some k) t h = (h.0, h.1, ap (λ b. cond b (get_or all i d).symbols.now (code_image (code_images (drop (suc i) all)) x)) t ∙ h.2)
 
-  pub placed_more : (old new : Option ℕ) → IsPlaced all (drop (suc i) all) x old → new ≡ cond (is_eq (nat_cmp (get_or all i d).variable x)) (Some i) old → IsPlaced all (drop i all) x new
+  pub placed_more : (old new : Option ℕ) → IsImageIndex all (drop (suc i) all) x old → new ≡ cond (is_eq (nat_cmp (get_or all i d).variable x)) (Some i) old → IsImageIndex all (drop i all) x new
   placed_more old new h e =
       let image = get_or all i d in
-      subst (λ l. IsPlaced all l x new) (sym (drop-cons all i d inside))
+      subst (λ l. IsImageIndex all l x new) (sym (drop-cons all i d inside))
       (⊎_elim
-      (λ same. subst (IsPlaced all (image ∷ drop (suc i) all) x) (sym (e ∙ ap (λ b. cond b (Some i) old) (same_key image.variable x same)))
+      (λ same. subst (IsImageIndex all (image ∷ drop (suc i) all) x) (sym (e ∙ ap (λ b. cond b (Some i) old) (same_key image.variable x same)))
       (image, slice_get-get_or all i d inside, ap (λ b. cond b image.symbols.now (code_image (code_images (drop (suc i) all)) x)) (same_number image.variable x same)))
-      (λ ne. subst (IsPlaced all (image ∷ drop (suc i) all) x) (sym (e ∙ ap (λ b. cond b (Some i) old) (other_key image.variable x ne))) (placed_after old (other_number image.variable x ne) h))
+      (λ ne. subst (IsImageIndex all (image ∷ drop (suc i) all) x) (sym (e ∙ ap (λ b. cond b (Some i) old) (other_key image.variable x ne))) (placed_after old (other_number image.variable x ne) h))
       (cases_eq image.variable x))
 
 -- the image at an index
 pub there-is : (all list : List Image) (i : ℕ) (image d : Image) → list ≡ all → slice_get all i ≡ Some image → (get_or list i d).symbols.now ≡ image.symbols.now
 there-is all list i image d same there = ap (λ y. y.symbols.now) (ap (λ l. get_or l i d) same ∙ get_or_from_slice_get all i image d there)
 
--- what holds of a value holds of a result that is that value
+-- a property of a value holds for a result that is that value
 pub ok_is : {A E : Type 0} (P : A → Type 0) (x : A) (r : Result A E) → IfOk r (λ y. y ≡ x) → P x → IfOk r P
 ok_is P x (Ok y) e h = subst P (sym e) h
 ok_is P x (Err y) e h = tt

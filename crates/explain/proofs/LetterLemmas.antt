@@ -1,6 +1,6 @@
 -- Letters read up to one of them, and what the next one does.
-use Rattle.explain.proofs.Words.{◌≡◌, ◌≢◌, ℕ, ◌+◌, ◌-◌, ◌*◌, ◌<◌, ◌≤◌, Bool, true, false, ◌&&◌, nat_le, List, [], ◌∷◌, ◌++◌, length, Some, slice_get, refl, option_map, sym, ◌∙◌, ap, subst, arith, append_assoc, append-nil, length-append, inl, inr, list_all-append, or_left, or_right, le-leb, Name, Item, IsNumber, is_first, is_last, number_from, items_of, before_rest, numbers_from, starts_with_mark, WritesRow, is_first-true, number_of-placed, placed-number_of, first_bounds, last_bounds, is_first-false, is_last-true, WritesRow-read, LetterBreak, LetterFault, marks_in, IsEnd, place_in, IsAllowed, IsOver, BeginsWith, Breaks, IsLetterBreak, zeros, IsReadTo, before-none}
-use Rattle.explain.specs.Breaks.{IsOther}
+use Rattle.explain.proofs.Words.{◌≡◌, ◌≢◌, ℕ, ◌+◌, ◌-◌, ◌*◌, ◌<◌, ◌≤◌, Bool, true, false, ◌&&◌, nat_le, List, [], ◌∷◌, ◌++◌, length, Some, slice_get, refl, option_map, sym, ◌∙◌, ap, subst, arith, append_assoc, append-nil, length-append, inl, inr, list_all-append, or_left, or_right, le-leb, Name, Item, IsNumber, is_first, is_last, number_from, items_of, before_rest, numbers_from, starts_with_mark, WritesRow, is_first-true, number_of-placed, placed-number_of, first_bounds, last_bounds, is_first-false, is_last-true, WritesRow-read, LetterBreak, LetterFault, marks_in, IsEnd, fault_index, IsAllowed, IsOver, BeginsWith, Breaks, IsLetterBreak, zeros, IsReadTo, before-none}
+use Rattle.explain.specs.Breaks.{IsNoLetter}
 use Rattle.explain.proofs.LetterNumberLemmas.{at-append, not-empty, marks-zeros, zeros-number, zeros-mark, before-push, over, last-over, zero-or}
 
 -- ---- nothing read yet
@@ -51,7 +51,7 @@ module _ (labels : ℕ) (letters : List ℕ) (index limit digits begin : ℕ) (r
 
     -- the rule that is broken is that of the word that is begun
     pub broken-at : (broken : LetterBreak) (fault : LetterFault) (letter : ℕ) → broken.fault ≡ fault → broken.letter ≡ letter → Breaks fault limit (items_of names r.numbers) r.begun r.rest
-        → letter ≡ place_in fault (length r.front) (length r.begun) → IsLetterBreak names letters broken
+        → letter ≡ fault_index fault (length r.front) (length r.begun) → IsLetterBreak names letters broken
     broken-at broken fault letter is at breaks place = record {
       front = r.front;
       items = items_of names r.numbers;
@@ -63,7 +63,7 @@ module _ (labels : ℕ) (letters : List ℕ) (index limit digits begin : ℕ) (r
       allowed = subst (λ n. IsAllowed n r.begun) greatest allowed;
       breaks = subst (λ f. Breaks f (length names + marks_in (items_of names r.numbers)) (items_of names r.numbers) r.begun r.rest) (sym is)
           (subst (λ n. Breaks fault n (items_of names r.numbers) r.begun r.rest) greatest breaks);
-      place = at ∙ (place ∙ ap (λ f. place_in f (length r.front) (length r.begun)) (sym is));
+      letter_is = at ∙ (place ∙ ap (λ f. fault_index f (length r.front) (length r.begun)) (sym is));
     }
 
     -- all letters are read
@@ -214,8 +214,8 @@ module _ (labels : ℕ) (letters : List ℕ) (index limit digits begin : ℕ) (r
         goes : (word : Name) → number_from digits (letter ∷ word) ≡ number_from (5 * digits + (letter - 84)) word
         goes word = rw first refl
 
-    pub other-here : (65 ≤ letter → letter ≤ 84 → ⊥) → (85 ≤ letter → letter ≤ 89 → ⊥) → letter ≢ 90 → BeginsWith IsOther r.rest
-    other-here last first mark = breaks-here IsOther (not-first, not-last, mark)
+    pub other-here : (65 ≤ letter → letter ≤ 84 → ⊥) → (85 ≤ letter → letter ≤ 89 → ⊥) → letter ≢ 90 → BeginsWith IsNoLetter r.rest
+    other-here last first mark = breaks-here IsNoLetter (not-first, not-last, mark)
       where
         not-first : is_first letter ≡ false
         not-first = by (is_first letter) refl

@@ -1,5 +1,5 @@
 -- Images by number and images of names.
-use Rattle.explain.proofs.Words.{◌≡◌, ℕ, zero, suc, ◌+◌, ◌<◌, Bool, true, false, cond, List, [], ◌∷◌, ◌++◌, length, drop, get_or, map, arith, refl, sym, ◌∙◌, ap, add-one, append_assoc, Some, nat_eq, Bor, Name, name_eq, Stmt, Database, stmt_at, name_at, decode, AreDistinct, Hypothesis, Float, Essential, AreBelow, AreRequired, IsOf, CodeImages, code_image, code_apply, image, apply, same-number, Image, codes, code_images, named, image_at, images_read, code_at, codes_read, named_images, AreVariables, decode-append}
+use Rattle.explain.proofs.Words.{◌≡◌, ℕ, zero, suc, ◌+◌, ◌<◌, Bool, true, false, cond, List, [], ◌∷◌, ◌++◌, length, drop, get_or, map, arith, refl, sym, ◌∙◌, ap, add-one, append_assoc, Some, nat_eq, Bor, Name, name_eq, Stmt, Database, stmt_at, name_at, decode, AreDistinct, Hypothesis, Float, Essential, AreBelow, AreRequired, IsOf, CodeImages, code_image, code_apply, image, apply, same-number, Image, codes, code_images, named_expressions, image_at, images_read, code_at, codes_read, named_images, AreVariables, decode-append}
 use Rattle.mm_read.specs.declared.stmt.Stmt.TheVariants as stmt
 
 decode-drop : (names : List Name) (e : List ℕ) → decode names (drop 1 e) ≡ drop 1 (decode names e)
@@ -133,6 +133,6 @@ read_skip kinds results k images whole within inside not e =
     go (x ∷ kinds) (y ∷ results) zero within inside not = ap (λ l. l ++ codes_read kinds (codes results)) (none x y.now not)
     go (x ∷ kinds) (y ∷ results) (suc k) within inside not = go kinds results k (omega (arith, within)) (omega (arith, inside)) not
 
-pub named-codes : (names : List Name) (vs : List (Bor (List ℕ))) → map (decode names) (codes vs) ≡ named names vs
+pub named-codes : (names : List Name) (vs : List (Bor (List ℕ))) → map (decode names) (codes vs) ≡ named_expressions names vs
 named-codes names [] = refl
 named-codes names (v ∷ vs) = ap (λ l. decode names v.now ∷ l) (named-codes names vs)

@@ -1,5 +1,5 @@
 -- One item that cannot be done.
-use Rattle.explain.proofs.Words.{◌≡◌, ℕ, zero, suc, ◌+◌, ◌-◌, ◌<◌, ◌≤◌, cond, List, [], ◌∷◌, ◌++◌, length, take, get_or, arith, refl, sym, ◌∙◌, ap, subst, Some, None, Option, slice_get, IfOk, MatchOption, Result, Ok, Err, add-one, Vec, Name, Stmt, Database, Expr, decode, AreDistinct, Carries, IsPosition, ArePositions, Item, Cite, Recall, Mark, item_of, items_of, Fault, Unknown, Inactive, Later, Few, Constant, Expression, Together, Heavy, Unmarked, FailsAt, FailsCited, Fails, Gives, of_hypothesis, of_assertion, take_more, slice_get-map, SYMBOLS_LIMIT, lt-ltb, le-ltb, stmt_at, same_Some}
+use Rattle.explain.proofs.Words.{◌≡◌, ℕ, zero, suc, ◌+◌, ◌-◌, ◌<◌, ◌≤◌, cond, List, [], ◌∷◌, ◌++◌, length, take, get_or, arith, refl, sym, ◌∙◌, ap, subst, Some, None, Option, slice_get, IfOk, MatchOption, Result, Ok, Err, add-one, Vec, Name, Stmt, Database, Expr, decode, AreDistinct, Carries, IsPosition, ArePositions, Item, Cite, Recall, Mark, item_of, items_of, Fault, UnknownLabel, Inactive, NotEarlier, TooFewResults, OtherTypecode, OtherExpression, NotDisjoint, TooManySymbols, NoMarkedResult, FailsAt, FailsCited, Fails, Gives, of_hypothesis, of_assertion, take_more, slice_get-map, SYMBOLS_LIMIT, lt-ltb, le-ltb, stmt_at, same_Some}
 use Rattle.verify.specs.Machine.{State, Cites, of_hypothesis as cites_hypothesis, of_assertion as cites_assertion, Steps, with_result, with_mark}
 use Rattle.verify.proofs.Words.{take_all, length-append, length-map, option_map, slice_get-get_or, slice_get_within}
 
@@ -22,15 +22,15 @@ recall_item labels (suc n) l =
 
 -- a citation
 pub cited_fails : (S : Database) (names : List Name) (at : ℕ) (h : State) (i : ℕ) (s : Stmt) (label : Name) (fault : Fault) → Carries S i s label → FailsAt S names at h i s fault → FailsCited S names at h label fault
-cited_fails S names at h i s label Unknown carries fails = absurd fails
+cited_fails S names at h i s label UnknownLabel carries fails = absurd fails
 cited_fails S names at h i s label (Inactive j) carries fails = (i, s, carries, fails)
-cited_fails S names at h i s label (Later j) carries fails = (i, s, carries, fails)
-cited_fails S names at h i s label (Few b t n) carries fails = (i, s, carries, fails)
-cited_fails S names at h i s label (Constant b p r) carries fails = (i, s, carries, fails)
-cited_fails S names at h i s label (Expression b p q r) carries fails = (i, s, carries, fails)
-cited_fails S names at h i s label (Together b x y u v) carries fails = (i, s, carries, fails)
-cited_fails S names at h i s label Heavy carries fails = (i, s, carries, fails)
-cited_fails S names at h i s label Unmarked carries fails = absurd fails
+cited_fails S names at h i s label (NotEarlier j) carries fails = (i, s, carries, fails)
+cited_fails S names at h i s label (TooFewResults b t n) carries fails = (i, s, carries, fails)
+cited_fails S names at h i s label (OtherTypecode b p r) carries fails = (i, s, carries, fails)
+cited_fails S names at h i s label (OtherExpression b p q r) carries fails = (i, s, carries, fails)
+cited_fails S names at h i s label (NotDisjoint b x y u v) carries fails = (i, s, carries, fails)
+cited_fails S names at h i s label TooManySymbols carries fails = (i, s, carries, fails)
+cited_fails S names at h i s label NoMarkedResult carries fails = absurd fails
 
 -- a statement that gives an expression is cited by its label in the verifier's machine
 pub cites : (S : Database) (at i : ℕ) (s : Stmt) (label : Name) (stack below : List Expr) (e : Expr) → Carries S i s label → Gives S at i s stack below e → Cites S at label stack below e

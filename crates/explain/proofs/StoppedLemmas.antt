@@ -1,5 +1,5 @@
 -- Where the run over the items stops, as the first fault.
-use Rattle.explain.proofs.Words.{nat_lt, nat_tests, ◌≡◌, ◌≢◌, Bool, true, false, ℕ, zero, suc, ◌+◌, ◌-◌, ◌<◌, ◌≤◌, List, [], ◌∷◌, ◌++◌, length, map, take, drop, get_or, arith, refl, sym, ◌∙◌, ap, subst, Option, Some, None, slice_get, length-drop, Vec, Name, Stmt, Database, Expr, decode, stmt_at, expr_of, Carries, Item, Cite, Recall, Mark, item_of, items_of, Fault, Heavy, Unmarked, Unknown, Reason, Gives, Fails, RunsWell, IsFirstFault, IsPosition, ArePositions, behind, Results, State, start, IsSaved, Runs, IsStopped, item-cite, get_or_default, same_Some, SYMBOLS_LIMIT}
+use Rattle.explain.proofs.Words.{nat_lt, nat_tests, ◌≡◌, ◌≢◌, Bool, true, false, ℕ, zero, suc, ◌+◌, ◌-◌, ◌<◌, ◌≤◌, List, [], ◌∷◌, ◌++◌, length, map, take, drop, get_or, arith, refl, sym, ◌∙◌, ap, subst, Option, Some, None, slice_get, length-drop, Vec, Name, Stmt, Database, Expr, decode, stmt_at, expr_of, Carries, Item, Cite, Recall, Mark, item_of, items_of, Fault, TooManySymbols, NoMarkedResult, UnknownLabel, Reason, Gives, Fails, RunsWell, IsFirstFault, IsPosition, ArePositions, behind, Results, State, start, IsSaved, Runs, IsStopped, item-cite, get_or_default, same_Some, SYMBOLS_LIMIT}
 use Rattle.explain.specs.declared.reason.Reason.TheVariants as reason
 use Rattle.explain.specs.FirstFault.{IsEnd}
 use Rattle.explain.proofs.RunItemLemmas.{mark_fails, recall_heavy, cite_stuck, recall_item, what_is, found-at}
@@ -17,24 +17,24 @@ module _ (S : Database) (names : List Name) (at : ℕ) (items : List Item) (k la
   runs_well = record { runs = stopped.stops.runs; light = stopped.light }
 
   -- a mark of nothing
-  pub fails_mark : (what : Item) → slice_get items k ≡ Some what → Mark ≡ what → Fails S names at held what Unmarked
-  fails_mark what there same = subst (λ i. Fails S names at held i Unmarked) same (mark_fails S at held stopped.light (stopped.stops.stuck Mark (there ∙ ap Some (sym same))))
+  pub fails_mark : (what : Item) → slice_get items k ≡ Some what → Mark ≡ what → Fails S names at held what NoMarkedResult
+  fails_mark what there same = subst (λ i. Fails S names at held i NoMarkedResult) same (mark_fails S at held stopped.light (stopped.stops.stuck Mark (there ∙ ap Some (sym same))))
 
   -- a recall of a saved result, or of none
-  pub fails_recall_heavy : (what : Item) (i : ℕ) → slice_get items k ≡ Some what → Recall (suc i) ≡ what → i < length st.saved - labels → Fails S names at held what Heavy
+  pub fails_recall_heavy : (what : Item) (i : ℕ) → slice_get items k ≡ Some what → Recall (suc i) ≡ what → i < length st.saved - labels → Fails S names at held what TooManySymbols
   fails_recall_heavy what i there same less =
       let l = length-drop labels st.saved in let m = length-map (drop labels st.saved) (decode names) in
-      subst (λ w. Fails S names at held w Heavy) same
+      subst (λ w. Fails S names at held w TooManySymbols) same
       (recall_heavy S at held stopped.light i (stopped.stops.stuck (Recall (suc i)) (there ∙ ap Some (sym same))) (omega (arith, l, m, less)))
 
-  pub fails_recall_none : (what : Item) (i : ℕ) → Recall (suc i) ≡ what → length st.saved - labels ≤ i → Fails S names at held what Unmarked
+  pub fails_recall_none : (what : Item) (i : ℕ) → Recall (suc i) ≡ what → length st.saved - labels ≤ i → Fails S names at held what NoMarkedResult
   fails_recall_none what i same over =
       let l = length-drop labels st.saved in let m = length-map (drop labels st.saved) (decode names) in
-      subst (λ w. Fails S names at held w Unmarked) same
+      subst (λ w. Fails S names at held w NoMarkedResult) same
       (λ e saved. let w = slice_get_within (map (decode names) (drop labels st.saved)) i e saved in omega (arith, w, l, m, over))
 
   pub fails_recall : (what : Item) (i : ℕ) (fault : Fault) → slice_get items k ≡ Some what → Recall (suc i) ≡ what
-      → (i < length st.saved - labels → fault ≡ Heavy) → (length st.saved - labels ≤ i → fault ≡ Unmarked) → Fails S names at held what fault
+      → (i < length st.saved - labels → fault ≡ TooManySymbols) → (length st.saved - labels ≤ i → fault ≡ NoMarkedResult) → Fails S names at held what fault
   fails_recall what i fault there same marked unmarked = by (nat_lt i (length st.saved - labels)) refl
     where
       by : (b : Bool) → nat_lt i (length st.saved - labels) ≡ b → Fails S names at held what fault
@@ -61,8 +61,8 @@ module _ (S : Database) (names : List Name) (at : ℕ) (items : List Item) (labe
 
   pub first_end : (r : Reason) → IsEnd st.stack r → IsFirstFault S names at s items r
   first_end (reason.Item k fault) is = absurd is
-  first_end (reason.Results count) is = (held S names at items (length items) labels st stopped, whole, is.0 ∙ sym (length-map st.stack (decode names)), is.1)
-  first_end (reason.Theorem proved) is =
+  first_end (reason.ResultCount count) is = (held S names at items (length items) labels st stopped, whole, is.0 ∙ sym (length-map st.stack (decode names)), is.1)
+  first_end (reason.OtherTheorem proved) is =
       (held S names at items (length items) labels st stopped, whole, ap (map (decode names)) is, λ same. other (ap (map (decode names)) is ∙ ap (λ e. e ∷ []) same))
 
 -- ---- items by their numbers
@@ -88,7 +88,7 @@ module _ (labels : List Name) (numbers : List ℕ) (items : List Item) (k : ℕ)
   cite_there less some within =
       item_there less ∙ ap Some (item-cite labels (get_or numbers k 0) (get_or numbers k 0 - 1) (omega (arith, some)) (omega (arith, some, within)))
 
--- what the label of an index names, by its position
+-- the statement that the label at an index names, by its position
 pub position_at : (S : Database) (labels : List Name) (positions : List (Option ℕ)) (k : ℕ) (d o : Option ℕ) → ArePositions S labels positions → k < length positions → o ≡ get_or positions k d → IsPosition S (get_or labels k []) o
 position_at S labels positions k d o are less is = subst (IsPosition S (get_or labels k [])) (get_or_default positions k None d less ∙ sym is) (found-at S labels positions k are less)
 

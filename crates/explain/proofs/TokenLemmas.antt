@@ -1,5 +1,5 @@
 -- Tokens that write no items.
-use Rattle.explain.proofs.Words.{◌≡◌, ℕ, ◌+◌, Bool, true, false, not, bytes_eq, ◌||◌, List, [], ◌∷◌, ◌++◌, length, map, refl, list_all, list_any, sym, ◌∙◌, ap, subst, arith, append_assoc, append-nil, length-append, inl, inr, true≢false, list_any-append, bytes_eq-Decides, or_parts, not-false, and_from, or_from, not-true, Name, has_name, is_label, Item, Cite, is_unfinished, is_compressed, begin, finish, Writes, WritesRow, LetterBreak, fails, joined, IsFirst, IsLetterBreak, IsListing, IsNotLabel, AreBroken}
+use Rattle.explain.proofs.Words.{◌≡◌, ℕ, ◌+◌, Bool, true, false, not, bytes_eq, ◌||◌, List, [], ◌∷◌, ◌++◌, length, map, refl, list_all, list_any, sym, ◌∙◌, ap, subst, arith, append_assoc, append-nil, length-append, inl, inr, true≢false, list_any-append, bytes_eq-Decides, or_parts, not-false, and_from, or_from, not-true, Name, has_name, is_label, Item, Cite, is_unfinished, is_compressed, begin, finish, Writes, WritesRow, LetterBreak, fails, joined, IsFirst, IsLetterBreak, IsListing, IsNotLabel, AreLettersBroken}
 use Rattle.explain.specs.declared.code.Test.TheVariants as test
 
 -- ---- the first word that fails a test
@@ -8,27 +8,27 @@ module _ (t : Name → Bool) where
   pub record IsPassed (words left : List Name) (index : ℕ) : Type 0 where
     pub front : List Name
     pub whole : words ≡ front ++ left
-    pub place : length front ≡ index
+    pub index_is : length front ≡ index
     pub before : list_any t front ≡ false
 
   pub none-passed : (words : List Name) → IsPassed words words 0
-  none-passed words = record { front = []; whole = refl; place = refl; before = refl }
+  none-passed words = record { front = []; whole = refl; index_is = refl; before = refl }
 
   module _ (words left : List Name) (index : ℕ) (p : IsPassed words left index) (word : Name) (rest : List Name) (e : left ≡ word ∷ rest) where
     pub passed-more : t word ≡ false → IsPassed words rest (index + 1)
     passed-more h = record {
       front = p.front ++ word ∷ [];
       whole = p.whole ∙ (ap (λ l. p.front ++ l) e ∙ sym (append_assoc p.front (word ∷ []) rest));
-      place = let l = length-append p.front (word ∷ []) in let q = p.place in omega (arith, l, q);
+      index_is = let l = length-append p.front (word ∷ []) in let q = p.index_is in omega (arith, l, q);
       before = list_any-append t p.front (word ∷ []) ∙ (ap (λ b. b || (t word || false)) p.before ∙ ap (λ b. b || false) h);
     }
 
     pub first-here : t word ≡ true → IsFirst t words index word rest
-    first-here h = record { front = p.front; whole = p.whole ∙ ap (λ l. p.front ++ l) e; place = p.place; before = p.before; here = h }
+    first-here h = record { front = p.front; whole = p.whole ∙ ap (λ l. p.front ++ l) e; index_is = p.index_is; before = p.before; here = h }
 
     -- the words before this one, this one and those after it are all words
     pub room : index + 1 + length rest ≡ length words
-    room = let l = length-append p.front left in let q = p.place in let a = ap length e in let w = ap length p.whole in omega (arith, l, q, a, w)
+    room = let l = length-append p.front left in let q = p.index_is in let a = ap length e in let w = ap length p.whole in omega (arith, l, q, a, w)
 
   pub all-passed : (words left : List Name) (index : ℕ) → IsPassed words left index → left ≡ [] → list_any t words ≡ false
   all-passed words left index p e = ap (list_any t) (p.whole ∙ (ap (λ l. p.front ++ l) e ∙ append-nil p.front)) ∙ p.before
@@ -41,11 +41,11 @@ all-labels mandatory (w ∷ words) h =
     let p = or_parts (not (is_label w)) (list_any (fails mandatory test.NotLabel) words) h in
     and_from (is_label w) (list_all is_label words) (not-false (is_label w) p.0) (all-labels mandatory words p.1)
 
-listed-labels : (mandatory words : List Name) → list_any (fails mandatory test.NotListed) words ≡ false
+listed-labels : (mandatory words : List Name) → list_any (fails mandatory test.NotListable) words ≡ false
     → (list_all is_label words ≡ true) × (list_any (λ label. has_name label mandatory) words ≡ false)
 listed-labels mandatory [] h = (refl, refl)
 listed-labels mandatory (w ∷ words) h =
-    let p = or_parts (not (is_label w) || has_name w mandatory) (list_any (fails mandatory test.NotListed) words) h in
+    let p = or_parts (not (is_label w) || has_name w mandatory) (list_any (fails mandatory test.NotListable) words) h in
     let q = or_parts (not (is_label w)) (has_name w mandatory) p.0 in
     let more = listed-labels mandatory words p.1 in
     (and_from (is_label w) (list_all is_label words) (not-false (is_label w) q.0) more.0, or_from (has_name w mandatory) (list_any (λ label. has_name label mandatory) words) q.1 more.1)
@@ -77,7 +77,7 @@ not-label-normal tokens mandatory words token word rest same c f = record {
   other = not-true (is_label word) f.here;
 }
 
-module _ (tokens mandatory words : List Name) (index : ℕ) (word : Name) (rest : List Name) (starts : tokens ≡ begin ∷ words) (f : IsFirst (fails mandatory test.NotListed) words index word rest) where
+module _ (tokens mandatory words : List Name) (index : ℕ) (word : Name) (rest : List Name) (starts : tokens ≡ begin ∷ words) (f : IsFirst (fails mandatory test.NotListable) words index word rest) where
   listing-of : IsListing tokens mandatory index word rest
   listing-of = record { words = words; whole = starts; first = f }
 
@@ -95,18 +95,18 @@ module _ (tokens mandatory words : List Name) (index : ℕ) (word : Name) (rest 
 module _ (tokens mandatory : List Name) (index : ℕ) (rest : List Name) (l : IsListing tokens mandatory index finish rest) (many : ℕ) (all : many ≡ length mandatory) (letters : List ℕ) (text : letters ≡ joined rest) where
   -- the labels are the mandatory ones and those listed before `)`
   count : length (mandatory ++ l.first.front) ≡ many + index
-  count = let a = length-append mandatory l.first.front in let p = l.first.place in omega (arith, a, p, all)
+  count = let a = length-append mandatory l.first.front in let p = l.first.index_is in omega (arith, a, p, all)
 
-  pub letters-broken : (broken : LetterBreak) → ((names : List Name) → length names ≡ many + index → IsLetterBreak names letters broken) → AreBroken tokens mandatory broken
-  letters-broken broken told = record {
+  pub letters-broken : (broken : LetterBreak) → ((names : List Name) → length names ≡ many + index → IsLetterBreak names letters broken) → AreLettersBroken tokens mandatory broken
+  letters-broken broken fact = record {
     index = index;
     rest = rest;
     listing = l;
-    letters = subst (λ letters. IsLetterBreak (mandatory ++ l.first.front) letters broken) text (told (mandatory ++ l.first.front) count);
+    letters = subst (λ letters. IsLetterBreak (mandatory ++ l.first.front) letters broken) text (fact (mandatory ++ l.first.front) count);
   }
 
   pub letters-write : is_unfinished tokens ≡ false → is_compressed tokens ≡ true → ((names : List Name) → length names ≡ many + index → (items : List Item) × WritesRow names letters items)
       → (items : List Item) × Writes tokens mandatory items
-  letters-write f c told =
-      let w = told (mandatory ++ l.first.front) count in
+  letters-write f c fact =
+      let w = fact (mandatory ++ l.first.front) count in
       (w.0, writes-compressed tokens mandatory index rest w.0 f c l (subst (λ letters. WritesRow (mandatory ++ l.first.front) letters w.0) text w.1))

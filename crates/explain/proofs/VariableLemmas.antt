@@ -1,5 +1,5 @@
 -- The variables of expressions, each once.
-use Rattle.explain.proofs.Words.{◌≡◌, ℕ, zero, suc, ◌+◌, ◌<◌, Bool, true, false, not, ◌||◌, true≢false, List, [], ◌∷◌, ◌++◌, length, take, get_or, arith, refl, sym, ◌∙◌, ap, subst, add-one, Some, slice_get, ◌⊎◌, inl, inr, ⊎_elim, cond, Vec, list_all, BTreeSet, contains, nat_cmp, is_eq, cases_Bool, cases_eq, or_cases, list_any-append, slice_get_within, get_or_from_slice_get, Name, name_eq, has_name, Expr, Database, is_variable, all-has, name_at, decode, name_same, same_name, AreBelow, are_disjoint, is_pair, all-from, kept_by, Image, AreShared, is_kept, AreImages, AreListsOf, AreVariablesOf}
+use Rattle.explain.proofs.Words.{◌≡◌, ℕ, zero, suc, ◌+◌, ◌<◌, Bool, true, false, not, ◌||◌, true≢false, List, [], ◌∷◌, ◌++◌, length, take, get_or, arith, refl, sym, ◌∙◌, ap, subst, add-one, Some, slice_get, ◌⊎◌, inl, inr, ⊎_elim, cond, Vec, list_all, BTreeSet, contains, nat_cmp, is_eq, cases_Bool, cases_eq, or_cases, list_any-append, slice_get_within, get_or_from_slice_get, Name, name_eq, has_name, Expr, Database, is_variable, all-has, name_at, decode, name_same, same_name, AreBelow, are_disjoint, is_pair, all-from, kept_by, Image, AreUnpairedIn, is_permitted_pair, AreImages, AreListsOf, AreVariablesOf}
 use Rattle.explain.proofs.ImagesLemmas.{other_key}
 use Rattle.explain.proofs.ViolationLemmas.{has_at}
 
@@ -120,23 +120,23 @@ module _ (S : Database) (names : List Name) where
   -- an expression whose list is empty is disjoint from each other
   pub no_variables : (e l : List ℕ) (f : Expr) → AreVariablesOf S names e l → length l ≡ 0 → are_disjoint S (decode names e) f ≡ true
   no_variables e l f of none =
-      all-list (λ u. list_all (is_kept S u) f) e l of (λ u no. all-from (is_kept S u) f (λ v stands. kept_by (is_variable S u) (is_variable S v) (is_pair S u v) no)) (empty l none)
+      all-list (λ u. list_all (is_permitted_pair S u) f) e l of (λ u no. all-from (is_permitted_pair S u) f (λ v stands. kept_by (is_variable S u) (is_variable S v) (is_pair S u v) no)) (empty l none)
     where
-      empty : (l : List ℕ) → length l ≡ 0 → list_all (λ u. list_all (is_kept S u) f) (decode names l) ≡ true
+      empty : (l : List ℕ) → length l ≡ 0 → list_all (λ u. list_all (is_permitted_pair S u) f) (decode names l) ≡ true
       empty [] h = refl
       empty (x ∷ l) h = absurd (omega (arith, h))
 
   pub disjoint_lists : (e f l m : List ℕ) → AreVariablesOf S names e l → AreVariablesOf S names f m → are_disjoint S (decode names l) (decode names m) ≡ true → are_disjoint S (decode names e) (decode names f) ≡ true
   disjoint_lists e f l m of by h =
-      all-list (λ u. list_all (is_kept S u) (decode names f)) e l of
-      (λ u no. all-from (is_kept S u) (decode names f) (λ v stands. kept_by (is_variable S u) (is_variable S v) (is_pair S u v) no))
-      (all-from (λ u. list_all (is_kept S u) (decode names f)) (decode names l)
-      (λ u stands. all-list (is_kept S u) f m by (λ v no. kept_last (is_variable S u) (is_variable S v) (is_pair S u v) no)
-      (all-has (λ w. list_all (is_kept S w) (decode names m)) u (decode names l) h stands)))
+      all-list (λ u. list_all (is_permitted_pair S u) (decode names f)) e l of
+      (λ u no. all-from (is_permitted_pair S u) (decode names f) (λ v stands. kept_by (is_variable S u) (is_variable S v) (is_pair S u v) no))
+      (all-from (λ u. list_all (is_permitted_pair S u) (decode names f)) (decode names l)
+      (λ u stands. all-list (is_permitted_pair S u) f m by (λ v no. kept_last (is_variable S u) (is_variable S v) (is_pair S u v) no)
+      (all-has (λ w. list_all (is_permitted_pair S w) (decode names m)) u (decode names l) h stands)))
     where
       kept_last : (a b c : Bool) → b ≡ false → (not a || not b || c) ≡ true
       kept_last true b c e = rw e
       kept_last false b c e = refl
 
-  pub shared_lists : (u v : Name) (e f l m : List ℕ) → AreVariablesOf S names e l → AreVariablesOf S names f m → AreShared S u v (decode names l) (decode names m) → AreShared S u v (decode names e) (decode names f)
-  shared_lists u v e f l m of by h = record { first = of.only u h.first; second = by.only v h.second; unpaired = h.unpaired }
+  pub unpaired_lists : (u v : Name) (e f l m : List ℕ) → AreVariablesOf S names e l → AreVariablesOf S names f m → AreUnpairedIn S u v (decode names l) (decode names m) → AreUnpairedIn S u v (decode names e) (decode names f)
+  unpaired_lists u v e f l m of by h = record { first = of.only u h.first; second = by.only v h.second; unpaired = h.unpaired }

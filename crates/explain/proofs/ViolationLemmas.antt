@@ -60,5 +60,5 @@ violation_is S names σ groups k group c e is =
     let any = any_group (λ g. has_name x g && has_name y g) (decode names) groups k group e (ap (λ b. b && has_name y (decode names group)) is.first ∙ is.second.second) in
     record {
       together = ap (λ b. not b && list_any (λ g. has_name x g && has_name y g) (map (decode names) groups)) is.second.differ ∙ any;
-      shared = is.second.shared;
+      unpaired = is.second.unpaired;
     }

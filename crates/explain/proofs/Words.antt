@@ -1,22 +1,22 @@
 -- The words in which this crate is proved, passed on from one place.
 pub use Rattle.entries.specs.declared.assertion_view.Hypothesis.{Hypothesis}
 pub use Rattle.entries.specs.declared.assertion_view.Hypothesis.TheVariants.{Essential, Float}
-pub use Rattle.explain.specs.Breaks.{AreBroken, BeginsWith, Breaks, IsAllowed, IsEnd, IsFirst, IsLetterBreak, IsListing, IsNotLabel, IsOver, fails, joined, marks_in, place_in}
-pub use Rattle.explain.specs.CitationFaults.{AllFit, BeginsOther, IsFloat, IsMismatch, IsOther, IsOtherConstant, IsSaid, StartsOther, asks}
-pub use Rattle.explain.specs.DisjointViolations.{AreShared, IsViolation, IsViolationIn, IsViolationWith, is_kept, is_other_disjoint}
-pub use Rattle.explain.specs.Explained.{Gives, named_after, of_assertion, of_hypothesis}
+pub use Rattle.explain.specs.Breaks.{AreLettersBroken, BeginsWith, Breaks, IsAllowed, IsEnd, IsFirst, IsLetterBreak, IsListing, IsNotLabel, IsOver, fails, joined, marks_in, fault_index}
+pub use Rattle.explain.specs.CitationFaults.{AllMatch, HasOtherTypecode, IsFloat, IsMismatchFault, IsFirstMismatch, HasOtherTypecodeThan, IsFaultOfResult, HasOtherTypecodeNumber, required_result}
+pub use Rattle.explain.specs.DisjointViolations.{AreUnpairedIn, IsViolation, IsViolationIn, IsViolationWith, is_permitted_pair, is_other_disjoint}
+pub use Rattle.explain.specs.CitationResults.{Gives, named_after, of_assertion, of_hypothesis}
 pub use Rattle.explain.specs.FirstFault.{Fails, FailsAt, FailsCited, IsFirstFault, RunsWell}
-pub use Rattle.explain.specs.ImagePlaces.{IsPlaced}
+pub use Rattle.explain.specs.ImageIndexes.{IsImageIndex}
 pub use Rattle.explain.specs.LettersBefore.{IsReadTo, zeros}
 pub use Rattle.explain.specs.ReadImages.{AreVariables, code_at, codes_read, image_at, images_read, named_images}
 pub use Rattle.explain.specs.Stored.DisjointPairs.{AreDisjointPairs, IsDisjointPair, IsPairAt, IsPairOf}
-pub use Rattle.explain.specs.Stored.Vectors.{AreImages, AreSymbols, code_images, codes, named}
+pub use Rattle.explain.specs.Stored.Vectors.{AreImages, AreSymbols, code_images, codes, named_expressions}
 pub use Rattle.explain.specs.VariableLists.{AreListsOf, AreSeen, AreVariablesOf}
-pub use Rattle.explain.specs.WrongResults.{AreTaken, IsWrong, images_of}
+pub use Rattle.explain.specs.WrongResults.{AreCorrect, IsResultsFault, images_of}
 pub use Rattle.explain.specs.declared.disjoint_pairs.VariablePair.{VariablePair}
-pub use Rattle.explain.specs.declared.named_images.Image.{Image}
+pub use Rattle.explain.specs.declared.images.Image.{Image}
 pub use Rattle.explain.specs.declared.reason.Fault.{Fault}
-pub use Rattle.explain.specs.declared.reason.Fault.TheVariants.{Constant, Expression, Few, Heavy, Inactive, Later, Together, Unknown, Unmarked}
+pub use Rattle.explain.specs.declared.reason.Fault.TheVariants.{OtherTypecode, OtherExpression, TooFewResults, TooManySymbols, Inactive, NotEarlier, NotDisjoint, UnknownLabel, NoMarkedResult}
 pub use Rattle.explain.specs.declared.reason.Reason.{Reason}
 pub use Rattle.explain.specs.declared.violation.DisjointViolation.{DisjointViolation}
 pub use Rattle.explain.specs.declared.why.LetterBreak.{LetterBreak}

@@ -1,18 +1,18 @@
 -- Wrong results, from the tests of the code.
-use Rattle.explain.proofs.Words.{◌≡◌, ℕ, List, sym, ◌∙◌, ap, subst, true, Name, Stmt, Database, Expr, are_groups_disjoint, DisjointViolation, Fault, Unknown, Inactive, Later, Few, Constant, Expression, Together, Heavy, Unmarked, IsViolation, IsMismatch, IsWrong}
+use Rattle.explain.proofs.Words.{◌≡◌, ℕ, List, sym, ◌∙◌, ap, subst, true, Name, Stmt, Database, Expr, are_groups_disjoint, DisjointViolation, Fault, UnknownLabel, Inactive, NotEarlier, TooFewResults, OtherTypecode, OtherExpression, NotDisjoint, TooManySymbols, NoMarkedResult, IsViolation, IsMismatchFault, IsResultsFault}
 use Rattle.frame.specs.Substitution.{Images}
 
 -- a mismatch is wrong
-pub wrong_is : (S : Database) (names : List Name) (at a : ℕ) (s : Stmt) (rs : List Expr) (fault : Fault) → IsMismatch S names a s rs fault → IsWrong S names at a s rs fault
-wrong_is S names at a s rs Unknown h = absurd h
+pub wrong_is : (S : Database) (names : List Name) (at a : ℕ) (s : Stmt) (rs : List Expr) (fault : Fault) → IsMismatchFault S names a s rs fault → IsResultsFault S names at a s rs fault
+wrong_is S names at a s rs UnknownLabel h = absurd h
 wrong_is S names at a s rs (Inactive i) h = absurd h
-wrong_is S names at a s rs (Later i) h = absurd h
-wrong_is S names at a s rs (Few b t n) h = absurd h
-wrong_is S names at a s rs (Constant b p r) h = h
-wrong_is S names at a s rs (Expression b p q r) h = h
-wrong_is S names at a s rs (Together b x y u v) h = absurd h
-wrong_is S names at a s rs Heavy h = absurd h
-wrong_is S names at a s rs Unmarked h = absurd h
+wrong_is S names at a s rs (NotEarlier i) h = absurd h
+wrong_is S names at a s rs (TooFewResults b t n) h = absurd h
+wrong_is S names at a s rs (OtherTypecode b p r) h = h
+wrong_is S names at a s rs (OtherExpression b p q r) h = h
+wrong_is S names at a s rs (NotDisjoint b x y u v) h = absurd h
+wrong_is S names at a s rs TooManySymbols h = absurd h
+wrong_is S names at a s rs NoMarkedResult h = absurd h
 
 module _ {T S : Database} {ns names : List Name} {σ τ : Images} {gs hs : List (List Name)} (same : T ≡ S) (named : ns ≡ names) (images : σ ≡ τ) (lists : gs ≡ hs) where
   -- a violation stays one where statements, names, images and lists are equal

@@ -15,13 +15,13 @@ use Rattle.explain.specs.declared.why.LetterFault.TheVariants.{NotLetter, NotEnd
 abbrev pub fails : List Name → Test → Name → Bool
 fails mandatory test.Unfinished token = has_byte question_mark token
 fails mandatory test.NotLabel token = not (is_label token)
-fails mandatory test.NotListed token = not (is_label token) || has_name token mandatory
+fails mandatory test.NotListable token = not (is_label token) || has_name token mandatory
 
 -- the first of the tokens that fails the test, its index, and those after it
 pub record IsFirst (test : Name → Bool) (words : List Name) (index : ℕ) (word : Name) (rest : List Name) : Type 0 where
   pub front : List Name
   pub whole : words ≡ front ++ word ∷ rest
-  pub place : length front ≡ index
+  pub index_is : length front ≡ index
   pub before : IsFalse (list_any test front)
   pub here : IsTrue (test word)
 
@@ -47,8 +47,8 @@ BeginsWith P [] = ⊥
 BeginsWith P (letter ∷ letters) = P letter
 
 -- the byte is not one of A to Z
-abbrev pub IsOther : ℕ → Type 0
-IsOther letter = IsFalse (is_first letter) × IsFalse (is_last letter) × (letter ≢ 90)
+abbrev pub IsNoLetter : ℕ → Type 0
+IsNoLetter letter = IsFalse (is_first letter) × IsFalse (is_last letter) × (letter ≢ 90)
 
 -- the letter group has no letter yet, or some group with this beginning has a number up to the limit
 abbrev pub IsAllowed : ℕ → List ℕ → Type 0
@@ -60,17 +60,17 @@ IsOver limit begun letter = IsTrue (is_first letter || is_last letter) × ((word
 
 -- after the items and the letters U to Y that begin a letter group, the rest breaks the rule
 abbrev pub Breaks : LetterFault → ℕ → List Item → List ℕ → List ℕ → Type 0
-Breaks NotLetter limit items begun rest = BeginsWith IsOther rest
+Breaks NotLetter limit items begun rest = BeginsWith IsNoLetter rest
 Breaks NotEnded limit items begun rest = (begun ≢ []) × IsEnd rest
 Breaks EarlyMark limit items begun rest = (items ≡ []) × (begun ≡ []) × BeginsWith (λ letter. letter ≡ 90) rest
 Breaks TooGreat limit items begun rest = BeginsWith (IsOver limit begun) rest
 
--- the place of the fault: the letter itself, or where the letter group begins
-abbrev pub place_in : LetterFault → ℕ → ℕ → ℕ
-place_in NotLetter front begun = front + begun
-place_in NotEnded front begun = front
-place_in EarlyMark front begun = front
-place_in TooGreat front begun = front
+-- the index of the fault: that of the letter itself, or of the beginning of the letter group
+abbrev pub fault_index : LetterFault → ℕ → ℕ → ℕ
+fault_index NotLetter front begun = front + begun
+fault_index NotEnded front begun = front
+fault_index EarlyMark front begun = front
+fault_index TooGreat front begun = front
 
 -- the letters before a letter group write items, letters U to Y may begin the group, and the rest breaks a rule
 pub record IsLetterBreak (labels : List Name) (letters : List ℕ) (broken : LetterBreak) : Type 0 where
@@ -83,7 +83,7 @@ pub record IsLetterBreak (labels : List Name) (letters : List ℕ) (broken : Let
   pub firsts : IsTrue (list_all is_first begun)
   pub allowed : IsAllowed (length labels + marks_in items) begun
   pub breaks : Breaks broken.fault (length labels + marks_in items) items begun rest
-  pub place : broken.letter ≡ place_in broken.fault (length front) (length begun)
+  pub letter_is : broken.letter ≡ fault_index broken.fault (length front) (length begun)
 
 -- ---- tokens
 
@@ -91,7 +91,7 @@ pub record IsLetterBreak (labels : List Name) (letters : List ℕ) (broken : Let
 pub record IsListing (tokens mandatory : List Name) (index : ℕ) (word : Name) (rest : List Name) : Type 0 where
   pub words : List Name
   pub whole : tokens ≡ begin ∷ words
-  pub first : IsFirst (fails mandatory test.NotListed) words index word rest
+  pub first : IsFirst (fails mandatory test.NotListable) words index word rest
 
 pub record IsNotLabel (tokens mandatory : List Name) (token : ℕ) : Type 0 where
   pub word : Name
@@ -112,9 +112,9 @@ pub record IsMandatory (tokens mandatory : List Name) (token : ℕ) : Type 0 whe
 pub record IsUnclosed (tokens mandatory : List Name) : Type 0 where
   pub words : List Name
   pub whole : tokens ≡ begin ∷ words
-  pub listed : IsFalse (list_any (fails mandatory test.NotListed) words)
+  pub listed : IsFalse (list_any (fails mandatory test.NotListable) words)
 
-pub record AreBroken (tokens mandatory : List Name) (broken : LetterBreak) : Type 0 where
+pub record AreLettersBroken (tokens mandatory : List Name) (broken : LetterBreak) : Type 0 where
   pub index : ℕ
   pub rest : List Name
   pub listing : IsListing tokens mandatory index finish rest
@@ -126,4 +126,4 @@ IsBreak tokens mandatory (Unfinished token) = (word : Name) × (rest : List Name
 IsBreak tokens mandatory (NotLabel token) = IsFalse (is_unfinished tokens) × IsNotLabel tokens mandatory token
 IsBreak tokens mandatory (Mandatory token) = IsFalse (is_unfinished tokens) × IsMandatory tokens mandatory token
 IsBreak tokens mandatory Unclosed = IsFalse (is_unfinished tokens) × IsUnclosed tokens mandatory
-IsBreak tokens mandatory (Letters broken) = IsFalse (is_unfinished tokens) × AreBroken tokens mandatory broken
+IsBreak tokens mandatory (Letters broken) = IsFalse (is_unfinished tokens) × AreLettersBroken tokens mandatory broken

@@ -6,8 +6,8 @@ use Rattle.explain.specs.Words.{Name, name_eq, has_name, Expr, Database, is_vari
 use Rattle.explain.specs.declared.violation.DisjointViolation.{DisjointViolation}
 
 -- one of u and v is not a variable, or an active `$d` has both
-abbrev pub is_kept : Database → Name → Name → Bool
-is_kept S u v = not (is_variable S u) || not (is_variable S v) || is_pair S u v
+abbrev pub is_permitted_pair : Database → Name → Name → Bool
+is_permitted_pair S u v = not (is_variable S u) || not (is_variable S v) || is_pair S u v
 
 -- two variables that no active `$d` has together, or a variable and itself
 pub record IsUnpaired (S : Database) (u v : Name) : Type 0 where
@@ -21,7 +21,7 @@ pub record IsUnpairedIn (S : Database) (u v : Name) (f : Expr) : Type 0 where
   pub unpaired : IsUnpaired S u v
 
 -- u occurs in one expression, v in the other, and they are unpaired
-pub record AreShared (S : Database) (u v : Name) (e f : Expr) : Type 0 where
+pub record AreUnpairedIn (S : Database) (u v : Name) (e f : Expr) : Type 0 where
   pub first : IsTrue (has_name u e)
   pub second : IsTrue (has_name v f)
   pub unpaired : IsUnpaired S u v
@@ -33,14 +33,14 @@ is_other_disjoint S σ x y = name_eq x y || are_disjoint S (image σ x) (image �
 -- two variables that are together in a group, with unpaired variables of their images
 pub record IsViolation (S : Database) (names : List Name) (σ : Images) (groups : List (List Name)) (c : DisjointViolation) : Type 0 where
   pub together : IsTrue (together groups (name_at names c.first) (name_at names c.second))
-  pub shared : AreShared S (name_at names c.one) (name_at names c.other) (image σ (name_at names c.first)) (image σ (name_at names c.second))
+  pub unpaired : AreUnpairedIn S (name_at names c.in_first_image) (name_at names c.in_second_image) (image σ (name_at names c.first)) (image σ (name_at names c.second))
 
 -- .. in this group, the first of them being x
 pub record IsViolationWith (S : Database) (names : List Name) (σ : Images) (x : Name) (group : List Name) (c : DisjointViolation) : Type 0 where
   pub first : name_at names c.first ≡ x
   pub second : IsTrue (has_name (name_at names c.second) group)
   pub differ : IsFalse (name_eq x (name_at names c.second))
-  pub shared : AreShared S (name_at names c.one) (name_at names c.other) (image σ x) (image σ (name_at names c.second))
+  pub unpaired : AreUnpairedIn S (name_at names c.in_first_image) (name_at names c.in_second_image) (image σ x) (image σ (name_at names c.second))
 
 -- .. both in this group
 pub record IsViolationIn (S : Database) (names : List Name) (σ : Images) (group : List Name) (c : DisjointViolation) : Type 0 where

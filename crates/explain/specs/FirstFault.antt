@@ -4,11 +4,11 @@
 use Rattle.std.specs.Prelude.{◌≡◌, ◌≢◌, ℕ, ◌+◌, ◌<◌, ◌≤◌, true, IsTrue, List, [], ◌∷◌, ◌++◌, length, take, Some, slice_get}
 use Rattle.explain.specs.Words.{Name, Stmt, Expr, Database, before, expr_of, is_assertion, decode, hypotheses, Carries, IsHypothesis, Item, Cite, Recall, Mark, SYMBOLS_LIMIT, State, start, IsSaved, Runs}
 use Rattle.explain.specs.declared.reason.Fault.{Fault}
-use Rattle.explain.specs.declared.reason.Fault.TheVariants.{Unknown, Inactive, Later, Few, Constant, Expression, Together, Heavy, Unmarked}
+use Rattle.explain.specs.declared.reason.Fault.TheVariants.{UnknownLabel, Inactive, NotEarlier, TooFewResults, OtherTypecode, OtherExpression, NotDisjoint, TooManySymbols, NoMarkedResult}
 use Rattle.explain.specs.declared.reason.Reason.{Reason}
 use Rattle.explain.specs.declared.reason.Reason.TheVariants as reason
-use Rattle.explain.specs.Explained.{Gives}
-use Rattle.explain.specs.WrongResults.{IsWrong}
+use Rattle.explain.specs.CitationResults.{Gives}
+use Rattle.explain.specs.WrongResults.{IsResultsFault}
 
 -- the last results on the stack, one for each mandatory hypothesis of the earlier assertion s at a, are wrong
 pub record AreWrong (S : Database) (names : List Name) (at : ℕ) (h : State) (a : ℕ) (s : Stmt) (fault : Fault) : Type 0 where
@@ -18,7 +18,7 @@ pub record AreWrong (S : Database) (names : List Name) (at : ℕ) (h : State) (a
   pub results : List Expr
   pub whole : h.stack ≡ below ++ results
   pub count : length results ≡ length (hypotheses (before S a) s)
-  pub wrong : IsWrong S names at a s results fault
+  pub wrong : IsResultsFault S names at a s results fault
 
 -- a citation of the statement s at i gives a result that makes the proof too heavy
 pub record IsHeavy (S : Database) (at : ℕ) (h : State) (i : ℕ) (s : Stmt) : Type 0 where
@@ -30,27 +30,27 @@ pub record IsHeavy (S : Database) (at : ℕ) (h : State) (i : ℕ) (s : Stmt) : 
 -- the fault of a citation of the statement s at i
 abbrev pub FailsAt : Database → List Name → ℕ → State → ℕ → Stmt → Fault → Type 0
 FailsAt S names at h i s (Inactive j) = (j ≡ i) × (i < at) × (IsHypothesis S at i s → ⊥) × (is_assertion s ≡ true → ⊥)
-FailsAt S names at h i s (Later j) = (j ≡ i) × (at ≤ i)
-FailsAt S names at h i s (Few b takes there) = (b ≡ i) × (i < at) × IsTrue (is_assertion s) × (takes ≡ length (hypotheses (before S i) s)) × (there ≡ length h.stack) × (there < takes)
-FailsAt S names at h i s (Constant b p r) = AreWrong S names at h i s (Constant b p r)
-FailsAt S names at h i s (Expression b p q r) = AreWrong S names at h i s (Expression b p q r)
-FailsAt S names at h i s (Together b x y u v) = AreWrong S names at h i s (Together b x y u v)
-FailsAt S names at h i s Heavy = IsHeavy S at h i s
+FailsAt S names at h i s (NotEarlier j) = (j ≡ i) × (at ≤ i)
+FailsAt S names at h i s (TooFewResults b required present) = (b ≡ i) × (i < at) × IsTrue (is_assertion s) × (required ≡ length (hypotheses (before S i) s)) × (present ≡ length h.stack) × (present < required)
+FailsAt S names at h i s (OtherTypecode b p r) = AreWrong S names at h i s (OtherTypecode b p r)
+FailsAt S names at h i s (OtherExpression b p q r) = AreWrong S names at h i s (OtherExpression b p q r)
+FailsAt S names at h i s (NotDisjoint b x y u v) = AreWrong S names at h i s (NotDisjoint b x y u v)
+FailsAt S names at h i s TooManySymbols = IsHeavy S at h i s
 FailsAt S names at h i s fault = ⊥
 
 -- the fault of an item: a label that no statement has; the fault of a citation of its statement; a recall of a result that
 -- is not marked, or is too heavy; a mark without a result
 abbrev pub FailsCited : Database → List Name → ℕ → State → Name → Fault → Type 0
-FailsCited S names at h label Unknown = (i : ℕ) (s : Stmt) → Carries S i s label → ⊥
+FailsCited S names at h label UnknownLabel = (i : ℕ) (s : Stmt) → Carries S i s label → ⊥
 FailsCited S names at h label fault = (i : ℕ) × (s : Stmt) × Carries S i s label × FailsAt S names at h i s fault
 
 abbrev pub FailsRecalled : State → ℕ → Fault → Type 0
-FailsRecalled h k Unmarked = (e : Expr) → IsSaved h.saved k e → ⊥
-FailsRecalled h k Heavy = (e : Expr) × IsSaved h.saved k e × (SYMBOLS_LIMIT < h.weight + length e)
+FailsRecalled h k NoMarkedResult = (e : Expr) → IsSaved h.saved k e → ⊥
+FailsRecalled h k TooManySymbols = (e : Expr) × IsSaved h.saved k e × (SYMBOLS_LIMIT < h.weight + length e)
 FailsRecalled h k fault = ⊥
 
 abbrev pub FailsMarked : State → Fault → Type 0
-FailsMarked h Unmarked = h.stack ≡ []
+FailsMarked h NoMarkedResult = h.stack ≡ []
 FailsMarked h fault = ⊥
 
 abbrev pub Fails : Database → List Name → ℕ → State → Item → Fault → Type 0
@@ -67,12 +67,12 @@ pub record RunsWell (S : Database) (at : ℕ) (items : List Item) (h : State) : 
 abbrev pub IsFirstFault : Database → List Name → ℕ → Stmt → List Item → Reason → Type 0
 IsFirstFault S names at s items (reason.Item k fault) =
     (h : State) × (item : Item) × RunsWell S at (take k items) h × (slice_get items k ≡ Some item) × Fails S names at h item fault
-IsFirstFault S names at s items (reason.Results count) = (h : State) × RunsWell S at items h × (count ≡ length h.stack) × (count ≢ 1)
-IsFirstFault S names at s items (reason.Theorem proved) =
+IsFirstFault S names at s items (reason.ResultCount count) = (h : State) × RunsWell S at items h × (count ≡ length h.stack) × (count ≢ 1)
+IsFirstFault S names at s items (reason.OtherTheorem proved) =
     (h : State) × RunsWell S at items h × (h.stack ≡ decode names proved.items ∷ []) × (decode names proved.items ≢ expr_of s)
 
 -- the number of results at the end is not one, or the only result, by number, is this one
 abbrev pub IsEnd : List (List ℕ) → Reason → Type 0
-IsEnd stack (reason.Results count) = (count ≡ length stack) × (count ≢ 1)
-IsEnd stack (reason.Theorem proved) = stack ≡ proved.items ∷ []
+IsEnd stack (reason.ResultCount count) = (count ≡ length stack) × (count ≢ 1)
+IsEnd stack (reason.OtherTheorem proved) = stack ≡ proved.items ∷ []
 IsEnd stack r = ⊥

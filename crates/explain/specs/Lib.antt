@@ -3,11 +3,11 @@ pub mod Breaks
 pub mod LettersBefore
 pub mod Why
 pub mod ReadImages
-pub mod ImagePlaces
+pub mod ImageIndexes
 pub mod VariableLists
 pub mod DisjointViolations
 pub mod CitationFaults
 pub mod WrongResults
-pub mod Explained
+pub mod CitationResults
 pub mod FirstFault
 pub mod Stored

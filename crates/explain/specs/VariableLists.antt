@@ -3,7 +3,7 @@
 -- The code reads each image once; the definitions of faults are about whole images.
 use Rattle.std.specs.Prelude.{ℕ, ◌<◌, IsTrue, List, [], ◌∷◌, length}
 use Rattle.explain.specs.Words.{Vec, contains, nat_cmp, Name, has_name, Expr, Database, is_variable, name_at, decode, AreBelow}
-use Rattle.explain.specs.declared.named_images.Image.{Image}
+use Rattle.explain.specs.declared.images.Image.{Image}
 use Rattle.explain.specs.declared.variable_lists.VariableList.{VariableList}
 
 -- the list has the variables of the expression, and no symbol that the expression does not have
@@ -23,10 +23,10 @@ abbrev pub AreSeen : List Name → VariableList → Type 0
 AreSeen names v = (x : ℕ) → IsTrue (contains nat_cmp v.seen x) → IsTrue (has_name (name_at names x) (decode names v.list.items))
 
 -- the symbol is in the new list if it is a variable, and no other symbol was added
-pub record IsNoted (S : Database) (names : List Name) (old new : VariableList) (code : ℕ) : Type 0 where
+pub record IsAdded (S : Database) (names : List Name) (old new : VariableList) (code : ℕ) : Type 0 where
   pub seen : AreSeen names new
   pub below : AreBelow (length names) old.list.items → AreBelow (length names) new.list.items
   pub kept : (v : Name) → IsTrue (has_name v (decode names old.list.items)) → IsTrue (has_name v (decode names new.list.items))
-  pub noted : IsTrue (is_variable S (name_at names code)) → IsTrue (has_name (name_at names code) (decode names new.list.items))
+  pub listed : IsTrue (is_variable S (name_at names code)) → IsTrue (has_name (name_at names code) (decode names new.list.items))
   pub only : (e : Expr) → ((v : Name) → IsTrue (has_name v (decode names old.list.items)) → IsTrue (has_name v e)) → IsTrue (has_name (name_at names code) e)
       → (v : Name) → IsTrue (has_name v (decode names new.list.items)) → IsTrue (has_name v e)

@@ -11,7 +11,7 @@ use crate::why::{LetterBreak, LetterFault};
 
 /// The state of reading before a letter.
 #[derive(Clone, Copy, Drop)]
-pub(crate) struct Front {
+pub(crate) struct LetterState {
     /// The greatest number that a letter group may have here.
     limit: usize,
     /// The value of the letters U to Y of the current letter group read so far.
@@ -32,21 +32,21 @@ pub(crate) fn letter_break(letters: &[u8], labels: usize) -> Option<LetterBreak>
             fault: LetterFault::EarlyMark,
         });
     }
-    let mut front = Front {
+    let mut state = LetterState {
         limit: labels,
         digits: 0,
         begin: 0,
     };
     for i in 0..letters.len() {
-        match front.read(i, letters[i]) {
-            Ok(next) => front = next,
+        match state.read(i, letters[i]) {
+            Ok(next) => state = next,
             Err(broken) => return Some(broken),
         }
     }
-    if front.digits == 0 {
+    if state.digits == 0 {
         None
     } else {
-        Some(front.broken(LetterFault::NotEnded))
+        Some(state.broken(LetterFault::NotEnded))
     }
 }
 
@@ -57,9 +57,9 @@ fn begins_with_mark(letters: &[u8]) -> bool
     matches!(letters, [b'Z', ..])
 }
 
-impl Front {
+impl LetterState {
     /// Returns the state before the next letter, or the rule that this letter breaks.
-    fn read(self, index: usize, letter: u8) -> Result<Front, LetterBreak>
+    fn read(self, index: usize, letter: u8) -> Result<LetterState, LetterBreak>
         requires room { 5 * self.limit + 200 < 2 ^ 64 }
         requires index { index + 1 < 2 ^ 64 }
         requires small { 20 * self.digits ≤ self.limit }
@@ -72,7 +72,7 @@ impl Front {
                 if 20 * self.digits + usize::from(letter - 64) > self.limit {
                     return Err(self.broken(LetterFault::TooGreat));
                 }
-                Ok(Front {
+                Ok(LetterState {
                     digits: 0,
                     begin: index + 1,
                     ..self
@@ -83,13 +83,13 @@ impl Front {
                 if 20 * digits >= self.limit {
                     return Err(self.broken(LetterFault::TooGreat));
                 }
-                Ok(Front { digits, ..self })
+                Ok(LetterState { digits, ..self })
             }
             b'Z' => {
                 if self.digits != 0 {
                     return Err(self.broken(LetterFault::NotEnded));
                 }
-                Ok(Front {
+                Ok(LetterState {
                     limit: self.limit + 1,
                     digits: 0,
                     begin: index + 1,

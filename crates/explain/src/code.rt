@@ -22,7 +22,7 @@ pub(crate) enum Test {
     /// The token is not a label.
     NotLabel,
     /// The token is not a label, or is the label of a mandatory hypothesis.
-    NotListed,
+    NotListable,
 }
 
 /// Returns the rule of proof code that the tokens break. They must write no items under these mandatory labels.
@@ -88,7 +88,8 @@ fn listed_break(
     }
     let mut words = tokens.iter();
     let _ = words.next();
-    let Some((listed, word)) = first_of(&mut words, mandatory, Some(names), Test::NotListed) else {
+    let Some((listed, word)) = first_of(&mut words, mandatory, Some(names), Test::NotListable)
+    else {
         return Ok(CodeBreak::Unclosed);
     };
     if word == b")".as_slice() {
@@ -111,7 +112,7 @@ fn listed_break(
 
 /// Returns the first of the tokens with this fault, and its index. Consumes the tokens up to it.
 ///
-/// Cost: linear in the tokens; for `NotListed` times the logarithm of the number of mandatory labels if their set is given,
+/// Cost: linear in the tokens; for `NotListable` times the logarithm of the number of mandatory labels if their set is given,
 /// else times that number.
 fn first_of<'a>(
     words: &mut WordIter<'a>,
@@ -142,7 +143,7 @@ fn fails(token: &[u8], mandatory: &Words, names: Option<&BTreeSet<&[u8]>>, test:
     match test {
         Test::Unfinished => token.contains(&b'?'),
         Test::NotLabel => !is_label(token),
-        Test::NotListed => !is_label(token) || has(mandatory, names, token),
+        Test::NotListable => !is_label(token) || has(mandatory, names, token),
     }
 }
 

@@ -4,15 +4,15 @@
 //! fault of the run over the items that they write. It is called only after a refusal. `first_fault` runs the verifier over
 //! the items, and derives the fault of the item at which the run stops from the results at that point.
 //!
-//! Reading order: `why`, `proof_fault`, `code`, `broken_letters`; then `reason`, `named_images`, `variable_lists`,
-//! `disjoint_pairs`, `violation`, `named_citation`, `run`.
+//! Reading order: `why`, `proof_fault`, `code`, `broken_letters`; then `reason`, `images`, `variable_lists`,
+//! `disjoint_pairs`, `violation`, `citation`, `run`.
 #![tactic(auto)]
 
 mod broken_letters;
+mod citation;
 mod code;
 mod disjoint_pairs;
-mod named_citation;
-mod named_images;
+mod images;
 mod proof_fault;
 mod reason;
 mod run;

@@ -6,54 +6,54 @@ pub enum Reason {
     /// An item, counted from 0, has a fault.
     Item { item: usize, fault: Fault },
     /// The number of results on the stack at the end is not 1.
-    Results { count: usize },
+    ResultCount { count: usize },
     /// The only result at the end is not the theorem's expression.
-    Theorem { proved: Vec<u32> },
+    OtherTheorem { proved: Vec<u32> },
 }
 
 /// A fault of an item.
 #[derive(Debug, Drop)]
 pub enum Fault {
     /// No statement has the label.
-    Unknown,
+    UnknownLabel,
     /// The hypothesis is not active at the theorem.
     Inactive {
         hypothesis: usize,
     },
     /// The statement is the theorem itself or a later one.
-    Later {
+    NotEarlier {
         statement: usize,
     },
-    /// The assertion takes more results than the stack has.
-    Few {
+    /// The assertion requires more results than are present on the stack.
+    TooFewResults {
         assertion: usize,
-        takes: usize,
-        there: usize,
+        required: usize,
+        present: usize,
     },
     /// The result for a `$f` has another typecode than the `$f`.
-    Constant {
+    OtherTypecode {
         assertion: usize,
         hypothesis: usize,
         result: Vec<u32>,
     },
     /// The result is not the hypothesis under the substitution.
-    Expression {
+    OtherExpression {
         assertion: usize,
         hypothesis: usize,
         required: Vec<u32>,
         result: Vec<u32>,
     },
-    /// The variables `first` and `second` of the assertion must be disjoint, but `one` occurs in the image of `first`, `other`
-    /// in that of `second`, and `one` and `other` are the same variable or no active `$d` has both.
-    Together {
+    /// The variables `first` and `second` of the assertion must be disjoint, but `in_first_image` occurs in the image of `first`
+    /// and `in_second_image` in that of `second`, and these two are the same variable or no active `$d` has both.
+    NotDisjoint {
         assertion: usize,
         first: u32,
         second: u32,
-        one: u32,
-        other: u32,
+        in_first_image: u32,
+        in_second_image: u32,
     },
     /// The lengths of all results, with that of this item, add up to more than the limit.
-    Heavy,
+    TooManySymbols,
     /// There is no result to mark, or none marked with this number.
-    Unmarked,
+    NoMarkedResult,
 }

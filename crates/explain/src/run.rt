@@ -3,13 +3,13 @@ ghost use Rattle.std.specs.Prelude.{◌≡◌, ◌-◌, ◌<◌, ◌≤◌, leng
 ghost use Rattle.mm_read.specs.declared.stmt.Stmt.{Stmt as Statement};
 ghost use Rattle.scope.specs.Active.{stmt_at};
 ghost use Rattle.proof_code.specs.declared.item.Item.{Item};
-ghost use Rattle.explain.specs.Explained.{named_after};
+ghost use Rattle.explain.specs.CitationResults.{named_after};
 ghost use Rattle.explain.specs.FirstFault.{Fails, IsEnd, IsFirstFault};
-ghost use Rattle.explain.specs.declared.reason.Fault.TheVariants.{Heavy, Unmarked};
+ghost use Rattle.explain.specs.declared.reason.Fault.TheVariants.{TooManySymbols, NoMarkedResult};
 ghost use Rattle.verify.specs.Right.{IsProvable, IsRight};
 ghost use Rattle.verify.specs.Stops.{IsOther, IsStopped};
 
-use crate::named_citation::cite;
+use crate::citation::citation_fault;
 use crate::reason::{Fault, Reason};
 use frame::Frames;
 use proof_code::Items;
@@ -41,16 +41,16 @@ pub fn first_fault(
             labels,
             results,
         } => {
-            let fault = fault_at(alloc, frames, at, items, item, labels, &results)?;
+            let fault = item_fault(alloc, frames, at, items, item, labels, &results)?;
             Ok(Some(Reason::Item { item, fault }))
         }
-        Failure::End { results } => Ok(Some(end(alloc, &results)?)),
+        Failure::End { results } => Ok(Some(end_reason(alloc, &results)?)),
     }
 }
 
 /// Returns the fault of the item at which the run stops. The number of an item is 0 for a mark, up to the count of the labels
 /// for a citation, greater for a recall.
-fn fault_at(
+fn item_fault(
     alloc: Global,
     frames: &Frames,
     at: usize,
@@ -59,7 +59,7 @@ fn fault_at(
     labels: usize,
     results: &Results,
 ) -> Result<Fault, AllocError>
-    requires place { (1 ≤ at) × (at ≤ length frames.now.statements) }
+    requires position { (1 ≤ at) × (at ≤ length frames.now.statements) }
     requires item { item < length items.now }
     requires stopped { IsStopped frames.now.statements at frames.now.names items.now item labels results.now.results }
     ensures { (what : Item) → slice_get items.now item ≡ Some what → IfOk result (Fails frames.now.statements frames.now.names at (named_after frames.now labels results.now) what) }
@@ -67,38 +67,38 @@ fn fault_at(
     let parts = items.parts();
     let number = parts.numbers[item] as usize;
     if number == 0 {
-        return Ok(Fault::Unmarked);
+        return Ok(Fault::NoMarkedResult);
     }
     let positions = frames.positions(parts.labels)?;
     if number > positions.len() {
         return Ok(recall_fault(results, labels, number - positions.len() - 1));
     }
     match positions[number - 1] {
-        Some(statement) => cite(alloc, frames, at, statement, results),
-        None => Ok(Fault::Unknown),
+        Some(statement) => citation_fault(alloc, frames, at, statement, results),
+        None => Ok(Fault::UnknownLabel),
     }
 }
 
 /// Returns the fault of a recall that fails. The index counts the marked results, which follow those kept for labels.
 fn recall_fault(results: &Results, labels: usize, index: usize) -> Fault
-    ensures marked { index < length results.now.results.saved - labels → result ≡ Heavy }
-    ensures unmarked { length results.now.results.saved - labels ≤ index → result ≡ Unmarked }
+    ensures marked { index < length results.now.results.saved - labels → result ≡ TooManySymbols }
+    ensures unmarked { length results.now.results.saved - labels ≤ index → result ≡ NoMarkedResult }
 {
     if index < results.saved_len().saturating_sub(labels) {
-        Fault::Heavy
+        Fault::TooManySymbols
     } else {
-        Fault::Unmarked
+        Fault::NoMarkedResult
     }
 }
 
 /// Returns the reason at the end of a run that does not leave the theorem's expression as its only result.
-fn end(alloc: Global, results: &Results) -> Result<Reason, AllocError>
+fn end_reason(alloc: Global, results: &Results) -> Result<Reason, AllocError>
     ensures { IfOk result (IsEnd results.now.results.stack) }
 {
     let count = results.len();
     if count != 1 {
-        return Ok(Reason::Results { count });
+        return Ok(Reason::ResultCount { count });
     }
     let proved = Vec::from_slice(alloc, results.get(0))?;
-    Ok(Reason::Theorem { proved })
+    Ok(Reason::OtherTheorem { proved })
 }

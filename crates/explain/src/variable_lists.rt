@@ -5,9 +5,9 @@ ghost use Rattle.mm_read.specs.Statements.{Database};
 ghost use Rattle.frame.specs.Below.{AreBelow};
 ghost use Rattle.frame.specs.Substitution.{code_image};
 ghost use Rattle.explain.specs.Stored.Vectors.{AreImages, code_images};
-ghost use Rattle.explain.specs.VariableLists.{AreListsOf, AreSeen, AreVariablesOf, IsNoted};
+ghost use Rattle.explain.specs.VariableLists.{AreListsOf, AreSeen, AreVariablesOf, IsAdded};
 
-use crate::named_images::Images;
+use crate::images::Images;
 use frame::Pairs;
 use std::alloc::{AllocError, Global};
 use std::collections::BTreeSet;
@@ -32,14 +32,14 @@ impl VariableList {
     fn add(&mut self, pairs: &Pairs<'_>, code: u32) -> Result<(), AllocError>
         requires code { code < length pairs.now.names }
         requires seen { AreSeen pairs.now.names self.old }
-        ensures { OnOk result (IsNoted pairs.now.statements pairs.now.names self.old self.new code) }
+        ensures { OnOk result (IsAdded pairs.now.statements pairs.now.names self.old self.new code) }
     {
-        let place = code as usize % RECENT;
-        if is_at(self.list.as_slice(), self.recent[place], code) || !pairs.variable(code) {
+        let bucket = code as usize % RECENT;
+        if is_at(self.list.as_slice(), self.recent[bucket], code) || !pairs.variable(code) {
             return Ok(());
         }
         if self.seen.insert(code)? {
-            self.recent[place] = self.list.len();
+            self.recent[bucket] = self.list.len();
             self.list.push(code)?;
         }
         Ok(())
@@ -51,7 +51,7 @@ fn is_at(list: &[u32], index: usize, code: u32) -> bool
     ensures { IsTrue result → slice_get list.now index ≡ Some code }
 {
     match list.get(index) {
-        Some(there) => *there == code,
+        Some(other) => *other == code,
         None => false,
     }
 }
@@ -93,20 +93,20 @@ pub fn variable_lists(
     Ok(lists)
 }
 
-/// Returns the list of the variables in the image of a symbol, or `own`, the symbol alone, if it has no image.
+/// Returns the list of the variables in the image of a symbol, or `alone`, the list of the symbol alone, if it has no image.
 pub fn list_or<'a>(
     images: &Images<'_>,
     lists: &'a [Vec<u32>],
     symbol: u32,
-    own: &'a [u32],
+    alone: &'a [u32],
 ) -> &'a [u32]
     requires count { length lists.now ≡ length images.now }
-    requires own { own.now ≡ symbol ∷ [] }
+    requires alone { alone.now ≡ symbol ∷ [] }
     ensures { (S : Database) (names : List Name) → AreListsOf S names images.now lists.entry.now → symbol < length names
         → AreVariablesOf S names (code_image (code_images images.now) symbol) result.now }
 {
-    match images.place(symbol) {
+    match images.index_of(symbol) {
         Some(i) => lists[i].as_slice(),
-        None => own,
+        None => alone,
     }
 }

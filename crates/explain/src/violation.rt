@@ -7,12 +7,12 @@ ghost use Rattle.frame.specs.Substitution.{image};
 ghost use Rattle.frame.specs.Disjoint.{are_disjoint, is_group_disjoint, are_groups_disjoint};
 ghost use Rattle.explain.specs.Stored.Vectors.{AreImages, code_images};
 ghost use Rattle.explain.specs.ReadImages.{named_images, AreVariables};
-ghost use Rattle.explain.specs.DisjointViolations.{IsViolation, IsViolationIn, IsViolationWith, is_kept, is_other_disjoint, IsUnpairedIn, AreShared};
+ghost use Rattle.explain.specs.DisjointViolations.{IsViolation, IsViolationIn, IsViolationWith, is_permitted_pair, is_other_disjoint, IsUnpairedIn, AreUnpairedIn};
 ghost use Rattle.explain.specs.VariableLists.{AreListsOf};
 ghost use Rattle.explain.specs.Stored.DisjointPairs.{AreDisjointPairs, IsDisjointPair};
 
 use crate::disjoint_pairs::DisjointPairs;
-use crate::named_images::Images;
+use crate::images::Images;
 use crate::variable_lists::{list_or, variable_lists};
 use entries::Groups;
 use frame::Pairs;
@@ -23,14 +23,14 @@ use std::alloc::{AllocError, Global};
 pub struct DisjointViolation {
     pub first: u32,
     pub second: u32,
-    pub one: u32,
-    pub other: u32,
+    pub in_first_image: u32,
+    pub in_second_image: u32,
 }
 
 /// Returns the first violation by the images of two variables that are in one of the groups.
 ///
 /// Errors: an allocation fails. Cost: one pass over the images; for each two variables of a group a look-up, and the cost of
-/// `shared` unless the pair is among the at most 65,536 recorded as disjoint.
+/// `unpaired_variables` unless the pair is among the at most 65,536 recorded as disjoint.
 pub fn find_violation(
     alloc: Global,
     pairs: &Pairs<'_>,
@@ -49,8 +49,8 @@ pub fn find_violation(
         return Ok(None);
     }
     let lists = variable_lists(alloc, pairs, images)?;
-    let mut found = DisjointPairs::new(alloc);
-    Ok(violation_of(pairs, images, lists.as_slice(), groups, &mut found))
+    let mut known_disjoint = DisjointPairs::new(alloc);
+    Ok(violation_of(pairs, images, lists.as_slice(), groups, &mut known_disjoint))
 }
 
 /// Returns the first violation, given the lists of the variables of the images.
@@ -59,20 +59,26 @@ fn violation_of(
     images: &Images<'_>,
     lists: &[Vec<u32>],
     groups: &Groups<'_>,
-    found: &mut DisjointPairs,
+    known_disjoint: &mut DisjointPairs,
 ) -> Option<DisjointViolation>
     requires groups { AllBelow (length pairs.now.names) groups.now }
     requires lists { AreListsOf pairs.now.statements pairs.now.names images.now lists.now }
     requires variables { AreVariables (length pairs.now.names) (code_images images.now) }
     requires distinct { AreDistinct pairs.now.names }
-    requires found { AreDisjointPairs pairs.now.statements pairs.now.names (named_images pairs.now.names (code_images images.now)) found.old.pairs.items }
+    requires known_disjoint { AreDisjointPairs pairs.now.statements pairs.now.names (named_images pairs.now.names (code_images images.now)) known_disjoint.old.pairs.items }
     ensures { MatchOption result
         (are_groups_disjoint pairs.now.statements (named_images pairs.now.names (code_images images.now)) (map (decode pairs.now.names) groups.now) ≡ true)
         (IsViolation pairs.now.statements pairs.now.names (named_images pairs.now.names (code_images images.now)) (map (decode pairs.now.names) groups.now)) }
 {
     for k in 0..groups.len() {
         if !is_repeated(groups, k) {
-            if let Some(violation) = violation_in(pairs, images, lists, groups.get(k), found) {
+            if let Some(violation) = violation_in(
+                pairs,
+                images,
+                lists,
+                groups.get(k),
+                known_disjoint,
+            ) {
                 return Some(violation);
             }
         }
@@ -90,26 +96,33 @@ fn is_repeated(groups: &Groups<'_>, index: usize) -> bool
 
 /// Returns the first violation by the images of two variables of one group.
 ///
-/// Cost: that of `shared_by` for each two variables of the group.
+/// Cost: that of `unpaired_in_images` for each two variables of the group.
 fn violation_in(
     pairs: &Pairs<'_>,
     images: &Images<'_>,
     lists: &[Vec<u32>],
     group: &[u32],
-    found: &mut DisjointPairs,
+    known_disjoint: &mut DisjointPairs,
 ) -> Option<DisjointViolation>
     requires group { AreBelow (length pairs.now.names) group.now }
     requires lists { AreListsOf pairs.now.statements pairs.now.names images.now lists.now }
     requires variables { AreVariables (length pairs.now.names) (code_images images.now) }
     requires distinct { AreDistinct pairs.now.names }
-    requires found { AreDisjointPairs pairs.now.statements pairs.now.names (named_images pairs.now.names (code_images images.now)) found.old.pairs.items }
+    requires known_disjoint { AreDisjointPairs pairs.now.statements pairs.now.names (named_images pairs.now.names (code_images images.now)) known_disjoint.old.pairs.items }
     ensures violation { MatchOption result
         (is_group_disjoint pairs.now.statements (named_images pairs.now.names (code_images images.now)) (decode pairs.now.names group.now) ≡ true)
         (IsViolationIn pairs.now.statements pairs.now.names (named_images pairs.now.names (code_images images.now)) (decode pairs.now.names group.now)) }
-    ensures found { AreDisjointPairs pairs.now.statements pairs.now.names (named_images pairs.now.names (code_images images.now)) found.new.pairs.items }
+    ensures known_disjoint { AreDisjointPairs pairs.now.statements pairs.now.names (named_images pairs.now.names (code_images images.now)) known_disjoint.new.pairs.items }
 {
     for first in group {
-        if let Some(violation) = violation_with(pairs, images, lists, *first, group, found) {
+        if let Some(violation) = violation_with(
+            pairs,
+            images,
+            lists,
+            *first,
+            group,
+            known_disjoint,
+        ) {
             return Some(violation);
         }
     }
@@ -123,33 +136,40 @@ fn violation_with(
     lists: &[Vec<u32>],
     first: u32,
     group: &[u32],
-    found: &mut DisjointPairs,
+    known_disjoint: &mut DisjointPairs,
 ) -> Option<DisjointViolation>
     requires first { first < length pairs.now.names }
     requires group { AreBelow (length pairs.now.names) group.now }
     requires lists { AreListsOf pairs.now.statements pairs.now.names images.now lists.now }
     requires variables { AreVariables (length pairs.now.names) (code_images images.now) }
     requires distinct { AreDistinct pairs.now.names }
-    requires found { AreDisjointPairs pairs.now.statements pairs.now.names (named_images pairs.now.names (code_images images.now)) found.old.pairs.items }
+    requires known_disjoint { AreDisjointPairs pairs.now.statements pairs.now.names (named_images pairs.now.names (code_images images.now)) known_disjoint.old.pairs.items }
     ensures violation { MatchOption result
         (list_all (is_other_disjoint pairs.now.statements (named_images pairs.now.names (code_images images.now)) (name_at pairs.now.names first)) (decode pairs.now.names group.now) ≡ true)
         (IsViolationWith pairs.now.statements pairs.now.names (named_images pairs.now.names (code_images images.now)) (name_at pairs.now.names first) (decode pairs.now.names group.now)) }
-    ensures found { AreDisjointPairs pairs.now.statements pairs.now.names (named_images pairs.now.names (code_images images.now)) found.new.pairs.items }
+    ensures known_disjoint { AreDisjointPairs pairs.now.statements pairs.now.names (named_images pairs.now.names (code_images images.now)) known_disjoint.new.pairs.items }
 {
-    let own = [first];
-    let left = list_or(images, lists, first, &own);
+    let alone = [first];
+    let left = list_or(images, lists, first, &alone);
     if left.is_empty() {
         return None;
     }
     for second in group {
         let code = *second;
         if code != first {
-            if let Some((one, other)) = shared_by(pairs, images, lists, first, code, found) {
+            if let Some((one, other)) = unpaired_in_images(
+                pairs,
+                images,
+                lists,
+                first,
+                code,
+                known_disjoint,
+            ) {
                 return Some(DisjointViolation {
                     first,
                     second: code,
-                    one,
-                    other,
+                    in_first_image: one,
+                    in_second_image: other,
                 });
             }
         }
@@ -160,38 +180,38 @@ fn violation_with(
 /// Returns a variable of the image of `first` and one of the image of `second` that are the same or that no active `$d` has
 /// together; `None` if the images are disjoint, and then records the pair.
 ///
-/// Cost: a look-up of the pair; if it is not recorded, also the cost of `shared`.
-fn shared_by(
+/// Cost: a look-up of the pair; if it is not recorded, also the cost of `unpaired_variables`.
+fn unpaired_in_images(
     pairs: &Pairs<'_>,
     images: &Images<'_>,
     lists: &[Vec<u32>],
     first: u32,
     second: u32,
-    found: &mut DisjointPairs,
+    known_disjoint: &mut DisjointPairs,
 ) -> Option<(u32, u32)>
     requires first { first < length pairs.now.names }
     requires second { second < length pairs.now.names }
     requires lists { AreListsOf pairs.now.statements pairs.now.names images.now lists.now }
     requires variables { AreVariables (length pairs.now.names) (code_images images.now) }
     requires distinct { AreDistinct pairs.now.names }
-    requires found { AreDisjointPairs pairs.now.statements pairs.now.names (named_images pairs.now.names (code_images images.now)) found.old.pairs.items }
-    ensures shared { MatchOption result
+    requires known_disjoint { AreDisjointPairs pairs.now.statements pairs.now.names (named_images pairs.now.names (code_images images.now)) known_disjoint.old.pairs.items }
+    ensures unpaired { MatchOption result
         (IsDisjointPair pairs.now.statements pairs.now.names (named_images pairs.now.names (code_images images.now)) first second)
-        (λ r. AreShared pairs.now.statements (name_at pairs.now.names r.0) (name_at pairs.now.names r.1)
+        (λ r. AreUnpairedIn pairs.now.statements (name_at pairs.now.names r.0) (name_at pairs.now.names r.1)
         (image (named_images pairs.now.names (code_images images.now)) (name_at pairs.now.names first)) (image (named_images pairs.now.names (code_images images.now)) (name_at pairs.now.names second))) }
-    ensures found { AreDisjointPairs pairs.now.statements pairs.now.names (named_images pairs.now.names (code_images images.now)) found.new.pairs.items }
+    ensures known_disjoint { AreDisjointPairs pairs.now.statements pairs.now.names (named_images pairs.now.names (code_images images.now)) known_disjoint.new.pairs.items }
 {
-    if found.has(first, second) {
+    if known_disjoint.has(first, second) {
         return None;
     }
-    let own = [first];
-    let left = list_or(images, lists, first, &own);
-    let alone = [second];
-    let right = list_or(images, lists, second, &alone);
-    match shared(pairs, left, right) {
+    let first_alone = [first];
+    let left = list_or(images, lists, first, &first_alone);
+    let second_alone = [second];
+    let right = list_or(images, lists, second, &second_alone);
+    match unpaired_variables(pairs, left, right) {
         Some(symbols) => Some(symbols),
         None => {
-            found.add(first, second);
+            known_disjoint.add(first, second);
             None
         }
     }
@@ -200,15 +220,15 @@ fn shared_by(
 /// Returns a variable of each expression such that the two are the same or no active `$d` has both, if there are such.
 ///
 /// Cost: the product of their lengths, times the cost of `Pairs::has`.
-fn shared(pairs: &Pairs<'_>, left: &[u32], right: &[u32]) -> Option<(u32, u32)>
+fn unpaired_variables(pairs: &Pairs<'_>, left: &[u32], right: &[u32]) -> Option<(u32, u32)>
     requires left { AreBelow (length pairs.now.names) left.now }
     requires right { AreBelow (length pairs.now.names) right.now }
     ensures { MatchOption result
         (are_disjoint pairs.now.statements (decode pairs.now.names left.now) (decode pairs.now.names right.now) ≡ true)
-        (λ r. AreShared pairs.now.statements (name_at pairs.now.names r.0) (name_at pairs.now.names r.1) (decode pairs.now.names left.now) (decode pairs.now.names right.now)) }
+        (λ r. AreUnpairedIn pairs.now.statements (name_at pairs.now.names r.0) (name_at pairs.now.names r.1) (decode pairs.now.names left.now) (decode pairs.now.names right.now)) }
 {
     for one in left {
-        if let Some(other) = not_with(pairs, *one, right) {
+        if let Some(other) = unpaired_with(pairs, *one, right) {
             return Some((*one, other));
         }
     }
@@ -217,11 +237,11 @@ fn shared(pairs: &Pairs<'_>, left: &[u32], right: &[u32]) -> Option<(u32, u32)>
 
 /// Returns a variable of the expression that is `one`, or that no active `$d` has together with `one`; `None` if `one` is not
 /// a variable.
-fn not_with(pairs: &Pairs<'_>, one: u32, right: &[u32]) -> Option<u32>
+fn unpaired_with(pairs: &Pairs<'_>, one: u32, right: &[u32]) -> Option<u32>
     requires one { one < length pairs.now.names }
     requires right { AreBelow (length pairs.now.names) right.now }
     ensures { MatchOption result
-        (list_all (is_kept pairs.now.statements (name_at pairs.now.names one)) (decode pairs.now.names right.now) ≡ true)
+        (list_all (is_permitted_pair pairs.now.statements (name_at pairs.now.names one)) (decode pairs.now.names right.now) ≡ true)
         (λ v. IsUnpairedIn pairs.now.statements (name_at pairs.now.names one) (name_at pairs.now.names v) (decode pairs.now.names right.now)) }
 {
     if !pairs.variable(one) {

@@ -1,7 +1,7 @@
 //! Explains which rule a statement breaks.
 use crate::statement_symbols::{first_symbol_token, label_of, symbol_at};
 use crate::text_tokens::TextTokens;
-use crate::written_lines::Page;
+use crate::written_lines::Lines;
 use mm_read::{ReadFault, Stmt, read};
 use rule_violation::{RuleViolation, never_closed, violation_of};
 use scope::Rule;
@@ -9,7 +9,7 @@ use std::alloc::Global;
 
 /// A rule that a statement of a text breaks.
 #[derive(Clone, Copy)]
-struct Broken<'a> {
+struct RuleContext<'a> {
     tokens: &'a TextTokens<'a>,
     statements: &'a [Stmt],
     /// The statement, counted from 1.
@@ -21,183 +21,202 @@ struct Broken<'a> {
 /// other declaration.
 pub(crate) fn explain_rule(
     alloc: Global,
-    page: &mut Page<'_>,
+    lines: &mut Lines<'_>,
     text: &[u8],
     statement: usize,
     rule: Rule,
 ) {
     match read(alloc, text) {
-        Ok(statements) => explain_read(alloc, page, text, statements.as_slice(), statement, rule),
-        Err(ReadFault::Memory) => page.fail(),
+        Ok(statements) => explain_in_statements(
+            alloc,
+            lines,
+            text,
+            statements.as_slice(),
+            statement,
+            rule,
+        ),
+        Err(ReadFault::Memory) => lines.fail(),
         Err(_) => {}
     }
 }
 
 /// Writes the rule that the statement breaks, given the statements of the text.
-fn explain_read(
+fn explain_in_statements(
     alloc: Global,
-    page: &mut Page<'_>,
+    lines: &mut Lines<'_>,
     text: &[u8],
     statements: &[Stmt],
     statement: usize,
     rule: Rule,
 ) {
-    if let Some(tokens) = page.value_of(TextTokens::new(alloc, text)) {
-        let broken = Broken {
+    if let Some(tokens) = lines.ok_or_fail(TextTokens::new(alloc, text)) {
+        let context = RuleContext {
             tokens: &tokens,
             statements,
             statement,
             rule,
         };
-        explain_broken(alloc, page, &broken);
+        explain_rule_in(alloc, lines, &context);
     }
 }
 
-fn explain_broken(alloc: Global, page: &mut Page<'_>, broken: &Broken<'_>) {
-    if broken.statement > broken.statements.len() {
-        explain_open(page, broken);
+fn explain_rule_in(alloc: Global, lines: &mut Lines<'_>, context: &RuleContext<'_>) {
+    if context.statement > context.statements.len() {
+        explain_open_block(lines, context);
     } else {
-        explain_statement(alloc, page, broken);
+        explain_statement(alloc, lines, context);
     }
 }
 
 /// Writes that a block is never closed.
-fn explain_open(page: &mut Page<'_>, broken: &Broken<'_>) {
-    if let Some(open) = never_closed(broken.statements) {
-        push_start(page, broken, open, 1);
-        page.push(b"this block is never closed\n");
+fn explain_open_block(lines: &mut Lines<'_>, context: &RuleContext<'_>) {
+    if let Some(open) = never_closed(context.statements) {
+        push_token_start(lines, context, open, 1);
+        lines.push(b"this block is never closed\n");
     }
 }
 
 /// Writes `LINE:COLUMN: ` for a token of a statement.
-fn push_start(page: &mut Page<'_>, broken: &Broken<'_>, statement: usize, token: usize) {
-    push_token_place(page, broken, statement, token);
-    page.push(b": ");
+fn push_token_start(
+    lines: &mut Lines<'_>,
+    context: &RuleContext<'_>,
+    statement: usize,
+    token: usize,
+) {
+    push_token_place(lines, context, statement, token);
+    lines.push(b": ");
 }
 
 /// Writes `LINE:COLUMN` for a token of a statement.
-fn push_token_place(page: &mut Page<'_>, broken: &Broken<'_>, statement: usize, token: usize) {
-    let tokens = broken.tokens;
-    page.push_place(tokens.text(), tokens.start_of(statement, token));
+fn push_token_place(
+    lines: &mut Lines<'_>,
+    context: &RuleContext<'_>,
+    statement: usize,
+    token: usize,
+) {
+    let tokens = context.tokens;
+    lines.push_place(tokens.text(), tokens.start_of(statement, token));
 }
 
-fn explain_statement(alloc: Global, page: &mut Page<'_>, broken: &Broken<'_>) {
-    let Some(index) = broken.statement.checked_sub(1) else {
+fn explain_statement(alloc: Global, lines: &mut Lines<'_>, context: &RuleContext<'_>) {
+    let Some(index) = context.statement.checked_sub(1) else {
         return;
     };
-    if index >= broken.statements.len() {
+    if index >= context.statements.len() {
         return;
     }
-    let (earlier, rest) = broken.statements.split_at(index);
+    let (earlier, rest) = context.statements.split_at(index);
     let stmt = &rest[0];
-    let violation = violation_of(alloc, earlier, stmt, broken.rule);
-    if let Some(Some(violation)) = page.value_of(violation) {
-        explain_violation(page, broken, stmt, violation);
+    let violation = violation_of(alloc, earlier, stmt, context.rule);
+    if let Some(Some(violation)) = lines.ok_or_fail(violation) {
+        explain_violation(lines, context, stmt, violation);
     }
 }
 
 fn explain_violation(
-    page: &mut Page<'_>,
-    broken: &Broken<'_>,
+    lines: &mut Lines<'_>,
+    context: &RuleContext<'_>,
     stmt: &Stmt,
     violation: RuleViolation,
 ) {
     match violation {
-        RuleViolation::Statement => explain_alone(page, broken),
-        RuleViolation::Symbol { symbol } => explain_symbol(page, broken, stmt, symbol),
-        RuleViolation::Twice { first, second } => explain_twice(page, broken, stmt, first, second),
+        RuleViolation::Statement => explain_whole_statement(lines, context),
+        RuleViolation::Symbol { symbol } => explain_symbol(lines, context, stmt, symbol),
+        RuleViolation::Twice { first, second } => explain_twice(
+            lines, context, stmt, first, second,
+        ),
         RuleViolation::Earlier { symbol, statement } => {
-            explain_earlier(page, broken, stmt, symbol, statement);
+            explain_earlier(lines, context, stmt, symbol, statement);
         }
-        RuleViolation::Label { statement } => explain_label(page, broken, stmt, statement),
+        RuleViolation::Label { statement } => explain_label(lines, context, stmt, statement),
     }
 }
 
 /// Writes that a `$c` is inside a block, or that a `$}` closes none.
-fn explain_alone(page: &mut Page<'_>, broken: &Broken<'_>) {
-    push_start(page, broken, broken.statement, 1);
+fn explain_whole_statement(lines: &mut Lines<'_>, context: &RuleContext<'_>) {
+    push_token_start(lines, context, context.statement, 1);
     // G1: a `$c` is in the outermost block. The other rule that a whole statement breaks is G10: a `$}` closes a block.
-    if broken.rule == Rule::G1 {
-        return page.push(
+    if context.rule == Rule::G1 {
+        return lines.push(
             b"this $c stands inside a block; constants are declared outside all blocks\n",
         );
     }
-    page.push(b"this $} closes no block\n");
+    lines.push(b"this $} closes no block\n");
 }
 
 /// Writes the place of a symbol of the statement, and the symbol.
-fn push_symbol(page: &mut Page<'_>, broken: &Broken<'_>, stmt: &Stmt, symbol: usize) {
+fn push_symbol(lines: &mut Lines<'_>, context: &RuleContext<'_>, stmt: &Stmt, symbol: usize) {
     let token = first_symbol_token(stmt).saturating_add(symbol);
-    push_start(page, broken, broken.statement, token);
-    page.push(symbol_at(stmt, symbol));
+    push_token_start(lines, context, context.statement, token);
+    lines.push(symbol_at(stmt, symbol));
 }
 
-fn explain_symbol(page: &mut Page<'_>, broken: &Broken<'_>, stmt: &Stmt, symbol: usize) {
-    push_symbol(page, broken, stmt, symbol);
+fn explain_symbol(lines: &mut Lines<'_>, context: &RuleContext<'_>, stmt: &Stmt, symbol: usize) {
+    push_symbol(lines, context, stmt, symbol);
     // G5: each symbol of an expression is a constant or an active variable. G6: the first is a constant. G9: each variable has
     // an active `$f`. Otherwise the symbol must be an active variable: the second of a `$f` (G7), or one of a `$d` (G8).
-    match broken.rule {
-        Rule::G5 => page.push(b" is neither a constant nor an active variable\n"),
-        Rule::G6 => page.push(b" is no constant, and an expression begins with a constant\n"),
-        Rule::G9 => page.push(b" is a variable that has no active $f\n"),
-        _ => page.push(b" is no active variable\n"),
+    match context.rule {
+        Rule::G5 => lines.push(b" is neither a constant nor an active variable\n"),
+        Rule::G6 => lines.push(b" is no constant, and an expression begins with a constant\n"),
+        Rule::G9 => lines.push(b" is a variable that has no active $f\n"),
+        _ => lines.push(b" is no active variable\n"),
     }
 }
 
 fn explain_twice(
-    page: &mut Page<'_>,
-    broken: &Broken<'_>,
+    lines: &mut Lines<'_>,
+    context: &RuleContext<'_>,
     stmt: &Stmt,
     first: usize,
     second: usize,
 ) {
-    push_symbol(page, broken, stmt, second);
-    page.push(b" stands twice in this statement\n  first at ");
+    push_symbol(lines, context, stmt, second);
+    lines.push(b" stands twice in this statement\n  first at ");
     let token = first_symbol_token(stmt).saturating_add(first);
-    push_token_place(page, broken, broken.statement, token);
-    page.push(b"\n");
+    push_token_place(lines, context, context.statement, token);
+    lines.push(b"\n");
 }
 
 fn explain_earlier(
-    page: &mut Page<'_>,
-    broken: &Broken<'_>,
+    lines: &mut Lines<'_>,
+    context: &RuleContext<'_>,
     stmt: &Stmt,
     symbol: usize,
     other: usize,
 ) {
-    push_symbol(page, broken, stmt, symbol);
-    push_other(page, broken, symbol_at(stmt, symbol), other);
+    push_symbol(lines, context, stmt, symbol);
+    push_other_use(lines, context, symbol_at(stmt, symbol), other);
 }
 
-fn explain_label(page: &mut Page<'_>, broken: &Broken<'_>, stmt: &Stmt, other: usize) {
-    push_start(page, broken, broken.statement, 1);
-    page.push(label_of(stmt));
-    push_other(page, broken, label_of(stmt), other);
+fn explain_label(lines: &mut Lines<'_>, context: &RuleContext<'_>, stmt: &Stmt, other: usize) {
+    push_token_start(lines, context, context.statement, 1);
+    lines.push(label_of(stmt));
+    push_other_use(lines, context, label_of(stmt), other);
 }
 
 /// Writes how the other statement uses the name, and where.
-fn push_other(page: &mut Page<'_>, broken: &Broken<'_>, name: &[u8], other: usize) {
-    let Some(stmt) = broken.statements.get(other.saturating_sub(1)) else {
-        page.push(b"\n");
+fn push_other_use(lines: &mut Lines<'_>, context: &RuleContext<'_>, name: &[u8], other: usize) {
+    let Some(stmt) = context.statements.get(other.saturating_sub(1)) else {
+        lines.push(b"\n");
         return;
     };
-    let (message, token) = told(stmt, name);
-    page.push(message);
-    page.push(b"\n  at ");
-    push_token_place(page, broken, other, token);
-    page.push(b"\n");
+    let (message, token) = use_of(stmt, name);
+    lines.push(message);
+    lines.push(b"\n  at ");
+    push_token_place(lines, context, other, token);
+    lines.push(b"\n");
 }
 
 /// Returns the message for how a statement uses a name, and the number, from 1, of the token that is the name.
-fn told(stmt: &Stmt, name: &[u8]) -> (&'static [u8], usize) {
+fn use_of(stmt: &Stmt, name: &[u8]) -> (&'static [u8], usize) {
     match stmt {
         Stmt::Const(names) => (
             b" is declared as a constant already",
-            2usize.saturating_add(place_in(names, name)),
+            2usize.saturating_add(index_of(names, name)),
         ),
         Stmt::Var(names) => (
             b" is declared as a variable already",
-            2usize.saturating_add(place_in(names, name)),
+            2usize.saturating_add(index_of(names, name)),
         ),
         Stmt::Float { label, .. } if label.as_bytes() != name => (b" has an active $f already", 1),
         _ => (b" is a label already", 1),
@@ -205,10 +224,10 @@ fn told(stmt: &Stmt, name: &[u8]) -> (&'static [u8], usize) {
 }
 
 /// Returns the index of a name among these names, or 0 if it is not one of them.
-fn place_in(names: &mm_lex::Words, name: &[u8]) -> usize {
+fn index_of(names: &mm_lex::Words, name: &[u8]) -> usize {
     let mut index = 0usize;
-    let mut left = names.iter();
-    while let Some(other) = left.next() {
+    let mut rest = names.iter();
+    while let Some(other) = rest.next() {
         if other == name {
             return index;
         }

@@ -3,14 +3,14 @@
 ghost use Rattle.std.specs.Prelude.{◌≤◌, length, IfOk};
 
 use crate::broken_rule::explain_rule;
-use crate::proof::{explain_entered, explain_proof};
+use crate::proof::{explain_proof, explain_with_frames};
 use crate::shape_fault::explain_shape;
 use crate::text_fault::explain_text;
 use crate::text_tokens::TextTokens;
-use crate::written_lines::{MOST_BYTES, Page};
+use crate::written_lines::{Lines, MOST_BYTES};
 use scope::Rule;
 use std::alloc::{AllocError, Global};
-use unproved::Entered;
+use unproved::LegalDatabase;
 
 /// Why a database is refused.
 #[derive(Clone, Copy, Debug, Drop, PartialEq, Eq)]
@@ -42,9 +42,9 @@ pub fn explain_refusal(
 ) -> Result<Vec<u8>, AllocError>
     ensures short { IfOk result (λ lines. length lines.items ≤ MOST_BYTES) }
 {
-    let mut page = Page::new(alloc, name, 0);
-    push_lines(alloc, &mut page, text, fault);
-    page.into_lines()
+    let mut lines = Lines::new(alloc, name, 0);
+    push_lines(alloc, &mut lines, text, fault);
+    lines.into_bytes()
 }
 
 /// Returns the lines that explain why a text is refused after the statements of a library, at most 65,536 bytes. The first
@@ -60,9 +60,9 @@ pub fn explain_after(
 ) -> Result<Vec<u8>, AllocError>
     ensures short { IfOk result (λ lines. length lines.items ≤ MOST_BYTES) }
 {
-    let mut page = Page::new(alloc, None, before);
-    push_lines(alloc, &mut page, text, fault);
-    page.into_lines()
+    let mut lines = Lines::new(alloc, None, before);
+    push_lines(alloc, &mut lines, text, fault);
+    lines.into_bytes()
 }
 
 /// Returns the lines that explain why the proof of the `$p` at a position is wrong, at most 65,536 bytes;
@@ -73,25 +73,27 @@ pub fn explain_unproved(
     alloc: Global,
     name: Option<&str>,
     tokens: &TextTokens<'_>,
-    entered: &Entered,
+    database: &LegalDatabase,
     statement: usize,
 ) -> Result<Vec<u8>, AllocError>
     ensures short { IfOk result (λ lines. length lines.items ≤ MOST_BYTES) }
 {
-    let mut page = Page::new(alloc, name, 0);
-    explain_entered(alloc, &mut page, tokens, entered, statement);
-    page.into_lines()
+    let mut lines = Lines::new(alloc, name, 0);
+    explain_with_frames(alloc, &mut lines, tokens, database, statement);
+    lines.into_bytes()
 }
 
-fn push_lines(alloc: Global, page: &mut Page<'_>, text: &[u8], fault: DatabaseFault) {
+fn push_lines(alloc: Global, lines: &mut Lines<'_>, text: &[u8], fault: DatabaseFault) {
     match fault {
-        DatabaseFault::TooLong => page.push(
+        DatabaseFault::TooLong => lines.push(
             b"a database may have at most 67108864 bytes, and this one has more\n",
         ),
-        DatabaseFault::Text => explain_text(alloc, page, text),
-        DatabaseFault::Shape => explain_shape(alloc, page, text),
-        DatabaseFault::Rule { statement, rule } => explain_rule(alloc, page, text, statement, rule),
-        DatabaseFault::Proof { statement } => explain_proof(alloc, page, text, statement),
-        DatabaseFault::Unfinished { statement } => explain_proof(alloc, page, text, statement),
+        DatabaseFault::Text => explain_text(alloc, lines, text),
+        DatabaseFault::Shape => explain_shape(alloc, lines, text),
+        DatabaseFault::Rule { statement, rule } => explain_rule(
+            alloc, lines, text, statement, rule,
+        ),
+        DatabaseFault::Proof { statement } => explain_proof(alloc, lines, text, statement),
+        DatabaseFault::Unfinished { statement } => explain_proof(alloc, lines, text, statement),
     }
 }

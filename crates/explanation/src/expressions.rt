@@ -1,6 +1,6 @@
 //! Writes expressions, given as symbol numbers, in symbols.
 
-use crate::written_lines::Page;
+use crate::written_lines::Lines;
 use frame::Frames;
 
 /// The most symbols that are written of an expression.
@@ -13,18 +13,18 @@ const MOST_EXPRESSION_BYTES: usize = 4_096;
 /// exceed either limit, and writes how many symbols it has.
 ///
 /// Cost: the bytes that are written.
-pub(crate) fn push_expression(page: &mut Page<'_>, frames: &Frames, expr: &[u32]) {
+pub(crate) fn push_expression(lines: &mut Lines<'_>, frames: &Frames, expr: &[u32]) {
     let mut left = MOST_EXPRESSION_BYTES;
     for (index, number) in expr.iter().enumerate() {
         let symbol = frames.symbol(*number);
         if index == MOST_SYMBOLS || symbol.len() >= left {
-            page.push(b" .. (");
-            page.push_number(expr.len());
-            page.push(b" symbols)");
+            lines.push(b" .. (");
+            lines.push_number(expr.len());
+            lines.push(b" symbols)");
             return;
         }
-        page.push(b" ");
-        page.push(symbol);
+        lines.push(b" ");
+        lines.push(symbol);
         left -= symbol.len() + 1;
     }
 }

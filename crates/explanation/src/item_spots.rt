@@ -30,11 +30,11 @@ pub(crate) fn spot_of(proof: &Words, item: usize) -> Spot {
 /// Returns where the letter group or mark at an index begins among the letters, or the end of the tokens if there are fewer.
 fn group_spot(proof: &Words, item: usize) -> Spot {
     let mut is_past = false;
-    let mut left = proof.iter();
+    let mut rest = proof.iter();
     let mut token = 0usize;
     let mut before = item;
     let mut begun = None;
-    while let Some(letters) = left.next() {
+    while let Some(letters) = rest.next() {
         if is_past {
             for (byte, letter) in letters.iter().enumerate() {
                 let begin = begun.unwrap_or(Spot { token, byte });
@@ -57,10 +57,10 @@ fn group_spot(proof: &Words, item: usize) -> Spot {
 /// Returns where the letter at an index among those of all tokens after `)` is, or the end of the tokens if there are fewer.
 pub(crate) fn letter_spot(proof: &Words, letter: usize) -> Spot {
     let mut is_past = false;
-    let mut left = proof.iter();
+    let mut rest = proof.iter();
     let mut token = 0usize;
     let mut byte = letter;
-    while let Some(letters) = left.next() {
+    while let Some(letters) = rest.next() {
         if is_past {
             if byte < letters.len() {
                 return Spot { token, byte };

@@ -10,84 +10,84 @@ use crate::statement_symbols::token_at;
 use crate::step_fault::push_fault;
 use crate::text_tokens::TextTokens;
 use crate::theorem::Theorem;
-use crate::written_lines::Page;
+use crate::written_lines::Lines;
 use explain::{Fault, Reason, WhyUnproved, explain};
 use frame::Frames;
 use mm_read::{ReadFault, Stmt, read};
 use proof_code::Items;
 use std::alloc::Global;
-use unproved::Entered;
+use unproved::LegalDatabase;
 
 /// Writes the rule of proof code that a proof breaks, or the first fault of its run.
-pub(crate) fn explain_proof(alloc: Global, page: &mut Page<'_>, text: &[u8], statement: usize) {
+pub(crate) fn explain_proof(alloc: Global, lines: &mut Lines<'_>, text: &[u8], statement: usize) {
     match read(alloc, text) {
-        Ok(statements) => explain_wrong(alloc, page, text, statements, statement),
-        Err(ReadFault::Memory) => page.fail(),
+        Ok(statements) => explain_wrong(alloc, lines, text, statements, statement),
+        Err(ReadFault::Memory) => lines.fail(),
         Err(_) => {}
     }
 }
 
 fn explain_wrong(
     alloc: Global,
-    page: &mut Page<'_>,
+    lines: &mut Lines<'_>,
     text: &[u8],
     statements: Vec<Stmt>,
     statement: usize,
 )
     requires { AreShaped statements.items }
 {
-    if let Some(Some(entered)) = page.value_of(Entered::new(alloc, statements)) {
-        explain_in(alloc, page, text, &entered, statement);
+    if let Some(Some(database)) = lines.ok_or_fail(LegalDatabase::new(alloc, statements)) {
+        explain_in_text(alloc, lines, text, &database, statement);
     }
 }
 
-fn explain_in(
+fn explain_in_text(
     alloc: Global,
-    page: &mut Page<'_>,
+    lines: &mut Lines<'_>,
     text: &[u8],
-    entered: &Entered,
+    database: &LegalDatabase,
     statement: usize,
 ) {
-    if let Some(tokens) = page.value_of(TextTokens::new(alloc, text)) {
-        explain_entered(alloc, page, &tokens, entered, statement);
+    if let Some(tokens) = lines.ok_or_fail(TextTokens::new(alloc, text)) {
+        explain_with_frames(alloc, lines, &tokens, database, statement);
     }
 }
 
 /// Writes why the proof of the `$p` at a position is wrong or unfinished, given the statements parsed from the text.
-pub(crate) fn explain_entered(
+pub(crate) fn explain_with_frames(
     alloc: Global,
-    page: &mut Page<'_>,
+    lines: &mut Lines<'_>,
     tokens: &TextTokens<'_>,
-    entered: &Entered,
+    database: &LegalDatabase,
     statement: usize,
 ) {
-    if let Some(theorem) = Theorem::new(tokens, entered.statements(), statement) {
-        explain_theorem(alloc, page, entered.frames(), &theorem);
+    if let Some(theorem) = Theorem::new(tokens, database.statements(), statement) {
+        explain_theorem(alloc, lines, database.frames(), &theorem);
     }
 }
 
-fn explain_theorem(alloc: Global, page: &mut Page<'_>, frames: &Frames, theorem: &Theorem<'_>)
+fn explain_theorem(alloc: Global, lines: &mut Lines<'_>, frames: &Frames, theorem: &Theorem<'_>)
     requires { (s : Statement) × IsProvable frames.now.statements theorem.now.at s }
 {
     let why = explain(alloc, frames, theorem.at, theorem.proof);
-    if let Some(Some(why)) = page.value_of(why) {
-        explain_why(page, frames, theorem, &why);
+    if let Some(Some(why)) = lines.ok_or_fail(why) {
+        explain_why(lines, frames, theorem, &why);
     }
 }
 
 /// Writes the reason: the rule of proof code that is broken, or the first fault of the run.
-fn explain_why(page: &mut Page<'_>, frames: &Frames, theorem: &Theorem<'_>, why: &WhyUnproved) {
+fn explain_why(lines: &mut Lines<'_>, frames: &Frames, theorem: &Theorem<'_>, why: &WhyUnproved) {
     match why {
-        WhyUnproved::Code(broken) => explain_break(page, theorem, *broken),
+        WhyUnproved::Code(broken) => explain_break(lines, theorem, *broken),
         WhyUnproved::Run { items, reason } => {
-            explain_reason(page, frames, theorem, items, reason);
+            explain_reason(lines, frames, theorem, items, reason);
         }
     }
 }
 
 /// Writes the first fault of the run over the items.
 fn explain_reason(
-    page: &mut Page<'_>,
+    lines: &mut Lines<'_>,
     frames: &Frames,
     theorem: &Theorem<'_>,
     items: &Items,
@@ -95,45 +95,55 @@ fn explain_reason(
 ) {
     match reason {
         Reason::Item { item, fault } => {
-            explain_step(page, frames, theorem, items, *item, fault);
+            explain_step(lines, frames, theorem, items, *item, fault);
         }
-        Reason::Results { count } => explain_results(page, theorem, *count),
-        Reason::Theorem { proved } => explain_other(page, frames, theorem, proved.as_slice()),
+        Reason::ResultCount { count } => explain_result_count(lines, theorem, *count),
+        Reason::OtherTheorem { proved } => explain_other_theorem(
+            lines,
+            frames,
+            theorem,
+            proved.as_slice(),
+        ),
     }
 }
 
 /// Writes that an item fails.
 fn explain_step(
-    page: &mut Page<'_>,
+    lines: &mut Lines<'_>,
     frames: &Frames,
     theorem: &Theorem<'_>,
     items: &Items,
     item: usize,
     fault: &Fault,
 ) {
-    theorem.push_spot(page, spot_of(theorem.proof, item));
-    push_step(page, items, item);
-    push_fault(page, theorem, frames, fault);
+    theorem.push_spot(lines, spot_of(theorem.proof, item));
+    push_step(lines, items, item);
+    push_fault(lines, theorem, frames, fault);
 }
 
 /// Writes that the stack at the end does not have exactly one result.
-fn explain_results(page: &mut Page<'_>, theorem: &Theorem<'_>, count: usize) {
-    theorem.push_end(page);
-    page.push(b" is wrong at its end\n  it leaves ");
-    page.push_number(count);
-    page.push(b" results, and one has to be left\n");
+fn explain_result_count(lines: &mut Lines<'_>, theorem: &Theorem<'_>, count: usize) {
+    theorem.push_end(lines);
+    lines.push(b" is wrong at its end\n  it leaves ");
+    lines.push_number(count);
+    lines.push(b" results, and one has to be left\n");
 }
 
 /// Writes that the proof proves another expression than the theorem's.
-fn explain_other(page: &mut Page<'_>, frames: &Frames, theorem: &Theorem<'_>, proved: &[u32]) {
-    theorem.push_end(page);
-    page.push(b" is wrong at its end\n  it proves");
-    push_expression(page, frames, proved);
-    page.push(b"\n  but ");
-    page.push(theorem.label);
-    page.push(b" says");
-    push_expression(page, frames, expr_at(frames, theorem.at));
-    page.push(b"\n");
+fn explain_other_theorem(
+    lines: &mut Lines<'_>,
+    frames: &Frames,
+    theorem: &Theorem<'_>,
+    proved: &[u32],
+) {
+    theorem.push_end(lines);
+    lines.push(b" is wrong at its end\n  it proves");
+    push_expression(lines, frames, proved);
+    lines.push(b"\n  but ");
+    lines.push(theorem.label);
+    lines.push(b" says");
+    push_expression(lines, frames, expr_at(frames, theorem.at));
+    lines.push(b"\n");
 }
 
 /// Returns the expression of the statement at a position, or an empty one if there is none.
@@ -145,23 +155,23 @@ fn expr_at(frames: &Frames, at: usize) -> &[u32] {
 }
 
 /// Writes the step number of the item, and the label that it cites, if it is a citation.
-fn push_step(page: &mut Page<'_>, items: &Items, item: usize) {
+fn push_step(lines: &mut Lines<'_>, items: &Items, item: usize) {
     let parts = items.parts();
-    page.push(b" is wrong at step ");
-    page.push_number(step_of(parts.numbers, item));
+    lines.push(b" is wrong at step ");
+    lines.push_number(step_of(parts.numbers, item));
     let number = match parts.numbers.get(item) {
         Some(number) => *number as usize,
         None => 0,
     };
     if number == 0 {
-        page.push(b", which marks a result\n");
+        lines.push(b", which marks a result\n");
         return;
     }
     if number > parts.labels.len() {
-        page.push(b", which recalls a result\n");
+        lines.push(b", which recalls a result\n");
         return;
     }
-    page.push(b", which cites ");
-    page.push(token_at(parts.labels, number - 1));
-    page.push(b"\n");
+    lines.push(b", which cites ");
+    lines.push(token_at(parts.labels, number - 1));
+    lines.push(b"\n");
 }

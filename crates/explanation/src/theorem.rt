@@ -5,7 +5,7 @@ ghost use Rattle.scope.specs.Active.{stmt_at};
 use crate::item_spots::Spot;
 use crate::statement_symbols::label_of;
 use crate::text_tokens::TextTokens;
-use crate::written_lines::Page;
+use crate::written_lines::Lines;
 use mm_lex::Words;
 use mm_read::Stmt;
 
@@ -28,7 +28,7 @@ impl<'a> Theorem<'a> {
         statements: &'a [Stmt],
         at: usize,
     ) -> Option<Theorem<'a>>
-        ensures place { IfSome result (λ theorem. theorem.at ≡ at) }
+        ensures position { IfSome result (λ theorem. theorem.at ≡ at) }
         ensures parts { IfSome result (λ theorem. stmt_at statements.now theorem.at
             ≡ Some (Stmt.Prove theorem.label.now theorem.expr.now theorem.proof.now)) }
     {
@@ -47,18 +47,18 @@ impl<'a> Theorem<'a> {
     }
 
     /// Writes `LINE:COLUMN: the proof of LABEL` for a byte of a token of the proof, or for the `$.` after the last token.
-    pub(crate) fn push_spot(&self, page: &mut Page<'_>, spot: Spot) {
+    pub(crate) fn push_spot(&self, lines: &mut Lines<'_>, spot: Spot) {
         let token = self.expr.len().saturating_add(4).saturating_add(spot.token);
         let start = self.tokens.start_of(self.at, token);
-        page.push_place(self.tokens.text(), start.saturating_add(spot.byte));
-        page.push(b": the proof of ");
-        page.push(self.label);
+        lines.push_place(self.tokens.text(), start.saturating_add(spot.byte));
+        lines.push(b": the proof of ");
+        lines.push(self.label);
     }
 
     /// Writes `LINE:COLUMN: the proof of LABEL` for the `$.`.
-    pub(crate) fn push_end(&self, page: &mut Page<'_>) {
+    pub(crate) fn push_end(&self, lines: &mut Lines<'_>) {
         let token = self.proof.len();
-        self.push_spot(page, Spot { token, byte: 0 });
+        self.push_spot(lines, Spot { token, byte: 0 });
     }
 
     /// Returns the label of the statement at a position, or an empty one if there is none.
@@ -70,7 +70,7 @@ impl<'a> Theorem<'a> {
     }
 
     /// Returns the typecode of the `$f` at a position, or an empty one if that statement is not a `$f`.
-    pub(crate) fn constant_at(&self, at: usize) -> &'a [u8] {
+    pub(crate) fn typecode_at(&self, at: usize) -> &'a [u8] {
         match self.statements.get(at.saturating_sub(1)) {
             Some(Stmt::Float { constant, .. }) => constant.as_bytes(),
             _ => b"",

@@ -11,12 +11,12 @@ use std::alloc::{AllocError, Global};
 pub const MOST_BYTES: usize = 65_536;
 
 /// The last line of a truncated explanation.
-const CUT: &[u8] = b"\n  the explanation is cut here: it has more than 65536 bytes\n";
+const TRUNCATED_LINE: &[u8] = b"\n  the explanation is cut here: it has more than 65536 bytes\n";
 
 /// The lines of an explanation, or none after a failure. Keeps at most `MOST_BYTES` + 1 bytes, and drops the rest.
 #[derive(Drop)]
-pub(crate) struct Page<'a> {
-    lines: Vec<u8>,
+pub(crate) struct Lines<'a> {
+    bytes: Vec<u8>,
     /// The name of the file, which is written before each place, if there is one.
     name: Option<&'a str>,
     /// Whether an allocation failed, or a call that the explanation needs returned an error.
@@ -25,10 +25,10 @@ pub(crate) struct Page<'a> {
     before: usize,
 }
 
-impl<'a> Page<'a> {
-    pub(crate) fn new(alloc: Global, name: Option<&'a str>, before: usize) -> Page<'a> {
-        Page {
-            lines: Vec::new(alloc),
+impl<'a> Lines<'a> {
+    pub(crate) fn new(alloc: Global, name: Option<&'a str>, before: usize) -> Lines<'a> {
+        Lines {
+            bytes: Vec::new(alloc),
             name,
             has_failed: false,
             before,
@@ -38,22 +38,22 @@ impl<'a> Page<'a> {
     /// Returns the lines, at most 65,536 bytes. If more were pushed, the last line says that they are truncated.
     ///
     /// Errors: the explanation has failed.
-    pub(crate) fn into_lines(self) -> Result<Vec<u8>, AllocError>
-        ensures { IfOk result (λ lines. length lines.items ≤ MOST_BYTES) }
+    pub(crate) fn into_bytes(self) -> Result<Vec<u8>, AllocError>
+        ensures { IfOk result (λ bytes. length bytes.items ≤ MOST_BYTES) }
     {
-        let Page {
-            mut lines,
+        let Lines {
+            mut bytes,
             has_failed,
             ..
         } = self;
         if has_failed {
             return Err(AllocError);
         }
-        if lines.len() > MOST_BYTES {
-            lines.truncate(MOST_BYTES - CUT.len());
-            lines.extend_from_slice(CUT)?;
+        if bytes.len() > MOST_BYTES {
+            bytes.truncate(MOST_BYTES - TRUNCATED_LINE.len());
+            bytes.extend_from_slice(TRUNCATED_LINE)?;
         }
-        Ok(lines)
+        Ok(bytes)
     }
 
     /// Records a failure, after which no lines are returned.
@@ -62,8 +62,8 @@ impl<'a> Page<'a> {
     }
 
     /// Returns the value of a result, or records a failure and returns `None` if it is an error of any kind.
-    pub(crate) fn value_of<T, E: Drop>(&mut self, answer: Result<T, E>) -> Option<T> {
-        match answer {
+    pub(crate) fn ok_or_fail<T, E: Drop>(&mut self, fallible: Result<T, E>) -> Option<T> {
+        match fallible {
             Ok(value) => Some(value),
             Err(_) => {
                 self.fail();
@@ -74,9 +74,9 @@ impl<'a> Page<'a> {
 
     /// Appends as many of the bytes as fit, and drops the rest.
     pub(crate) fn push(&mut self, bytes: &[u8]) {
-        let room = (MOST_BYTES + 1).saturating_sub(self.lines.len());
-        let kept = bytes.get(..room).unwrap_or(bytes);
-        if self.lines.extend_from_slice(kept).is_err() {
+        let space = (MOST_BYTES + 1).saturating_sub(self.bytes.len());
+        let kept = bytes.get(..space).unwrap_or(bytes);
+        if self.bytes.extend_from_slice(kept).is_err() {
             self.fail();
         }
     }
@@ -102,15 +102,15 @@ impl<'a> Page<'a> {
             self.push(name.as_bytes());
             self.push(b":");
         }
-        let own = &text[before..];
-        let place = line_and_column(own, within - before);
+        let explained = &text[before..];
+        let place = line_and_column(explained, within - before);
         self.push_number(place.line);
         self.push(b":");
         self.push_number(place.column);
     }
 }
 
-/// Returns the token at a place, or an empty one if the place is not in the text.
+/// Returns the token at a span, or an empty one if the span is not in the text.
 pub(crate) fn token_in(text: &[u8], span: Span) -> &[u8] {
     match text.get(span.start..span.end) {
         Some(token) => token,

@@ -15,9 +15,9 @@ abbrev pub counted_text : List ℕ → List ℕ → List ℕ
 counted_text word lines = word ++ codes " " ++ decimal (line_feeds_of lines) ++ codes "\n" ++ lines
 
 -- an entry of a log, after a space
-abbrev pub carried_text : Option Carried → List ℕ
-carried_text v = codes " " ++ entry_text (entry_of v)
+abbrev pub spaced_value_text : Option Carried → List ℕ
+spaced_value_text v = codes " " ++ entry_text (entry_of v)
 
 -- the entries that a node learned, on one line
 abbrev pub learned_text : List (Option Carried) → List ℕ
-learned_text entries = codes "log" ++ flat_map carried_text entries ++ codes "\n"
+learned_text entries = codes "log" ++ flat_map spaced_value_text entries ++ codes "\n"

@@ -85,16 +85,16 @@ verdict_text Repeat = codes "repeat"
 verdict_text (Refused cause) = codes "refused " ++ cause_text cause
 
 -- a verdict, or the caller's word `undecided` if nothing was decided
-abbrev pub decided_text : Option Verdict → List ℕ → List ℕ
-decided_text None undecided = undecided
-decided_text (Some verdict) undecided = verdict_text verdict
+abbrev pub verdict_text_or : Option Verdict → List ℕ → List ℕ
+verdict_text_or None undecided = undecided
+verdict_text_or (Some verdict) undecided = verdict_text verdict
 
 -- an entry of a log, after a space; a log on one line, without a line feed
-abbrev pub logged_text : Option Entry → List ℕ
-logged_text entry = codes " " ++ entry_text entry
+abbrev pub spaced_entry_text : Option Entry → List ℕ
+spaced_entry_text entry = codes " " ++ entry_text entry
 
 abbrev pub log_text : List (Option Entry) → List ℕ
-log_text log = codes "log" ++ flat_map logged_text log
+log_text log = codes "log" ++ flat_map spaced_entry_text log
 
 -- the line of an assertion; the assertions of a library: their count, and a line for each assertion
 abbrev pub assertion_line : Listed → List ℕ

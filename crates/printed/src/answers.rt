@@ -3,9 +3,9 @@ ghost use Rattle.std.specs.Prelude.{◌≡◌, ◌++◌, codes, decimal, flat_ma
 ghost use Rattle.mm_read.specs.Statements.{AreShaped};
 ghost use Rattle.mm_read.specs.Export.{export_of};
 ghost use Rattle.library.specs.Listed.{listed};
-ghost use Rattle.printed.specs.Printed.{decided_text, log_text, assertion_line, list_text, export_text};
+ghost use Rattle.printed.specs.Printed.{verdict_text_or, log_text, assertion_line, list_text, export_text};
 
-use crate::packets::push_entry;
+use crate::packets::push_spaced_entry;
 use crate::verdict_text::push_verdict;
 use library::{Entry, Library, Listed, Verdict};
 use mm_read::{Stmt, push_line};
@@ -23,13 +23,13 @@ pub fn push_ok(text: &mut Vec<u8>, posted: u64) -> Result<(), AllocError>
 }
 
 /// Appends the verdict, or the caller's word `undecided` if nothing was decided, and a line feed.
-pub fn push_decided(
+pub fn push_verdict_line(
     text: &mut Vec<u8>,
     verdict: Option<Verdict>,
     undecided: &[u8],
 ) -> Result<(), AllocError>
     ensures { OnOk result (text.new.items
-        ≡ text.old.items ++ (decided_text verdict undecided.now ++ codes "\n")) }
+        ≡ text.old.items ++ (verdict_text_or verdict undecided.now ++ codes "\n")) }
 {
     push_verdict_or(text, verdict, undecided)?;
     text.extend_from_slice(b"\n")
@@ -42,7 +42,7 @@ fn push_verdict_or(
     undecided: &[u8],
 ) -> Result<(), AllocError>
     ensures { OnOk result (text.new.items
-        ≡ text.old.items ++ decided_text verdict undecided.now) }
+        ≡ text.old.items ++ verdict_text_or verdict undecided.now) }
 {
     match verdict {
         Some(verdict) => push_verdict(text, verdict),
@@ -56,7 +56,7 @@ pub fn push_log(text: &mut Vec<u8>, log: &[Option<Entry>]) -> Result<(), AllocEr
 {
     text.extend_from_slice(b"log")?;
     for entry in log {
-        push_entry(text, entry.as_ref())?;
+        push_spaced_entry(text, entry.as_ref())?;
     }
     text.extend_from_slice(b"\n")
 }
@@ -87,13 +87,13 @@ pub fn push_assertions(text: &mut Vec<u8>, list: &[Listed]) -> Result<(), AllocE
     ensures { OnOk result (text.new.items ≡ text.old.items ++ flat_map assertion_line list.now) }
 {
     for assertion in list {
-        push_listed(text, assertion)?;
+        push_assertion_line(text, assertion)?;
     }
     Ok(())
 }
 
 /// Appends the line of an assertion.
-fn push_listed(text: &mut Vec<u8>, assertion: &Listed) -> Result<(), AllocError>
+fn push_assertion_line(text: &mut Vec<u8>, assertion: &Listed) -> Result<(), AllocError>
     ensures { OnOk result (text.new.items ≡ text.old.items ++ assertion_line assertion.now) }
 {
     let kind = if assertion.proved {
@@ -115,11 +115,11 @@ pub fn push_export(text: &mut Vec<u8>, library: &Library) -> Result<(), AllocErr
     text.extend_from_slice(b"export ")?;
     push_number(text, statements.len() as u64)?;
     text.extend_from_slice(b"\n")?;
-    push_lines(text, statements)
+    push_statements(text, statements)
 }
 
 /// Appends the export form of statements.
-fn push_lines(text: &mut Vec<u8>, statements: &[Stmt]) -> Result<(), AllocError>
+fn push_statements(text: &mut Vec<u8>, statements: &[Stmt]) -> Result<(), AllocError>
     requires { AreShaped statements.now }
     ensures { OnOk result (text.new.items ≡ text.old.items ++ export_of statements.now) }
 {

@@ -3,7 +3,7 @@
 ghost use Rattle.std.specs.Prelude.{◌≡◌, ◌++◌, OnOk};
 ghost use Rattle.printed.specs.Counted.{counted_text, learned_text, line_feeds_of};
 
-use crate::packets::push_value;
+use crate::packets::push_spaced_value;
 use numbers::push_number;
 use std::alloc::AllocError;
 use world::Carried;
@@ -33,7 +33,7 @@ pub fn push_learned(text: &mut Vec<u8>, entries: &[Option<Carried>]) -> Result<(
 {
     text.extend_from_slice(b"log")?;
     for entry in entries {
-        push_value(text, entry)?;
+        push_spaced_value(text, entry)?;
     }
     text.extend_from_slice(b"\n")
 }

@@ -29,7 +29,7 @@ fn push_body(text: &mut Vec<u8>, body: &Body<Carried>) -> Result<(), AllocError>
         Body::Prepare { ballot, first } => {
             text.extend_from_slice(b"prepare ")?;
             push_ballot(text, *ballot)?;
-            push_slot(text, *first)
+            push_spaced_slot(text, *first)
         }
         Body::Promise {
             ballot,
@@ -55,12 +55,12 @@ fn push_body(text: &mut Vec<u8>, body: &Body<Carried>) -> Result<(), AllocError>
         }
         Body::Ask { slot } => {
             text.extend_from_slice(b"ask")?;
-            push_slot(text, *slot)
+            push_spaced_slot(text, *slot)
         }
         Body::Told { slot, value } => {
             text.extend_from_slice(b"told")?;
-            push_slot(text, *slot)?;
-            push_value(text, value)
+            push_spaced_slot(text, *slot)?;
+            push_spaced_value(text, value)
         }
     }
 }
@@ -110,7 +110,7 @@ fn push_reports(text: &mut Vec<u8>, reports: &[SlotReport<Carried>]) -> Result<(
 fn push_report(text: &mut Vec<u8>, report: &SlotReport<Carried>) -> Result<(), AllocError>
     ensures { OnOk result (text.new.items ≡ text.old.items ++ report_text report.now) }
 {
-    push_slot(text, report.slot)?;
+    push_spaced_slot(text, report.slot)?;
     text.extend_from_slice(b"@")?;
     push_ballot(text, report.ballot)
 }
@@ -128,23 +128,26 @@ fn push_vote(
 {
     text.extend_from_slice(word)?;
     push_ballot(text, ballot)?;
-    push_slot(text, slot)?;
-    push_value(text, value)
+    push_spaced_slot(text, slot)?;
+    push_spaced_value(text, value)
 }
 
 /// Appends a space and the value.
-pub(crate) fn push_value(text: &mut Vec<u8>, value: &Option<Carried>) -> Result<(), AllocError>
+pub(crate) fn push_spaced_value(
+    text: &mut Vec<u8>,
+    value: &Option<Carried>,
+) -> Result<(), AllocError>
     ensures { OnOk result (text.new.items
         ≡ text.old.items ++ (codes " " ++ entry_text (entry_of value.now))) }
 {
     match value {
-        Some(Carried(entry)) => push_entry(text, Some(entry)),
-        None => push_entry(text, None),
+        Some(Carried(entry)) => push_spaced_entry(text, Some(entry)),
+        None => push_spaced_entry(text, None),
     }
 }
 
 /// Appends a space and `AUTHOR/SERIAL`, or `idle` for a no-operation.
-pub fn push_entry(text: &mut Vec<u8>, entry: Option<&Entry>) -> Result<(), AllocError>
+pub fn push_spaced_entry(text: &mut Vec<u8>, entry: Option<&Entry>) -> Result<(), AllocError>
     ensures { OnOk result (text.new.items
         ≡ text.old.items ++ (codes " " ++ entry_text (option_map (λ e. e.now) entry.entry))) }
 {
@@ -169,7 +172,7 @@ pub(crate) fn push_ballot(text: &mut Vec<u8>, ballot: Ballot) -> Result<(), Allo
 }
 
 /// Appends a space and the slot.
-fn push_slot(text: &mut Vec<u8>, slot: u32) -> Result<(), AllocError>
+fn push_spaced_slot(text: &mut Vec<u8>, slot: u32) -> Result<(), AllocError>
     ensures { OnOk result (text.new.items ≡ text.old.items ++ (codes " " ++ decimal slot)) }
 {
     text.extend_from_slice(b" ")?;

@@ -7,7 +7,7 @@ ghost use Rattle.printed.specs.Trees.{tree_lines};
 use crate::fault::Fault;
 use crate::named_text::NamedText;
 use crate::proofs::write_proof;
-use crate::searches::found;
+use crate::searches::matching_lines;
 use crate::shown::blocks;
 use crate::streams::print;
 use commands::Question;
@@ -43,7 +43,7 @@ pub fn write_answer<O: Write>(
         Question::Usage { label, all } => {
             print_labels(alloc, library.usage(label, *all)?.as_slice(), output)
         }
-        Question::Proof(asked) => write_proof(alloc, library, asked, output),
+        Question::Proof(proof) => write_proof(alloc, library, proof, output),
         Question::Extract(labels) => {
             print(
                 output,
@@ -56,10 +56,10 @@ pub fn write_answer<O: Write>(
                 blocks(alloc, library, text, labels.as_slice())?.as_slice(),
             )
         }
-        Question::Find(sought) => {
+        Question::Find(query) => {
             print(
                 output,
-                found(alloc, library, text.bytes, sought)?.as_slice(),
+                matching_lines(alloc, library, text.bytes, query)?.as_slice(),
             )
         }
     }

@@ -1,10 +1,10 @@
 //! Questions about a database in which each `$p` that is not proved is taken as a `$a`.
 
-use crate::databases::answer_good;
+use crate::databases::answer_accepted;
 use crate::fault::Fault;
 use crate::named_text::NamedText;
 use crate::streams::print;
-use commands::Asked;
+use commands::DatabaseQuestion;
 use library::Library;
 use mm_read::Stmt;
 use numbers::push_number;
@@ -12,7 +12,7 @@ use std::alloc::{AllocError, Global};
 use std::io::Write;
 use std::mem::forget;
 use std::thread::Threads;
-use unproved::Entered;
+use unproved::LegalDatabase;
 use verify_pool::Workers;
 
 /// The greatest count of labels that are named.
@@ -24,14 +24,21 @@ const MOST_NAMED: usize = 10;
 /// The library is leaked: the end of the process frees all of it at once.
 pub fn answer_assuming<R: AllocGlobal + Threads + Sync, O: Write, F: Write>(
     rt: &R,
-    asked: &Asked<'_>,
+    request: &DatabaseQuestion<'_>,
     text: NamedText<'_>,
-    entered: Entered,
+    database: LegalDatabase,
     output: &mut O,
     faults: &mut F,
 ) -> Result<u8, Fault> {
-    let library = assume_unproved(rt, entered, faults)?;
-    let answered = answer_good(rt.alloc(), &library, text, &asked.question, output, faults);
+    let library = assume_unproved(rt, database, faults)?;
+    let answered = answer_accepted(
+        rt.alloc(),
+        &library,
+        text,
+        &request.question,
+        output,
+        faults,
+    );
     forget(library);
     answered
 }
@@ -40,21 +47,26 @@ pub fn answer_assuming<R: AllocGlobal + Threads + Sync, O: Write, F: Write>(
 /// count of these `$p` and the first of their labels go to `faults`.
 pub fn assume_unproved<R: AllocGlobal + Threads + Sync, F: Write>(
     rt: &R,
-    entered: Entered,
+    database: LegalDatabase,
     faults: &mut F,
 ) -> Result<Library, AllocError> {
-    let unproved = entered.unproved(rt, Workers::offered(rt))?;
-    tell_assumed(rt.alloc(), &entered, unproved.as_slice(), faults);
-    entered.assume(unproved.as_slice())
+    let unproved = database.unproved(rt, Workers::offered(rt))?;
+    print_assumed(rt.alloc(), &database, unproved.as_slice(), faults);
+    database.assume(unproved.as_slice())
 }
 
 /// Prints how many theorems are taken as axioms and the labels of the first, if there are any and
 /// if allocation succeeds.
-fn tell_assumed<F: Write>(alloc: Global, entered: &Entered, unproved: &[usize], faults: &mut F) {
+fn print_assumed<F: Write>(
+    alloc: Global,
+    database: &LegalDatabase,
+    unproved: &[usize],
+    faults: &mut F,
+) {
     if unproved.is_empty() {
         return;
     }
-    if let Ok(line) = assumed_line(alloc, entered, unproved) {
+    if let Ok(line) = assumed_line(alloc, database, unproved) {
         let _ = print(faults, line.as_slice());
     }
 }
@@ -62,7 +74,7 @@ fn tell_assumed<F: Write>(alloc: Global, entered: &Entered, unproved: &[usize], 
 /// Returns the line that says how many theorems are taken as axioms, with the labels of the first.
 fn assumed_line(
     alloc: Global,
-    entered: &Entered,
+    database: &LegalDatabase,
     unproved: &[usize],
 ) -> Result<Vec<u8>, AllocError> {
     let mut line = Vec::new(alloc);
@@ -74,7 +86,7 @@ fn assumed_line(
     })?;
     for at in unproved.iter().take(MOST_NAMED) {
         line.extend_from_slice(b" ")?;
-        line.extend_from_slice(label_at(entered.statements(), *at))?;
+        line.extend_from_slice(label_at(database.statements(), *at))?;
     }
     if unproved.len() > MOST_NAMED {
         line.extend_from_slice(b" and ")?;

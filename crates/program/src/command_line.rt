@@ -1,12 +1,12 @@
 //! Runs a command line.
-use crate::databases::{ask, print_outline};
+use crate::databases::{answer_question, print_outline};
 use crate::fault::Fault;
 use crate::pages::print_pages;
 use crate::pictured::print_picture;
 use crate::play::play;
 use crate::serve::serve;
 use crate::streams::print;
-use commands::{Request, VERSION, WordsFault, parse_words};
+use commands::{CommandLineFault, Request, VERSION, parse_command_line};
 use folders::Folder;
 use std::alloc::AllocError;
 use std::io::{Read, Write};
@@ -27,14 +27,14 @@ pub fn run<
     F: Write,
     S: Folder,
 >(rt: &R, words: &[&str], input: &mut I, output: &mut O, faults: &mut F, folder: &mut S) -> u8 {
-    let answered = match parse_words(rt.alloc(), words) {
+    let answered = match parse_command_line(rt.alloc(), words) {
         Ok(request) => answer(rt, request, input, output, faults, folder),
-        Err(WordsFault::Memory) => Err(Fault::from(AllocError)),
-        Err(WordsFault::Bad { text }) => print(faults, text.as_bytes()).map(|()| 2),
+        Err(CommandLineFault::Memory) => Err(Fault::from(AllocError)),
+        Err(CommandLineFault::Bad { text }) => print(faults, text.as_bytes()).map(|()| 2),
     };
     match answered {
         Ok(status) => status,
-        Err(fault) => fault.end(output, faults),
+        Err(fault) => fault.report(output, faults),
     }
 }
 
@@ -56,13 +56,13 @@ fn answer<
     match request {
         Request::Version => print_version(output),
         Request::Outline { name } => print_outline(rt.alloc(), name, input, output, faults),
-        Request::Ask(asked) => ask(rt, &asked, input, output, faults),
-        Request::Pages(asked) => print_pages(rt, asked, input, output, faults, folder),
+        Request::Ask(question) => answer_question(rt, &question, input, output, faults),
+        Request::Pages(request) => print_pages(rt, request, input, output, faults, folder),
         Request::Play { weights } => play(rt.alloc(), weights, input, output),
         Request::Picture { weights, steps } => {
             print_picture(rt.alloc(), weights, steps, input, output)
         }
-        Request::Serve(serving) => serve(rt, serving, input, output),
+        Request::Serve(options) => serve(rt, options, input, output),
     }
 }
 

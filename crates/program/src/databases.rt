@@ -7,7 +7,7 @@ use crate::refused_questions::print_refused;
 use crate::refused_texts::{print_outline_reason, print_refusal};
 use crate::streams::{print, read_text};
 use bytes::Bytes;
-use commands::{Asked, Question};
+use commands::{DatabaseQuestion, Question};
 use library::{Cause, Entry, Library, MOST_BYTES, Submission, Verdict};
 use printed::outline_text;
 use std::alloc::{AllocError, Global};
@@ -46,46 +46,46 @@ pub fn print_outline<I: Read, O: Write, F: Write>(
 ///
 /// `Workers::offered` threads read the text and check its proofs; no answer depends on their
 /// number. The library is leaked: the end of the process frees all of it at once.
-pub fn ask<R: AllocGlobal + Threads + Sync, I: Read, O: Write, F: Write>(
+pub fn answer_question<R: AllocGlobal + Threads + Sync, I: Read, O: Write, F: Write>(
     rt: &R,
-    asked: &Asked<'_>,
+    request: &DatabaseQuestion<'_>,
     input: &mut I,
     output: &mut O,
     faults: &mut F,
 ) -> Result<u8, Fault> {
     let text = Bytes::from_vec(read_text(rt.alloc(), input)?)?;
     let mut library = Library::new(rt.alloc());
-    let answered = ask_library(rt, asked, &text, &mut library, output, faults);
+    let answered = answer_with_library(rt, request, &text, &mut library, output, faults);
     forget(library);
     answered
 }
 
 /// Adds a text to an empty library, and prints the answer about the library.
-fn ask_library<R: AllocGlobal + Threads + Sync, O: Write, F: Write>(
+fn answer_with_library<R: AllocGlobal + Threads + Sync, O: Write, F: Write>(
     rt: &R,
-    asked: &Asked<'_>,
+    request: &DatabaseQuestion<'_>,
     bytes: &Bytes,
     library: &mut Library,
     output: &mut O,
     faults: &mut F,
 ) -> Result<u8, Fault> {
     let text = NamedText {
-        name: asked.name,
+        name: request.name,
         bytes: bytes.as_slice(),
     };
-    if allows_unproved(asked) && may_be_unfinished(text.bytes) {
-        if let Some(status) = answer_unproved(rt, asked, text, output, faults)? {
+    if allows_unproved(request) && may_be_unfinished(text.bytes) {
+        if let Some(status) = answer_unproved(rt, request, text, output, faults)? {
             return Ok(status);
         }
     }
-    match judge(rt, library, bytes)? {
-        Verdict::Refused(cause) => answer_refused(rt, asked, text, cause, output, faults),
-        _ => answer_good(rt.alloc(), library, text, &asked.question, output, faults),
+    match apply_text(rt, library, bytes)? {
+        Verdict::Refused(cause) => answer_refused(rt, request, text, cause, output, faults),
+        _ => answer_accepted(rt.alloc(), library, text, &request.question, output, faults),
     }
 }
 
 /// Adds a text to an empty library as the first entry of an author, and returns the verdict.
-pub fn judge<R: Threads + Sync>(
+pub fn apply_text<R: Threads + Sync>(
     rt: &R,
     library: &mut Library,
     text: &Bytes,
@@ -100,7 +100,7 @@ pub fn judge<R: Threads + Sync>(
 
 /// Prints the answer about a library, and returns the exit status. `text` has the same statements,
 /// in order. The reason for a refusal goes to `faults`.
-pub fn answer_good<O: Write, F: Write>(
+pub fn answer_accepted<O: Write, F: Write>(
     alloc: Global,
     library: &Library,
     text: NamedText<'_>,
@@ -110,7 +110,7 @@ pub fn answer_good<O: Write, F: Write>(
 ) -> Result<u8, Fault> {
     match write_answer(alloc, library, text, question, output) {
         Ok(()) => {
-            note_emptiness(library, question, faults);
+            note_if_empty(library, question, faults);
             Ok(0)
         }
         Err(fault) => print_refused(library, question, fault, output, faults),
@@ -118,7 +118,7 @@ pub fn answer_good<O: Write, F: Write>(
 }
 
 /// Prints on `faults` that the database of a `check` has no statement, if it has none.
-fn note_emptiness<F: Write>(library: &Library, question: &Question<'_>, faults: &mut F) {
+fn note_if_empty<F: Write>(library: &Library, question: &Question<'_>, faults: &mut F) {
     if matches!(question, Question::Check | Question::CheckEach)
         && library.statements().is_empty()
     {
@@ -130,15 +130,15 @@ fn note_emptiness<F: Write>(library: &Library, question: &Question<'_>, faults: 
 /// question is answered even then.
 fn answer_refused<R: AllocGlobal + Threads + Sync, O: Write, F: Write>(
     rt: &R,
-    asked: &Asked<'_>,
+    request: &DatabaseQuestion<'_>,
     text: NamedText<'_>,
     cause: Cause,
     output: &mut O,
     faults: &mut F,
 ) -> Result<u8, Fault> {
     let is_unproved = matches!(cause, Cause::Proof { .. } | Cause::Unfinished { .. });
-    if is_unproved && allows_unproved(asked) {
-        if let Some(status) = answer_unproved(rt, asked, text, output, faults)? {
+    if is_unproved && allows_unproved(request) {
+        if let Some(status) = answer_unproved(rt, request, text, output, faults)? {
             return Ok(status);
         }
     }

@@ -14,9 +14,9 @@ ghost use Rattle.program.specs.Answers.{IsLabelAnswer};
 use crate::fault::Fault;
 use crate::node_answers::{ahead_line, label_answer};
 use crate::served_nodes::NodesDesk;
-use crate::why::{Decision, decided, push_why};
+use crate::why::{Decision, decision_of, push_why};
 use cluster::NodeCell;
-use commands::{EntryAt, NodePair, NodeQuestion};
+use commands::{NodeEntryId, NodePair, NodeQuestion};
 use event_lines::push_events;
 use printed::{push_export, push_learned, push_state};
 use std::alloc::{AllocError, Global};
@@ -65,20 +65,24 @@ impl<R: Wait> AnsweringDesk<'_, R> {
     }
 
     /// Appends the answer to a question about a label of a node's library.
-    pub fn push_label_answer(&self, asked: &NodeQuestion, text: &mut Vec<u8>) -> Result<(), Fault>
-        ensures { OnOk result ((cell : Cell) × IsCellAt asked.now.node cell × (answer : List ℕ)
-            × IsLabelAnswer cell.node.library.statements asked.now.kind asked.now.label answer
+    pub fn push_label_answer(
+        &self,
+        question: &NodeQuestion,
+        text: &mut Vec<u8>,
+    ) -> Result<(), Fault>
+        ensures { OnOk result ((cell : Cell) × IsCellAt question.now.node cell × (answer : List ℕ)
+            × IsLabelAnswer cell.node.library.statements question.now.kind question.now.label answer
             × (text.new.items ≡ text.old.items ++ answer)) }
     {
         let alloc = self.alloc;
-        let made = self.desk.ask(self.rt, asked.node, |cell| {
-            label_answer(alloc, cell.library(), asked)
+        let made = self.desk.ask(self.rt, question.node, |cell| {
+            label_answer(alloc, cell.library(), question)
         })??;
         Ok(text.extend_from_slice(made.as_slice())?)
     }
 
     /// Appends why a node refused an entry.
-    pub fn push_why(&self, at: EntryAt, text: &mut Vec<u8>) -> Result<(), Fault> {
+    pub fn push_why(&self, at: NodeEntryId, text: &mut Vec<u8>) -> Result<(), Fault> {
         let alloc = self.alloc;
         let decision = self
             .desk
@@ -103,7 +107,7 @@ impl<R: Wait> AnsweringDesk<'_, R> {
 }
 
 /// Returns what a cell decided on an entry.
-fn decision_at(alloc: Global, cell: &NodeCell, at: EntryAt) -> Result<Decision, AllocError> {
+fn decision_at(alloc: Global, cell: &NodeCell, at: NodeEntryId) -> Result<Decision, AllocError> {
     let mut entries = Vec::new(alloc);
     for entry in cell.entries().iter().take(cell.applied() as usize) {
         match entry {
@@ -111,7 +115,7 @@ fn decision_at(alloc: Global, cell: &NodeCell, at: EntryAt) -> Result<Decision, 
             None => entries.push(None)?,
         }
     }
-    decided(alloc, cell.library(), entries.as_slice(), at)
+    decision_of(alloc, cell.library(), entries.as_slice(), at)
 }
 
 /// Returns the statements of the library of a cell.

@@ -1,14 +1,14 @@
 //! Questions that are answered even if some `$p` of a text are not proved.
 ghost use Rattle.std.specs.Prelude.{length};
 ghost use Rattle.std.specs.List.{All};
-ghost use Rattle.unproved.specs.Unproved.{IsWithin};
+ghost use Rattle.unproved.specs.Unproved.{IsPositionOf};
 
 use crate::answers::push_proved;
 use crate::assumed::answer_assuming;
 use crate::fault::Fault;
 use crate::named_text::NamedText;
 use crate::streams::print;
-use commands::{Asked, Question};
+use commands::{DatabaseQuestion, Question};
 use explanation::{TextTokens, explain_unproved};
 use library::{MOST_BYTES, Verdict};
 use memchr::memchr2_iter;
@@ -19,15 +19,15 @@ use std::alloc::{AllocError, Global};
 use std::io::Write;
 use std::mem::forget;
 use std::thread::Threads;
-use unproved::Entered;
+use unproved::LegalDatabase;
 use verify_pool::Workers;
 
 /// The greatest count of lines that are explained.
 const MOST_EXPLAINED: usize = 100;
 
 /// Returns whether a question is answered even if some `$p` are not proved.
-pub fn allows_unproved(asked: &Asked<'_>) -> bool {
-    asked.assumes || matches!(asked.question, Question::CheckEach)
+pub fn allows_unproved(request: &DatabaseQuestion<'_>) -> bool {
+    request.assumes || matches!(request.question, Question::CheckEach)
 }
 
 /// Returns whether a text has a byte `?` outside its comments, so that a proof may be unfinished.
@@ -52,32 +52,32 @@ pub fn may_be_unfinished(text: &[u8]) -> bool {
 /// or `None` if the text is too long, cannot be parsed or breaks a rule.
 pub fn answer_unproved<R: AllocGlobal + Threads + Sync, O: Write, F: Write>(
     rt: &R,
-    asked: &Asked<'_>,
+    request: &DatabaseQuestion<'_>,
     text: NamedText<'_>,
     output: &mut O,
     faults: &mut F,
 ) -> Result<Option<u8>, Fault> {
-    let Some(entered) = enter_text(rt, text)? else {
+    let Some(database) = read_legal_database(rt, text)? else {
         return Ok(None);
     };
-    let status = match asked.question {
-        Question::CheckEach => print_each(rt, text, entered, output, faults)?,
-        _ => answer_assuming(rt, asked, text, entered, output, faults)?,
+    let status = match request.question {
+        Question::CheckEach => print_each(rt, text, database, output, faults)?,
+        _ => answer_assuming(rt, request, text, database, output, faults)?,
     };
     Ok(Some(status))
 }
 
 /// Returns the statements of a text with their frames, or `None` if it is too long, cannot be
 /// parsed or breaks a rule.
-pub fn enter_text<R: AllocGlobal + Threads + Sync>(
+pub fn read_legal_database<R: AllocGlobal + Threads + Sync>(
     rt: &R,
     text: NamedText<'_>,
-) -> Result<Option<Entered>, AllocError> {
+) -> Result<Option<LegalDatabase>, AllocError> {
     if text.bytes.len() > MOST_BYTES {
         return Ok(None);
     }
     match read_in_parts(rt, rt.alloc(), text.bytes, Workers::offered(rt).count()) {
-        Ok(statements) => Entered::new(rt.alloc(), statements),
+        Ok(statements) => LegalDatabase::new(rt.alloc(), statements),
         Err(ReadFault::Memory) => Err(AllocError),
         Err(_) => Ok(None),
     }
@@ -90,12 +90,12 @@ pub fn enter_text<R: AllocGlobal + Threads + Sync>(
 fn print_each<R: AllocGlobal + Threads + Sync, O: Write, F: Write>(
     rt: &R,
     text: NamedText<'_>,
-    entered: Entered,
+    database: LegalDatabase,
     output: &mut O,
     faults: &mut F,
 ) -> Result<u8, Fault> {
-    let printed = print_unproved(rt, text, &entered, output, faults);
-    forget(entered);
+    let printed = print_unproved(rt, text, &database, output, faults);
+    forget(database);
     printed
 }
 
@@ -103,31 +103,31 @@ fn print_each<R: AllocGlobal + Threads + Sync, O: Write, F: Write>(
 fn print_unproved<R: AllocGlobal + Threads + Sync, O: Write, F: Write>(
     rt: &R,
     text: NamedText<'_>,
-    entered: &Entered,
+    database: &LegalDatabase,
     output: &mut O,
     faults: &mut F,
 ) -> Result<u8, Fault> {
     let alloc = rt.alloc();
-    let unproved = entered.unproved(rt, Workers::offered(rt))?;
-    let lines = lines(alloc, entered, unproved.as_slice())?;
+    let unproved = database.unproved(rt, Workers::offered(rt))?;
+    let lines = lines(alloc, database, unproved.as_slice())?;
     print(output, lines.as_slice())?;
     if unproved.is_empty() {
         return Ok(0);
     }
-    explain_each(alloc, text, entered, unproved.as_slice(), faults);
+    explain_each(alloc, text, database, unproved.as_slice(), faults);
     Ok(1)
 }
 
 /// Returns a line for each `$p` at these positions, and the line that counts the proved ones.
-fn lines(alloc: Global, entered: &Entered, unproved: &[usize]) -> Result<Vec<u8>, AllocError>
-    requires { All (IsWithin (length entered.now)) unproved.now }
+fn lines(alloc: Global, database: &LegalDatabase, unproved: &[usize]) -> Result<Vec<u8>, AllocError>
+    requires { All (IsPositionOf (length database.now)) unproved.now }
 {
     let mut lines = Vec::new(alloc);
     for at in unproved {
-        push_verdict(&mut lines, Verdict::Refused(entered.cause(*at)))?;
+        push_verdict(&mut lines, Verdict::Refused(database.cause(*at)))?;
         lines.extend_from_slice(b"\n")?;
     }
-    push_proved(&mut lines, entered.statements(), unproved.len())?;
+    push_proved(&mut lines, database.statements(), unproved.len())?;
     Ok(lines)
 }
 
@@ -135,7 +135,7 @@ fn lines(alloc: Global, entered: &Entered, unproved: &[usize]) -> Result<Vec<u8>
 fn explain_each<F: Write>(
     alloc: Global,
     text: NamedText<'_>,
-    entered: &Entered,
+    database: &LegalDatabase,
     unproved: &[usize],
     faults: &mut F,
 ) {
@@ -143,7 +143,7 @@ fn explain_each<F: Write>(
         return;
     };
     for at in unproved.iter().take(MOST_EXPLAINED) {
-        let Ok(lines) = explain_unproved(alloc, text.name, &tokens, entered, *at) else {
+        let Ok(lines) = explain_unproved(alloc, text.name, &tokens, database, *at) else {
             return;
         };
         if print(faults, lines.as_slice()).is_err() {

@@ -37,11 +37,16 @@ pub enum Fault {
     LongRun,
     /// A line is bad. `number` is that of the first bad line, counted from 1 with the empty lines.
     #[error("bad line {number}")]
-    BadLine { number: usize },
-    /// A line of a session is bad. `wanted` is the form of the line that its verb begins, or all
+    BadLine {
+        number: usize,
+    },
+    /// A line of a session is bad. `expected` is the form of the line that its verb begins, or all
     /// verbs.
-    #[error("bad line {number}: {wanted}")]
-    NoLine { number: usize, wanted: &'static str },
+    #[error("bad line {number}: {expected}")]
+    BadSessionLine {
+        number: usize,
+        expected: &'static str,
+    },
     /// A write failed: nothing more is printed.
     #[error("")]
     Output,
@@ -62,7 +67,7 @@ impl Fault {
     /// Returns the exit status of this fault: 2 for a bad line, else 1.
     pub fn status(&self) -> u8 {
         match self {
-            Fault::BadLine { .. } | Fault::NoLine { .. } => 2,
+            Fault::BadLine { .. } | Fault::BadSessionLine { .. } => 2,
             _ => 1,
         }
     }
@@ -77,21 +82,21 @@ impl Fault {
 
     /// Writes the line of this fault, and to `faults` a sentence if the input, the output or a long
     /// run is at fault; returns the exit status, as `print` does.
-    pub fn end<O: Write, F: Write>(&self, output: &mut O, faults: &mut F) -> u8 {
+    pub fn report<O: Write, F: Write>(&self, output: &mut O, faults: &mut F) -> u8 {
         match self.write(output) {
             Ok(()) => {
-                self.tell(faults);
+                self.write_sentence(faults);
                 self.status()
             }
             Err(unwritten) => {
-                unwritten.tell(faults);
+                unwritten.write_sentence(faults);
                 1
             }
         }
     }
 
     /// Writes the sentence of this fault to `faults`, if it has one. Ignores a failed write.
-    fn tell<F: Write>(&self, faults: &mut F) {
+    fn write_sentence<F: Write>(&self, faults: &mut F) {
         let words = match self {
             Fault::Input => b"standard input cannot be read\n".as_slice(),
             Fault::Output => b"standard output cannot be written\n".as_slice(),

@@ -22,17 +22,17 @@ use std::alloc::{AllocError, Global};
 pub fn label_answer(
     alloc: Global,
     library: &Library,
-    asked: &NodeQuestion,
+    question: &NodeQuestion,
 ) -> Result<Vec<u8>, Fault>
     ensures { IfOk result (λ text. IsLabelAnswer
-        library.now.replica.statements asked.now.kind asked.now.label text.items) }
+        library.now.replica.statements question.now.kind question.now.label text.items) }
 {
-    let label = asked.label.as_slice();
-    match asked.kind {
+    let label = question.label.as_slice();
+    match question.kind {
         LabelQuestion::Trace => trace_answer(alloc, library, label),
         LabelQuestion::Usage => usage_answer(alloc, library, label),
         LabelQuestion::Tree => tree_answer(alloc, library, label),
-        LabelQuestion::Show | LabelQuestion::Proof => written_answer(alloc, library, asked),
+        LabelQuestion::Show | LabelQuestion::Proof => written_answer(alloc, library, question),
     }
 }
 
@@ -85,22 +85,24 @@ fn counted(alloc: Global, word: &[u8], lines: &[u8]) -> Result<Vec<u8>, AllocErr
 fn written_answer(
     alloc: Global,
     library: &Library,
-    asked: &NodeQuestion,
+    question: &NodeQuestion,
 ) -> Result<Vec<u8>, Fault> {
-    let question = asked.kind.about(alloc, asked.label.as_slice())?;
-    let text = text_of(alloc, library, asked.kind)?;
+    let database_question = question
+        .kind
+        .database_question(alloc, question.label.as_slice())?;
+    let text = text_of(alloc, library, question.kind)?;
     let text = NamedText {
         name: None,
         bytes: text.as_slice(),
     };
     let mut lines = Vec::new(alloc);
-    match write_answer(alloc, library, text, &question, &mut lines) {
+    match write_answer(alloc, library, text, &database_question, &mut lines) {
         // A write to a list of bytes fails only if an allocation fails.
         Err(Fault::Output) => return Err(Fault::Memory(AllocError)),
         Err(fault) => return Err(fault),
         Ok(()) => {}
     }
-    Ok(counted(alloc, asked.kind.verb(), lines.as_slice())?)
+    Ok(counted(alloc, question.kind.verb(), lines.as_slice())?)
 }
 
 /// Returns the text to which printed lines and columns refer: the export of the library, since its
@@ -113,7 +115,7 @@ fn text_of(alloc: Global, library: &Library, kind: LabelQuestion) -> Result<Vec<
 }
 
 /// Returns which of two libraries has more statements.
-pub fn ahead_of(one: &Library, other: &Library) -> Ahead
+pub fn compare_libraries(one: &Library, other: &Library) -> Ahead
     ensures first { (result ≡ First)
         ↔ (length other.now.replica.statements < length one.now.replica.statements) }
     ensures same { (result ≡ Same)

@@ -1,13 +1,13 @@
 //! The command `pages`: a site of a database.
 use crate::assumed::assume_unproved;
-use crate::databases::judge;
-use crate::each_proof::enter_text;
+use crate::databases::apply_text;
+use crate::each_proof::read_legal_database;
 use crate::fault::Fault;
 use crate::named_text::NamedText;
 use crate::refused_texts::print_refusal;
 use crate::streams::{print, read_text};
 use bytes::Bytes;
-use commands::SiteQuestion;
+use commands::SiteRequest;
 use folders::Folder;
 use library::{Cause, Library, Verdict};
 use sites::{Site, SiteFault, write_site};
@@ -15,7 +15,7 @@ use std::alloc::{AllocError, Global};
 use std::io::{Read, Write};
 use std::mem::forget;
 use std::thread::Threads;
-use unproved::Entered;
+use unproved::LegalDatabase;
 
 /// Writes a site into the folder of the request: a page for each assertion of a database, a list of
 /// them and a style sheet; returns the exit status. The reason for a refusal goes to `faults`, and
@@ -24,7 +24,7 @@ use unproved::Entered;
 /// The library is leaked: the end of the process frees all of it at once.
 pub fn print_pages<R: AllocGlobal + Threads + Sync, I: Read, O: Write, F: Write, S: Folder>(
     rt: &R,
-    asked: SiteQuestion<'_>,
+    request: SiteRequest<'_>,
     input: &mut I,
     output: &mut O,
     faults: &mut F,
@@ -33,7 +33,7 @@ pub fn print_pages<R: AllocGlobal + Threads + Sync, I: Read, O: Write, F: Write,
     let text = Bytes::from_vec(read_text(rt.alloc(), input)?)?;
     let mut library = Library::new(rt.alloc());
     let streams = Streams { output, faults };
-    let answered = judge_and_print(rt, asked, &text, &mut library, streams, folder);
+    let answered = apply_and_print(rt, request, &text, &mut library, streams, folder);
     forget(library);
     answered
 }
@@ -46,25 +46,25 @@ struct Streams<'a, O, F> {
 }
 
 /// Adds a text to an empty library, and writes the pages of the library.
-fn judge_and_print<R: AllocGlobal + Threads + Sync, O: Write, F: Write, S: Folder>(
+fn apply_and_print<R: AllocGlobal + Threads + Sync, O: Write, F: Write, S: Folder>(
     rt: &R,
-    asked: SiteQuestion<'_>,
+    request: SiteRequest<'_>,
     bytes: &Bytes,
     library: &mut Library,
     streams: Streams<'_, O, F>,
     folder: &mut S,
 ) -> Result<u8, Fault> {
     let text = NamedText {
-        name: asked.name,
+        name: request.name,
         bytes: bytes.as_slice(),
     };
-    match judge(rt, library, bytes)? {
-        Verdict::Refused(cause) => print_refused(rt, asked, text, cause, streams, folder),
+    match apply_text(rt, library, bytes)? {
+        Verdict::Refused(cause) => print_refused(rt, request, text, cause, streams, folder),
         _ => print_site(
             rt.alloc(),
             library,
             text.bytes,
-            asked.folder,
+            request.folder,
             streams,
             folder,
         ),
@@ -75,16 +75,16 @@ fn judge_and_print<R: AllocGlobal + Threads + Sync, O: Write, F: Write, S: Folde
 /// that is asked for; else prints the refusal.
 fn print_refused<R: AllocGlobal + Threads + Sync, O: Write, F: Write, S: Folder>(
     rt: &R,
-    asked: SiteQuestion<'_>,
+    request: SiteRequest<'_>,
     text: NamedText<'_>,
     cause: Cause,
     streams: Streams<'_, O, F>,
     folder: &mut S,
 ) -> Result<u8, Fault> {
     let is_unproved = matches!(cause, Cause::Proof { .. } | Cause::Unfinished { .. });
-    if is_unproved && asked.assumes {
-        if let Some(entered) = enter_text(rt, text)? {
-            return assume_and_print(rt, asked, text, entered, streams, folder);
+    if is_unproved && request.assumes {
+        if let Some(database) = read_legal_database(rt, text)? {
+            return assume_and_print(rt, request, text, database, streams, folder);
         }
     }
     let Streams { output, faults } = streams;
@@ -94,20 +94,20 @@ fn print_refused<R: AllocGlobal + Threads + Sync, O: Write, F: Write, S: Folder>
 /// Writes the pages of the statements of a text, each `$p` that is not proved taken as a `$a`.
 fn assume_and_print<R: AllocGlobal + Threads + Sync, O: Write, F: Write, S: Folder>(
     rt: &R,
-    asked: SiteQuestion<'_>,
+    request: SiteRequest<'_>,
     text: NamedText<'_>,
-    entered: Entered,
+    database: LegalDatabase,
     streams: Streams<'_, O, F>,
     folder: &mut S,
 ) -> Result<u8, Fault> {
     let Streams { output, faults } = streams;
-    let library = assume_unproved(rt, entered, faults)?;
+    let library = assume_unproved(rt, database, faults)?;
     let streams = Streams { output, faults };
     let answered = print_site(
         rt.alloc(),
         &library,
         text.bytes,
-        asked.folder,
+        request.folder,
         streams,
         folder,
     );
@@ -132,26 +132,26 @@ fn print_site<O: Write, F: Write, S: Folder>(
         Err(SiteFault::Memory) => Err(Fault::Memory(AllocError)),
         Err(SiteFault::Folder) => {
             print(output, b"refused Output\n")?;
-            let _ = tell_folder(faults, path);
+            let _ = print_folder_fault(faults, path);
             Ok(1)
         }
         Err(SiteFault::File(name)) => {
             print(output, b"refused Output\n")?;
-            let _ = tell_file(faults, path, name.as_slice());
+            let _ = print_file_fault(faults, path, name.as_slice());
             Ok(1)
         }
     }
 }
 
 /// Prints which folder cannot be opened.
-fn tell_folder<F: Write>(faults: &mut F, path: &str) -> Result<(), Fault> {
+fn print_folder_fault<F: Write>(faults: &mut F, path: &str) -> Result<(), Fault> {
     faults.write_all(b"the folder ")?;
     faults.write_all(path.as_bytes())?;
     print(faults, b" cannot be opened\n")
 }
 
 /// Prints which file of a folder cannot be written.
-fn tell_file<F: Write>(faults: &mut F, path: &str, name: &[u8]) -> Result<(), Fault> {
+fn print_file_fault<F: Write>(faults: &mut F, path: &str, name: &[u8]) -> Result<(), Fault> {
     faults.write_all(path.as_bytes())?;
     faults.write_all(b"/")?;
     faults.write_all(name)?;

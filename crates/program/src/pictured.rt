@@ -61,7 +61,7 @@ fn picture_of(
     part: Part,
 ) -> Result<Vec<u8>, Fault> {
     for line in lines {
-        if let Err(StepFault::Memory) = make(run, line) {
+        if let Err(StepFault::Memory) = take_step(run, line) {
             return Err(Fault::Memory(AllocError));
         }
     }
@@ -69,9 +69,9 @@ fn picture_of(
 }
 
 /// Takes the step of a line, if it has one.
-fn make(run: &mut Run, line: PlayLine) -> Result<(), StepFault> {
+fn take_step(run: &mut Run, line: PlayLine) -> Result<(), StepFault> {
     match line {
-        PlayLine::Node(line) => make_node_line(run, line),
+        PlayLine::Node(line) => take_node_step(run, line),
         PlayLine::Deliver { packet } => run.step(Event::Deliver(packet)),
         PlayLine::Apply { node } => run.apply_next(node),
         PlayLine::Show { .. } => Ok(()),
@@ -79,7 +79,7 @@ fn make(run: &mut Run, line: PlayLine) -> Result<(), StepFault> {
 }
 
 /// Takes the step of a line that `serve` has too.
-fn make_node_line(run: &mut Run, line: NodeLine) -> Result<(), StepFault> {
+fn take_node_step(run: &mut Run, line: NodeLine) -> Result<(), StepFault> {
     match line {
         NodeLine::Offer(offered) => run.step(Event::Offer(offered.node, offered.entry)),
         NodeLine::Begin { node } => run.step(Event::Begin(node)),

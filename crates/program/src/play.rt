@@ -3,15 +3,15 @@ ghost use Rattle.std.specs.Prelude.{◌≡◌, ◌++◌, OnOk};
 ghost use Rattle.event_lines.specs.EventLines.{history_text};
 
 use crate::fault::Fault;
-use crate::node_answers::{ahead_line, ahead_of, label_answer};
+use crate::node_answers::{ahead_line, compare_libraries, label_answer};
 use crate::scripts::{Answers, answer_lines, read_script};
-use crate::why::{decided, push_why};
-use commands::{EntryAt, NodeLine, PlayLine};
+use crate::why::{decision_of, push_why};
+use commands::{NodeEntryId, NodeLine, PlayLine};
 use event_lines::push_events;
 use library::Entry;
 use net::Event;
 use printed::{
-    push_decided, push_export, push_library, push_log, push_ok, push_packet, push_state,
+    push_export, push_library, push_log, push_ok, push_packet, push_state, push_verdict_line,
 };
 use std::alloc::{AllocError, Global};
 use std::io::{Read, Write};
@@ -36,7 +36,11 @@ impl Answers<PlayLine> for World {
         match line {
             PlayLine::Node(line) => answer_node_line(self, line, text),
             PlayLine::Deliver { packet } => push_step(self, Event::Deliver(packet), text),
-            PlayLine::Apply { node } => Ok(push_decided(text, self.apply_next(node)?, b"none")?),
+            PlayLine::Apply { node } => Ok(push_verdict_line(
+                text,
+                self.apply_next(node)?,
+                b"none",
+            )?),
             PlayLine::Show { packet } => {
                 push_packet(text, self.packet(packet)?)?;
                 Ok(text.extend_from_slice(b"\n")?)
@@ -56,7 +60,7 @@ fn answer_node_line(world: &mut World, line: NodeLine, text: &mut Vec<u8>) -> Re
         NodeLine::List { node } => Ok(push_library(text, world.library(node)?)?),
         NodeLine::Status(at) => {
             let verdict = world.library(at.node)?.status(at.author, at.serial);
-            Ok(push_decided(text, verdict, b"unknown")?)
+            Ok(push_verdict_line(text, verdict, b"unknown")?)
         }
         NodeLine::Export { node } => Ok(push_export(text, world.library(node)?)?),
         NodeLine::Log { node } => Ok(push_log(text, world.log(node)?.as_slice())?),
@@ -65,13 +69,13 @@ fn answer_node_line(world: &mut World, line: NodeLine, text: &mut Vec<u8>) -> Re
             let (state, applied) = (world.state(node)?, world.applied(node)?);
             Ok(push_state(text, &state, applied, false)?)
         }
-        NodeLine::Ask(asked) => {
+        NodeLine::Ask(question) => {
             let alloc = *text.allocator();
-            let answer = label_answer(alloc, world.library(asked.node)?, &asked)?;
+            let answer = label_answer(alloc, world.library(question.node)?, &question)?;
             Ok(text.extend_from_slice(answer.as_slice())?)
         }
         NodeLine::Compare(pair) => {
-            let ahead = ahead_of(world.library(pair.first)?, world.library(pair.second)?);
+            let ahead = compare_libraries(world.library(pair.first)?, world.library(pair.second)?);
             Ok(text.extend_from_slice(ahead_line(ahead))?)
         }
         NodeLine::Events => Ok(push_history(world, text)?),
@@ -79,11 +83,11 @@ fn answer_node_line(world: &mut World, line: NodeLine, text: &mut Vec<u8>) -> Re
 }
 
 /// Appends why the node refused an entry.
-fn push_decision(world: &World, at: EntryAt, text: &mut Vec<u8>) -> Result<(), Fault> {
+fn push_decision(world: &World, at: NodeEntryId, text: &mut Vec<u8>) -> Result<(), Fault> {
     let alloc = *text.allocator();
     let mut entries = world.log(at.node)?;
     entries.truncate(world.applied(at.node)? as usize);
-    let decision = decided(alloc, world.library(at.node)?, entries.as_slice(), at)?;
+    let decision = decision_of(alloc, world.library(at.node)?, entries.as_slice(), at)?;
     Ok(push_why(alloc, text, &decision)?)
 }
 

@@ -34,10 +34,10 @@ struct Proof<'a> {
 pub fn write_proof<O: Write>(
     alloc: Global,
     library: &Library,
-    asked: &ProofQuestion<'_>,
+    question: &ProofQuestion<'_>,
     output: &mut O,
 ) -> Result<(), Fault> {
-    let (at, items) = library.items(asked.label)?;
+    let (at, items) = library.items(question.label)?;
     let frames = library.frames();
     let steps = proof_table(alloc, frames, at, &items)?;
     let proof = Proof {
@@ -46,7 +46,7 @@ pub fn write_proof<O: Write>(
         at,
         steps: &steps,
     };
-    write_steps(alloc, &proof, asked, output)?;
+    write_steps(alloc, &proof, question, output)?;
     print(output, b"")
 }
 
@@ -54,7 +54,7 @@ pub fn write_proof<O: Write>(
 fn write_steps<O: Write>(
     alloc: Global,
     proof: &Proof<'_>,
-    asked: &ProofQuestion<'_>,
+    question: &ProofQuestion<'_>,
     output: &mut O,
 ) -> Result<(), Fault>
     requires at { (1 ≤ proof.now.at) × (proof.now.at ≤ length proof.now.frames.now.statements) }
@@ -63,26 +63,26 @@ fn write_steps<O: Write>(
     requires rows { AreRows proof.now.frames.now.statements proof.now.at
         proof.now.frames.now.names proof.now.steps.now }
 {
-    if matches!(asked.form, ProofForm::Page) {
-        write_theorem(alloc, proof, asked, output)
-    } else if asked.is_essential {
+    if matches!(question.form, ProofForm::Page) {
+        write_theorem(alloc, proof, question, output)
+    } else if question.is_essential {
         let essential = essential_table(alloc, proof.frames, proof.at, proof.steps)?;
-        write_listed(alloc, proof.frames, &essential, asked, output)
+        write_table(alloc, proof.frames, &essential, question, output)
     } else {
-        write_listed(alloc, proof.frames, proof.steps, asked, output)
+        write_table(alloc, proof.frames, proof.steps, question, output)
     }
 }
 
 /// Writes steps as lines or as a picture.
-fn write_listed<O: Write>(
+fn write_table<O: Write>(
     alloc: Global,
     frames: &Frames,
     steps: &ProofTable,
-    asked: &ProofQuestion<'_>,
+    question: &ProofQuestion<'_>,
     output: &mut O,
 ) -> Result<(), Fault> {
-    if matches!(asked.form, ProofForm::Picture) {
-        write_dot(alloc, output, frames, asked.label, steps)?;
+    if matches!(question.form, ProofForm::Picture) {
+        write_dot(alloc, output, frames, question.label, steps)?;
     } else {
         write_plain(alloc, output, frames, steps)?;
     }
@@ -93,7 +93,7 @@ fn write_listed<O: Write>(
 fn write_theorem<O: Write>(
     alloc: Global,
     proof: &Proof<'_>,
-    asked: &ProofQuestion<'_>,
+    question: &ProofQuestion<'_>,
     output: &mut O,
 ) -> Result<(), Fault>
     requires at { (1 ≤ proof.now.at) × (proof.now.at ≤ length proof.now.frames.now.statements) }
@@ -103,11 +103,11 @@ fn write_theorem<O: Write>(
         proof.now.frames.now.names proof.now.steps.now }
 {
     let essential = essential_table(alloc, proof.frames, proof.at, proof.steps)?;
-    let axioms = positions_of(alloc, proof.frames, &proof.library.trace(asked.label)?)?;
+    let axioms = positions_of(alloc, proof.frames, &proof.library.trace(question.label)?)?;
     let users = positions_of(
         alloc,
         proof.frames,
-        &proof.library.usage(asked.label, false)?,
+        &proof.library.usage(question.label, false)?,
     )?;
     let contents = PageContents {
         statements: proof.library.statements(),
@@ -117,14 +117,14 @@ fn write_theorem<O: Write>(
             steps: proof.steps,
             essential: &essential,
         }),
-        neighbours: neighbours_of(&axioms, &users),
+        neighbours: related_items(&axioms, &users),
     };
-    write_page(alloc, output, &contents, !asked.is_essential)?;
+    write_page(alloc, output, &contents, !question.is_essential)?;
     Ok(())
 }
 
 /// Returns the axioms and the users of a theorem for its page, without a description.
-fn neighbours_of<'a>(axioms: &'a [u32], users: &'a [u32]) -> RelatedItems<'a> {
+fn related_items<'a>(axioms: &'a [u32], users: &'a [u32]) -> RelatedItems<'a> {
     RelatedItems {
         axioms,
         users,

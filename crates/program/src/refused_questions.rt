@@ -71,7 +71,7 @@ fn refused_label<'a>(library: &Library, question: &Question<'a>, fault: &Fault) 
         Question::Tree(label) => label,
         Question::Trace(label) => label,
         Question::Usage { label, .. } => label,
-        Question::Proof(asked) => asked.label,
+        Question::Proof(proof) => proof.label,
         Question::Extract(labels) => first_refused(library, labels.as_slice(), fault),
         Question::Show(labels) => first_refused(library, labels.as_slice(), fault),
         _ => b"",

@@ -8,7 +8,7 @@ use std::vec::IntoIter;
 
 /// The capacity in bytes that is reserved for an answer. That to an event needs no more, nor does a
 /// verdict.
-const ANSWER_ROOM: usize = 128;
+const ANSWER_CAPACITY: usize = 128;
 
 /// Nodes that answer the lines of a script or a session.
 pub trait Answers<L> {
@@ -56,7 +56,7 @@ pub fn answer_lines<L: Drop, N: Answers<L>, S: Source<L>, O: Write>(
     lines: &mut S,
     output: &mut O,
 ) -> Result<u8, Fault> {
-    let mut text = Vec::with_capacity(alloc, ANSWER_ROOM)?;
+    let mut text = Vec::with_capacity(alloc, ANSWER_CAPACITY)?;
     let mut status = 0;
     for _ in 0..u64::MAX {
         let Some(line) = lines.next_line()? else {

@@ -6,20 +6,20 @@ use places::descriptions;
 use std::alloc::{AllocError, Global};
 
 /// Returns a line for each assertion of a library that matches a search.
-pub fn found(
+pub fn matching_lines(
     alloc: Global,
     library: &Library,
     text: &[u8],
-    sought: &SearchQuery<'_>,
+    query: &SearchQuery<'_>,
 ) -> Result<Vec<u8>, AllocError> {
-    let descriptions = descriptions_for(alloc, text, sought)?;
-    let searched = SearchedDatabase {
+    let descriptions = descriptions_for(alloc, text, query)?;
+    let database = SearchedDatabase {
         text,
         statements: library.statements(),
         frames: library.frames(),
         descriptions: descriptions.as_slice(),
     };
-    found_lines(alloc, &searched, sought)
+    found_lines(alloc, &database, query)
 }
 
 /// Returns the places of the descriptions of a text, or an empty list if the search does not read
@@ -27,9 +27,9 @@ pub fn found(
 fn descriptions_for(
     alloc: Global,
     text: &[u8],
-    sought: &SearchQuery<'_>,
+    query: &SearchQuery<'_>,
 ) -> Result<Vec<Option<Span>>, AllocError> {
-    match sought {
+    match query {
         SearchQuery::Words(_) => descriptions(alloc, text),
         _ => Ok(Vec::new(alloc)),
     }

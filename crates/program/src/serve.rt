@@ -13,11 +13,12 @@ use crate::served_nodes::{Nodes, NodesDesk, start_nodes, stop_nodes};
 use crate::session::{Script, ServedLine, Session};
 use crate::streams::print;
 use commands::{
-    EntryAt, LINE_FEED, NodeLine, Offered, SERVE_LINES, ServeLine, Serving, SessionLine,
+    LINE_FEED, NodeEntryId, NodeLine, OfferedEntry, SERVE_LINES, ServeLine, ServeOptions,
+    SessionLine,
 };
 use library::Verdict;
 use net::StepFault;
-use printed::{push_counted, push_decided, push_list};
+use printed::{push_counted, push_list, push_verdict_line};
 use std::alloc::Global;
 use std::io::{Read, Write};
 use std::sync::Wait;
@@ -28,7 +29,7 @@ use std::thread::Threads;
 const MOST_TURNS: u32 = 10_000_000;
 
 /// `settle` asks once in this many turns, since each ask takes the lock that the node needs.
-const TURNS_AN_ASK: u32 = 64;
+const TURNS_PER_QUERY: u32 = 64;
 
 /// Reads the script unless it is a session, starts the nodes, prints the answers to the lines, and
 /// stops the nodes; returns the exit status.
@@ -36,13 +37,13 @@ pub fn serve<
     R: AllocGlobal + Threads + Wait + Copy + Send + Sync + Drop + 'static,
     I: Read,
     O: Write,
->(rt: &R, serving: Serving, input: &mut I, output: &mut O) -> Result<u8, Fault> {
-    if serving.is_live {
+>(rt: &R, options: ServeOptions, input: &mut I, output: &mut O) -> Result<u8, Fault> {
+    if options.is_live {
         let mut session = Session::new(rt.alloc(), input)?;
-        return serve_lines(rt, &serving, &mut session, output);
+        return serve_lines(rt, &options, &mut session, output);
     }
     let mut script = Script::read(rt.alloc(), input)?;
-    serve_lines(rt, &serving, &mut script, output)
+    serve_lines(rt, &options, &mut script, output)
 }
 
 /// Starts the nodes, prints the answers to the lines, and stops the nodes; returns the exit status.
@@ -51,13 +52,13 @@ fn serve_lines<
     R: AllocGlobal + Threads + Wait + Copy + Send + Sync + Drop + 'static,
     S: Source<ServedLine>,
     O: Write,
->(rt: &R, serving: &Serving, lines: &mut S, output: &mut O) -> Result<u8, Fault> {
+>(rt: &R, options: &ServeOptions, lines: &mut S, output: &mut O) -> Result<u8, Fault> {
     let mut nodes = start_nodes(
         rt,
         rt.alloc(),
-        serving.weights,
-        serving.workers,
-        serving.weather,
+        options.weights,
+        options.workers,
+        options.weather,
     )?;
     let answered = answer_at_desk(rt, &nodes, lines, output);
     let stopped = stop_nodes(rt, &mut nodes);
@@ -113,18 +114,26 @@ fn answer_serve_line<R: Wait>(
     match line {
         ServeLine::Node(line) => answer_node_line(answering, line, text),
         ServeLine::Settle(at) => {
-            Ok(push_decided(text, settled(answering.rt, answering.desk, at)?, b"unknown")?)
+            Ok(push_verdict_line(
+                text,
+                wait_for_verdict(answering.rt, answering.desk, at)?,
+                b"unknown",
+            )?)
         }
         ServeLine::Add(offered) => {
-            let outcome = added(answering.rt, answering.desk, &offered)?;
-            Ok(push_decided(text, outcome, b"unknown")?)
+            let outcome = add_until_decided(answering.rt, answering.desk, &offered)?;
+            Ok(push_verdict_line(text, outcome, b"unknown")?)
         }
     }
 }
 
 /// Submits an entry at a node until its verdict is known there, and returns the verdict, or `None`
 /// if it is not known after the tries of `Desk::add`.
-fn added<R: Wait>(rt: &R, desk: &NodesDesk, offered: &Offered) -> Result<Option<Verdict>, StepFault>
+fn add_until_decided<R: Wait>(
+    rt: &R,
+    desk: &NodesDesk,
+    offered: &OfferedEntry,
+) -> Result<Option<Verdict>, StepFault>
     ensures outcome { IfOk result (IsOutcome offered.now.node offered.now.entry) }
     ensures no_node { desk.now ≤ offered.now.node → IsErr result }
 {
@@ -144,7 +153,7 @@ fn answer_node_line<R: Wait>(
         NodeLine::Restart { node } => desk.restart(rt, node)?,
         NodeLine::List { node } => return Ok(push_node_list(rt, desk, node, text)?),
         NodeLine::Status(at) => {
-            return Ok(push_decided(text, status(rt, desk, at)?, b"unknown")?);
+            return Ok(push_verdict_line(text, status(rt, desk, at)?, b"unknown")?);
         }
         NodeLine::Export { node } => return answering.push_export(node, text),
         NodeLine::Log { node } => return answering.push_log(node, text),
@@ -174,7 +183,7 @@ fn push_node_list<R: Wait>(
 }
 
 /// Returns the verdict of the node's library on the entry, or `None` if it is not decided there.
-fn status<R: Wait>(rt: &R, desk: &NodesDesk, at: EntryAt) -> Result<Option<Verdict>, StepFault>
+fn status<R: Wait>(rt: &R, desk: &NodesDesk, at: NodeEntryId) -> Result<Option<Verdict>, StepFault>
     ensures status { IfOk result (IsStatus at.node at.author at.serial) }
     ensures no_node { desk.now ≤ at.node → result ≡ Err NoNode }
     ensures only_apart { at.node < desk.now → IsOkUnless result Apart }
@@ -184,13 +193,17 @@ fn status<R: Wait>(rt: &R, desk: &NodesDesk, at: EntryAt) -> Result<Option<Verdi
 
 /// Returns the verdict as soon as it is known, or `None` if it is not known after `MOST_TURNS`
 /// turns.
-fn settled<R: Wait>(rt: &R, desk: &NodesDesk, at: EntryAt) -> Result<Option<Verdict>, StepFault>
+fn wait_for_verdict<R: Wait>(
+    rt: &R,
+    desk: &NodesDesk,
+    at: NodeEntryId,
+) -> Result<Option<Verdict>, StepFault>
     ensures status { IfOk result (IsStatus at.node at.author at.serial) }
     ensures no_node { desk.now ≤ at.node → result ≡ Err NoNode }
     ensures only_apart { at.node < desk.now → IsOkUnless result Apart }
 {
     for turn in 0..MOST_TURNS {
-        if turn % TURNS_AN_ASK == 0 {
+        if turn % TURNS_PER_QUERY == 0 {
             let verdict = status(rt, desk, at)?;
             if verdict.is_some() {
                 return Ok(verdict);

@@ -4,8 +4,8 @@ ghost use Rattle.std.specs.Prelude.{◌≤◌, OnOk, vec_len};
 use crate::fault::Fault;
 use crate::scripts::{Source, read_script};
 use commands::{
-    LINE_FEED, ScriptFault, ServeLine, SessionLine, TextEnd, first_word, parse_script, text_end,
-    wanted_line,
+    LINE_FEED, ScriptFault, ServeLine, SessionLine, TextEnd, expected_form, first_word,
+    parse_script, text_end,
 };
 use std::alloc::{AllocError, Global};
 use std::io::{BufRead, BufReader, ErrorKind, Read};
@@ -104,9 +104,9 @@ impl<'a, I: Read> Session<'a, I> {
         match parse_script::<SessionLine>(self.alloc, self.text.as_slice()) {
             Ok(mut lines) => Ok(lines.pop()),
             Err(ScriptFault::Memory) => Err(Fault::Memory(AllocError)),
-            Err(ScriptFault::BadLine { .. }) => Err(Fault::NoLine {
+            Err(ScriptFault::BadLine { .. }) => Err(Fault::BadSessionLine {
                 number,
-                wanted: wanted_line(first_word(first_line(self.text.as_slice()))),
+                expected: expected_form(first_word(first_line(self.text.as_slice()))),
             }),
         }
     }

@@ -10,7 +10,7 @@ use std::alloc::{AllocError, Global};
 
 /// A text, and the ends of its statements.
 #[derive(Drop)]
-struct Written<'a> {
+struct DatabaseText<'a> {
     /// The name of the file, which is printed before each line and column.
     name: Option<&'a str>,
     text: &'a [u8],
@@ -29,7 +29,7 @@ pub fn blocks(
 ) -> Result<Vec<u8>, Fault> {
     let positions = positions(alloc, library, labels)?;
     let ends = ends(alloc, text.bytes)?;
-    let written = Written {
+    let written = DatabaseText {
         name: text.name,
         text: text.bytes,
         ends: ends.as_slice(),
@@ -39,7 +39,7 @@ pub fn blocks(
         if !blocks.is_empty() {
             blocks.push(b'\n')?;
         }
-        push_shown(alloc, &mut blocks, library, &written, *at)?;
+        push_statement_block(alloc, &mut blocks, library, &written, *at)?;
     }
     Ok(blocks)
 }
@@ -95,11 +95,11 @@ fn is_white(text: &[u8], at: usize) -> bool {
 }
 
 /// Appends the block of the statement at a position, if there is one.
-fn push_shown(
+fn push_statement_block(
     alloc: Global,
     blocks: &mut Vec<u8>,
     library: &Library,
-    written: &Written<'_>,
+    written: &DatabaseText<'_>,
     at: usize,
 ) -> Result<(), AllocError> {
     let statements = library.statements();
@@ -125,7 +125,7 @@ fn push_shown(
 }
 
 /// Returns the offset at which the statement before the one at a position ends; 0 for the first.
-fn begin(written: &Written<'_>, at: usize) -> usize {
+fn begin(written: &DatabaseText<'_>, at: usize) -> usize {
     match at.checked_sub(2) {
         Some(before) => written.ends.get(before).copied().unwrap_or(0),
         None => 0,
@@ -134,7 +134,7 @@ fn begin(written: &Written<'_>, at: usize) -> usize {
 
 /// Returns the text of the statement at a position with all comments before it, from `begin`, where
 /// the previous statement ends. Parsed alone, this part has the same description.
-fn part<'a>(written: &Written<'a>, begin: usize, at: usize) -> &'a [u8] {
+fn part<'a>(written: &DatabaseText<'a>, begin: usize, at: usize) -> &'a [u8] {
     match written.ends.get(at.saturating_sub(1)) {
         Some(end) => written.text.get(begin..*end).unwrap_or(b""),
         None => b"",
@@ -144,7 +144,7 @@ fn part<'a>(written: &Written<'a>, begin: usize, at: usize) -> &'a [u8] {
 /// Returns the line and column of the first token of a part of the text that begins at `begin`.
 fn position(
     alloc: Global,
-    written: &Written<'_>,
+    written: &DatabaseText<'_>,
     begin: usize,
     part: &[u8],
 ) -> Result<Position, AllocError> {

@@ -5,7 +5,7 @@ use std::alloc::Global;
 use std::io::{ErrorKind, Read, Write};
 
 /// How many bytes a read asks for.
-const PART: usize = 65_536;
+const BUFFER_SIZE: usize = 65_536;
 
 /// Reads a database: the whole input, or its first bytes, one more than a text may have.
 pub fn read_text<I: Read>(alloc: Global, input: &mut I) -> Result<Vec<u8>, Fault> {
@@ -19,15 +19,15 @@ pub fn read_text<I: Read>(alloc: Global, input: &mut I) -> Result<Vec<u8>, Fault
 pub fn read_at_most<I: Read>(alloc: Global, input: &mut I, most: usize) -> Result<Vec<u8>, Fault> {
     let mut text = Vec::new(alloc);
     let _ = text.reserve(most.min(MOST_BYTES));
-    let mut part = vec![in alloc; 0u8; PART]?;
+    let mut buffer = vec![in alloc; 0u8; BUFFER_SIZE]?;
     for _ in 0..u64::MAX {
-        let wanted = most.saturating_sub(text.len()).min(part.len());
+        let wanted = most.saturating_sub(text.len()).min(buffer.len());
         if wanted == 0 {
             return Ok(text);
         }
-        match input.read(&mut part[..wanted]) {
+        match input.read(&mut buffer[..wanted]) {
             Ok(0) => return Ok(text),
-            Ok(count) => text.extend_from_slice(&part[..count])?,
+            Ok(count) => text.extend_from_slice(&buffer[..count])?,
             Err(error) if error.kind() == ErrorKind::Interrupted => {}
             Err(_) => return Err(Fault::Input),
         }

@@ -3,7 +3,7 @@
 use crate::fault::Fault;
 use crate::refused_texts::fault_of;
 use bytes::Bytes;
-use commands::EntryAt;
+use commands::NodeEntryId;
 use explanation::{DatabaseFault, explain_after};
 use library::{Cause, Entry, Library, Verdict};
 use mm_read::{ReadFault, read};
@@ -38,11 +38,11 @@ pub struct RefusedEntry {
 /// Returns the decision of a library on an entry. `entries` are those that it applied, in order.
 ///
 /// Errors: an allocation fails. Cost: the size of the library, and the count of the entries.
-pub fn decided(
+pub fn decision_of(
     alloc: Global,
     library: &Library,
     entries: &[Option<Entry>],
-    at: EntryAt,
+    at: NodeEntryId,
 ) -> Result<Decision, AllocError> {
     let cause = match library.status(at.author, at.serial) {
         None => return Ok(Decision::Unknown),
@@ -118,7 +118,7 @@ fn explanation(
     fault: DatabaseFault,
 ) -> Result<Vec<u8>, AllocError> {
     let mut count = 0usize;
-    if tells_statement(fault) {
+    if names_statement(fault) {
         count = statement_count(alloc, refused.added.as_slice())?;
     }
     let before = first_lines(refused.export.as_slice(), count);
@@ -128,12 +128,12 @@ fn explanation(
         alloc,
         whole.as_slice(),
         before.len(),
-        counted_after(fault, count),
+        shift_statement(fault, count),
     )
 }
 
 /// Returns whether a fault names a statement.
-fn tells_statement(fault: DatabaseFault) -> bool {
+fn names_statement(fault: DatabaseFault) -> bool {
     !matches!(
         fault,
         DatabaseFault::TooLong | DatabaseFault::Text | DatabaseFault::Shape
@@ -141,7 +141,7 @@ fn tells_statement(fault: DatabaseFault) -> bool {
 }
 
 /// Returns the fault with its statement counted after `count` others.
-fn counted_after(fault: DatabaseFault, count: usize) -> DatabaseFault {
+fn shift_statement(fault: DatabaseFault, count: usize) -> DatabaseFault {
     match fault {
         DatabaseFault::Rule { statement, rule } => DatabaseFault::Rule {
             statement: statement.saturating_add(count),

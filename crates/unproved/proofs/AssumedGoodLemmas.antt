@@ -93,9 +93,9 @@ left S (x ∷ list) at s p =
     (v.0, (v.1, w.1))
 
 -- a position that is none of the list is that of a proved `$p`, if one stands there
-proved-else : (S : Database) (front end : ℕ) (list : List ℕ) (at : ℕ) → AreUnproved S front end list → front < at → at ≤ end → Avoids at list → StandsProved S at
-proved-else S front end [] at are above below avoids = are at above below
-proved-else S front end (x ∷ list) at are above below avoids = elim (cases_lt x at) [
+proved-else : (S : Database) (start end : ℕ) (list : List ℕ) (at : ℕ) → AreUnproved S start end list → start < at → at ≤ end → Avoids at list → StandsProved S at
+proved-else S start end [] at are above below avoids = are at above below
+proved-else S start end (x ∷ list) at are above below avoids = elim (cases_lt x at) [
   | inl more ↦ proved-else S x end list at are.4 more below avoids.1
   | inr less ↦ elim (cases_lt at x) [
     | inl before ↦ are.3 at above before

@@ -33,7 +33,7 @@ option_label-plain None = refl
 option_label-plain (Some s) = ap (λ l. unwrap_or l []) (label-plain s)
 
 module _ (S T : Database) (same : plains S ≡ plains T) where
-  -- what is said of the statements taken as `$a` alone is said of both
+  -- a property of the statements taken as `$a` holds for both
   both : {A : Type 0} (f : Database → A) → ((U : Database) → f (plains U) ≡ f U) → f S ≡ f T
   both f h = sym (h S) ∙ (ap f same ∙ h T)
 

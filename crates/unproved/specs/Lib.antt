@@ -1,3 +1,3 @@
 pub mod Unproved
-pub mod Stretches
+pub mod StatementRanges
 pub mod Laws

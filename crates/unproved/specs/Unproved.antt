@@ -8,12 +8,12 @@ use Rattle.library.specs.Judging.{StandsProved}
 use Rattle.library.specs.declared.verdict.Cause.{Cause}
 use Rattle.library.specs.declared.verdict.Cause.TheVariants.{Proof, Unfinished}
 
--- the positions after `front`, up to `end`, of exactly the `$p` that are not proved, in order
+-- the positions after `start`, up to `end`, of exactly the `$p` that are not proved, in order
 abbrev pub AreUnproved : Database → ℕ → ℕ → List ℕ → Type 0
-AreUnproved S front end [] = (at : ℕ) → front < at → at ≤ end → StandsProved S at
-AreUnproved S front end (at ∷ list) =
-    (front < at) × (at ≤ end) × (¬ StandsProved S at)
-    × ((m : ℕ) → front < m → m < at → StandsProved S m) × AreUnproved S at end list
+AreUnproved S start end [] = (at : ℕ) → start < at → at ≤ end → StandsProved S at
+AreUnproved S start end (at ∷ list) =
+    (start < at) × (at ≤ end) × (¬ StandsProved S at)
+    × ((m : ℕ) → start < m → m < at → StandsProved S m) × AreUnproved S at end list
 
 -- the cause for the `$p` at that position: unfinished exactly if a token of its proof has the byte `?`
 abbrev pub CauseAt : Database → ℕ → Cause → Type 0
@@ -34,11 +34,11 @@ assumed S [] = S
 assumed S (at ∷ list) = assumed (slice_set S (at - 1) (as_axiom (get_or S (at - 1) Open))) list
 
 -- a position among `count` statements
-abbrev pub IsWithin : ℕ → ℕ → Type 0
-IsWithin count at = (1 ≤ at) × (at ≤ count)
+abbrev pub IsPositionOf : ℕ → ℕ → Type 0
+IsPositionOf count at = (1 ≤ at) × (at ≤ count)
 
 -- well-shaped and legal statements, with their rules and frames
-pub record IsEntered (rules frames S : Database) : Type 0 where
+pub record IsLegalDatabase (rules frames S : Database) : Type 0 where
   pub rules_are : rules ≡ bares S
   pub same : frames ≡ bares S
   pub shaped : AreShaped S

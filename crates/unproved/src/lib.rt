@@ -1,16 +1,16 @@
 //! Finds the `$p` of a list of statements that are not proved.
 //!
-//! The main contract: `Entered::unproved` returns the positions of exactly the `$p`
+//! The main contract: `LegalDatabase::unproved` returns the positions of exactly the `$p`
 //! that are not proved, in order, with any number of workers.
 //!
-//! Reading order: `entered` (statements with their frames), `stretch` (consecutive statements as
-//! jobs of a pool), `search` (all `$p` that are not proved), `laws`.
+//! Reading order: `legal_database` (statements with their frames), `statement_range` (consecutive
+//! statements as jobs of a pool), `search` (all `$p` that are not proved), `laws`.
 #![tactic(auto)]
 
-mod entered;
 mod laws;
+mod legal_database;
 mod search;
-mod stretch;
+mod statement_range;
 
-pub use entered::Entered;
 pub use laws::assumed_statements_are_good;
+pub use legal_database::LegalDatabase;

@@ -1,10 +1,10 @@
 //! Finds all `$p` that are not proved.
 ghost use Rattle.std.specs.Prelude.{◌≡◌, ◌-◌, ◌<◌, ◌≤◌, [], length, IfOk, OnOk};
 ghost use Rattle.scope.specs.Active.{bares};
-ghost use Rattle.unproved.specs.Stretches.{IsLeastIn};
+ghost use Rattle.unproved.specs.StatementRanges.{IsLeastIn};
 ghost use Rattle.unproved.specs.Unproved.{AreUnproved};
 
-use crate::stretch::StatementRange;
+use crate::statement_range::StatementRange;
 use frame::Frames;
 use mm_read::Stmt;
 use proof_code::is_unfinished;
@@ -12,7 +12,7 @@ use std::alloc::{AllocError, Global};
 use std::thread::Threads;
 use verify_pool::{Checkers, OpenGate, Workers, judge_all, judge_here};
 
-/// The largest number of statements in a stretch, whose proofs are judged in parallel.
+/// The largest number of statements in a range, whose proofs are judged in parallel.
 const MOST_IN_RANGE: usize = 2_048;
 
 /// Fewer statements than this are judged on the calling thread: starting threads would cost more.
@@ -31,7 +31,7 @@ pub(crate) struct Search<'a, R: Threads + Sync> {
 /// Returns the positions of the `$p` that are not proved, in order.
 ///
 /// Errors: an allocation fails. Cost: that of the proofs, divided among the workers, and once more
-/// that of the proofs that follow a wrong one in its stretch.
+/// that of the proofs that follow a wrong one in its range.
 pub(crate) fn find_unproved<R: Threads + Sync>(
     search: &Search<'_, R>,
 ) -> Result<Vec<usize>, AllocError>
@@ -41,29 +41,29 @@ pub(crate) fn find_unproved<R: Threads + Sync>(
 {
     let mut checkers = Checkers::new(search.alloc);
     let mut list = Vec::new(search.alloc);
-    let mut front = 0;
-    while front < search.statements.len() {
-        let end = range_end(search.statements, front);
-        add_unproved(search, &mut checkers, front, end, &mut list)?;
-        front = end;
+    let mut start = 0;
+    while start < search.statements.len() {
+        let end = range_end(search.statements, start);
+        add_unproved(search, &mut checkers, start, end, &mut list)?;
+        start = end;
     }
     Ok(list)
 }
 
-/// Returns the position of the last statement of the next stretch: that of the first `$p` with an
-/// unfinished proof, or else `front + MOST_IN_RANGE`, but at most that of the last statement of all.
-fn range_end(statements: &[Stmt], front: usize) -> usize
-    requires { front < length statements.now }
-    ensures later { front < result }
+/// Returns the position of the last statement of the next range: that of the first `$p` with an
+/// unfinished proof, or else `start + MOST_IN_RANGE`, but at most that of the last statement of all.
+fn range_end(statements: &[Stmt], start: usize) -> usize
+    requires { start < length statements.now }
+    ensures later { start < result }
     ensures within { result ≤ length statements.now }
 {
-    let most = (statements.len() - front).min(MOST_IN_RANGE);
-    for (index, statement) in statements[front..front + most].iter().enumerate() {
+    let most = (statements.len() - start).min(MOST_IN_RANGE);
+    for (index, statement) in statements[start..start + most].iter().enumerate() {
         if is_unfinished_proof(statement) {
-            return front + index + 1;
+            return start + index + 1;
         }
     }
-    front + most
+    start + most
 }
 
 /// Returns whether a statement is a `$p` with an unfinished proof.
@@ -74,54 +74,54 @@ fn is_unfinished_proof(statement: &Stmt) -> bool {
     }
 }
 
-/// Appends the positions of the unproved `$p` after the first `front` statements, up to `end`. The
+/// Appends the positions of the unproved `$p` after the first `start` statements, up to `end`. The
 /// workers find the first of them, and the calling thread the others.
 fn add_unproved<R: Threads + Sync>(
     search: &Search<'_, R>,
     checkers: &mut Checkers,
-    front: usize,
+    start: usize,
     end: usize,
     list: &mut Vec<usize>,
 ) -> Result<(), AllocError>
     requires same { search.now.frames.now.statements ≡ bares search.now.statements.now }
-    requires order { front ≤ end }
+    requires order { start ≤ end }
     requires within { end ≤ length search.now.statements.now }
-    requires before { AreUnproved search.now.statements.now 0 front list.old.items }
+    requires before { AreUnproved search.now.statements.now 0 start list.old.items }
     ensures { OnOk result (AreUnproved search.now.statements.now 0 end list.new.items) }
 {
-    let mut front = front;
-    let mut found = first_unproved(search, checkers, front, end, search.workers)?;
+    let mut start = start;
+    let mut found = first_unproved(search, checkers, start, end, search.workers)?;
     while let Some(index) = found {
-        front = front + index + 1;
-        list.push(front)?;
-        found = first_unproved(search, checkers, front, end, Workers::of(1))?;
+        start = start + index + 1;
+        list.push(start)?;
+        found = first_unproved(search, checkers, start, end, Workers::of(1))?;
     }
     Ok(())
 }
 
-/// Returns the index, from 0 after the first `front` statements, of the first `$p` up to `end` that
+/// Returns the index, from 0 after the first `start` statements, of the first `$p` up to `end` that
 /// is not proved, or `None` if each is proved. One worker, or few statements, need no thread.
 fn first_unproved<R: Threads + Sync>(
     search: &Search<'_, R>,
     checkers: &mut Checkers,
-    front: usize,
+    start: usize,
     end: usize,
     workers: Workers,
 ) -> Result<Option<usize>, AllocError>
     requires same { search.now.frames.now.statements ≡ bares search.now.statements.now }
-    requires order { front ≤ end }
+    requires order { start ≤ end }
     requires within { end ≤ length search.now.statements.now }
-    ensures { IfOk result (IsLeastIn search.now.statements.now front end) }
+    ensures { IfOk result (IsLeastIn search.now.statements.now start end) }
 {
-    let stretch = StatementRange {
+    let range = StatementRange {
         frames: search.frames,
         statements: search.statements,
-        front,
+        start,
         end,
     };
-    if end - front < FEWEST_FOR_THREADS {
-        judge_here(checkers, &stretch)
+    if end - start < FEWEST_FOR_THREADS {
+        judge_here(checkers, &range)
     } else {
-        judge_all(search.rt, checkers, &stretch, workers, &OpenGate)
+        judge_all(search.rt, checkers, &range, workers, &OpenGate)
     }
 }

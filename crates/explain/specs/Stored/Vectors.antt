@@ -3,15 +3,15 @@
 -- The code keeps a slice for each expression; the definitions of faults speak of names.
 use Rattle.std.specs.Prelude.{◌≡◌, ℕ, List, map, length, Some}
 use Rattle.explain.specs.Words.{Bor, Name, Stmt, Expr, Database, stmt_at, before, hypotheses, decode, AllBelow, CodeImages}
-use Rattle.explain.specs.declared.named_images.Image.{Image}
+use Rattle.explain.specs.declared.images.Image.{Image}
 
 -- the numbers of each of the expressions
 abbrev pub codes : List (Bor (List ℕ)) → List (List ℕ)
 codes es = map (λ e. e.now) es
 
 -- the expressions
-abbrev pub named : List Name → List (Bor (List ℕ)) → List Expr
-named names es = map (λ e. decode names e.now) es
+abbrev pub named_expressions : List Name → List (Bor (List ℕ)) → List Expr
+named_expressions names es = map (λ e. decode names e.now) es
 
 -- their numbers are those of names
 abbrev pub AreSymbols : ℕ → List (Bor (List ℕ)) → Type 0

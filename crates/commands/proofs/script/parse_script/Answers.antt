@@ -3,7 +3,7 @@ use Rattle.commands.proofs.ScriptsLemmas.{is_read_none, is_read_parsed, is_read_
 use Rattle.commands.proofs.script.parse_script.Goals as goal
 
 pub loop-line-init : goal.loop-line-init
-loop-line-init g c = is_read_none g.L.Line.said c.args.script.now c.new-lines.result.items c.new-rest.result c.new-lines.ensures.items c.new-rest.ensures
+loop-line-init g c = is_read_none g.L.Line.by_definition c.args.script.now c.new-lines.result.items c.new-rest.result c.new-lines.ensures.items c.new-rest.ensures
 
 pub loop-line-preserved-in-Ok : goal.loop-line-preserved-in-Ok
 loop-line-preserved-in-Ok g c =

@@ -6,4 +6,4 @@ abbrev pub decreases-loop-line : goal.decreases-loop-line
 decreases-loop-line g l = length l.rest.lines
 
 abbrev pub invariant-loop-line : goal.invariant-loop-line
-invariant-loop-line g l = IsRead g.L.Line.said l.script l.lines.items l.is_out_of_memory l.rest
+invariant-loop-line g l = IsRead g.L.Line.by_definition l.script l.lines.items l.is_out_of_memory l.rest

@@ -18,11 +18,11 @@ returns-in-Err c = c.in-Err.ensures c.args.labels c.args.letters.now c.loop-i.in
 pub loop-i-preserved : goal.loop-i-preserved
 loop-i-preserved c = c.in-Ok.ensures c.args.labels c.args.letters.now c.loop-i.invariant (slice_get-get_or c.args.letters.now c.loop-i.i 0 c.loop-i-test.true)
 
-pub returns-then-front-eq0 : goal.returns-then-front-eq0
-returns-then-front-eq0 c names count = all-read _ _ _ _ _ _ c.loop-i.invariant names count (ends-here _ _ _ _ _ _ c.loop-i.invariant (let t = c.loop-i-test.false in omega (arith, t)) c.if-front-eq0.true)
+pub returns-then-state-eq0 : goal.returns-then-state-eq0
+returns-then-state-eq0 c names count = all-read _ _ _ _ _ _ c.loop-i.invariant names count (ends-here _ _ _ _ _ _ c.loop-i.invariant (let t = c.loop-i-test.false in omega (arith, t)) c.if-state-eq0.true)
 
-pub returns-else-front-eq0 : goal.returns-else-front-eq0
-returns-else-front-eq0 c names count =
+pub returns-else-state-eq0 : goal.returns-else-state-eq0
+returns-else-state-eq0 c names count =
     let r = c.loop-i.invariant in
-    broken-at _ _ _ _ _ _ r names count c.broken.result NotEnded c.loop-i.front.begin c.broken.ensures.fault c.broken.ensures.letter
-    (some-begun _ _ _ _ _ _ r c.if-front-eq0.false, nothing-left _ _ _ _ _ _ r (let t = c.loop-i-test.false in omega (arith, t))) (sym r.at_begin)
+    broken-at _ _ _ _ _ _ r names count c.broken.result NotEnded c.loop-i.state.begin c.broken.ensures.fault c.broken.ensures.letter
+    (some-begun _ _ _ _ _ _ r c.if-state-eq0.false, nothing-left _ _ _ _ _ _ r (let t = c.loop-i-test.false in omega (arith, t))) (sym r.at_begin)

@@ -10,7 +10,7 @@ returns-in_ok-fault-in-Item-clause-first c = λ s stands.
     let what = get_or items c.in-Item.item Mark in let there = slice_get-get_or items c.in-Item.item Mark f.0 in
     first_at S names c.args.at items c.in-Item.item c.in-Item.labels c.in-Item.results.results f.1 s what c.in_ok-fault-in-Item.fault there (c.in_ok-fault-in-Item.ensures what there)
 
-pub returns-in_ok-end-in-End-clause-first : goal.returns-in_ok-end-in-End-clause-first
-returns-in_ok-end-in-End-clause-first c = λ s stands.
+pub returns-in_ok-end_reason-in-End-clause-first : goal.returns-in_ok-end_reason-in-End-clause-first
+returns-in_ok-end_reason-in-End-clause-first c = λ s stands.
     let f = rw c.in-End.is at (rw c.in-Some.is at c.in_ok-failure.ensures.first) in
-    first_end c.args.frames.now.statements c.args.frames.now.names c.args.at c.args.items.now f.0 c.in-End.results.results s f.1 (f.2 s stands) c.in_ok-end-in-End.field-0 c.in_ok-end-in-End.ensures
+    first_end c.args.frames.now.statements c.args.frames.now.names c.args.at c.args.items.now f.0 c.in-End.results.results s f.1 (f.2 s stands) c.in_ok-end_reason-in-End.field-0 c.in_ok-end_reason-in-End.ensures

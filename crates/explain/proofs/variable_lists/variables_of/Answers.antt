@@ -16,7 +16,7 @@ loop-symbol-preserved c =
       below = note.below c.loop-symbol.invariant.below;
       each = λ v h k.
           ⊎_elim (λ e. note.kept v (c.loop-symbol.invariant.each v e k))
-          (λ e. subst (λ u. has_name u (decode names c.add.new.self.list.items) ≡ true) (sym e) (note.noted (subst (λ u. is_variable S u ≡ true) e k)))
+          (λ e. subst (λ u. has_name u (decode names c.add.new.self.list.items) ≡ true) (sym e) (note.listed (subst (λ u. is_variable S u ≡ true) e k)))
           (has_more names symbols i v inside h);
       only = note.only (decode names symbols) c.loop-symbol.invariant.only (has_at names symbols i inside);
     }

@@ -24,8 +24,8 @@ loop-k-preserved c =
             repeated_passes (is_group_disjoint S σ) (decode names) groups c.loop-k.k inside c.loop-k.invariant.0 same.0 same.1
       ],
       elim c.if-not-is_repeated.branch [
-        | then-not-is_repeated+in_default w ↦ rw w.found-is w.violation_in.ensures.found
-        | else-not-is_repeated w ↦ rw w.found-is c.loop-k.invariant.1
+        | then-not-is_repeated+in_default w ↦ rw w.known_disjoint-is w.violation_in.ensures.known_disjoint
+        | else-not-is_repeated w ↦ rw w.known_disjoint-is c.loop-k.invariant.1
       ],
     )
 

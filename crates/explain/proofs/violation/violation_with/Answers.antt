@@ -8,8 +8,8 @@ use Rattle.explain.proofs.violation.violation_with.Goals.{then-code-first+in_def
 pub list_or-left-requires-clause-count : goal.list_or-left-requires-clause-count
 list_or-left-requires-clause-count c = lists-length c.args.pairs.now.statements c.args.pairs.now.names c.args.images.now c.args.lists.now c.requires.lists
 
-pub shared_by-requires-clause-second : goal.shared_by-requires-clause-second
-shared_by-requires-clause-second c = below-at (length c.args.pairs.now.names) c.args.group.now c.loop-second.second-index 0 c.requires.group c.loop-second-test.true
+pub unpaired_in_images-requires-clause-second : goal.unpaired_in_images-requires-clause-second
+unpaired_in_images-requires-clause-second c = below-at (length c.args.pairs.now.names) c.args.group.now c.loop-second.second-index 0 c.requires.group c.loop-second-test.true
 
 pub returns-then-is_empty-clause-violation : goal.returns-then-is_empty-clause-violation
 returns-then-is_empty-clause-violation c =
@@ -31,7 +31,7 @@ returns-in-Some-clause-violation c =
       first = refl;
       second = has_at names c.args.group.now c.loop-second.second-index c.loop-second-test.true;
       differ = sym (same-number names c.args.first code c.requires.distinct c.requires.first low) ∙ numbers_differ c.args.first code c.if-code-first.true;
-      shared = c.in-Some.ensures.shared;
+      unpaired = c.in-Some.ensures.unpaired;
     }
 
 pub loop-second-preserved : goal.loop-second-preserved
@@ -42,12 +42,12 @@ loop-second-preserved c =
     let x = name_at names c.args.first in let y = name_at names code in
     let on = λ (e : is_other_disjoint S images x y ≡ true). c.loop-second.invariant.0 ∙ all_step names (is_other_disjoint S images x) c.args.group.now c.loop-second.second-index c.loop-second-test.true e in (
       elim c.if-code-first.branch [
-        | then-code-first+in_default w ↦ on (ap (λ b. name_eq x y || b) w.in_default.ensures.shared ∙ or-true (name_eq x y))
+        | then-code-first+in_default w ↦ on (ap (λ b. name_eq x y || b) w.in_default.ensures.unpaired ∙ or-true (name_eq x y))
         | else-code-first w ↦
             on (ap (λ b. b || are_disjoint S (image images x) (image images y)) (ap (λ k. name_eq x (name_at names k)) w.if-code-first.false ∙ name_same x))
       ],
       elim c.if-code-first.branch [
-        | then-code-first+in_default w ↦ rw w.found-is w.shared_by.ensures.found
-        | else-code-first w ↦ rw w.found-is c.loop-second.invariant.1
+        | then-code-first+in_default w ↦ rw w.known_disjoint-is w.unpaired_in_images.ensures.known_disjoint
+        | else-code-first w ↦ rw w.known_disjoint-is c.loop-second.invariant.1
       ],
     )

@@ -1,5 +1,5 @@
-use Rattle.printed.proofs.Words.{◌≡◌, ◌++◌, take, flat_map, logged_text}
+use Rattle.printed.proofs.Words.{◌≡◌, ◌++◌, take, flat_map, spaced_entry_text}
 use Rattle.printed.proofs.answers.push_log.Given as goal
 
 abbrev pub invariant-loop-entry : goal.invariant-loop-entry
-invariant-loop-entry l = l.text.items ≡ l.initial.text.items ++ flat_map logged_text (take l.entry-index l.log)
+invariant-loop-entry l = l.text.items ≡ l.initial.text.items ++ flat_map spaced_entry_text (take l.entry-index l.log)

@@ -5,17 +5,17 @@ use Rattle.unproved.proofs.search.add_unproved.Goals as goal
 pub loop-found-preserved : goal.loop-found-preserved
 loop-found-preserved g c =
     let S = c.args.search.now.statements.now in
-    let front = c.loop-found.front in
+    let start = c.loop-found.start in
     let end = c.args.end in
     let i = c.in-Some.index in
-    let least : IsLeastIn S front end (Some i) = subst (IsLeastIn S front end) c.in-Some.is c.loop-found.invariant.least in
+    let least : IsLeastIn S start end (Some i) = subst (IsLeastIn S start end) c.in-Some.is c.loop-found.invariant.least in
     record {
-      within = least-within S front end i least;
-      list = subst (AreUnproved S 0 (front + i + 1)) (sym c.in_ok-push.ensures.items) (least-more S front end i least c.loop-found.list.items c.loop-found.invariant.list);
+      within = least-within S start end i least;
+      list = subst (AreUnproved S 0 (start + i + 1)) (sym c.in_ok-push.ensures.items) (least-more S start end i least c.loop-found.list.items c.loop-found.invariant.list);
       least = c.in_ok-found-2.ensures;
     }
 
 pub returns : goal.returns
 returns g c =
     let now = c.loop-found.invariant in
-    all-found c.args.search.now.statements.now c.loop-found.front c.args.end c.loop-found.list.items c.loop-found.found c.in_default.not-Some now.within now.list now.least
+    all-found c.args.search.now.statements.now c.loop-found.start c.args.end c.loop-found.list.items c.loop-found.found c.in_default.not-Some now.within now.list now.least

@@ -1,11 +1,11 @@
 use Rattle.unproved.proofs.Words.{◌-◌, ◌≤◌, length, AreUnproved}
 use Rattle.unproved.proofs.search.find_unproved.Given as goal
 
-abbrev pub invariant-loop-front : goal.invariant-loop-front
-invariant-loop-front g l = record {
-  within : l.front ≤ length l.search.statements.now;
-  list : AreUnproved l.search.statements.now 0 l.front l.list.items;
+abbrev pub invariant-loop-start : goal.invariant-loop-start
+invariant-loop-start g l = record {
+  within : l.start ≤ length l.search.statements.now;
+  list : AreUnproved l.search.statements.now 0 l.start l.list.items;
 }
 
-abbrev pub decreases-loop-front : goal.decreases-loop-front
-decreases-loop-front g l = length l.search.statements.now - l.front
+abbrev pub decreases-loop-start : goal.decreases-loop-start
+decreases-loop-start g l = length l.search.statements.now - l.start

@@ -11,14 +11,14 @@ returns-then-is_at c =
         seen = c.requires.seen;
         below = λ h. h;
         kept = λ v h. h;
-        noted = λ t. has_there names c.as_slice.result.now c.args.self.now.list.items _ c.args.code c.as_slice.ensures.value (c.is_at.ensures w.if-is_at.true);
+        listed = λ t. has_there names c.as_slice.result.now c.args.self.now.list.items _ c.args.code c.as_slice.ensures.value (c.is_at.ensures w.if-is_at.true);
         only = λ e kept here v h. kept v h;
       }
       | then-is_at-via-else-is_at+then-not-variable w ↦ record {
         seen = c.requires.seen;
         below = λ h. h;
         kept = λ v h. h;
-        noted = λ t. absurd (true≢false (sym t ∙ (sym w.variable.ensures ∙ w.if-not-variable.true)));
+        listed = λ t. absurd (true≢false (sym t ∙ (sym w.variable.ensures ∙ w.if-not-variable.true)));
         only = λ e kept here v h. kept v h;
       }
     ]
@@ -32,6 +32,6 @@ returns-in_ok-push c =
       seen = pushed_seen names old new code added c.args.self.now.seen c.insert.new.self c.requires.seen c.in_ok-insert.ensures.updates.0;
       below = pushed_below names old new code added (length names) c.requires.code;
       kept = pushed_kept names old new code added;
-      noted = λ t. pushed_has names old new code added;
+      listed = λ t. pushed_has names old new code added;
       only = pushed_only names old new code added;
     }

@@ -1,0 +1,49 @@
+-- The entries that lines offer.
+-- Source: this project's own form.
+-- The code copies the text and the names into an entry of their own.
+use Rattle.std.specs.Prelude.{ℕ, ◌+◌, Bool, true, ◌&&◌, nat_lt, List, [], ◌∷◌, length, Option, Some, None, if◌then◌else◌}
+use Rattle.library.specs.declared.charter.TheConstants.{MOST_NAMES}
+use Rattle.library.specs.declared.entry.Entry.TheVariants.{Text, Charter}
+use Rattle.library.specs.Charters.{is_rising}
+use Rattle.commands.specs.declared.offered_entry.OfferedEntry.{OfferedEntry}
+use Rattle.commands.specs.declared.text_form.TextForm.{TextForm}
+use Rattle.numbers.specs.Numbers.{number_of}
+use Rattle.commands.specs.LineWords.{◌>>=◌, Words, entry_at}
+use Rattle.commands.specs.Texts.{text_at}
+
+-- K AUTHOR SERIAL and a text, and how many of the lines that follow are the text
+abbrev pub text_offer : TextForm → Words → List (List ℕ) → Option (OfferedEntry × ℕ)
+text_offer form ws lines = do
+  e ← entry_at ws
+  t ← text_at form e.1 lines
+  Some (record { node = (e.0).node; entry = Text (record { author = (e.0).author; serial = (e.0).serial; text = t.0 }) }, t.1)
+
+-- these words as numbers
+abbrev pub numbers_of : Words → Option (List ℕ)
+numbers_of [] = Some []
+numbers_of (w ∷ ws) = do
+  n ← number_of w
+  ns ← numbers_of ws
+  Some (n ∷ ns)
+
+-- whether these are 1 to 64 numbers in rising order
+abbrev pub are_names : List ℕ → Bool
+are_names numbers = nat_lt 0 (length numbers) && nat_lt (length numbers) (MOST_NAMES + 1) && is_rising numbers
+
+-- whether a number is greater than the last one, or there is no last one
+abbrev pub rises : Option ℕ → ℕ → Bool
+rises None n = true
+rises (Some last) n = nat_lt last n
+
+-- the names of a charter: 1 to 64 numbers in rising order
+abbrev pub names_of : Words → Option (List ℕ)
+names_of ws = do
+  names ← numbers_of ws
+  if are_names names then Some names else None
+
+-- K AUTHOR SERIAL NAME ..
+abbrev pub charter_offer : Words → Option OfferedEntry
+charter_offer ws = do
+  e ← entry_at ws
+  names ← names_of e.1
+  Some (record { node = (e.0).node; entry = Charter (e.0).author (e.0).serial names })

@@ -1,8 +1,0 @@
-use Rattle.explain.proofs.Words.{◌≡◌, ℕ, ◌++◌, drop, codes, AreSymbols, AreImages, code_images, codes_read}
-use Rattle.explain.proofs.named_images.list_images.Given as goal
-
-abbrev pub invariant-loop-k : goal.invariant-loop-k
-invariant-loop-k l = record {
-  below : (n : ℕ) → AreSymbols n l.results → AreImages n l.images.items;
-  read : code_images l.images.items ++ codes_read (drop l.k l.kinds) (codes (drop l.k l.results)) ≡ codes_read l.kinds (codes l.results);
-}

@@ -1,8 +1,0 @@
-use Rattle.unproved.proofs.Words.{rules, length, IfOk, AreUnproved}
-use Rattle.unproved.proofs.UnprovedLemmas.{found_within}
-use Rattle.unproved.proofs.entered.Entered.unproved.Goals as goal
-
-pub returns-clause-within : goal.returns-clause-within
-returns-clause-within g c =
-    let told : IfOk c.find_unproved.result (λ list. AreUnproved c.args.self.now 0 (length c.args.self.now) list.items) = search rules in
-    found_within c.args.self.now (length c.args.self.now) c.find_unproved.result told

@@ -1,0 +1,5 @@
+use Rattle.verify.proofs.KeptListsLemmas.{kept_none}
+use Rattle.unproved.proofs.statement_range.StatementRangeWork.begin.Goals as goal
+
+pub returns : goal.returns
+returns c = kept_none _ _ _ c.begin.ensures.lists c.begin.ensures.facts

@@ -1,0 +1,30 @@
+-- Consecutive statements as jobs of a pool.
+-- Source: none; for the private functions of `statement_range` and `search`.
+-- The code keeps a reference to all statements.
+use Rattle.std.specs.Prelude.{◌≡◌, ℕ, ◌+◌, ◌-◌, ◌≤◌, List, length, Option}
+use Rattle.mm_lex.specs.Alphabet.{Name}
+use Rattle.library.specs.Words.{Database, bares}
+use Rattle.library.specs.Judging.{StandsProved}
+use Rattle.verify_pool.specs.Least.{IsLeast}
+
+-- statements, the names that their frames number, and the range of them after position `start`, up to `end`
+pub record RangeView : Type 0 where
+  pub statements : Database
+  pub names : List Name
+  pub start : ℕ
+  pub end : ℕ
+
+-- these positions are in order, and the frames are those of the statements
+pub record IsRange (frames S : Database) (start end : ℕ) : Type 0 where
+  pub same : frames ≡ bares S
+  pub order : start ≤ end
+  pub within : end ≤ length S
+
+-- the statement at that index of the range is proved, if it is a `$p`
+abbrev pub IsProvedIn : RangeView → ℕ → Type 0
+IsProvedIn range k = StandsProved range.statements (range.start + k + 1)
+
+-- the answer is the index, in the range, of the first `$p` that is not proved
+abbrev pub IsLeastIn : Database → ℕ → ℕ → Option ℕ → Type 0
+IsLeastIn S start end answer =
+    IsLeast (λ k. StandsProved S (start + k + 1)) (end - start) answer

@@ -1,0 +1,56 @@
+//! Consecutive statements as jobs of a pool.
+use frame::Frames;
+use mm_read::Stmt;
+use std::alloc::AllocError;
+use std::marker::Model;
+use verify::{Answer, Checker};
+use verify_pool::Work;
+
+/// The statements after the first `start`, up to `end`, as jobs in order. Contracts see all
+/// statements, the names that their frames number, `start` and `end`.
+#[derive(Drop)]
+pub(crate) struct StatementRange<'a> {
+    pub(crate) frames: &'a Frames,
+    pub(crate) statements: &'a [Stmt],
+    pub(crate) start: usize,
+    pub(crate) end: usize,
+}
+
+impl<'a> Model for StatementRange<'a> {
+    ghost use Rattle.unproved.specs.StatementRanges.{IsRange, RangeView};
+
+    ghost Value = { RangeView };
+
+    ghost view = { λ a. record { statements = a.statements.now; names = a.frames.now.names; start = a.start; end = a.end } };
+
+    ghost invariant = { λ a. IsRange a.frames.now.statements a.statements.now a.start a.end };
+}
+
+impl<'a> Work for StatementRange<'a> {
+    ghost use Rattle.std.specs.Prelude.{◌-◌};
+    ghost use Rattle.scope.specs.Active.{bares};
+    ghost use Rattle.unproved.specs.StatementRanges.{IsProvedIn};
+    ghost use Rattle.verify.specs.KeptLists.{AreKeptFor};
+
+    ghost count = { λ range. range.end - range.start };
+
+    ghost right = { IsProvedIn };
+
+    ghost fits = { λ range. AreKeptFor (bares range.statements) range.names };
+
+    fn count(&self) -> usize {
+        self.end - self.start
+    }
+
+    fn begin(&self, checker: &mut Checker) {
+        checker.begin();
+    }
+
+    fn judge(&self, index: usize, checker: &mut Checker) -> Result<Answer, AllocError> {
+        let at = self.start + index + 1;
+        match &self.statements[at - 1] {
+            Stmt::Prove { proof, .. } => checker.prove(self.frames, at, proof),
+            _ => Ok(Answer::Proved),
+        }
+    }
+}
