@@ -86,9 +86,9 @@ fn write_assertion(
         frames: library.frames(),
         at,
         proof,
-        neighbours: RelatedItems {
+        related: RelatedItems {
             axioms: axioms.as_slice(),
-            users: users.as_slice(),
+            cited_by: users.as_slice(),
             description: described(contents, index),
         },
     };
