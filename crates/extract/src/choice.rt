@@ -14,7 +14,7 @@ struct Block {
     open: usize,
     /// The number of `$f`, `$e` and `$d` that are active before it.
     active: usize,
-    /// Whether the extract takes an assertion in it.
+    /// Whether the extract includes an assertion in it.
     used: bool,
 }
 
@@ -25,13 +25,13 @@ struct SymbolRecord {
     declared: usize,
     /// Its active `$f`.
     float: usize,
-    /// An active `$e` that is taken and contains it.
+    /// An active `$e` that is included and contains it.
     covered_by: usize,
-    /// The last taken assertion that has it as a variable, in its expression or in its proof.
+    /// The last included assertion that has it as a variable, in its expression or in its proof.
     variable_of: usize,
 }
 
-/// The state of a walk from the first statement to the last. The extract takes the statements that are marked.
+/// The state of a walk from the first statement to the last. The extract includes the statements that are marked.
 #[derive(Drop)]
 struct Choice<'a> {
     alloc: Global,
@@ -43,23 +43,23 @@ struct Choice<'a> {
     records: Vec<SymbolRecord>,
     /// The positions of the active `$f`, `$e` and `$d`.
     active: Vec<usize>,
-    /// The number of these that are before the last taken assertion.
+    /// The number of these that are before the last included assertion.
     active_before_last: usize,
-    /// The variables of an assertion that no `$e` taken before contains.
+    /// The variables of an assertion that no `$e` included before contains.
     other_variables: Vec<usize>,
     /// The active `$d`.
     disjoint: DisjointLists,
-    /// The positions of `$d` to take.
-    to_take: Vec<usize>,
+    /// The positions of `$d` to include.
+    to_include: Vec<usize>,
     blocks: Vec<Block>,
 }
 
-/// Returns for each statement whether the extract takes it: the assertions of the labels, all that their proofs cite, the
+/// Returns for each statement whether the extract includes it: the assertions of the labels, all that their proofs cite, the
 /// hypotheses of these, the `$d` with two of their variables, the declarations of the symbols of all these, and the blocks in
-/// which an assertion is taken.
+/// which an assertion is included.
 ///
-/// Cost: the statements, each `$e` and `$d` once; for each taken assertion its own expression and proof, and the active `$d`
-/// that `DisjointLists::find` visits; for each variable of a taken `$e` the active `$d` that contain it.
+/// Cost: the statements, each `$e` and `$d` once; for each included assertion its own expression and proof, and the active `$d`
+/// that `DisjointLists::find` visits; for each variable of a included `$e` the active `$d` that contain it.
 pub(crate) fn choose(
     alloc: Global,
     library: &Library,
@@ -75,7 +75,7 @@ pub(crate) fn choose(
         active_before_last: 0,
         other_variables: Vec::new(alloc),
         disjoint: DisjointLists::new(alloc),
-        to_take: Vec::new(alloc),
+        to_include: Vec::new(alloc),
         blocks: Vec::new(alloc),
     };
     for (index, statement) in library.statements().iter().enumerate() {
@@ -95,8 +95,8 @@ impl<'a> Choice<'a> {
             Stmt::Disj(names) => self.record_disjoint(at, names)?,
             Stmt::Float { variable, .. } => self.record_float(at, variable.as_bytes())?,
             Stmt::Ess { .. } => self.active.push(at)?,
-            Stmt::Axiom { expr, .. } => self.take_needed_by(at, expr, None)?,
-            Stmt::Prove { expr, proof, .. } => self.take_needed_by(at, expr, Some(proof))?,
+            Stmt::Axiom { expr, .. } => self.include_needed_by(at, expr, None)?,
+            Stmt::Prove { expr, proof, .. } => self.include_needed_by(at, expr, Some(proof))?,
         }
         Ok(())
     }
@@ -112,7 +112,7 @@ impl<'a> Choice<'a> {
         Ok(())
     }
 
-    /// Closes the last block, and takes it if it is used.
+    /// Closes the last block, and includes it if it is used.
     fn close_block(&mut self, at: usize) {
         let Some(block) = self.blocks.pop() else {
             return;
@@ -223,8 +223,8 @@ impl<'a> Choice<'a> {
         Ok(())
     }
 
-    /// Takes the statements that an assertion needs, if it is taken.
-    fn take_needed_by(
+    /// Includes the statements that an assertion needs, if it is included.
+    fn include_needed_by(
         &mut self,
         at: usize,
         expr: &Words,
@@ -234,37 +234,36 @@ impl<'a> Choice<'a> {
             return Ok(());
         }
         self.other_variables.clear();
-        self.take_symbols_of(at, expr)?;
-        self.take_essentials()?;
+        self.include_symbols_of(at, expr)?;
+        self.include_essentials()?;
         if let Some(proof) = proof {
-            self.take_cited_hypotheses(at, proof)?;
+            self.include_cited_hypotheses(at, proof)?;
         }
-        self.disjoint
-            .find(at, &self.other_variables, &self.marks, &mut self.to_take)?;
-        self.take_listed();
+        self.disjoint.find(at, &self.other_variables, &self.marks, &mut self.to_include)?;
+        self.include_listed();
         self.active_before_last = self.active.len();
         self.mark_block_used();
         Ok(())
     }
 
-    /// Takes the declarations of the symbols of an assertion and the `$f` of its variables, and records these variables.
-    fn take_symbols_of(&mut self, at: usize, expr: &Words) -> Result<(), AllocError> {
+    /// Includes the declarations of the symbols of an assertion and the `$f` of its variables, and records these variables.
+    fn include_symbols_of(&mut self, at: usize, expr: &Words) -> Result<(), AllocError> {
         for name in expr.iter() {
-            self.take_declaration(name);
+            self.include_declaration(name);
             let float = match self.record(name) {
                 Some(record) => record.float,
                 None => 0,
             };
             if float != 0 {
-                self.take_float(float);
+                self.include_float(float);
                 self.record_variable(at, name)?;
             }
         }
         Ok(())
     }
 
-    /// Takes the active `$e` after the last taken assertion, and records their variables.
-    fn take_essentials(&mut self) -> Result<(), AllocError> {
+    /// Includes the active `$e` after the last included assertion, and records their variables.
+    fn include_essentials(&mut self) -> Result<(), AllocError> {
         for index in self.active_before_last..self.active.len() {
             let Some(position) = self.active.get(index).copied() else {
                 return Ok(());
@@ -275,16 +274,16 @@ impl<'a> Choice<'a> {
             ) {
                 mark(&mut self.marks, Some(position));
                 for name in expr.iter() {
-                    self.take_declaration(name);
-                    self.take_essential_symbol(position, name)?;
+                    self.include_declaration(name);
+                    self.include_essential_symbol(position, name)?;
                 }
             }
         }
         Ok(())
     }
 
-    /// Takes the `$f` of a symbol of the `$e` at a position and records the symbol, if it is a variable.
-    fn take_essential_symbol(&mut self, position: usize, name: &[u8]) -> Result<(), AllocError> {
+    /// Includes the `$f` of a symbol of the `$e` at a position and records the symbol, if it is a variable.
+    fn include_essential_symbol(&mut self, position: usize, name: &[u8]) -> Result<(), AllocError> {
         let Some(code) = self.symbols.find(name) else {
             return Ok(());
         };
@@ -296,13 +295,13 @@ impl<'a> Choice<'a> {
         }
         record.covered_by = position;
         let float = record.float;
-        self.disjoint.cover(code, &mut self.to_take)?;
-        self.take_float(float);
+        self.disjoint.cover(code, &mut self.to_include)?;
+        self.include_float(float);
         Ok(())
     }
 
-    /// Takes the `$f` at a position, and the declarations of its symbols.
-    fn take_float(&mut self, position: usize) {
+    /// Includes the `$f` at a position, and the declarations of its symbols.
+    fn include_float(&mut self, position: usize) {
         if let Some(
             Stmt::Float {
                 constant,
@@ -312,41 +311,41 @@ impl<'a> Choice<'a> {
         ) = statement_at(self.library.statements(), position)
         {
             mark(&mut self.marks, Some(position));
-            self.take_declaration(constant.as_bytes());
-            self.take_declaration(variable.as_bytes());
+            self.include_declaration(constant.as_bytes());
+            self.include_declaration(variable.as_bytes());
         }
     }
 
-    /// Takes the hypotheses that a proof cites.
-    fn take_cited_hypotheses(&mut self, at: usize, proof: &Words) -> Result<(), AllocError> {
+    /// Includes the hypotheses that a proof cites.
+    fn include_cited_hypotheses(&mut self, at: usize, proof: &Words) -> Result<(), AllocError> {
         for token in proof.iter() {
             if token == b")".as_slice() {
                 return Ok(());
             }
             if let Some(position) = self.library.frames().position(token) {
-                self.take_hypothesis(at, position)?;
+                self.include_hypothesis(at, position)?;
             }
         }
         Ok(())
     }
 
-    /// Takes a hypothesis that the proof of the assertion at a position cites.
-    fn take_hypothesis(&mut self, at: usize, position: usize) -> Result<(), AllocError> {
+    /// Includes a hypothesis that the proof of the assertion at a position cites.
+    fn include_hypothesis(&mut self, at: usize, position: usize) -> Result<(), AllocError> {
         match statement_at(self.library.statements(), position) {
             Some(Stmt::Float { variable, .. }) => {
-                self.take_float(position);
+                self.include_float(position);
                 self.record_variable(at, variable.as_bytes())?;
             }
             Some(Stmt::Ess { expr, .. }) => {
                 mark(&mut self.marks, Some(position));
-                self.take_declarations(expr);
+                self.include_declarations(expr);
             }
             _ => {}
         }
         Ok(())
     }
 
-    /// Records a variable of the assertion at a position, once, unless an active, taken `$e` contains it.
+    /// Records a variable of the assertion at a position, once, unless an active, included `$e` contains it.
     fn record_variable(&mut self, at: usize, name: &[u8]) -> Result<(), AllocError> {
         let Some(code) = self.symbols.find(name) else {
             return Ok(());
@@ -360,36 +359,36 @@ impl<'a> Choice<'a> {
         Ok(())
     }
 
-    /// Takes the `$d` of `to_take`.
-    fn take_listed(&mut self) {
-        for index in 0..self.to_take.len() {
-            if let Some(position) = self.to_take.get(index).copied() {
-                self.take_disjoint(position);
+    /// Includes the `$d` of `to_include`.
+    fn include_listed(&mut self) {
+        for index in 0..self.to_include.len() {
+            if let Some(position) = self.to_include.get(index).copied() {
+                self.include_disjoint(position);
             }
         }
-        self.to_take.clear();
+        self.to_include.clear();
     }
 
-    /// Takes the `$d` at a position, if it is not taken yet.
-    fn take_disjoint(&mut self, position: usize) {
+    /// Includes the `$d` at a position, if it is not included yet.
+    fn include_disjoint(&mut self, position: usize) {
         if is_marked(&self.marks, position) {
             return;
         }
         if let Some(Stmt::Disj(names)) = statement_at(self.library.statements(), position) {
             mark(&mut self.marks, Some(position));
-            self.take_declarations(names);
+            self.include_declarations(names);
         }
     }
 
-    /// Takes the declarations of these symbols.
-    fn take_declarations(&mut self, names: &Words) {
+    /// Includes the declarations of these symbols.
+    fn include_declarations(&mut self, names: &Words) {
         for name in names.iter() {
-            self.take_declaration(name);
+            self.include_declaration(name);
         }
     }
 
-    /// Takes the declaration of a symbol.
-    fn take_declaration(&mut self, name: &[u8]) {
+    /// Includes the declaration of a symbol.
+    fn include_declaration(&mut self, name: &[u8]) {
         if let Some(record) = self.record(name) {
             let declared = record.declared;
             mark(&mut self.marks, Some(declared));

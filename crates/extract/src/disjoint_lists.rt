@@ -17,23 +17,23 @@ struct DisjointList {
 /// The active `$d` that contain a symbol.
 #[derive(Drop)]
 struct ListsOfSymbol {
-    /// Their indexes, ascending; `$d` that are taken may be missing.
+    /// Their indexes, ascending; `$d` that are included may be missing.
     indexes: Vec<usize>,
     /// Whether the symbol is covered.
     covered: bool,
-    /// The number of indexes that were visited for a taken assertion.
+    /// The number of indexes that were visited for a included assertion.
     visited: usize,
     /// The `cover_count` of `DisjointLists` when they were visited.
     visited_at: usize,
 }
 
-/// The active `$d`, as a stack. A variable is *covered* while an active, taken `$e` contains it.
+/// The active `$d`, as a stack. A variable is *covered* while an active, included `$e` contains it.
 #[derive(Drop)]
 pub(crate) struct DisjointLists {
     lists: Vec<DisjointList>,
     /// The lists of each symbol, by its number.
     symbols: Vec<ListsOfSymbol>,
-    /// The number of lists that were visited for the last taken assertion.
+    /// The number of lists that were visited for the last included assertion.
     visited: usize,
     /// How many times a variable became covered.
     cover_count: usize,
@@ -190,13 +190,13 @@ impl DisjointLists {
         };
         for offset in from..self.count(code) {
             if let Some(index) = self.index(code, offset) {
-                if !self.is_taken(index, marks) {
+                if !self.is_included(index, marks) {
                     let more = self.has(most, index);
                     self.count_in(at, index, code != most, more, found)?;
                 }
             }
         }
-        self.forget_taken(code, from, marks);
+        self.forget_included(code, from, marks);
         Ok(())
     }
 
@@ -225,11 +225,11 @@ impl DisjointLists {
     }
 
     /// Removes the marked `$d` from those of a symbol, from index `from` on, and records that all were visited.
-    fn forget_taken(&mut self, code: usize, from: usize, marks: &[bool]) {
+    fn forget_included(&mut self, code: usize, from: usize, marks: &[bool]) {
         let mut kept = from;
         for offset in from..self.count(code) {
             if let Some(index) = self.index(code, offset) {
-                if !self.is_taken(index, marks) {
+                if !self.is_included(index, marks) {
                     self.set_index(code, kept, index);
                     kept = kept.saturating_add(1);
                 }
@@ -260,7 +260,7 @@ impl DisjointLists {
         Ok(())
     }
 
-    fn is_taken(&self, index: usize, marks: &[bool]) -> bool {
+    fn is_included(&self, index: usize, marks: &[bool]) -> bool {
         match self.lists.get(index) {
             Some(list) => is_marked(marks, list.position),
             None => true,
