@@ -14,7 +14,7 @@ struct Block {
     open: usize,
     /// The number of `$f`, `$e` and `$d` that are active before it.
     active: usize,
-    /// Whether the extract includes an assertion in it.
+    /// Whether the extract includes an assertion of the block.
     used: bool,
 }
 
@@ -59,7 +59,7 @@ struct Choice<'a> {
 /// which an assertion is included.
 ///
 /// Cost: the statements, each `$e` and `$d` once; for each included assertion its own expression and proof, and the active `$d`
-/// that `DisjointLists::find` visits; for each variable of a included `$e` the active `$d` that contain it.
+/// that `DisjointLists::find` visits; for each variable of an included `$e` the active `$d` that contain it.
 pub(crate) fn choose(
     alloc: Global,
     library: &Library,

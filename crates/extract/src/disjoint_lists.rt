@@ -21,7 +21,7 @@ struct ListsOfSymbol {
     indexes: Vec<usize>,
     /// Whether the symbol is covered.
     covered: bool,
-    /// The number of indexes that were visited for a included assertion.
+    /// The number of indexes that were visited for an included assertion.
     visited: usize,
     /// The `cover_count` of `DisjointLists` when they were visited.
     visited_at: usize,
