@@ -140,7 +140,7 @@ fn desk_answers_like<R: Wait + Clock>(
 }
 
 /// Returns whether each node lists no assertion.
-fn is_new<R: Wait>(rt: &R, desk: &Desk<OpenGate, EntryKeep>) -> Result<bool, StepFault> {
+fn lists_nothing<R: Wait>(rt: &R, desk: &Desk<OpenGate, EntryKeep>) -> Result<bool, StepFault> {
     for k in [0, 1, 2] {
         if !desk.list(rt, k)?.is_empty() {
             return Ok(false);
