@@ -1,4 +1,4 @@
--- Two databases walked in parallel, and the assertions of the one that are kept in the other.
+-- Two databases walked in parallel, and the assertions that both have.
 use Rattle.std.specs.Prelude.{◌≡◌, ℕ, zero, suc, ◌+◌, ◌-◌, ◌<◌, ◌≤◌, true, false, List, [], ◌∷◌, ◌++◌, length, map, take, get_or, slice_get, Some, Result, Ok, Err, IfOk, refl}
 use Rattle.std.proofs.Common.{sym, ◌∙◌, ap, subst, arith, inl, inr}
 use Rattle.std.proofs.lemmas.Bool.{cases_eq}
@@ -11,8 +11,8 @@ use Rattle.scope.specs.Active.{bare, bares, before, stmt_at, is_assertion}
 use Rattle.frame.specs.Citations.{Carries}
 use Rattle.frame.specs.FrameOf.{hypotheses, mandatory_groups, together}
 use Rattle.frame.proofs.GroupsLemmas.{groups-pairs}
-use Rattle.database_parts.specs.Selected.{IsPart, nothing, takes, leaves, IsKept}
-use Rattle.database_parts.specs.Walk.{wanted, AreKept, IsSameFrame, IsWalked}
+use Rattle.database_parts.specs.Parts.{IsPart, nothing, keeps, skips, HasSameAssertion}
+use Rattle.database_parts.specs.Walk.{is_listed_assertion, HaveSameAssertions, IsSameFrame, IsWalked}
 
 -- ---- the property of an answer
 
@@ -28,17 +28,17 @@ ok-both (Err e) P Q R p q f = tt
 
 pub part-whole : (S : Database) → IsPart S S
 part-whole [] = nothing
-part-whole (s ∷ S) = takes (part-whole S)
+part-whole (s ∷ S) = keeps (part-whole S)
 
-part-take : (T S : Database) (s : Stmt) → IsPart T S → IsPart (T ++ s ∷ []) (S ++ s ∷ [])
-part-take T S s nothing = takes nothing
-part-take T S s (takes {T = T'} {S = S'} p) = takes (part-take T' S' s p)
-part-take T S s (leaves {S = S'} p) = leaves (part-take T S' s p)
+part-keep : (T S : Database) (s : Stmt) → IsPart T S → IsPart (T ++ s ∷ []) (S ++ s ∷ [])
+part-keep T S s nothing = keeps nothing
+part-keep T S s (keeps {T = T'} {S = S'} p) = keeps (part-keep T' S' s p)
+part-keep T S s (skips {S = S'} p) = skips (part-keep T S' s p)
 
-part-leave : (T S : Database) (s : Stmt) → IsPart T S → IsPart T (S ++ s ∷ [])
-part-leave T S s nothing = leaves nothing
-part-leave T S s (takes {T = T'} {S = S'} p) = takes (part-leave T' S' s p)
-part-leave T S s (leaves {S = S'} p) = leaves (part-leave T S' s p)
+part-skip : (T S : Database) (s : Stmt) → IsPart T S → IsPart T (S ++ s ∷ [])
+part-skip T S s nothing = skips nothing
+part-skip T S s (keeps {T = T'} {S = S'} p) = keeps (part-skip T' S' s p)
+part-skip T S s (skips {S = S'} p) = skips (part-skip T S' s p)
 
 -- ---- statements by place
 
@@ -62,40 +62,40 @@ taken-more S i s less is = map_more bare S i s less ∙ ap (λ r. bares (take i 
 before-is : (S : Database) (n : ℕ) → before (bares S) (suc n) ≡ bares (take n S)
 before-is S n = ap (λ m. take m (bares S)) (let e : suc n - 1 ≡ n = omega arith in e) ∙ take-map bare n S
 
--- ---- the assertions that are kept
+-- ---- the assertions that both have
 
-pub wanted-assertion : (labels : List Name) (s : Stmt) → wanted labels s ≡ true → is_assertion s ≡ true
-wanted-assertion labels (Axiom label expr) h = refl
-wanted-assertion labels (Prove label expr proof) h = refl
-wanted-assertion labels Open h = cc
-wanted-assertion labels Close h = cc
-wanted-assertion labels (Const names) h = cc
-wanted-assertion labels (Var names) h = cc
-wanted-assertion labels (Disj names) h = cc
-wanted-assertion labels (Float label constant variable) h = cc
-wanted-assertion labels (Ess label expr) h = cc
+pub listed-assertion : (labels : List Name) (s : Stmt) → is_listed_assertion labels s ≡ true → is_assertion s ≡ true
+listed-assertion labels (Axiom label expr) h = refl
+listed-assertion labels (Prove label expr proof) h = refl
+listed-assertion labels Open h = cc
+listed-assertion labels Close h = cc
+listed-assertion labels (Const names) h = cc
+listed-assertion labels (Var names) h = cc
+listed-assertion labels (Disj names) h = cc
+listed-assertion labels (Float label constant variable) h = cc
+listed-assertion labels (Ess label expr) h = cc
 
-kept-more : (S T : Database) (labels : List Name) (n : ℕ) (s : Stmt) → AreKept S T labels n → slice_get S n ≡ Some s → (wanted labels s ≡ true → (label : Name) → Carries S (suc n) s label → IsKept S T label) → AreKept S T labels (n + 1)
-kept-more S T labels n s kept there here i r upto stands want label c = elim (cases_eq i (suc n)) [
+assertions-more : (S T : Database) (labels : List Name) (n : ℕ) (s : Stmt) → HaveSameAssertions S T labels n → slice_get S n ≡ Some s → (is_listed_assertion labels s ≡ true → (label : Name) → Carries S (suc n) s label → HasSameAssertion S T label) → HaveSameAssertions S T labels (n + 1)
+assertions-more S T labels n s earlier there here i r upto stands want label c = elim (cases_eq i (suc n)) [
   | inl same ↦ last same
-  | inr apart ↦ kept i r (omega (arith, upto, apart)) stands want label c
+  | inr apart ↦ earlier i r (omega (arith, upto, apart)) stands want label c
 ]
   where
-    last : i ≡ suc n → IsKept S T label
+    last : i ≡ suc n → HasSameAssertion S T label
     last e =
         let q : Some s ≡ Some r = sym there ∙ (ap (stmt_at S) (sym e) ∙ stands) in
         let is : s ≡ r = cc in
-        here (ap (wanted labels) is ∙ want) label (subst (λ p. Carries S (suc n) p label) (sym is) (subst (λ j. Carries S j r label) e c))
+        here (ap (is_listed_assertion labels) is ∙ want) label (subst (λ p. Carries S (suc n) p label) (sym is) (subst (λ j. Carries S j r label) e c))
 
 module _ (S T : Database) (labels : List Name) (n k : ℕ) (W P : Database) (w : IsWalked S T labels n k W P) where
-  kept-here : (s : Stmt) → slice_get T k ≡ Some s → is_assertion s ≡ true → IsSameFrame S T W P s → (label : Name) → Carries S (suc n) s label → IsKept S T label
-  kept-here s met kind f label c =
+  same-here : (s : Stmt) → slice_get T k ≡ Some s → is_assertion s ≡ true → IsSameFrame S T W P s → (label : Name) → Carries S (suc n) s label → HasSameAssertion S T label
+  same-here s met kind f label c =
       record {
         stmt = s;
-        there = suc n;
-        here = suc k;
-        stands = c;
-        kept = record { stands = met; carried = c.carried };
+        whole_position = suc n;
+        part_position = suc k;
+        in_whole = c;
+        in_part = record { stands = met; carried = c.carried };
         assertion = kind;
         hypotheses = ap (λ A. map (stmt_at S) (hypotheses A s)) (sym eW) ∙ (f.hypotheses ∙ ap (λ B. map (stmt_at T) (hypotheses B s)) eP);
         pairs = λ x y. sym (groups-pairs (before (bares S) (suc n)) s x y)
@@ -109,16 +109,16 @@ module _ (S T : Database) (labels : List Name) (n k : ℕ) (W P : Database) (w :
       eP : P ≡ before (bares T) (suc k)
       eP = w.part_is ∙ sym (before-is T k)
 
-  pub walk-past : (s : Stmt) (W' : Database) → n < length S → s ≡ get_or S n s → wanted labels s ≡ false → W' ≡ W ++ bare s ∷ [] → IsWalked S T labels (n + 1) k W' P
-  walk-past s W' less is unwanted grown =
+  pub walk-past : (s : Stmt) (W' : Database) → n < length S → s ≡ get_or S n s → is_listed_assertion labels s ≡ false → W' ≡ W ++ bare s ∷ [] → IsWalked S T labels (n + 1) k W' P
+  walk-past s W' less is unlisted grown =
       record {
         whole_is = grown ∙ (ap (λ A. A ++ bare s ∷ []) w.whole_is ∙ sym (taken-more S n s less is));
         part_is = w.part_is;
-        part_of = subst (IsPart (take k T)) (sym (longer S n s less is)) (part-leave (take k T) (take n S) s w.part_of);
-        kept = kept-more S T labels n s w.kept (get-some S n s s less is) (λ want. let f : true ≡ false = sym want ∙ unwanted in absurd (cc));
+        part_of = subst (IsPart (take k T)) (sym (longer S n s less is)) (part-skip (take k T) (take n S) s w.part_of);
+        assertions = assertions-more S T labels n s w.assertions (get-some S n s s less is) (λ want. let f : true ≡ false = sym want ∙ unlisted in absurd (cc));
       }
 
-  pub walk-both : (s : Stmt) (next : ℕ) (W' P' : Database) → n < length S → s ≡ get_or S n s → slice_get T k ≡ Some s → (wanted labels s ≡ true → IsSameFrame S T W P s)
+  pub walk-both : (s : Stmt) (next : ℕ) (W' P' : Database) → n < length S → s ≡ get_or S n s → slice_get T k ≡ Some s → (is_listed_assertion labels s ≡ true → IsSameFrame S T W P s)
       → next ≡ k + 1 → W' ≡ W ++ bare s ∷ [] → P' ≡ P ++ bare s ∷ [] → IsWalked S T labels (n + 1) next W' P'
   walk-both s next W' P' less is met has_same_frame at grown-whole grown-part =
       let g = get-within T k s met in
@@ -126,13 +126,13 @@ module _ (S T : Database) (labels : List Name) (n k : ℕ) (W P : Database) (w :
       (record {
         whole_is = grown-whole ∙ (ap (λ A. A ++ bare s ∷ []) w.whole_is ∙ sym (taken-more S n s less is));
         part_is = grown-part ∙ (ap (λ A. A ++ bare s ∷ []) w.part_is ∙ sym (taken-more T k s g.0 g.1));
-        part_of = subst (λ U. IsPart U (take (n + 1) S)) (sym (longer T k s g.0 g.1)) (subst (IsPart (take k T ++ s ∷ [])) (sym (longer S n s less is)) (part-take (take k T) (take n S) s w.part_of));
-        kept = kept-more S T labels n s w.kept (get-some S n s s less is) (λ want label c. kept-here s met (wanted-assertion labels s want) (has_same_frame want) label c);
+        part_of = subst (λ U. IsPart U (take (n + 1) S)) (sym (longer T k s g.0 g.1)) (subst (IsPart (take k T ++ s ∷ [])) (sym (longer S n s less is)) (part-keep (take k T) (take n S) s w.part_of));
+        assertions = assertions-more S T labels n s w.assertions (get-some S n s s less is) (λ want label c. same-here s met (listed-assertion labels s want) (has_same_frame want) label c);
       })
 
-pub walk-none : (S T : Database) (labels : List Name) (W P : Database) → W ≡ [] → P ≡ [] → IsWalked S T labels 0 0 W P
-walk-none S T labels W P eW eP =
-    record { whole_is = eW; part_is = eP; part_of = nothing; kept = λ i s upto stands want label c. absurd (none i s upto stands) }
+pub walk-start : (S T : Database) (labels : List Name) (W P : Database) → W ≡ [] → P ≡ [] → IsWalked S T labels 0 0 W P
+walk-start S T labels W P eW eP =
+    record { whole_is = eW; part_is = eP; part_of = nothing; assertions = λ i s upto stands want label c. absurd (none i s upto stands) }
   where
     none : (i : ℕ) (s : Stmt) → i ≤ 0 → stmt_at S i ≡ Some s → ⊥
     none zero s upto stands = let f = stands in cc

@@ -16,7 +16,3 @@ pub among-here : {A : Type 0} (f : A → Name) (xs : List A) (name : Name) (n : 
 among-here f [] name n d less here = absurd (omega (arith, less))
 among-here f (x ∷ xs) name zero d less here = ap (λ b. b || list_any (name_eq name) (map f xs)) here
 among-here f (x ∷ xs) name (suc n) d less here = or_right (name_eq name (f x)) (has_name name (map f xs)) (among-here f xs name n d (omega (arith, less)) here)
-
--- ---- lists
-
--- ---- shapes

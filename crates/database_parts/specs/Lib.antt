@@ -1,2 +1,2 @@
-pub mod Selected
+pub mod Parts
 pub mod Walk

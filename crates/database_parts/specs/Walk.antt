@@ -1,5 +1,5 @@
 -- The state of a walk over a database and a part of it, in parallel.
--- Source: none; for the private functions of `comparison`. The clause of `is_extract` cites `AreKept` too.
+-- Source: none; for the private functions of `comparison`. The clause of `is_confirmed_part` cites `HaveSameAssertions` too.
 -- The code keeps for each the scope after the statements passed so far.
 use Rattle.std.specs.Prelude.{◌≡◌, ℕ, ◌≤◌, Bool, true, false, List, map, take, Some}
 use Rattle.mm_lex.specs.Alphabet.{Name, has_name}
@@ -9,17 +9,17 @@ use Rattle.mm_read.specs.Statements.{Database}
 use Rattle.scope.specs.Active.{bares, stmt_at}
 use Rattle.frame.specs.Citations.{Carries}
 use Rattle.frame.specs.FrameOf.{hypotheses, mandatory_groups}
-use Rattle.database_parts.specs.Selected.{IsPart, IsKept}
+use Rattle.database_parts.specs.Parts.{IsPart, HasSameAssertion}
 
 -- the statement is an assertion with one of these labels
-abbrev pub wanted : List Name → Stmt → Bool
-wanted labels (Axiom label expr) = has_name label labels
-wanted labels (Prove label expr proof) = has_name label labels
-wanted labels s = false
+abbrev pub is_listed_assertion : List Name → Stmt → Bool
+is_listed_assertion labels (Axiom label expr) = has_name label labels
+is_listed_assertion labels (Prove label expr proof) = has_name label labels
+is_listed_assertion labels s = false
 
 -- T has the assertions with these labels among the first n statements of S, with the same frames
-abbrev pub AreKept : Database → Database → List Name → ℕ → Type 0
-AreKept S T labels n = (i : ℕ) (s : Stmt) → i ≤ n → stmt_at S i ≡ Some s → wanted labels s ≡ true → (label : Name) → Carries S i s label → IsKept S T label
+abbrev pub HaveSameAssertions : Database → Database → List Name → ℕ → Type 0
+HaveSameAssertions S T labels n = (i : ℕ) (s : Stmt) → i ≤ n → stmt_at S i ≡ Some s → is_listed_assertion labels s ≡ true → (label : Name) → Carries S i s label → HasSameAssertion S T label
 
 -- an assertion has the same hypotheses and groups after the statements A of S as after the statements B of T
 pub record IsSameFrame (S T A B : Database) (s : Stmt) : Type 0 where
@@ -31,4 +31,4 @@ pub record IsWalked (S T : Database) (labels : List Name) (n k : ℕ) (whole par
   pub whole_is : whole ≡ bares (take n S)
   pub part_is : part ≡ bares (take k T)
   pub part_of : IsPart (take k T) (take n S)
-  pub kept : AreKept S T labels n
+  pub assertions : HaveSameAssertions S T labels n

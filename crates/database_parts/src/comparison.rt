@@ -2,8 +2,8 @@
 ghost use Rattle.std.specs.Prelude.{◌≡◌, ℕ, ◌+◌, ◌<◌, ◌∷◌, ◌++◌, [], map, length, true, IsTrue, IfOk, Some, slice_get};
 ghost use Rattle.mm_read.specs.Statements.{IsShaped, AreShaped};
 ghost use Rattle.scope.specs.Active.{bare, is_assertion, stmt_at};
-ghost use Rattle.database_parts.specs.Selected.{IsPart};
-ghost use Rattle.database_parts.specs.Walk.{wanted, AreKept, IsSameFrame, IsWalked};
+ghost use Rattle.database_parts.specs.Parts.{IsPart};
+ghost use Rattle.database_parts.specs.Walk.{is_listed_assertion, HaveSameAssertions, IsSameFrame, IsWalked};
 
 use crate::labels::is_among;
 use frame::{Frame, frame};
@@ -28,7 +28,7 @@ struct Walk {
 ///
 /// Errors: an allocation fails. Cost: applying the rules to both, a comparison of each assertion with each label, and the
 /// frames of the assertions that have one of the labels.
-pub fn is_extract(
+pub fn is_confirmed_part(
     alloc: Global,
     whole: &[Stmt],
     part: &[Stmt],
@@ -36,7 +36,7 @@ pub fn is_extract(
 ) -> Result<bool, AllocError>
     requires { AreShaped whole.now }
     ensures part { IfOk result (λ yes. yes ≡ true → IsPart part.now whole.now) }
-    ensures kept { IfOk result (λ yes. yes ≡ true → AreKept whole.now part.now (map (λ label. label.now) labels.now) (length whole.now)) }
+    ensures assertions { IfOk result (λ yes. yes ≡ true → HaveSameAssertions whole.now part.now (map (λ label. label.now) labels.now) (length whole.now)) }
 {
     let mut walk = Walk {
         whole: Scope::new(alloc),
@@ -57,7 +57,7 @@ fn walk_to_end(
     requires shaped { AreShaped whole.now }
     requires begins { IsWalked whole.now part.now (map (λ label. label.now) labels.now) 0 walk.old.next walk.old.whole.statements walk.old.part.statements }
     ensures part { IfOk result (λ yes. yes ≡ true → IsPart part.now whole.now) }
-    ensures kept { IfOk result (λ yes. yes ≡ true → AreKept whole.now part.now (map (λ label. label.now) labels.now) (length whole.now)) }
+    ensures assertions { IfOk result (λ yes. yes ≡ true → HaveSameAssertions whole.now part.now (map (λ label. label.now) labels.now) (length whole.now)) }
 {
     for index in 0..whole.len() {
         if !advance(alloc, whole, part, labels, index, walk)? {
@@ -77,21 +77,21 @@ fn advance(
     walk: &mut Walk,
 ) -> Result<bool, AllocError>
     requires shaped { AreShaped whole.now }
-    requires place { index < length whole.now }
+    requires within { index < length whole.now }
     ensures { IfOk result (λ yes. yes ≡ true
         → IsWalked whole.now part.now (map (λ label. label.now) labels.now) index walk.old.next walk.old.whole.statements walk.old.part.statements
         → IsWalked whole.now part.now (map (λ label. label.now) labels.now) (index + 1) walk.new.next walk.new.whole.statements walk.new.part.statements) }
 {
     let statement = &whole[index];
-    let wanted = is_wanted(statement, labels);
+    let listed = is_listed(statement, labels);
     if !has_at(part, walk.next, statement) {
-        return if wanted {
+        return if listed {
             Ok(false)
         } else {
             accepts(&mut walk.whole, statement)
         };
     }
-    if !has_same_frame(alloc, whole, part, walk, wanted, statement)? {
+    if !has_same_frame(alloc, whole, part, walk, listed, statement)? {
         return Ok(false);
     }
     pass_both(walk, statement, walk.next + 1)
@@ -124,8 +124,8 @@ fn accepts(scope: &mut Scope, statement: &Stmt) -> Result<bool, AllocError>
 }
 
 /// Returns whether the statement is an assertion with one of these labels.
-fn is_wanted(statement: &Stmt, labels: &[&str]) -> bool
-    ensures { result ≡ wanted (map (λ label. label.now) labels.now) statement.now }
+fn is_listed(statement: &Stmt, labels: &[&str]) -> bool
+    ensures { result ≡ is_listed_assertion (map (λ label. label.now) labels.now) statement.now }
 {
     match statement {
         Stmt::Axiom { label, .. } => is_among(label.as_bytes(), labels),
@@ -140,49 +140,50 @@ fn has_at(statements: &[Stmt], index: usize, statement: &Stmt) -> bool
     ensures within { result ≡ true → index < length statements.now }
 {
     match statements.get(index) {
-        Some(other) => same_statement(other, statement),
+        Some(found) => same_statement(found, statement),
         None => false,
     }
 }
 
-/// Returns whether a statement that is next in both lists has the same frame in both, if it is a wanted assertion.
+/// Returns whether a statement that is next in both lists has the same frame in both, if it is an assertion with one of the
+/// labels.
 fn has_same_frame(
     alloc: Global,
     whole: &[Stmt],
     part: &[Stmt],
     walk: &Walk,
-    wanted: bool,
+    listed: bool,
     statement: &Stmt,
 ) -> Result<bool, AllocError>
-    requires { wanted ≡ true → IsTrue (is_assertion statement.now) }
-    ensures { IfOk result (λ yes. yes ≡ true → wanted ≡ true → IsSameFrame whole.now part.now walk.now.whole.statements walk.now.part.statements statement.now) }
+    requires { listed ≡ true → IsTrue (is_assertion statement.now) }
+    ensures { IfOk result (λ yes. yes ≡ true → listed ≡ true → IsSameFrame whole.now part.now walk.now.whole.statements walk.now.part.statements statement.now) }
 {
-    if !wanted {
+    if !listed {
         return Ok(true);
     }
-    let one = frame(alloc, &walk.whole, statement)?;
-    let other = frame(alloc, &walk.part, statement)?;
-    Ok(same_frame(whole, part, &one, &other))
+    let left = frame(alloc, &walk.whole, statement)?;
+    let right = frame(alloc, &walk.part, statement)?;
+    Ok(same_frame(whole, part, &left, &right))
 }
 
 /// Returns whether two frames have equal statements as hypotheses, and the same groups of disjoint variables.
-fn same_frame(whole: &[Stmt], part: &[Stmt], one: &Frame, other: &Frame) -> bool
-    ensures positions { result ≡ true → map (stmt_at whole.now) one.now.hypotheses ≡ map (stmt_at part.now) other.now.hypotheses }
-    ensures groups { result ≡ true → one.now.groups ≡ other.now.groups }
+fn same_frame(whole: &[Stmt], part: &[Stmt], left: &Frame, right: &Frame) -> bool
+    ensures positions { result ≡ true → map (stmt_at whole.now) left.now.hypotheses ≡ map (stmt_at part.now) right.now.hypotheses }
+    ensures groups { result ≡ true → left.now.groups ≡ right.now.groups }
 {
-    have_equal_at_each(whole, part, one.hypotheses(), other.hypotheses())
-        && same_groups(one.groups(), other.groups())
+    have_equal_at_each(whole, part, left.hypotheses(), right.hypotheses())
+        && same_groups(left.groups(), right.groups())
 }
 
 /// Returns whether the statements at these positions of the two lists are equal.
-fn have_equal_at_each(whole: &[Stmt], part: &[Stmt], one: &[usize], other: &[usize]) -> bool
-    ensures { result ≡ true → map (stmt_at whole.now) one.now ≡ map (stmt_at part.now) other.now }
+fn have_equal_at_each(whole: &[Stmt], part: &[Stmt], left: &[usize], right: &[usize]) -> bool
+    ensures { result ≡ true → map (stmt_at whole.now) left.now ≡ map (stmt_at part.now) right.now }
 {
-    if one.len() != other.len() {
+    if left.len() != right.len() {
         return false;
     }
-    for index in 0..one.len() {
-        if !have_equal_at(whole, part, one[index], other[index]) {
+    for index in 0..left.len() {
+        if !have_equal_at(whole, part, left[index], right[index]) {
             return false;
         }
     }
@@ -190,27 +191,27 @@ fn have_equal_at_each(whole: &[Stmt], part: &[Stmt], one: &[usize], other: &[usi
 }
 
 /// Returns whether there are statements at both positions and they are equal.
-fn have_equal_at(whole: &[Stmt], part: &[Stmt], one: usize, other: usize) -> bool
-    ensures { result ≡ true → stmt_at whole.now one ≡ stmt_at part.now other }
+fn have_equal_at(whole: &[Stmt], part: &[Stmt], left: usize, right: usize) -> bool
+    ensures { result ≡ true → stmt_at whole.now left ≡ stmt_at part.now right }
 {
-    if one == 0 || other == 0 {
+    if left == 0 || right == 0 {
         return false;
     }
-    match whole.get(one - 1) {
-        Some(statement) => has_at(part, other - 1, statement),
+    match whole.get(left - 1) {
+        Some(statement) => has_at(part, right - 1, statement),
         None => false,
     }
 }
 
 /// Returns whether the groups of disjoint variables are equal.
-fn same_groups(one: &[Words], other: &[Words]) -> bool
-    ensures { result ≡ true → one.now ≡ other.now }
+fn same_groups(left: &[Words], right: &[Words]) -> bool
+    ensures { result ≡ true → left.now ≡ right.now }
 {
-    if one.len() != other.len() {
+    if left.len() != right.len() {
         return false;
     }
-    for index in 0..one.len() {
-        if !same_words(&one[index], &other[index]) {
+    for index in 0..left.len() {
+        if !same_words(&left[index], &right[index]) {
             return false;
         }
     }
@@ -218,75 +219,97 @@ fn same_groups(one: &[Words], other: &[Words]) -> bool
 }
 
 /// Returns whether two statements are equal.
-fn same_statement(one: &Stmt, other: &Stmt) -> bool
-    ensures { result ≡ true → one.now ≡ other.now }
+fn same_statement(left: &Stmt, right: &Stmt) -> bool
+    ensures { result ≡ true → left.now ≡ right.now }
 {
-    match one {
-        Stmt::Open => matches!(other, Stmt::Open),
-        Stmt::Close => matches!(other, Stmt::Close),
-        Stmt::Const(names) => match other {
-            Stmt::Const(others) => same_words(names, others),
+    match left {
+        Stmt::Open => matches!(right, Stmt::Open),
+        Stmt::Close => matches!(right, Stmt::Close),
+        Stmt::Const(left_names) => match right {
+            Stmt::Const(right_names) => same_words(left_names, right_names),
             _ => false,
         },
-        Stmt::Var(names) => match other {
-            Stmt::Var(others) => same_words(names, others),
+        Stmt::Var(left_names) => match right {
+            Stmt::Var(right_names) => same_words(left_names, right_names),
             _ => false,
         },
-        Stmt::Disj(names) => match other {
-            Stmt::Disj(others) => same_words(names, others),
+        Stmt::Disj(left_names) => match right {
+            Stmt::Disj(right_names) => same_words(left_names, right_names),
             _ => false,
         },
-        _ => same_labelled(one, other),
+        _ => same_labelled(left, right),
     }
 }
 
 /// Returns whether two statements with labels are equal.
-fn same_labelled(one: &Stmt, other: &Stmt) -> bool
-    ensures { result ≡ true → one.now ≡ other.now }
+fn same_labelled(left: &Stmt, right: &Stmt) -> bool
+    ensures { result ≡ true → left.now ≡ right.now }
 {
-    match (one, other) {
+    match (left, right) {
         (
             Stmt::Float {
-                label: a,
-                constant: b,
-                variable: c,
+                label: left_label,
+                constant: left_constant,
+                variable: left_variable,
             },
             Stmt::Float {
-                label: d,
-                constant: e,
-                variable: f,
+                label: right_label,
+                constant: right_constant,
+                variable: right_variable,
             },
-        ) => same_word(a, d) && same_word(b, e) && same_word(c, f),
-        (Stmt::Ess { label: a, expr: b }, Stmt::Ess { label: c, expr: d }) => {
-            same_word(a, c) && same_words(b, d)
-        }
-        (Stmt::Axiom { label: a, expr: b }, Stmt::Axiom { label: c, expr: d }) => {
-            same_word(a, c) && same_words(b, d)
+        ) => {
+            same_word(left_label, right_label)
+                && same_word(left_constant, right_constant)
+                && same_word(left_variable, right_variable)
         }
         (
+            Stmt::Ess {
+                label: left_label,
+                expr: left_expr,
+            },
+            Stmt::Ess {
+                label: right_label,
+                expr: right_expr,
+            },
+        ) => same_word(left_label, right_label) && same_words(left_expr, right_expr),
+        (
+            Stmt::Axiom {
+                label: left_label,
+                expr: left_expr,
+            },
+            Stmt::Axiom {
+                label: right_label,
+                expr: right_expr,
+            },
+        ) => same_word(left_label, right_label) && same_words(left_expr, right_expr),
+        (
             Stmt::Prove {
-                label: a,
-                expr: b,
-                proof: c,
+                label: left_label,
+                expr: left_expr,
+                proof: left_proof,
             },
             Stmt::Prove {
-                label: d,
-                expr: e,
-                proof: f,
+                label: right_label,
+                expr: right_expr,
+                proof: right_proof,
             },
-        ) => same_word(a, d) && same_words(b, e) && same_words(c, f),
+        ) => {
+            same_word(left_label, right_label)
+                && same_words(left_expr, right_expr)
+                && same_words(left_proof, right_proof)
+        }
         _ => false,
     }
 }
 
-fn same_word(one: &Word, other: &Word) -> bool
-    ensures { result ≡ true → one.now ≡ other.now }
+fn same_word(left: &Word, right: &Word) -> bool
+    ensures { result ≡ true → left.now ≡ right.now }
 {
-    one.as_bytes() == other.as_bytes()
+    left.as_bytes() == right.as_bytes()
 }
 
-fn same_words(one: &Words, other: &Words) -> bool
-    ensures { result ≡ true → one.now ≡ other.now }
+fn same_words(left: &Words, right: &Words) -> bool
+    ensures { result ≡ true → left.now ≡ right.now }
 {
-    one.as_text() == other.as_text()
+    left.as_text() == right.as_text()
 }

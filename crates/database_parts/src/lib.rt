@@ -1,8 +1,8 @@
-//! Checks that a database is a part of another and keeps given assertions of it.
+//! Checks that a database is a part of another and has given assertions of it.
 //!
-//! The crate above calls `is_extract`, which returns true only if the statements of the part are some of those of the whole,
-//! in the same order, and have each assertion with one of the labels, with the same proof, hypotheses and mandatory pairs
-//! of disjoint variables. It judges no proof: it uses the rules only to find out which statements are active.
+//! The crate above calls `is_confirmed_part`, which returns true only if the statements of the part are some of those of the
+//! whole, in the same order, and have each assertion with one of the labels, with the same proof, hypotheses and mandatory
+//! pairs of disjoint variables. It judges no proof: it uses the rules only to find out which statements are active.
 //!
 //! Reading order: `labels` (finds a label in a list), `comparison` (walks over both databases).
 #![tactic(auto)]
@@ -10,5 +10,5 @@
 mod comparison;
 mod labels;
 
-pub use comparison::is_extract;
+pub use comparison::is_confirmed_part;
 pub use labels::is_among;

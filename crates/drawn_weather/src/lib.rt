@@ -9,7 +9,7 @@ use rand_pcg::Pcg32;
 
 /// How many numbers a fate is drawn from. `Drop`, `Twice` and `Later` have one number each, so
 /// about one hint in four does not pass.
-const FATES: u32 = 12;
+const DRAW_RANGE: u32 = 12;
 
 /// A weather that loses, repeats or delays about one hint in four, chosen by a generator.
 #[derive(Drop)]
@@ -29,7 +29,7 @@ impl DrawnWeather {
 
 impl Weather for DrawnWeather {
     fn turn(&mut self, _number: u64) -> Fate {
-        match self.generator.next_word() % FATES {
+        match self.generator.next_word() % DRAW_RANGE {
             0 => Fate::Drop,
             1 => Fate::Twice,
             2 => Fate::Later,

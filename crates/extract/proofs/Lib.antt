@@ -1,3 +1,3 @@
 pub mod Words
-pub mod WantedLemmas
-pub mod TakenOutLemmas
+pub mod LabelsLemmas
+pub mod ExtractLemmas

@@ -1,9 +1,9 @@
 -- The words in which this crate is proved, passed on from one place.
 pub use Rattle.database_parts.proofs.ParallelLemmas.{part-whole}
-pub use Rattle.database_parts.specs.Selected.{IsKept, IsPart}
-pub use Rattle.database_parts.specs.Walk.{AreKept, wanted}
+pub use Rattle.database_parts.specs.Parts.{HasSameAssertion, IsPart}
+pub use Rattle.database_parts.specs.Walk.{HaveSameAssertions, is_listed_assertion}
 pub use Rattle.extract.specs.Extract.{IsExtract}
-pub use Rattle.extract.specs.Wanted.{AreRight, IsFirstWrong, IsRight, IsWrong, NamesAssertion, NamesHypothesis}
+pub use Rattle.extract.specs.Labels.{AreValidLabels, IsFirstLabelFault, IsValidLabel, IsLabelFault, NamesAssertion, NamesHypothesis}
 pub use Rattle.extract.specs.declared.fault.ExtractFault.{ExtractFault}
 pub use Rattle.extract.specs.declared.fault.ExtractFault.TheVariants.{Memory, NoLabel, NotAssertion, SameLabel}
 pub use Rattle.frame.specs.AtPosition.{HasLabelsOnce}

@@ -1,2 +1,2 @@
-pub mod Wanted
+pub mod Labels
 pub mod Extract

@@ -1,5 +1,5 @@
 //! Chooses the statements of an extract.
-use crate::cited::{is_marked, mark, named};
+use crate::cited::{cited_marks, is_marked, mark};
 use crate::disjoint_lists::DisjointLists;
 use library::Library;
 use mm_lex::Words;
@@ -14,7 +14,7 @@ struct Block {
     open: usize,
     /// The number of `$f`, `$e` and `$d` that are active before it.
     active: usize,
-    /// Whether the extract takes an assertion in it.
+    /// Whether the extract includes an assertion of the block.
     used: bool,
 }
 
@@ -25,13 +25,13 @@ struct SymbolRecord {
     declared: usize,
     /// Its active `$f`.
     float: usize,
-    /// An active `$e` that is taken and contains it.
-    given_by: usize,
-    /// The last taken assertion that has it as a variable, in its expression or in its proof.
+    /// An active `$e` that is included and contains it.
+    covered_by: usize,
+    /// The last included assertion that has it as a variable, in its expression or in its proof.
     variable_of: usize,
 }
 
-/// The state of a walk from the first statement to the last. The extract takes the statements that are marked.
+/// The state of a walk from the first statement to the last. The extract includes the statements that are marked.
 #[derive(Drop)]
 struct Choice<'a> {
     alloc: Global,
@@ -43,23 +43,23 @@ struct Choice<'a> {
     records: Vec<SymbolRecord>,
     /// The positions of the active `$f`, `$e` and `$d`.
     active: Vec<usize>,
-    /// The number of these that precede the last taken assertion.
-    passed: usize,
-    /// The variables of an assertion that no `$e` taken before contains.
-    own: Vec<usize>,
+    /// The number of these that are before the last included assertion.
+    active_before_last: usize,
+    /// The variables of an assertion that no `$e` included before contains.
+    other_variables: Vec<usize>,
     /// The active `$d`.
     disjoint: DisjointLists,
-    /// The positions of `$d` to take.
-    due: Vec<usize>,
+    /// The positions of `$d` to include.
+    to_include: Vec<usize>,
     blocks: Vec<Block>,
 }
 
-/// Returns for each statement whether the extract takes it: the assertions of the labels, all that their proofs cite, the
+/// Returns for each statement whether the extract includes it: the assertions of the labels, all that their proofs cite, the
 /// hypotheses of these, the `$d` with two of their variables, the declarations of the symbols of all these, and the blocks in
-/// which an assertion is taken.
+/// which an assertion is included.
 ///
-/// Cost: the statements, each `$e` and `$d` once; for each taken assertion its own expression and proof, and the active `$d`
-/// that `DisjointLists::find` visits; for each variable of a taken `$e` the active `$d` that contain it.
+/// Cost: the statements, each `$e` and `$d` once; for each included assertion its own expression and proof, and the active `$d`
+/// that `DisjointLists::find` visits; for each variable of an included `$e` the active `$d` that contain it.
 pub(crate) fn choose(
     alloc: Global,
     library: &Library,
@@ -68,14 +68,14 @@ pub(crate) fn choose(
     let mut choice = Choice {
         alloc,
         library,
-        marks: named(alloc, library, labels)?,
+        marks: cited_marks(alloc, library, labels)?,
         symbols: NameTable::new(alloc),
         records: Vec::new(alloc),
         active: Vec::new(alloc),
-        passed: 0,
-        own: Vec::new(alloc),
+        active_before_last: 0,
+        other_variables: Vec::new(alloc),
         disjoint: DisjointLists::new(alloc),
-        due: Vec::new(alloc),
+        to_include: Vec::new(alloc),
         blocks: Vec::new(alloc),
     };
     for (index, statement) in library.statements().iter().enumerate() {
@@ -88,21 +88,21 @@ impl<'a> Choice<'a> {
     /// Advances past the statement at a position.
     fn visit(&mut self, at: usize, statement: &Stmt) -> Result<(), AllocError> {
         match statement {
-            Stmt::Open => self.open(at)?,
-            Stmt::Close => self.close(at),
+            Stmt::Open => self.open_block(at)?,
+            Stmt::Close => self.close_block(at),
             Stmt::Const(names) => self.declare(at, names)?,
             Stmt::Var(names) => self.declare(at, names)?,
-            Stmt::Disj(names) => self.separate(at, names)?,
+            Stmt::Disj(names) => self.record_disjoint(at, names)?,
             Stmt::Float { variable, .. } => self.record_float(at, variable.as_bytes())?,
             Stmt::Ess { .. } => self.active.push(at)?,
-            Stmt::Axiom { expr, .. } => self.assertion(at, expr, None)?,
-            Stmt::Prove { expr, proof, .. } => self.assertion(at, expr, Some(proof))?,
+            Stmt::Axiom { expr, .. } => self.include_needed_by(at, expr, None)?,
+            Stmt::Prove { expr, proof, .. } => self.include_needed_by(at, expr, Some(proof))?,
         }
         Ok(())
     }
 
     /// Opens a block.
-    fn open(&mut self, at: usize) -> Result<(), AllocError> {
+    fn open_block(&mut self, at: usize) -> Result<(), AllocError> {
         let active = self.active.len();
         self.blocks.push(Block {
             open: at,
@@ -112,26 +112,26 @@ impl<'a> Choice<'a> {
         Ok(())
     }
 
-    /// Closes the last block, and takes it if it is used.
-    fn close(&mut self, at: usize) {
+    /// Closes the last block, and includes it if it is used.
+    fn close_block(&mut self, at: usize) {
         let Some(block) = self.blocks.pop() else {
             return;
         };
         for _ in block.active..self.active.len() {
             if let Some(position) = self.active.pop() {
-                self.end(position);
+                self.remove_records(position);
             }
         }
-        self.passed = self.passed.min(self.active.len());
+        self.active_before_last = self.active_before_last.min(self.active.len());
         if block.used {
             mark(&mut self.marks, Some(block.open));
             mark(&mut self.marks, Some(at));
-            self.use_block();
+            self.mark_block_used();
         }
     }
 
     /// Removes the records of a statement that is no longer active.
-    fn end(&mut self, position: usize) {
+    fn remove_records(&mut self, position: usize) {
         match statement_at(self.library.statements(), position) {
             Some(Stmt::Disj(names)) => {
                 for name in names.iter() {
@@ -148,7 +148,7 @@ impl<'a> Choice<'a> {
             }
             Some(Stmt::Ess { expr, .. }) => {
                 for name in expr.iter() {
-                    self.take_back(position, name);
+                    self.uncover(position, name);
                 }
             }
             _ => {}
@@ -156,21 +156,21 @@ impl<'a> Choice<'a> {
     }
 
     /// Removes the record that the `$e` at a position contains a symbol.
-    fn take_back(&mut self, position: usize, name: &[u8]) {
+    fn uncover(&mut self, position: usize, name: &[u8]) {
         let Some(code) = self.symbols.find(name) else {
             return;
         };
         let Some(record) = self.records.get_mut(code) else {
             return;
         };
-        if record.given_by == position {
-            record.given_by = 0;
-            self.disjoint.take_back(code);
+        if record.covered_by == position {
+            record.covered_by = 0;
+            self.disjoint.uncover(code);
         }
     }
 
     /// Marks the last open block as used.
-    fn use_block(&mut self) {
+    fn mark_block_used(&mut self) {
         if let Some(block) = self.blocks.last_mut() {
             block.used = true;
         }
@@ -192,7 +192,7 @@ impl<'a> Choice<'a> {
                     self.records.push(SymbolRecord {
                         declared: at,
                         float: 0,
-                        given_by: 0,
+                        covered_by: 0,
                         variable_of: 0,
                     })?;
                     self.disjoint.add_symbol(self.alloc)?;
@@ -203,7 +203,7 @@ impl<'a> Choice<'a> {
     }
 
     /// Records a `$d`.
-    fn separate(&mut self, at: usize, names: &Words) -> Result<(), AllocError> {
+    fn record_disjoint(&mut self, at: usize, names: &Words) -> Result<(), AllocError> {
         self.active.push(at)?;
         self.disjoint.push(at)?;
         for name in names.iter() {
@@ -223,8 +223,8 @@ impl<'a> Choice<'a> {
         Ok(())
     }
 
-    /// Takes the statements that an assertion needs, if it is taken.
-    fn assertion(
+    /// Includes the statements that an assertion needs, if it is included.
+    fn include_needed_by(
         &mut self,
         at: usize,
         expr: &Words,
@@ -233,39 +233,38 @@ impl<'a> Choice<'a> {
         if !is_marked(&self.marks, at) {
             return Ok(());
         }
-        self.own.clear();
-        self.symbols_of(at, expr)?;
-        self.essentials()?;
+        self.other_variables.clear();
+        self.include_symbols_of(at, expr)?;
+        self.include_essentials()?;
         if let Some(proof) = proof {
-            self.hypotheses_of_proof(at, proof)?;
+            self.include_cited_hypotheses(at, proof)?;
         }
-        self.disjoint
-            .find(at, &self.own, &self.marks, &mut self.due)?;
-        self.take_due();
-        self.passed = self.active.len();
-        self.use_block();
+        self.disjoint.find(at, &self.other_variables, &self.marks, &mut self.to_include)?;
+        self.include_listed();
+        self.active_before_last = self.active.len();
+        self.mark_block_used();
         Ok(())
     }
 
-    /// Takes the declarations of the symbols of an assertion and the `$f` of its variables, and records these variables.
-    fn symbols_of(&mut self, at: usize, expr: &Words) -> Result<(), AllocError> {
+    /// Includes the declarations of the symbols of an assertion and the `$f` of its variables, and records these variables.
+    fn include_symbols_of(&mut self, at: usize, expr: &Words) -> Result<(), AllocError> {
         for name in expr.iter() {
-            self.declaration(name);
+            self.include_declaration(name);
             let float = match self.record(name) {
                 Some(record) => record.float,
                 None => 0,
             };
             if float != 0 {
-                self.float(float);
-                self.note_variable(at, name)?;
+                self.include_float(float);
+                self.record_variable(at, name)?;
             }
         }
         Ok(())
     }
 
-    /// Takes the active `$e` after those passed already, and records their variables.
-    fn essentials(&mut self) -> Result<(), AllocError> {
-        for index in self.passed..self.active.len() {
+    /// Includes the active `$e` after the last included assertion, and records their variables.
+    fn include_essentials(&mut self) -> Result<(), AllocError> {
+        for index in self.active_before_last..self.active.len() {
             let Some(position) = self.active.get(index).copied() else {
                 return Ok(());
             };
@@ -275,34 +274,34 @@ impl<'a> Choice<'a> {
             ) {
                 mark(&mut self.marks, Some(position));
                 for name in expr.iter() {
-                    self.declaration(name);
-                    self.give(position, name)?;
+                    self.include_declaration(name);
+                    self.include_essential_symbol(position, name)?;
                 }
             }
         }
         Ok(())
     }
 
-    /// Takes the `$f` of a symbol of the `$e` at a position and records the symbol, if it is a variable.
-    fn give(&mut self, position: usize, name: &[u8]) -> Result<(), AllocError> {
+    /// Includes the `$f` of a symbol of the `$e` at a position and records the symbol, if it is a variable.
+    fn include_essential_symbol(&mut self, position: usize, name: &[u8]) -> Result<(), AllocError> {
         let Some(code) = self.symbols.find(name) else {
             return Ok(());
         };
         let Some(record) = self.records.get_mut(code) else {
             return Ok(());
         };
-        if record.float == 0 || record.given_by != 0 {
+        if record.float == 0 || record.covered_by != 0 {
             return Ok(());
         }
-        record.given_by = position;
+        record.covered_by = position;
         let float = record.float;
-        self.disjoint.give(code, &mut self.due)?;
-        self.float(float);
+        self.disjoint.cover(code, &mut self.to_include)?;
+        self.include_float(float);
         Ok(())
     }
 
-    /// Takes the `$f` at a position, and the declarations of its symbols.
-    fn float(&mut self, position: usize) {
+    /// Includes the `$f` at a position, and the declarations of its symbols.
+    fn include_float(&mut self, position: usize) {
         if let Some(
             Stmt::Float {
                 constant,
@@ -312,84 +311,84 @@ impl<'a> Choice<'a> {
         ) = statement_at(self.library.statements(), position)
         {
             mark(&mut self.marks, Some(position));
-            self.declaration(constant.as_bytes());
-            self.declaration(variable.as_bytes());
+            self.include_declaration(constant.as_bytes());
+            self.include_declaration(variable.as_bytes());
         }
     }
 
-    /// Takes the hypotheses that a proof cites.
-    fn hypotheses_of_proof(&mut self, at: usize, proof: &Words) -> Result<(), AllocError> {
+    /// Includes the hypotheses that a proof cites.
+    fn include_cited_hypotheses(&mut self, at: usize, proof: &Words) -> Result<(), AllocError> {
         for token in proof.iter() {
             if token == b")".as_slice() {
                 return Ok(());
             }
             if let Some(position) = self.library.frames().position(token) {
-                self.hypothesis(at, position)?;
+                self.include_hypothesis(at, position)?;
             }
         }
         Ok(())
     }
 
-    /// Takes a hypothesis that the proof of the assertion at a position cites.
-    fn hypothesis(&mut self, at: usize, position: usize) -> Result<(), AllocError> {
+    /// Includes a hypothesis that the proof of the assertion at a position cites.
+    fn include_hypothesis(&mut self, at: usize, position: usize) -> Result<(), AllocError> {
         match statement_at(self.library.statements(), position) {
             Some(Stmt::Float { variable, .. }) => {
-                self.float(position);
-                self.note_variable(at, variable.as_bytes())?;
+                self.include_float(position);
+                self.record_variable(at, variable.as_bytes())?;
             }
             Some(Stmt::Ess { expr, .. }) => {
                 mark(&mut self.marks, Some(position));
-                self.declarations(expr);
+                self.include_declarations(expr);
             }
             _ => {}
         }
         Ok(())
     }
 
-    /// Records a variable of the assertion at a position, once, unless an active, taken `$e` contains it.
-    fn note_variable(&mut self, at: usize, name: &[u8]) -> Result<(), AllocError> {
+    /// Records a variable of the assertion at a position, once, unless an active, included `$e` contains it.
+    fn record_variable(&mut self, at: usize, name: &[u8]) -> Result<(), AllocError> {
         let Some(code) = self.symbols.find(name) else {
             return Ok(());
         };
         if let Some(record) = self.records.get_mut(code) {
-            if record.variable_of != at && record.given_by == 0 {
+            if record.variable_of != at && record.covered_by == 0 {
                 record.variable_of = at;
-                self.own.push(code)?;
+                self.other_variables.push(code)?;
             }
         }
         Ok(())
     }
 
-    /// Takes the `$d` of `due`.
-    fn take_due(&mut self) {
-        for index in 0..self.due.len() {
-            if let Some(position) = self.due.get(index).copied() {
-                self.take_disjoint(position);
+    /// Includes the `$d` of `to_include`.
+    fn include_listed(&mut self) {
+        for index in 0..self.to_include.len() {
+            if let Some(position) = self.to_include.get(index).copied() {
+                self.include_disjoint(position);
             }
         }
-        self.due.clear();
+        self.to_include.clear();
     }
 
-    /// Takes the `$d` at a position, if it is not taken yet.
-    fn take_disjoint(&mut self, position: usize) {
+    /// Includes the `$d` at a position, if it is not included yet.
+    fn include_disjoint(&mut self, position: usize) {
         if is_marked(&self.marks, position) {
             return;
         }
         if let Some(Stmt::Disj(names)) = statement_at(self.library.statements(), position) {
             mark(&mut self.marks, Some(position));
-            self.declarations(names);
+            self.include_declarations(names);
         }
     }
 
-    /// Takes the declarations of these symbols.
-    fn declarations(&mut self, names: &Words) {
+    /// Includes the declarations of these symbols.
+    fn include_declarations(&mut self, names: &Words) {
         for name in names.iter() {
-            self.declaration(name);
+            self.include_declaration(name);
         }
     }
 
-    /// Takes the declaration of a symbol.
-    fn declaration(&mut self, name: &[u8]) {
+    /// Includes the declaration of a symbol.
+    fn include_declaration(&mut self, name: &[u8]) {
         if let Some(record) = self.record(name) {
             let declared = record.declared;
             mark(&mut self.marks, Some(declared));

@@ -7,7 +7,7 @@ use std::alloc::{AllocError, Global};
 
 /// Returns for each statement whether it is marked: if it has one of the labels, or the proof of a marked statement cites it.
 /// A proof cites only earlier statements, so the statements are visited from the last to the first.
-pub(crate) fn named(
+pub(crate) fn cited_marks(
     alloc: Global,
     library: &Library,
     labels: &[&str],

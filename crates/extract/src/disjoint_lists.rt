@@ -6,8 +6,8 @@ use std::alloc::{AllocError, Global};
 #[derive(Clone, Copy)]
 struct DisjointList {
     position: usize,
-    /// The number of its given variables.
-    given: usize,
+    /// The number of its covered variables.
+    covered: usize,
     /// The last assertion whose variables were counted in it.
     counted_for: usize,
     /// The number of variables counted for that assertion.
@@ -17,26 +17,26 @@ struct DisjointList {
 /// The active `$d` that contain a symbol.
 #[derive(Drop)]
 struct ListsOfSymbol {
-    /// Their indexes, ascending; `$d` that are taken may be missing.
+    /// Their indexes, ascending; `$d` that are included may be missing.
     indexes: Vec<usize>,
-    /// Whether the symbol is given.
-    given: bool,
-    /// The number of indexes that were visited for a taken assertion.
-    compared: usize,
-    /// The `time` of `DisjointLists` at which they were visited.
-    time: usize,
+    /// Whether the symbol is covered.
+    covered: bool,
+    /// The number of indexes that were visited for an included assertion.
+    visited: usize,
+    /// The `cover_count` of `DisjointLists` when they were visited.
+    visited_at: usize,
 }
 
-/// The active `$d`, as a stack. A variable is given while an active, taken `$e` contains it.
+/// The active `$d`, as a stack. A variable is *covered* while an active, included `$e` contains it.
 #[derive(Drop)]
 pub(crate) struct DisjointLists {
     lists: Vec<DisjointList>,
     /// The lists of each symbol, by its number.
     symbols: Vec<ListsOfSymbol>,
-    /// The number of lists that were visited for the last taken assertion.
-    passed: usize,
-    /// How many times a variable became given.
-    time: usize,
+    /// The number of lists that were visited for the last included assertion.
+    visited: usize,
+    /// How many times a variable became covered.
+    cover_count: usize,
 }
 
 impl DisjointLists {
@@ -45,8 +45,8 @@ impl DisjointLists {
         DisjointLists {
             lists: Vec::new(alloc),
             symbols: Vec::new(alloc),
-            passed: 0,
-            time: 0,
+            visited: 0,
+            cover_count: 0,
         }
     }
 
@@ -54,9 +54,9 @@ impl DisjointLists {
     pub(crate) fn add_symbol(&mut self, alloc: Global) -> Result<(), AllocError> {
         self.symbols.push(ListsOfSymbol {
             indexes: Vec::new(alloc),
-            given: false,
-            compared: 0,
-            time: 0,
+            covered: false,
+            visited: 0,
+            visited_at: 0,
         })?;
         Ok(())
     }
@@ -65,7 +65,7 @@ impl DisjointLists {
     pub(crate) fn push(&mut self, position: usize) -> Result<(), AllocError> {
         self.lists.push(DisjointList {
             position,
-            given: 0,
+            covered: 0,
             counted_for: 0,
             count: 0,
         })?;
@@ -79,8 +79,8 @@ impl DisjointLists {
             return Ok(());
         };
         symbol.indexes.push(top)?;
-        if symbol.given {
-            self.count_given(top);
+        if symbol.covered {
+            self.count_covered(top);
         }
         Ok(())
     }
@@ -94,78 +94,79 @@ impl DisjointLists {
         if symbol.indexes.last().copied() == Some(top) {
             let _top = symbol.indexes.pop();
         }
-        symbol.compared = symbol.compared.min(symbol.indexes.len());
+        symbol.visited = symbol.visited.min(symbol.indexes.len());
     }
 
     /// Removes the `$d` on top, whose variables were removed before.
     pub(crate) fn pop(&mut self) {
         let _list = self.lists.pop();
-        self.passed = self.passed.min(self.lists.len());
+        self.visited = self.visited.min(self.lists.len());
     }
 
-    /// Makes a variable given, and appends the positions of the `$d` that contain it and another given variable.
+    /// Makes a variable covered, and appends the positions of the `$d` that contain it and another covered variable.
     ///
     /// Cost: the number of `$d` that contain it.
-    pub(crate) fn give(&mut self, code: usize, due: &mut Vec<usize>) -> Result<(), AllocError> {
-        self.time = self.time.saturating_add(1);
+    pub(crate) fn cover(&mut self, code: usize, found: &mut Vec<usize>) -> Result<(), AllocError> {
+        self.cover_count = self.cover_count.saturating_add(1);
         if let Some(symbol) = self.symbols.get_mut(code) {
-            symbol.given = true;
+            symbol.covered = true;
         }
-        for place in 0..self.count(code) {
-            if let Some(index) = self.index(code, place) {
-                self.count_given(index);
-                self.add_given(index, due)?;
+        for offset in 0..self.count(code) {
+            if let Some(index) = self.index(code, offset) {
+                self.count_covered(index);
+                self.push_if_two_covered(index, found)?;
             }
         }
         Ok(())
     }
 
-    /// Makes a variable no longer given.
+    /// Makes a variable no longer covered.
     ///
     /// Cost: the number of `$d` that contain it.
-    pub(crate) fn take_back(&mut self, code: usize) {
+    pub(crate) fn uncover(&mut self, code: usize) {
         if let Some(symbol) = self.symbols.get_mut(code) {
-            symbol.given = false;
+            symbol.covered = false;
         }
-        for place in 0..self.count(code) {
-            if let Some(index) = self.index(code, place) {
+        for offset in 0..self.count(code) {
+            if let Some(index) = self.index(code, offset) {
                 if let Some(list) = self.lists.get_mut(index) {
-                    list.given = list.given.saturating_sub(1);
+                    list.covered = list.covered.saturating_sub(1);
                 }
             }
         }
     }
 
     /// Appends the positions of the `$d` that are not marked and contain two variables of the assertion at a position: those in
-    /// `own`, each listed once, and the given ones.
+    /// `other_variables`, each listed once, and the covered ones.
     ///
-    /// Cost: the number of `$d` that contain a variable of `own`, times a logarithm; for the variable with the most `$d`, only
-    /// those not visited since a variable last became given.
+    /// Cost: the number of `$d` that contain a variable of `other_variables`, times a logarithm; for the variable with the most
+    /// `$d`, only those not visited since a variable last became covered.
     pub(crate) fn find(
         &mut self,
         at: usize,
-        own: &[usize],
+        other_variables: &[usize],
         marks: &[bool],
-        due: &mut Vec<usize>,
+        found: &mut Vec<usize>,
     ) -> Result<(), AllocError> {
-        let most = self.most(own);
-        for code in own {
-            if !self.is_given(*code) {
-                self.count_for(at, *code, most, marks, due)?;
+        let most = self.with_most(other_variables);
+        for code in other_variables {
+            if !self.is_covered(*code) {
+                self.count_variable(at, *code, most, marks, found)?;
             }
         }
-        for index in self.passed..self.lists.len() {
-            self.add_given(index, due)?;
+        for index in self.visited..self.lists.len() {
+            self.push_if_two_covered(index, found)?;
         }
-        self.passed = self.lists.len();
+        self.visited = self.lists.len();
         Ok(())
     }
 
-    /// Returns the variable of `own` with the most `$d` among those that are not given, or `usize::MAX` if all are given.
-    fn most(&self, own: &[usize]) -> usize {
+    /// Returns the variable of `other_variables` with the most `$d` among those that are not covered, or `usize::MAX` if all are
+    /// covered.
+    fn with_most(&self, other_variables: &[usize]) -> usize {
         let mut most = usize::MAX;
-        for code in own {
-            if !self.is_given(*code) && self.count(*code) >= self.count(most) {
+        for code in other_variables {
+            if !self.is_covered(*code) && self.count(*code) >= self.count(most) {
                 most = *code;
             }
         }
@@ -174,97 +175,101 @@ impl DisjointLists {
 
     /// Counts a variable of the assertion at a position in the `$d` that contain it. In each `$d` that is visited, the variable
     /// `most` is counted too, if the `$d` contains it.
-    fn count_for(
+    fn count_variable(
         &mut self,
         at: usize,
         code: usize,
         most: usize,
         marks: &[bool],
-        due: &mut Vec<usize>,
+        found: &mut Vec<usize>,
     ) -> Result<(), AllocError> {
-        let from = if code == most { self.compared(code) } else { 0 };
-        for place in from..self.count(code) {
-            if let Some(index) = self.index(code, place) {
-                if !self.is_taken(index, marks) {
+        let from = if code == most {
+            self.visited_of(code)
+        } else {
+            0
+        };
+        for offset in from..self.count(code) {
+            if let Some(index) = self.index(code, offset) {
+                if !self.is_included(index, marks) {
                     let more = self.has(most, index);
-                    self.meet(at, index, code != most, more, due)?;
+                    self.count_in(at, index, code != most, more, found)?;
                 }
             }
         }
-        self.forget_taken(code, from, marks);
+        self.forget_included(code, from, marks);
         Ok(())
     }
 
     /// Counts one more variable of the assertion at a position in a `$d`, if `counts`, and appends the position of the `$d` if
-    /// the count is 2 or more. The first call for an assertion starts from the given variables, plus one if `more`.
-    fn meet(
+    /// the count is 2 or more. The first call for an assertion starts from the covered variables, plus one if `more`.
+    fn count_in(
         &mut self,
         at: usize,
         index: usize,
         counts: bool,
         more: bool,
-        due: &mut Vec<usize>,
+        found: &mut Vec<usize>,
     ) -> Result<(), AllocError> {
         let Some(list) = self.lists.get_mut(index) else {
             return Ok(());
         };
         if list.counted_for != at {
             list.counted_for = at;
-            list.count = list.given.saturating_add(one_if(more));
+            list.count = list.covered.saturating_add(one_if(more));
         }
         list.count = list.count.saturating_add(one_if(counts));
         if list.count >= 2 {
-            due.push(list.position)?;
+            found.push(list.position)?;
         }
         Ok(())
     }
 
     /// Removes the marked `$d` from those of a symbol, from index `from` on, and records that all were visited.
-    fn forget_taken(&mut self, code: usize, from: usize, marks: &[bool]) {
+    fn forget_included(&mut self, code: usize, from: usize, marks: &[bool]) {
         let mut kept = from;
-        for place in from..self.count(code) {
-            if let Some(index) = self.index(code, place) {
-                if !self.is_taken(index, marks) {
+        for offset in from..self.count(code) {
+            if let Some(index) = self.index(code, offset) {
+                if !self.is_included(index, marks) {
                     self.set_index(code, kept, index);
                     kept = kept.saturating_add(1);
                 }
             }
         }
-        let time = self.time;
+        let cover_count = self.cover_count;
         if let Some(symbol) = self.symbols.get_mut(code) {
             symbol.indexes.truncate(kept);
-            symbol.compared = symbol.indexes.len();
-            symbol.time = time;
+            symbol.visited = symbol.indexes.len();
+            symbol.visited_at = cover_count;
         }
     }
 
-    /// Counts one more variable of a `$d` as given.
-    fn count_given(&mut self, index: usize) {
+    /// Counts one more variable of a `$d` as covered.
+    fn count_covered(&mut self, index: usize) {
         if let Some(list) = self.lists.get_mut(index) {
-            list.given = list.given.saturating_add(1);
+            list.covered = list.covered.saturating_add(1);
         }
     }
 
-    /// Appends the position of a `$d` if two of its variables are given.
-    fn add_given(&self, index: usize, due: &mut Vec<usize>) -> Result<(), AllocError> {
+    /// Appends the position of a `$d` if two of its variables are covered.
+    fn push_if_two_covered(&self, index: usize, found: &mut Vec<usize>) -> Result<(), AllocError> {
         if let Some(list) = self.lists.get(index) {
-            if list.given >= 2 {
-                due.push(list.position)?;
+            if list.covered >= 2 {
+                found.push(list.position)?;
             }
         }
         Ok(())
     }
 
-    fn is_taken(&self, index: usize, marks: &[bool]) -> bool {
+    fn is_included(&self, index: usize, marks: &[bool]) -> bool {
         match self.lists.get(index) {
             Some(list) => is_marked(marks, list.position),
             None => true,
         }
     }
 
-    fn is_given(&self, code: usize) -> bool {
+    fn is_covered(&self, code: usize) -> bool {
         match self.symbols.get(code) {
-            Some(symbol) => symbol.given,
+            Some(symbol) => symbol.covered,
             None => true,
         }
     }
@@ -277,22 +282,22 @@ impl DisjointLists {
         }
     }
 
-    /// Returns the number of these that were visited since a variable last became given.
-    fn compared(&self, code: usize) -> usize {
+    /// Returns the number of these that were visited since a variable last became covered.
+    fn visited_of(&self, code: usize) -> usize {
         match self.symbols.get(code) {
-            Some(symbol) if symbol.time == self.time => symbol.compared,
+            Some(symbol) if symbol.visited_at == self.cover_count => symbol.visited,
             _ => 0,
         }
     }
 
-    /// Returns the index of the `$d` at a place among those of a symbol.
-    fn index(&self, code: usize, place: usize) -> Option<usize> {
-        self.symbols.get(code)?.indexes.get(place).copied()
+    /// Returns the index of the `$d` at an offset among those of a symbol.
+    fn index(&self, code: usize, offset: usize) -> Option<usize> {
+        self.symbols.get(code)?.indexes.get(offset).copied()
     }
 
-    fn set_index(&mut self, code: usize, place: usize, index: usize) {
+    fn set_index(&mut self, code: usize, offset: usize, index: usize) {
         if let Some(symbol) = self.symbols.get_mut(code) {
-            if let Some(old) = symbol.indexes.get_mut(place) {
+            if let Some(old) = symbol.indexes.get_mut(offset) {
                 *old = index;
             }
         }

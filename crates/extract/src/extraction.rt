@@ -1,14 +1,14 @@
 //! Extracts assertions from a library.
 ghost use Rattle.std.specs.Prelude.{◌≡◌, ◌⊎◌, [], map, Err, IfOk, IfErr};
 ghost use Rattle.extract.specs.declared.fault.ExtractFault.{ExtractFault as Fault};
-ghost use Rattle.extract.specs.Wanted.{AreRight, IsFirstWrong};
+ghost use Rattle.extract.specs.Labels.{AreValidLabels, IsFirstLabelFault};
 ghost use Rattle.extract.specs.Extract.{AreExtract, IsExtract};
 
 use crate::choice::choose;
 use crate::fault::ExtractFault;
-use crate::wanted::first_wrong;
+use crate::labels::first_label_fault;
 use bytes::Bytes;
-use database_parts::is_extract;
+use database_parts::is_confirmed_part;
 use library::{Entry, Library, Submission};
 use mm_read::push_line;
 use std::alloc::{AllocError, Global};
@@ -21,36 +21,36 @@ use std::alloc::{AllocError, Global};
 /// label with each assertion and each earlier label. Source: Metamath, 4.2.
 pub fn extract(alloc: Global, library: &Library, labels: &[&str]) -> Result<Vec<u8>, ExtractFault>
     ensures extract { IfOk result (λ text. IsExtract library.now.replica.statements (map (λ label. label.now) labels.now) text.items) }
-    ensures wrong { (fault : Fault) → IsFirstWrong library.now.replica.statements [] (map (λ label. label.now) labels.now) fault → result ≡ Err fault }
-    ensures only_wrong { IfErr result (λ fault. IsFirstWrong library.now.replica.statements [] (map (λ label. label.now) labels.now) fault ⊎ (fault ≡ ExtractFault.Memory)) }
+    ensures wrong { (fault : Fault) → IsFirstLabelFault library.now.replica.statements [] (map (λ label. label.now) labels.now) fault → result ≡ Err fault }
+    ensures only_wrong { IfErr result (λ fault. IsFirstLabelFault library.now.replica.statements [] (map (λ label. label.now) labels.now) fault ⊎ (fault ≡ ExtractFault.Memory)) }
 {
-    match first_wrong(library.frames(), library.statements(), labels) {
+    match first_label_fault(library.frames(), library.statements(), labels) {
         Some(fault) => Err(fault),
-        None => Ok(taken(alloc, library, labels)?),
+        None => Ok(extract_text(alloc, library, labels)?),
     }
 }
 
 /// Returns the text of the chosen statements if they are an extract, else that of all statements.
-fn taken(alloc: Global, library: &Library, labels: &[&str]) -> Result<Vec<u8>, AllocError>
-    requires { AreRight library.now.replica.statements [] (map (λ label. label.now) labels.now) }
+fn extract_text(alloc: Global, library: &Library, labels: &[&str]) -> Result<Vec<u8>, AllocError>
+    requires { AreValidLabels library.now.replica.statements [] (map (λ label. label.now) labels.now) }
     ensures { IfOk result (λ text. IsExtract library.now.replica.statements (map (λ label. label.now) labels.now) text.items) }
 {
     let mut part = Library::new(alloc);
-    taken_by(alloc, library, labels, &mut part)
+    extract_text_with(alloc, library, labels, &mut part)
 }
 
 /// Returns that text. The chosen statements are added to `part`, an empty library, which stays empty if they are not good.
-fn taken_by(
+fn extract_text_with(
     alloc: Global,
     library: &Library,
     labels: &[&str],
     part: &mut Library,
 ) -> Result<Vec<u8>, AllocError>
-    requires { AreRight library.now.replica.statements [] (map (λ label. label.now) labels.now) }
+    requires { AreValidLabels library.now.replica.statements [] (map (λ label. label.now) labels.now) }
     ensures { IfOk result (λ text. IsExtract library.now.replica.statements (map (λ label. label.now) labels.now) text.items) }
 {
-    add_text(chosen(alloc, library, labels)?, part)?;
-    if is_extract(alloc, library.statements(), part.statements(), labels)? {
+    add_text(chosen_text(alloc, library, labels)?, part)?;
+    if is_confirmed_part(alloc, library.statements(), part.statements(), labels)? {
         part.export()
     } else {
         library.export()
@@ -58,7 +58,7 @@ fn taken_by(
 }
 
 /// Returns the text of the chosen statements.
-fn chosen(alloc: Global, library: &Library, labels: &[&str]) -> Result<Vec<u8>, AllocError> {
+fn chosen_text(alloc: Global, library: &Library, labels: &[&str]) -> Result<Vec<u8>, AllocError> {
     let marks = choose(alloc, library, labels)?;
     let mut text = Vec::new(alloc);
     for (statement, marked) in library.statements().iter().zip(marks.iter()) {

@@ -4,7 +4,7 @@
 //! its mandatory hypotheses and disjoint variables. No clause says which statements are chosen: a second library verifies
 //! them, `database_parts` compares it with the whole library, and if anything is missing the whole library is returned.
 //!
-//! Reading order: `fault`, `wanted` (the labels), `cited`, `disjoint_lists` and `choice` (the statements), `extraction`.
+//! Reading order: `fault`, `labels` (checks them), `cited`, `disjoint_lists` and `choice` (the statements), `extraction`.
 #![tactic(auto)]
 
 mod choice;
@@ -12,7 +12,7 @@ mod cited;
 mod disjoint_lists;
 mod extraction;
 mod fault;
-mod wanted;
+mod labels;
 
 pub use extraction::extract;
 pub use fault::ExtractFault;

@@ -104,7 +104,7 @@ fn write_theorem<O: Write>(
 {
     let essential = essential_table(alloc, proof.frames, proof.at, proof.steps)?;
     let axioms = positions_of(alloc, proof.frames, &proof.library.trace(question.label)?)?;
-    let users = positions_of(
+    let cited_by = positions_of(
         alloc,
         proof.frames,
         &proof.library.usage(question.label, false)?,
@@ -117,17 +117,17 @@ fn write_theorem<O: Write>(
             steps: proof.steps,
             essential: &essential,
         }),
-        neighbours: related_items(&axioms, &users),
+        related: related_items(&axioms, &cited_by),
     };
     write_page(alloc, output, &contents, !question.is_essential)?;
     Ok(())
 }
 
-/// Returns the axioms and the users of a theorem for its page, without a description.
-fn related_items<'a>(axioms: &'a [u32], users: &'a [u32]) -> RelatedItems<'a> {
+/// Returns the axioms of a theorem and the theorems that cite it, for its page, without a description.
+fn related_items<'a>(axioms: &'a [u32], cited_by: &'a [u32]) -> RelatedItems<'a> {
     RelatedItems {
         axioms,
-        users,
+        cited_by,
         description: None,
     }
 }

@@ -18,11 +18,11 @@ expr_cell expr = codes "<td>" ++ html_text (spaced expr) ++ codes "\n"
 abbrev pub index_cells : List ℕ → Name → Expr → ℕ → List ℕ
 index_cells kind label expr position = kind_cell kind ++ page_link label position ++ expr_cell expr
 
--- the row of the statement at this place, counted from 0, if it is an assertion
+-- the row of the statement at this index, counted from 0, if it is an assertion
 abbrev pub index_row : ℕ → Stmt → List ℕ
-index_row place (Axiom label expr) = index_cells (codes "axiom") label expr (place + 1)
-index_row place (Prove label expr proof) = index_cells (codes "theorem") label expr (place + 1)
-index_row place s = []
+index_row index (Axiom label expr) = index_cells (codes "axiom") label expr (index + 1)
+index_row index (Prove label expr proof) = index_cells (codes "theorem") label expr (index + 1)
+index_row index s = []
 
 -- a row for each assertion, in order
 abbrev pub index_text : Database → List ℕ

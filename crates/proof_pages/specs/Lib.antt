@@ -1,6 +1,6 @@
 pub mod Words
 pub mod StepLines
-pub mod Pictures
+pub mod Graphs
 pub mod Notations
 pub mod TableRows
 pub mod Indexes

@@ -5,15 +5,15 @@ use Rattle.std.specs.Prelude.{ℕ, ◌==◌, Bool, ◌&&◌, if◌then◌else◌
 use Rattle.proof_pages.specs.Words.{Name, Stmt, Database, is_assertion, stmt_at, name_at, label_or_none, html_text, file_name}
 
 -- a variable of the first class, and a variable of another class
-abbrev pub first_html : Name → List ℕ
-first_html name = codes "<var>" ++ html_text name ++ codes "</var>"
+abbrev pub first_class_html : Name → List ℕ
+first_class_html name = codes "<var>" ++ html_text name ++ codes "</var>"
 
 abbrev pub variable_html : ℕ → Name → List ℕ
 variable_html class name = codes "<var class=\"k" ++ decimal class ++ codes "\">" ++ html_text name ++ codes "</var>"
 
 -- a name in the colour of its class; class 0 has no colour
 abbrev pub coloured : ℕ → Name → List ℕ
-coloured class name = if class == 0 then html_text name else if class == 1 then first_html name else variable_html class name
+coloured class name = if class == 0 then html_text name else if class == 1 then first_class_html name else variable_html class name
 
 -- a symbol after a space, in the colour of its class
 abbrev pub symbol_html : List Name → List ℕ → ℕ → List ℕ

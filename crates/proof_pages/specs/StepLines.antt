@@ -4,17 +4,17 @@
 use Rattle.std.specs.Prelude.{ℕ, suc, ◌+◌, List, [], ◌∷◌, ◌++◌, codes, decimal, flat_map}
 use Rattle.proof_pages.specs.Words.{Name, Database, stmt_at, name_at, label_or_none, Row}
 
--- the number of the step at a place: places count from 0, numbers from 1
+-- the number of the step at an index: indexes count from 0, numbers from 1
 abbrev pub number_text : ℕ → List ℕ
-number_text place = decimal (place + 1)
+number_text index = decimal (index + 1)
 
 abbrev pub after_comma : ℕ → List ℕ
-after_comma place = codes "," ++ number_text place
+after_comma index = codes "," ++ number_text index
 
 -- the numbers of the steps that are taken, or `-` if there are none
 abbrev pub taken_text : List ℕ → List ℕ
 taken_text [] = codes "-"
-taken_text (place ∷ places) = number_text place ++ flat_map after_comma places
+taken_text (index ∷ indexes) = number_text index ++ flat_map after_comma indexes
 
 -- a symbol after a space
 abbrev pub symbol_text : List Name → ℕ → List ℕ
@@ -25,10 +25,10 @@ expr_text names expr = flat_map (symbol_text names) expr
 
 -- its number, the numbers of the steps that it takes, the label of the statement that it cites, its expression
 abbrev pub step_line : Database → List Name → ℕ → Row → List ℕ
-step_line S names place row =
-    number_text place ++ codes " " ++ taken_text row.step.taken ++ codes " " ++ label_or_none (stmt_at S row.step.position) ++ expr_text names row.expr ++ codes "\n"
+step_line S names index row =
+    number_text index ++ codes " " ++ taken_text row.step.taken ++ codes " " ++ label_or_none (stmt_at S row.step.position) ++ expr_text names row.expr ++ codes "\n"
 
--- the concatenated texts of the elements of a list, the first of which has this place
+-- the concatenated texts of the elements of a list, the first of which has this index
 abbrev pub concat_texts : {A : Type 0} → (ℕ → A → List ℕ) → ℕ → List A → List ℕ
-concat_texts text place [] = []
-concat_texts text place (thing ∷ things) = text place thing ++ concat_texts text (suc place) things
+concat_texts text index [] = []
+concat_texts text index (element ∷ elements) = text index element ++ concat_texts text (suc index) elements

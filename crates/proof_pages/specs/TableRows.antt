@@ -8,15 +8,15 @@ use Rattle.proof_pages.specs.Notations.{expr_html, cited_html}
 
 -- a link to the row of a step, after a space; the ids of the rows of one table share this prefix
 unfoldable pub link_html : List ℕ → ℕ → List ℕ
-link_html mark place = codes " <a href=\"#" ++ mark ++ number_text place ++ codes "\">" ++ number_text place ++ codes "</a>"
+link_html id_prefix index = codes " <a href=\"#" ++ id_prefix ++ number_text index ++ codes "\">" ++ number_text index ++ codes "</a>"
 
 -- the start of a row, with its id
 abbrev pub row_start : List ℕ → ℕ → List ℕ
-row_start mark place = codes "<tr id=\"" ++ mark ++ number_text place ++ codes "\"><td>"
+row_start id_prefix index = codes "<tr id=\"" ++ id_prefix ++ number_text index ++ codes "\"><td>"
 
 -- number, links to the steps taken
 abbrev pub taken_html : List ℕ → ℕ → List ℕ → List ℕ
-taken_html mark place taken = number_text place ++ codes "<td>" ++ flat_map (link_html mark) taken ++ codes "<td>"
+taken_html id_prefix index taken = number_text index ++ codes "<td>" ++ flat_map (link_html id_prefix) taken ++ codes "<td>"
 
 -- label, expression
 abbrev pub row_rest : Bool → Database → List Name → List ℕ → ℕ → List ℕ → List ℕ
@@ -24,8 +24,8 @@ row_rest linked S names classes position expr = cited_html linked S position ++ 
 
 -- number, links to the steps taken, label, expression
 abbrev pub step_html : Bool → Database → List Name → List ℕ → List ℕ → ℕ → Row → List ℕ
-step_html linked S names classes mark place row =
-    row_start mark place ++ taken_html mark place row.step.taken ++ row_rest linked S names classes row.step.position row.expr
+step_html linked S names classes id_prefix index row =
+    row_start id_prefix index ++ taken_html id_prefix index row.step.taken ++ row_rest linked S names classes row.step.position row.expr
 
 -- the label of the statement at a position as an item of a list
 abbrev pub item_html : Bool → Database → ℕ → List ℕ

@@ -9,9 +9,9 @@ pub(crate) struct Colours {
     /// The class of each symbol, indexed by symbol number; 0 if it has none.
     pub classes: Vec<u32>,
     /// The typecode of each class, in the order of the classes from 1.
-    pub constants: Vec<u32>,
+    pub class_typecodes: Vec<u32>,
     /// The class of the variables of each typecode, indexed by symbol number; 0 if it has none yet.
-    typecodes: Vec<u32>,
+    class_of_typecode: Vec<u32>,
 }
 
 impl Colours {
@@ -19,15 +19,15 @@ impl Colours {
     pub fn new(alloc: Global) -> Colours {
         Colours {
             classes: Vec::new(alloc),
-            constants: Vec::new(alloc),
-            typecodes: Vec::new(alloc),
+            class_typecodes: Vec::new(alloc),
+            class_of_typecode: Vec::new(alloc),
         }
     }
 
     /// Gives the variable of the statement at a position the class of its typecode, if that statement is a `$f`.
     ///
     /// Errors: an allocation fails. Cost: constant, except that tables grow to the greatest symbol number.
-    pub fn note(
+    pub fn record(
         &mut self,
         statements: &[Stmt],
         frames: &Frames,
@@ -36,36 +36,36 @@ impl Colours {
         if position == 0 || position > statements.len() || position > frames.len() {
             return Ok(());
         }
-        if let (Stmt::Float { .. }, [constant, variable]) = (
+        if let (Stmt::Float { .. }, [typecode, variable]) = (
             &statements[position - 1],
             frames.expr(position),
         ) {
-            let class = self.class_of(*constant)?;
-            set(&mut self.classes, *variable, class)?;
+            let class = self.class_of(*typecode)?;
+            set_class(&mut self.classes, *variable, class)?;
         }
         Ok(())
     }
 
     /// Returns the class of the variables of a typecode, a new one if it has none yet.
-    fn class_of(&mut self, constant: u32) -> Result<u32, AllocError> {
-        match self.typecodes.get(constant as usize) {
+    fn class_of(&mut self, typecode: u32) -> Result<u32, AllocError> {
+        match self.class_of_typecode.get(typecode as usize) {
             Some(class) if *class != 0 => return Ok(*class),
             _ => {}
         }
-        self.constants.push(constant)?;
-        let class = u32::try_from(self.constants.len()).map_err(|_| AllocError)?;
-        set(&mut self.typecodes, constant, class)?;
+        self.class_typecodes.push(typecode)?;
+        let class = u32::try_from(self.class_typecodes.len()).map_err(|_| AllocError)?;
+        set_class(&mut self.class_of_typecode, typecode, class)?;
         Ok(class)
     }
 }
 
 /// Gives a symbol a class.
-fn set(classes: &mut Vec<u32>, symbol: u32, class: u32) -> Result<(), AllocError> {
-    let place = symbol as usize;
-    if place >= classes.len() {
-        classes.resize(place + 1, 0)?;
+fn set_class(classes: &mut Vec<u32>, symbol: u32, class: u32) -> Result<(), AllocError> {
+    let index = symbol as usize;
+    if index >= classes.len() {
+        classes.resize(index + 1, 0)?;
     }
-    if let Some(slot) = classes.get_mut(place) {
+    if let Some(slot) = classes.get_mut(index) {
         *slot = class;
     }
     Ok(())

@@ -14,7 +14,7 @@ pub struct PageContents<'a> {
     /// The steps of its proof, if it has one.
     pub proof: Option<ProofSteps<'a>>,
     /// The axioms, citing theorems and description that the page shows.
-    pub neighbours: RelatedItems<'a>,
+    pub related: RelatedItems<'a>,
 }
 
 /// The steps of a proof.
@@ -32,7 +32,7 @@ pub struct RelatedItems<'a> {
     /// The positions of the axioms that it rests on, ascending.
     pub axioms: &'a [u32],
     /// The positions of the theorems whose proofs cite it, ascending.
-    pub users: &'a [u32],
+    pub cited_by: &'a [u32],
     /// The text of its description, between the delimiters of the comment.
     pub description: Option<&'a [u8]>,
 }

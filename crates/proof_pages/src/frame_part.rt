@@ -2,33 +2,41 @@
 ghost use Rattle.mm_read.specs.declared.stmt.Stmt.{Stmt as Statement};
 ghost use Rattle.frame.specs.FrameOf.{HasAssertion};
 
-use crate::draft::Draft;
 use crate::notation::{Notation, push_coloured, push_html_expr};
-use crate::parted::{expr_at, partition_essential};
+use crate::page_values::PageValues;
+use crate::partition::{expr_at, partition_essential};
 use crate::rows::push_row_rest;
 use entries::Groups;
 use frame::FrameBuffers;
 use std::alloc::{AllocError, Global};
 
 /// Appends the mandatory hypotheses, the disjoint variables, and the colour of each typecode.
-pub fn push_frame(alloc: Global, page: &mut Vec<u8>, draft: &Draft<'_>) -> Result<(), AllocError>
-    requires { (s : Statement) × HasAssertion draft.now.contents.now.frames.now.statements
-        draft.now.contents.now.at s }
+pub fn push_frame(
+    alloc: Global,
+    page: &mut Vec<u8>,
+    values: &PageValues<'_>,
+) -> Result<(), AllocError>
+    requires { (s : Statement) × HasAssertion values.now.contents.now.frames.now.statements
+        values.now.contents.now.at s }
 {
-    push_hypotheses(alloc, page, draft)?;
-    push_disjoint(alloc, page, draft)?;
-    push_legend(page, &draft.notation)
+    push_hypotheses(alloc, page, values)?;
+    push_disjoint(alloc, page, values)?;
+    push_legend(page, &values.notation)
 }
 
 /// Appends the `$e` as a table, and the `$f` in a collapsed section.
-fn push_hypotheses(alloc: Global, page: &mut Vec<u8>, draft: &Draft<'_>) -> Result<(), AllocError> {
-    if draft.hypotheses.is_empty() {
+fn push_hypotheses(
+    alloc: Global,
+    page: &mut Vec<u8>,
+    values: &PageValues<'_>,
+) -> Result<(), AllocError> {
+    if values.hypotheses.is_empty() {
         return Ok(());
     }
-    let parted = partition_essential(alloc, draft.contents.statements, draft.hypotheses)?;
+    let partition = partition_essential(alloc, values.contents.statements, values.hypotheses)?;
     page.extend_from_slice(b"<h2>Hypotheses</h2>\n")?;
-    push_table(page, &draft.notation, &parted.first)?;
-    push_floating(page, &draft.notation, &parted.others)
+    push_table(page, &values.notation, &partition.first)?;
+    push_floating(page, &values.notation, &partition.others)
 }
 
 /// Appends the `$f` in a collapsed section.
@@ -71,20 +79,24 @@ fn push_hypothesis(
 }
 
 /// Appends the groups of disjoint variables.
-fn push_disjoint(alloc: Global, page: &mut Vec<u8>, draft: &Draft<'_>) -> Result<(), AllocError>
-    requires { (s : Statement) × HasAssertion draft.now.contents.now.frames.now.statements
-        draft.now.contents.now.at s }
+fn push_disjoint(
+    alloc: Global,
+    page: &mut Vec<u8>,
+    values: &PageValues<'_>,
+) -> Result<(), AllocError>
+    requires { (s : Statement) × HasAssertion values.now.contents.now.frames.now.statements
+        values.now.contents.now.at s }
 {
-    let contents = draft.contents;
+    let contents = values.contents;
     if let Some(cited) = contents.frames.cited(contents.at) {
-        return push_groups(page, &draft.notation, &cited.groups);
+        return push_groups(page, &values.notation, &cited.groups);
     }
     let mut frame_buffers = FrameBuffers::new(alloc);
     contents
         .frames
         .fill_buffers(contents.at, &mut frame_buffers)?;
     let cited = contents.frames.cited_from(contents.at, &frame_buffers);
-    push_groups(page, &draft.notation, &cited.groups)
+    push_groups(page, &values.notation, &cited.groups)
 }
 
 fn push_groups(
@@ -107,12 +119,12 @@ fn push_groups(
 /// Appends each typecode in the colour of its variables.
 fn push_legend(page: &mut Vec<u8>, notation: &Notation<'_>) -> Result<(), AllocError> {
     let colours = notation.colours;
-    if colours.constants.is_empty() {
+    if colours.class_typecodes.is_empty() {
         return Ok(());
     }
     page.extend_from_slice(b"<p class=\"legend\">Variables:")?;
     let mut class = 0u32;
-    for typecode in &colours.constants {
+    for typecode in &colours.class_typecodes {
         class = class.saturating_add(1);
         page.extend_from_slice(b" ")?;
         push_coloured(page, class, notation.frames.symbol(*typecode))?;

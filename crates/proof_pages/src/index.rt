@@ -31,28 +31,28 @@ pub fn write_index<W: Write>(
 {
     let mut text = Vec::new(alloc);
     text.extend_from_slice(INDEX_START)?;
-    for place in 0..statements.len() {
-        push_row_at(&mut text, statements, place)?;
+    for index in 0..statements.len() {
+        push_row_at(&mut text, statements, index)?;
         flush_if_full(out, &mut text)?;
     }
     text.extend_from_slice(b"</tbody>\n</table>\n</body>\n</html>\n")?;
     flush(out, &text)
 }
 
-/// Appends the row of the statement at a place.
-fn push_row_at(text: &mut Vec<u8>, statements: &[Stmt], place: usize) -> Result<(), AllocError>
-    requires { place < length statements.now }
-    ensures { OnOk result ((s : Statement) → slice_get statements.now place ≡ Some s
-        → text.new.items ≡ text.old.items ++ index_row place s) }
+/// Appends the row of the statement at an index.
+fn push_row_at(text: &mut Vec<u8>, statements: &[Stmt], index: usize) -> Result<(), AllocError>
+    requires { index < length statements.now }
+    ensures { OnOk result ((s : Statement) → slice_get statements.now index ≡ Some s
+        → text.new.items ≡ text.old.items ++ index_row index s) }
 {
-    push_row(text, &statements[place], place)
+    push_row(text, &statements[index], index)
 }
 
-/// Appends the row of a statement at a place, if the statement is an assertion.
-fn push_row(text: &mut Vec<u8>, statement: &Stmt, place: usize) -> Result<(), AllocError>
-    ensures { OnOk result (text.new.items ≡ text.old.items ++ index_row place statement.now) }
+/// Appends the row of a statement at an index, if the statement is an assertion.
+fn push_row(text: &mut Vec<u8>, statement: &Stmt, index: usize) -> Result<(), AllocError>
+    ensures { OnOk result (text.new.items ≡ text.old.items ++ index_row index statement.now) }
 {
-    let position = place.checked_add(1).ok_or(AllocError)?;
+    let position = index.checked_add(1).ok_or(AllocError)?;
     match statement {
         Stmt::Axiom { label, expr } => {
             push_cells(text, b"axiom", label.as_bytes(), expr, position)

@@ -4,20 +4,20 @@
 //! Every byte of a database is escaped: by `push_html` of `markup` in a page, by its `push_quoted` in a graph. Only a
 //! file name in a link needs no escape: `file_names` makes it from the label.
 //!
-//! Reading order: `step_lines`, `picture`, `writing`; `notation`, `rows`; `contents`, `colours`, `draft`,
-//! `parted`, `style`, `opening`, `frame_part`, `proof_part`, `page`, `index`.
+//! Reading order: `step_lines`, `graph`, `writing`; `notation`, `rows`; `contents`, `colours`,
+//! `page_values`, `partition`, `style`, `opening`, `frame_part`, `proof_part`, `page`, `index`.
 #![tactic(auto)]
 
 mod colours;
 mod contents;
-mod draft;
 mod frame_part;
+mod graph;
 mod index;
 mod notation;
 mod opening;
 mod page;
-mod parted;
-mod picture;
+mod page_values;
+mod partition;
 mod proof_part;
 mod rows;
 mod step_lines;

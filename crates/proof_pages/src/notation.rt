@@ -1,7 +1,7 @@
 //! Symbols and labels on a page.
 ghost use Rattle.std.specs.Prelude.{◌≡◌, ◌++◌, Some, flat_map, OnOk};
 ghost use Rattle.verify.specs.Proves.{label_or_none};
-ghost use Rattle.proof_pages.specs.Notations.{first_html, variable_html, coloured, symbol_html, expr_html, link_start, page_link, label_html, cited_html};
+ghost use Rattle.proof_pages.specs.Notations.{first_class_html, variable_html, coloured, symbol_html, expr_html, link_start, page_link, label_html, cited_html};
 
 use crate::colours::Colours;
 use file_names::push_file_name;
@@ -31,15 +31,15 @@ pub fn push_coloured(page: &mut Vec<u8>, class: u32, name: &[u8]) -> Result<(), 
     if class == 0 {
         push_html(page, name)
     } else if class == 1 {
-        push_first(page, name)
+        push_first_class(page, name)
     } else {
         push_variable(page, class, name)
     }
 }
 
 /// Appends a name in the colour of the first class, which needs no attribute.
-fn push_first(page: &mut Vec<u8>, name: &[u8]) -> Result<(), AllocError>
-    ensures { OnOk result (page.new.items ≡ page.old.items ++ first_html name.now) }
+fn push_first_class(page: &mut Vec<u8>, name: &[u8]) -> Result<(), AllocError>
+    ensures { OnOk result (page.new.items ≡ page.old.items ++ first_class_html name.now) }
 {
     page.extend_from_slice(b"<var>")?;
     push_html(page, name)?;

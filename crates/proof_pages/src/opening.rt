@@ -1,7 +1,7 @@
 //! The start of a page.
-use crate::draft::Draft;
 use crate::notation::{label_of, push_html_expr};
-use crate::parted::expr_at;
+use crate::page_values::PageValues;
+use crate::partition::expr_at;
 use crate::style::{HEAD, SHEET};
 use markup::push_html;
 use std::alloc::AllocError;
@@ -28,19 +28,23 @@ fn push_style(page: &mut Vec<u8>, is_linked: bool) -> Result<(), AllocError> {
 }
 
 /// Appends the part before the hypotheses: the label, the description and the expression.
-pub fn push_opening(page: &mut Vec<u8>, draft: &Draft<'_>) -> Result<(), AllocError> {
-    let contents = draft.contents;
-    push_head(page, label_at(draft), draft.notation.is_linked)?;
-    push_way(page, draft)?;
-    push_description(page, contents.neighbours.description)?;
+pub fn push_opening(page: &mut Vec<u8>, values: &PageValues<'_>) -> Result<(), AllocError> {
+    let contents = values.contents;
+    push_head(page, label_at(values), values.notation.is_linked)?;
+    push_kind_and_index_link(page, values)?;
+    push_description(page, contents.related.description)?;
     page.extend_from_slice(b"<p class=\"expr\">")?;
-    push_html_expr(page, &draft.notation, expr_at(contents.frames, contents.at))?;
+    push_html_expr(
+        page,
+        &values.notation,
+        expr_at(contents.frames, contents.at),
+    )?;
     page.extend_from_slice(b"</p>\n")
 }
 
 /// Returns the label of the assertion.
-fn label_at<'a>(draft: &Draft<'a>) -> &'a [u8] {
-    let contents = draft.contents;
+fn label_at<'a>(values: &PageValues<'a>) -> &'a [u8] {
+    let contents = values.contents;
     if contents.at == 0 || contents.at > contents.statements.len() {
         return &[];
     }
@@ -48,11 +52,11 @@ fn label_at<'a>(draft: &Draft<'a>) -> &'a [u8] {
 }
 
 /// Appends the kind of the assertion and a link to the index, if the page is one of a site.
-fn push_way(page: &mut Vec<u8>, draft: &Draft<'_>) -> Result<(), AllocError> {
-    if !draft.notation.is_linked {
+fn push_kind_and_index_link(page: &mut Vec<u8>, values: &PageValues<'_>) -> Result<(), AllocError> {
+    if !values.notation.is_linked {
         return Ok(());
     }
-    let kind: &[u8] = match &draft.contents.proof {
+    let kind: &[u8] = match &values.contents.proof {
         Some(_) => b"Theorem",
         None => b"Axiom",
     };

@@ -4,11 +4,11 @@ ghost use Rattle.frame.specs.FrameOf.{HasAssertion};
 
 use crate::colours::Colours;
 use crate::contents::PageContents;
-use crate::draft::Draft;
 use crate::frame_part::push_frame;
 use crate::notation::Notation;
 use crate::opening::push_opening;
-use crate::proof_part::{push_users, write_proof};
+use crate::page_values::PageValues;
+use crate::proof_part::{push_cited_by, write_proof};
 use crate::writing::{WriteFault, flush};
 use frame::Frames;
 use std::alloc::{AllocError, Global};
@@ -58,7 +58,7 @@ fn write_contents<W: Write>(
 {
     let hypotheses = hypotheses_of(alloc, contents.frames, contents.at)?;
     let colours = colours_of(alloc, contents, &hypotheses)?;
-    let draft = Draft {
+    let values = PageValues {
         contents,
         notation: Notation {
             statements: contents.statements,
@@ -69,19 +69,23 @@ fn write_contents<W: Write>(
         hypotheses: hypotheses.as_slice(),
         is_whole,
     };
-    write_draft(alloc, out, &draft)
+    write_parts(alloc, out, &values)
 }
 
 /// Writes the parts of the page one after another.
-fn write_draft<W: Write>(alloc: Global, out: &mut W, draft: &Draft<'_>) -> Result<(), WriteFault>
-    requires { (s : Statement) × HasAssertion draft.now.contents.now.frames.now.statements
-        draft.now.contents.now.at s }
+fn write_parts<W: Write>(
+    alloc: Global,
+    out: &mut W,
+    values: &PageValues<'_>,
+) -> Result<(), WriteFault>
+    requires { (s : Statement) × HasAssertion values.now.contents.now.frames.now.statements
+        values.now.contents.now.at s }
 {
     let mut page = Vec::new(alloc);
-    push_opening(&mut page, draft)?;
-    push_frame(alloc, &mut page, draft)?;
-    write_proof(alloc, out, &mut page, draft)?;
-    push_users(&mut page, draft)?;
+    push_opening(&mut page, values)?;
+    push_frame(alloc, &mut page, values)?;
+    write_proof(alloc, out, &mut page, values)?;
+    push_cited_by(&mut page, values)?;
     page.extend_from_slice(b"</body>\n</html>\n")?;
     flush(out, &page)
 }
@@ -103,12 +107,12 @@ fn colours_of(
 ) -> Result<Colours, AllocError> {
     let mut colours = Colours::new(alloc);
     for position in hypotheses {
-        colours.note(contents.statements, contents.frames, *position as usize)?;
+        colours.record(contents.statements, contents.frames, *position as usize)?;
     }
     if let Some(proof) = &contents.proof {
-        for place in 0..proof.steps.len() {
-            let position = proof.steps.position(place);
-            colours.note(contents.statements, contents.frames, position)?;
+        for index in 0..proof.steps.len() {
+            let position = proof.steps.position(index);
+            colours.record(contents.statements, contents.frames, position)?;
         }
     }
     Ok(colours)

@@ -1,8 +1,8 @@
 //! The proof of a theorem on its page, and the theorems that cite an assertion.
 use crate::contents::ProofSteps;
-use crate::draft::Draft;
 use crate::notation::Notation;
-use crate::parted::partition_by_typecode;
+use crate::page_values::PageValues;
+use crate::partition::partition_by_typecode;
 use crate::rows::{push_html_step, push_labels};
 use crate::writing::{WriteFault, flush_if_full};
 use std::alloc::{AllocError, Global};
@@ -14,13 +14,13 @@ pub fn write_proof<W: Write>(
     alloc: Global,
     out: &mut W,
     page: &mut Vec<u8>,
-    draft: &Draft<'_>,
+    values: &PageValues<'_>,
 ) -> Result<(), WriteFault> {
-    match &draft.contents.proof {
+    match &values.contents.proof {
         None => Ok(()),
         Some(proof) => {
-            write_tables(out, page, draft, proof)?;
-            push_axioms(alloc, page, draft)?;
+            write_tables(out, page, values, proof)?;
+            push_axioms(alloc, page, values)?;
             Ok(())
         }
     }
@@ -30,14 +30,14 @@ pub fn write_proof<W: Write>(
 fn write_tables<W: Write>(
     out: &mut W,
     page: &mut Vec<u8>,
-    draft: &Draft<'_>,
+    values: &PageValues<'_>,
     proof: &ProofSteps<'_>,
 ) -> Result<(), WriteFault> {
     page.extend_from_slice(b"<h2>Proof</h2>\n")?;
-    write_steps(out, page, &draft.notation, b"e", proof.essential)?;
-    if draft.is_whole {
+    write_steps(out, page, &values.notation, b"e", proof.essential)?;
+    if values.is_whole {
         page.extend_from_slice(b"<details>\n<summary>All steps</summary>\n")?;
-        write_steps(out, page, &draft.notation, b"s", proof.steps)?;
+        write_steps(out, page, &values.notation, b"s", proof.steps)?;
         page.extend_from_slice(b"</details>\n")?;
     }
     Ok(())
@@ -48,14 +48,14 @@ fn write_steps<W: Write>(
     out: &mut W,
     page: &mut Vec<u8>,
     notation: &Notation<'_>,
-    mark: &[u8],
+    id_prefix: &[u8],
     table: &ProofTable,
 ) -> Result<(), WriteFault> {
     page.extend_from_slice(
         b"<table>\n<thead>\n<tr><th>Step</th><th>Takes</th><th>Cites</th><th>Expression</th></tr>\n</thead>\n<tbody>\n",
     )?;
-    for place in 0..table.len() {
-        push_html_step(page, notation, mark, table, place)?;
+    for index in 0..table.len() {
+        push_html_step(page, notation, id_prefix, table, index)?;
         flush_if_full(out, page)?;
     }
     page.extend_from_slice(b"</tbody>\n</table>\n")?;
@@ -63,21 +63,25 @@ fn write_steps<W: Write>(
 }
 
 /// Appends the axioms of the theorem's own typecode, and the others in a collapsed section.
-fn push_axioms(alloc: Global, page: &mut Vec<u8>, draft: &Draft<'_>) -> Result<(), AllocError> {
-    let contents = draft.contents;
+fn push_axioms(
+    alloc: Global,
+    page: &mut Vec<u8>,
+    values: &PageValues<'_>,
+) -> Result<(), AllocError> {
+    let contents = values.contents;
     let axioms = partition_by_typecode(
         alloc,
         contents.frames,
         contents.at,
-        contents.neighbours.axioms,
+        contents.related.axioms,
     )?;
     page.extend_from_slice(b"<h2>Axioms that it rests on</h2>\n")?;
-    push_labels(page, &draft.notation, &axioms.first)?;
-    push_syntax(page, &draft.notation, &axioms.others)
+    push_labels(page, &values.notation, &axioms.first)?;
+    push_other_axioms(page, &values.notation, &axioms.others)
 }
 
 /// Appends the axioms of other typecodes in a collapsed section, if there are any.
-fn push_syntax(
+fn push_other_axioms(
     page: &mut Vec<u8>,
     notation: &Notation<'_>,
     positions: &[u32],
@@ -91,9 +95,9 @@ fn push_syntax(
 }
 
 /// Appends the theorems whose proofs cite the assertion.
-pub fn push_users(page: &mut Vec<u8>, draft: &Draft<'_>) -> Result<(), AllocError> {
+pub fn push_cited_by(page: &mut Vec<u8>, values: &PageValues<'_>) -> Result<(), AllocError> {
     page.extend_from_slice(b"<h2>Theorems that cite it</h2>\n")?;
-    let contents = draft.contents;
-    let users = contents.neighbours.users;
-    push_labels(page, &draft.notation, users)
+    let contents = values.contents;
+    let cited_by = contents.related.cited_by;
+    push_labels(page, &values.notation, cited_by)
 }

@@ -4,52 +4,52 @@ ghost use Rattle.steps.specs.Rows.{no_row};
 ghost use Rattle.proof_pages.specs.TableRows.{link_html, row_start, taken_html, row_rest, step_html, item_html, list_html, labels_html};
 
 use crate::notation::{Notation, push_cited, push_html_expr};
-use crate::step_lines::push_place;
+use crate::step_lines::push_step_number;
 use std::alloc::AllocError;
 use steps::ProofTable;
 
-fn push_link(page: &mut Vec<u8>, mark: &[u8], place: usize) -> Result<(), AllocError>
-    ensures { OnOk result (page.new.items ≡ page.old.items ++ link_html mark.now place) }
+fn push_link(page: &mut Vec<u8>, id_prefix: &[u8], index: usize) -> Result<(), AllocError>
+    ensures { OnOk result (page.new.items ≡ page.old.items ++ link_html id_prefix.now index) }
 {
     page.extend_from_slice(b" <a href=\"#")?;
-    page.extend_from_slice(mark)?;
-    push_place(page, place)?;
+    page.extend_from_slice(id_prefix)?;
+    push_step_number(page, index)?;
     page.extend_from_slice(b"\">")?;
-    push_place(page, place)?;
+    push_step_number(page, index)?;
     page.extend_from_slice(b"</a>")
 }
 
-fn push_links(page: &mut Vec<u8>, mark: &[u8], places: &[usize]) -> Result<(), AllocError>
-    ensures { OnOk result (page.new.items ≡ page.old.items ++ flat_map (link_html mark.now) places.now) }
+fn push_links(page: &mut Vec<u8>, id_prefix: &[u8], indexes: &[usize]) -> Result<(), AllocError>
+    ensures { OnOk result (page.new.items ≡ page.old.items ++ flat_map (link_html id_prefix.now) indexes.now) }
 {
-    for place in places {
-        push_link(page, mark, *place)?;
+    for index in indexes {
+        push_link(page, id_prefix, *index)?;
     }
     Ok(())
 }
 
 /// Appends the start of a row, with its id.
-fn push_row_start(page: &mut Vec<u8>, mark: &[u8], place: usize) -> Result<(), AllocError>
-    ensures { OnOk result (page.new.items ≡ page.old.items ++ row_start mark.now place) }
+fn push_row_start(page: &mut Vec<u8>, id_prefix: &[u8], index: usize) -> Result<(), AllocError>
+    ensures { OnOk result (page.new.items ≡ page.old.items ++ row_start id_prefix.now index) }
 {
     page.extend_from_slice(b"<tr id=\"")?;
-    page.extend_from_slice(mark)?;
-    push_place(page, place)?;
+    page.extend_from_slice(id_prefix)?;
+    push_step_number(page, index)?;
     page.extend_from_slice(b"\"><td>")
 }
 
 /// Appends the number of a step, and links to the rows of the steps that it takes.
 fn push_taken(
     page: &mut Vec<u8>,
-    mark: &[u8],
-    place: usize,
+    id_prefix: &[u8],
+    index: usize,
     taken: &[usize],
 ) -> Result<(), AllocError>
-    ensures { OnOk result (page.new.items ≡ page.old.items ++ taken_html mark.now place taken.now) }
+    ensures { OnOk result (page.new.items ≡ page.old.items ++ taken_html id_prefix.now index taken.now) }
 {
-    push_place(page, place)?;
+    push_step_number(page, index)?;
     page.extend_from_slice(b"<td>")?;
-    push_links(page, mark, taken)?;
+    push_links(page, id_prefix, taken)?;
     page.extend_from_slice(b"<td>")
 }
 
@@ -70,25 +70,25 @@ pub fn push_row_rest(
     page.extend_from_slice(b"\n")
 }
 
-/// Appends the step at a place as a row: its number, links to the rows of the steps that it takes, the label of
-/// the statement that it cites, its expression. The ids of the rows of one table share the prefix `mark`.
+/// Appends the step at an index as a row: its number, links to the rows of the steps that it takes, the label of
+/// the statement that it cites, its expression. The ids of the rows of one table share the prefix `id_prefix`.
 ///
 /// Errors: an allocation fails. Cost: the size of the row.
 pub(crate) fn push_html_step(
     page: &mut Vec<u8>,
     notation: &Notation<'_>,
-    mark: &[u8],
+    id_prefix: &[u8],
     table: &ProofTable,
-    place: usize,
+    index: usize,
 ) -> Result<(), AllocError>
-    requires { place < length table.now }
+    requires { index < length table.now }
     ensures { OnOk result (page.new.items ≡ page.old.items
         ++ step_html notation.now.is_linked notation.now.statements.now notation.now.frames.now.names
-        notation.now.colours.now.classes.items mark.now place (get_or table.now place no_row)) }
+        notation.now.colours.now.classes.items id_prefix.now index (get_or table.now index no_row)) }
 {
-    push_row_start(page, mark, place)?;
-    push_taken(page, mark, place, table.taken(place))?;
-    push_row_rest(page, notation, table.position(place), table.expr(place))
+    push_row_start(page, id_prefix, index)?;
+    push_taken(page, id_prefix, index, table.taken(index))?;
+    push_row_rest(page, notation, table.position(index), table.expr(index))
 }
 
 /// Appends the label of the statement at a position as an item of a list.

@@ -23,38 +23,38 @@ pub fn label_at(frames: &Frames, position: usize) -> &[u8]
     }
 }
 
-/// Appends the number of the step at a place: the place plus one.
-pub fn push_place(text: &mut Vec<u8>, place: usize) -> Result<(), AllocError>
-    ensures { OnOk result (text.new.items ≡ text.old.items ++ number_text place) }
+/// Appends the number of the step at an index: the index plus one.
+pub fn push_step_number(text: &mut Vec<u8>, index: usize) -> Result<(), AllocError>
+    ensures { OnOk result (text.new.items ≡ text.old.items ++ number_text index) }
 {
-    let number = (place as u64).checked_add(1).ok_or(AllocError)?;
+    let number = (index as u64).checked_add(1).ok_or(AllocError)?;
     push_number(text, number)
 }
 
-fn push_after_comma(text: &mut Vec<u8>, place: usize) -> Result<(), AllocError>
-    ensures { OnOk result (text.new.items ≡ text.old.items ++ after_comma place) }
+fn push_after_comma(text: &mut Vec<u8>, index: usize) -> Result<(), AllocError>
+    ensures { OnOk result (text.new.items ≡ text.old.items ++ after_comma index) }
 {
     text.extend_from_slice(b",")?;
-    push_place(text, place)
+    push_step_number(text, index)
 }
 
-fn push_others(text: &mut Vec<u8>, places: &[usize]) -> Result<(), AllocError>
-    ensures { OnOk result (text.new.items ≡ text.old.items ++ flat_map after_comma places.now) }
+fn push_others(text: &mut Vec<u8>, indexes: &[usize]) -> Result<(), AllocError>
+    ensures { OnOk result (text.new.items ≡ text.old.items ++ flat_map after_comma indexes.now) }
 {
-    for place in places {
-        push_after_comma(text, *place)?;
+    for index in indexes {
+        push_after_comma(text, *index)?;
     }
     Ok(())
 }
 
 /// Appends the numbers of the steps that are taken, or `-` if there are none.
-fn push_taken(text: &mut Vec<u8>, places: &[usize]) -> Result<(), AllocError>
-    ensures { OnOk result (text.new.items ≡ text.old.items ++ taken_text places.now) }
+fn push_taken(text: &mut Vec<u8>, indexes: &[usize]) -> Result<(), AllocError>
+    ensures { OnOk result (text.new.items ≡ text.old.items ++ taken_text indexes.now) }
 {
-    match places.split_first() {
+    match indexes.split_first() {
         None => text.extend_from_slice(b"-"),
         Some((first, others)) => {
-            push_place(text, *first)?;
+            push_step_number(text, *first)?;
             push_others(text, others)
         }
     }
@@ -77,7 +77,7 @@ fn push_expr(text: &mut Vec<u8>, frames: &Frames, expr: &[u32]) -> Result<(), Al
     Ok(())
 }
 
-/// Appends the step at a place as a line: its number, the numbers of the steps that it takes, the label of the
+/// Appends the step at an index as a line: its number, the numbers of the steps that it takes, the label of the
 /// statement that it cites, its expression.
 ///
 /// Errors: an allocation fails. Cost: the size of the line.
@@ -85,16 +85,16 @@ pub(crate) fn push_step(
     text: &mut Vec<u8>,
     frames: &Frames,
     table: &ProofTable,
-    place: usize,
+    index: usize,
 ) -> Result<(), AllocError>
-    requires { place < length table.now }
-    ensures { OnOk result (text.new.items ≡ text.old.items ++ step_line frames.now.statements frames.now.names place (get_or table.now place no_row)) }
+    requires { index < length table.now }
+    ensures { OnOk result (text.new.items ≡ text.old.items ++ step_line frames.now.statements frames.now.names index (get_or table.now index no_row)) }
 {
-    push_place(text, place)?;
+    push_step_number(text, index)?;
     text.extend_from_slice(b" ")?;
-    push_taken(text, table.taken(place))?;
+    push_taken(text, table.taken(index))?;
     text.extend_from_slice(b" ")?;
-    text.extend_from_slice(label_at(frames, table.position(place)))?;
-    push_expr(text, frames, table.expr(place))?;
+    text.extend_from_slice(label_at(frames, table.position(index)))?;
+    push_expr(text, frames, table.expr(index))?;
     text.extend_from_slice(b"\n")
 }

@@ -2,10 +2,10 @@
 ghost use Rattle.std.specs.Prelude.{◌≡◌, [], codes, OnOk};
 ghost use Rattle.std.specs.Io.KnownBytes.{Appends};
 ghost use Rattle.proof_pages.specs.StepLines.{step_line, concat_texts};
-ghost use Rattle.proof_pages.specs.Pictures.{picture_text};
-ghost use Rattle.proof_pages.specs.Writing.{Wrote};
+ghost use Rattle.proof_pages.specs.Graphs.{graph_text};
+ghost use Rattle.proof_pages.specs.Writing.{WroteBuffered};
 
-use crate::picture::{push_head, push_node};
+use crate::graph::{push_graph_header, push_node};
 use crate::step_lines::push_step;
 use frame::Frames;
 use std::alloc::{AllocError, Global};
@@ -32,7 +32,7 @@ const BUFFER_SIZE: usize = 65_536;
 
 /// Writes the buffered text and clears the buffer, if it has at least 64 KiB.
 pub(crate) fn flush_if_full<W: Write>(out: &mut W, text: &mut Vec<u8>) -> Result<(), WriteFault>
-    ensures { OnOk result (Wrote (W.contents out.old) (W.contents out.new) text.new.items text.old.items) }
+    ensures { OnOk result (WroteBuffered (W.contents out.old) (W.contents out.new) text.new.items text.old.items) }
 {
     if text.len() < BUFFER_SIZE {
         return Ok(());
@@ -67,8 +67,8 @@ pub fn write_plain<W: Write>(
         (concat_texts (step_line frames.now.statements frames.now.names) 0 table.now)) }
 {
     let mut text = Vec::new(alloc);
-    for place in 0..table.len() {
-        push_step(&mut text, frames, table, place)?;
+    for index in 0..table.len() {
+        push_step(&mut text, frames, table, index)?;
         flush_if_full(out, &mut text)?;
     }
     flush(out, &text)
@@ -85,12 +85,12 @@ pub fn write_dot<W: Write>(
     table: &ProofTable,
 ) -> Result<(), WriteFault>
     ensures { OnOk result (Appends (W.contents out.old) (W.contents out.new)
-        (picture_text frames.now.statements frames.now.names label.now table.now)) }
+        (graph_text frames.now.statements frames.now.names label.now table.now)) }
 {
     let mut text = Vec::new(alloc);
-    push_head(&mut text, label)?;
-    for place in 0..table.len() {
-        push_node(&mut text, frames, table, place)?;
+    push_graph_header(&mut text, label)?;
+    for index in 0..table.len() {
+        push_node(&mut text, frames, table, index)?;
         flush_if_full(out, &mut text)?;
     }
     text.extend_from_slice(b"}\n")?;

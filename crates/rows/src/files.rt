@@ -34,7 +34,7 @@ fn push_name(alloc: Global, name: &str, names: &mut Vec<String>) -> Result<(), A
 }
 
 /// Appends the text of a file of rows. A line `include FILE` is replaced by the lines of that file.
-pub fn push_text<R: Files + AllocGlobal>(
+pub fn push_file<R: Files + AllocGlobal>(
     rt: &R,
     folder: &str,
     name: &str,
@@ -52,7 +52,7 @@ fn push_lines<R: Files + AllocGlobal>(
 ) -> io::Result<()> {
     for line in file.split('\n') {
         match line.strip_prefix("include ") {
-            Some(part) => push_part(rt, folder, part, text)?,
+            Some(included) => push_included(rt, folder, included, text)?,
             None => text.push_str(line)?,
         }
         text.push_str("\n")?;
@@ -61,13 +61,13 @@ fn push_lines<R: Files + AllocGlobal>(
 }
 
 /// Appends the lines of a file.
-fn push_part<R: Files + AllocGlobal>(
+fn push_included<R: Files + AllocGlobal>(
     rt: &R,
     folder: &str,
-    part: &str,
+    name: &str,
     text: &mut String,
 ) -> io::Result<()> {
-    let file = read_file(rt, folder, part)?;
+    let file = read_file(rt, folder, name)?;
     Ok(text.push_str(file.as_str())?)
 }
 

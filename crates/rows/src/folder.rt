@@ -1,8 +1,8 @@
 //! Runs the rows of all files, one after another.
-use crate::files::{push_row_files, push_text};
+use crate::files::{push_file, push_row_files};
 use crate::judging::judge;
 use crate::row::Row;
-use crate::row_parser::{UnreadRows, parse_rows};
+use crate::row_parser::{ParseFault, parse_rows};
 use std::io;
 use std::rt::Files;
 use std::sync::Wait;
@@ -14,29 +14,29 @@ struct Run<'a, R> {
     rt: &'a R,
     folder: &'a str,
     /// How many rows passed.
-    held: u64,
+    passed: u64,
     /// How many rows or files failed.
     failed: u64,
 }
 
 /// Runs the rows of a folder. Returns whether there is a row and all pass.
-pub fn run_files<
+pub fn run_folder<
     R: AllocGlobal + Files + Print + Threads + Wait + Copy + Send + Sync + Drop + Clone + 'static,
 >(rt: &R, folder: &str) -> io::Result<bool> {
     let mut run = Run {
         rt,
         folder,
-        held: 0,
+        passed: 0,
         failed: 0,
     };
     let mut names = Vec::new(rt.alloc());
-    run.files(&mut names)?;
-    let Run { held, failed, .. } = run;
-    if failed > 0 || held == 0 {
-        println!(rt; "{held} rows passed, {failed} failed")?;
+    run.run_files(&mut names)?;
+    let Run { passed, failed, .. } = run;
+    if failed > 0 || passed == 0 {
+        println!(rt; "{passed} rows passed, {failed} failed")?;
         return Ok(false);
     }
-    println!(rt; "{held} rows passed")?;
+    println!(rt; "{passed} rows passed")?;
     Ok(true)
 }
 
@@ -44,53 +44,53 @@ impl<
     R: AllocGlobal + Files + Print + Threads + Wait + Copy + Send + Sync + Drop + Clone + 'static,
 > Run<'_, R> {
     /// Runs the files of the folder. `names` must be empty and receives their names.
-    fn files(&mut self, names: &mut Vec<String>) -> io::Result<()> {
+    fn run_files(&mut self, names: &mut Vec<String>) -> io::Result<()> {
         push_row_files(self.rt, self.folder, names)?;
         for name in names.as_slice() {
             let mut text = String::new(self.rt.alloc());
-            self.file(name.as_str(), &mut text)?;
+            self.run_file(name.as_str(), &mut text)?;
         }
         Ok(())
     }
 
     /// Runs the rows of a file. `text` must be empty and receives its text.
-    fn file(&mut self, name: &str, text: &mut String) -> io::Result<()> {
-        push_text(self.rt, self.folder, name, text)?;
-        self.parsed(name, &parse_rows(self.rt.alloc(), text.as_str()))
+    fn run_file(&mut self, name: &str, text: &mut String) -> io::Result<()> {
+        push_file(self.rt, self.folder, name, text)?;
+        self.run_parsed(name, &parse_rows(self.rt.alloc(), text.as_str()))
     }
 
     /// Runs the parsed rows, and prints each that fails.
-    fn parsed(&mut self, name: &str, rows: &Result<Vec<Row>, UnreadRows>) -> io::Result<()> {
+    fn run_parsed(&mut self, name: &str, rows: &Result<Vec<Row>, ParseFault>) -> io::Result<()> {
         match rows {
             Ok(rows) => {
                 for row in rows {
-                    self.row(name, row)?;
+                    self.run_row(name, row)?;
                 }
                 Ok(())
             }
-            Err(UnreadRows::Line(line)) => self.fail(name, "no line of a row", line.as_str()),
-            Err(UnreadRows::Memory) => Err(io::Error::from(io::ErrorKind::OutOfMemory)),
+            Err(ParseFault::Line(line)) => self.fail(name, "no line of a row", line.as_str()),
+            Err(ParseFault::Memory) => Err(io::Error::from(io::ErrorKind::OutOfMemory)),
         }
     }
 
     /// Runs a row, and prints how it fails, if it does.
-    fn row(&mut self, name: &str, row: &Row) -> io::Result<()> {
+    fn run_row(&mut self, name: &str, row: &Row) -> io::Result<()> {
         let sentence = row.sentence.as_str();
         if row.commands.is_empty() {
             return self.fail(name, sentence, "no command line");
         }
         match judge(self.rt, row)? {
-            Some(told) => self.fail(name, sentence, told.as_str()),
+            Some(difference) => self.fail(name, sentence, difference.as_str()),
             None => {
-                self.held = self.held.saturating_add(1);
+                self.passed = self.passed.saturating_add(1);
                 Ok(())
             }
         }
     }
 
-    /// Counts a failure, and prints which row or file fails and how.
-    fn fail(&mut self, name: &str, of: &str, told: &str) -> io::Result<()> {
+    /// Counts a failure, and prints which row (or line) of which file fails, and how.
+    fn fail(&mut self, file: &str, row: &str, reason: &str) -> io::Result<()> {
         self.failed = self.failed.saturating_add(1);
-        println!(self.rt; "{name}: {of}: {told}")
+        println!(self.rt; "{file}: {row}: {reason}")
     }
 }

@@ -1,8 +1,8 @@
 //! Whether a row holds.
+use crate::expected_output::{Expected, Printed, compare, status_of};
 use crate::failing_streams::{FailingReader, FailingWriter};
 use crate::limited_folder::LimitedFolder;
-use crate::row::{Choice, Cut, Faults, Row, Way};
-use crate::wanted_output::{Printed, Wanted, difference, status_of};
+use crate::row::{Ending, Faults, Mode, Row, Truncation};
 use folders::MemoryFolder;
 use program::run;
 use std::alloc::{AllocError, Global};
@@ -12,17 +12,17 @@ use std::sync::Wait;
 use std::thread::Threads;
 
 /// How an output differs from the expected one, if it does.
-type Told = Result<Option<String>, AllocError>;
+type Difference = Result<Option<String>, AllocError>;
 
 /// Returns how the row differs from what the program prints, if it does.
 pub fn judge<R: AllocGlobal + Threads + Wait + Copy + Send + Sync + Drop + 'static>(
     rt: &R,
     row: &Row,
-) -> Told {
+) -> Difference {
     for command in &row.commands {
         match judge_command(rt, row, command.as_slice()) {
             Ok(None) => {}
-            told => return told,
+            difference => return difference,
         }
     }
     Ok(None)
@@ -33,20 +33,24 @@ fn judge_command<R: AllocGlobal + Threads + Wait + Copy + Send + Sync + Drop + '
     rt: &R,
     row: &Row,
     command: &[String],
-) -> Told {
+) -> Difference {
     let mut words = Vec::new(rt.alloc());
     for word in command {
         words.push(word.as_str())?;
     }
     let words = words.as_slice();
-    let told = Trial { rt, row, words }.judge()?;
-    told_at(rt.alloc(), format_args!("{words:?}"), &told)
+    let difference = Trial { rt, row, words }.judge()?;
+    difference_at(rt.alloc(), format_args!("{words:?}"), &difference)
 }
 
 /// Returns a difference with its place before it.
-fn told_at<D: Display + Drop>(alloc: Global, place: D, told: &Option<String>) -> Told {
-    match told {
-        Some(told) => Ok(Some(format!(in alloc; "{place}: {told}")?)),
+fn difference_at<D: Display + Drop>(
+    alloc: Global,
+    place: D,
+    difference: &Option<String>,
+) -> Difference {
+    match difference {
+        Some(difference) => Ok(Some(format!(in alloc; "{place}: {difference}")?)),
         None => Ok(None),
     }
 }
@@ -65,53 +69,53 @@ impl<'a, 'w, R: AllocGlobal + Threads + Wait + Copy + Send + Sync + Drop + 'stat
     R,
 > {
     /// Judges the row with each of its inputs.
-    fn judge(&self) -> Told {
+    fn judge(&self) -> Difference {
         let row = self.row;
-        if row.choices.is_empty() {
-            return self.with(row.input.as_slice(), row.output.as_slice());
+        if row.endings.is_empty() {
+            return self.judge_input(row.input.as_slice(), row.output.as_slice());
         }
-        for choice in &row.choices {
-            match self.with_choice(choice) {
+        for ending in &row.endings {
+            match self.judge_ending(ending) {
                 Ok(None) => {}
-                told => return told,
+                difference => return difference,
             }
         }
         Ok(None)
     }
 
     /// Judges the row with one of its inputs.
-    fn with_choice(&self, choice: &Choice) -> Told {
+    fn judge_ending(&self, ending: &Ending) -> Difference {
         let alloc = self.rt.alloc();
-        let input = joined(alloc, self.row.input.as_slice(), choice.input.as_slice())?;
-        let output = joined(alloc, self.row.output.as_slice(), choice.output.as_slice())?;
-        let told = self.with(input.as_slice(), output.as_slice())?;
-        let chosen = choice.input.escape_ascii();
-        told_at(alloc, format_args!("`{chosen}`"), &told)
+        let input = joined(alloc, self.row.input.as_slice(), ending.input.as_slice())?;
+        let output = joined(alloc, self.row.output.as_slice(), ending.output.as_slice())?;
+        let difference = self.judge_input(input.as_slice(), output.as_slice())?;
+        let escaped = ending.input.escape_ascii();
+        difference_at(alloc, format_args!("`{escaped}`"), &difference)
     }
 
-    /// Judges an input and its expected output, in the row's way.
-    fn with(&self, input: &[u8], output: &[u8]) -> Told {
-        let wanted = wanted_of(self.row, output);
-        match self.row.way {
-            Way::Whole => self.whole(input, &wanted),
-            Way::Cut => self.cuts(input, output),
-            Way::NoReads => self.no_reads(&wanted),
-            Way::FailingReads => self.failing_reads(input, &wanted),
-            Way::FailingWrites => self.failing_writes(input, &wanted),
+    /// Judges an input and its expected output, in the row's mode.
+    fn judge_input(&self, input: &[u8], output: &[u8]) -> Difference {
+        let expected = expected_of(self.row, output);
+        match self.row.mode {
+            Mode::Whole => self.judge_whole(input, &expected),
+            Mode::Truncated => self.judge_truncations(input, output),
+            Mode::NoReads => self.judge_no_reads(&expected),
+            Mode::FailingReads => self.judge_failing_reads(input, &expected),
+            Mode::FailingWrites => self.judge_failing_writes(input, &expected),
         }
     }
 
     /// Runs the program on the whole input, and compares.
-    fn whole(&self, mut input: &[u8], wanted: &Wanted<'_>) -> Told {
-        let printed = self.print(&mut input);
-        difference(self.rt.alloc(), wanted, &printed)
+    fn judge_whole(&self, mut input: &[u8], expected: &Expected<'_>) -> Difference {
+        let printed = self.run_on(&mut input);
+        compare(self.rt.alloc(), expected, &printed)
     }
 
     /// Runs the program on a reader.
-    fn print<I: Read>(&self, input: &mut I) -> Printed {
+    fn run_on<I: Read>(&self, input: &mut I) -> Printed {
         let mut output = Vec::new(self.rt.alloc());
         let mut faults = Vec::new(self.rt.alloc());
-        let mut folder = LimitedFolder::new(self.rt.alloc(), self.row.files);
+        let mut folder = LimitedFolder::new(self.rt.alloc(), self.row.folder_calls);
         let status = run(
             self.rt,
             self.words,
@@ -129,41 +133,41 @@ impl<'a, 'w, R: AllocGlobal + Threads + Wait + Copy + Send + Sync + Drop + 'stat
     }
 
     /// Truncates the input at each byte in turn.
-    fn cuts(&self, input: &[u8], elsewhere: &[u8]) -> Told {
+    fn judge_truncations(&self, input: &[u8], elsewhere: &[u8]) -> Difference {
         for end in 0..input.len() + 1 {
-            match self.cut(&input[..end], elsewhere) {
+            match self.judge_truncated(&input[..end], elsewhere) {
                 Ok(None) => {}
-                told => return told,
+                difference => return difference,
             }
         }
         Ok(None)
     }
 
     /// Runs the program on a prefix of the input.
-    fn cut(&self, input: &[u8], elsewhere: &[u8]) -> Told {
+    fn judge_truncated(&self, input: &[u8], elsewhere: &[u8]) -> Difference {
         let end = input.len();
-        let output = output_at(self.row.cuts.as_slice(), end, elsewhere);
-        let told = self.whole(input, &wanted_of(self.row, output))?;
-        told_at(self.rt.alloc(), format_args!("cut at {end}"), &told)
+        let output = output_at(self.row.truncations.as_slice(), end, elsewhere);
+        let difference = self.judge_whole(input, &expected_of(self.row, output))?;
+        difference_at(self.rt.alloc(), format_args!("cut at {end}"), &difference)
     }
 
     /// Runs the program on a reader that it must not call.
-    fn no_reads(&self, wanted: &Wanted<'_>) -> Told {
+    fn judge_no_reads(&self, expected: &Expected<'_>) -> Difference {
         let mut reader = FailingReader::new(b"", 0);
-        let printed = self.print(&mut reader);
+        let printed = self.run_on(&mut reader);
         if reader.failed {
             return Ok(Some(String::from_str(self.rt.alloc(), "the input was read")?));
         }
-        difference(self.rt.alloc(), wanted, &printed)
+        compare(self.rt.alloc(), expected, &printed)
     }
 
     /// Runs the program on readers that fail at each of their calls, until one reads all.
-    fn failing_reads(&self, input: &[u8], wanted: &Wanted<'_>) -> Told {
+    fn judge_failing_reads(&self, input: &[u8], expected: &Expected<'_>) -> Difference {
         for calls in 0..input.len() + 2 {
             let mut reader = FailingReader::new(input, calls);
-            match self.failing_read(&mut reader, calls, wanted) {
+            match self.judge_failing_read(&mut reader, calls, expected) {
                 Ok(None) => {}
-                told => return told,
+                difference => return difference,
             }
             if !reader.failed {
                 return Ok(None);
@@ -173,45 +177,45 @@ impl<'a, 'w, R: AllocGlobal + Threads + Wait + Copy + Send + Sync + Drop + 'stat
     }
 
     /// Runs the program on a reader that fails after a number of calls.
-    fn failing_read(
+    fn judge_failing_read(
         &self,
         reader: &mut FailingReader<'_>,
         calls: usize,
-        wanted: &Wanted<'_>,
-    ) -> Told {
+        expected: &Expected<'_>,
+    ) -> Difference {
         let alloc = self.rt.alloc();
-        let printed = self.print(reader);
-        let told = if reader.failed {
+        let printed = self.run_on(reader);
+        let difference = if reader.failed {
             unread_difference(alloc, &printed)?
         } else {
-            difference(alloc, wanted, &printed)?
+            compare(alloc, expected, &printed)?
         };
-        told_at(alloc, format_args!("{calls} reads"), &told)
+        difference_at(alloc, format_args!("{calls} reads"), &difference)
     }
 
     /// Runs the program on writers that fail at each of their calls, and on one that writes all.
-    fn failing_writes(&self, input: &[u8], wanted: &Wanted<'_>) -> Told {
-        let told = Vec::from_slice(self.rt.alloc(), b"standard output cannot be written\n")?;
-        let told = Faults::Exactly(told);
-        for calls in 0..wanted.output.len() {
-            let front = Wanted {
-                output: &wanted.output[..calls],
+    fn judge_failing_writes(&self, input: &[u8], expected: &Expected<'_>) -> Difference {
+        let message = Vec::from_slice(self.rt.alloc(), b"standard output cannot be written\n")?;
+        let faults = Faults::Exactly(message);
+        for calls in 0..expected.output.len() {
+            let prefix = Expected {
+                output: &expected.output[..calls],
                 lines: None,
-                faults: &told,
+                faults: &faults,
                 status: 1,
             };
-            match self.failing_write(input, &front) {
+            match self.judge_failing_write(input, &prefix) {
                 Ok(None) => {}
-                told => return told,
+                difference => return difference,
             }
         }
-        self.whole(input, wanted)
+        self.judge_whole(input, expected)
     }
 
     /// Runs the program on a writer that fails after this output.
-    fn failing_write(&self, mut input: &[u8], front: &Wanted<'_>) -> Told {
+    fn judge_failing_write(&self, mut input: &[u8], prefix: &Expected<'_>) -> Difference {
         let alloc = self.rt.alloc();
-        let calls = front.output.len();
+        let calls = prefix.output.len();
         let mut writer = FailingWriter::new(alloc, calls);
         let mut faults = Vec::new(alloc);
         let mut folder = MemoryFolder::new(alloc);
@@ -229,8 +233,8 @@ impl<'a, 'w, R: AllocGlobal + Threads + Wait + Copy + Send + Sync + Drop + 'stat
             faults,
             status,
         };
-        let told = write_difference(alloc, called_again, front, &printed)?;
-        told_at(alloc, format_args!("{calls} writes"), &told)
+        let difference = write_difference(alloc, called_again, prefix, &printed)?;
+        difference_at(alloc, format_args!("{calls} writes"), &difference)
     }
 }
 
@@ -248,27 +252,27 @@ fn push_files(output: &mut Vec<u8>, folder: &MemoryFolder) -> Result<(), AllocEr
 }
 
 /// Returns how an output differs from the refusal of an input that cannot be read, if it does.
-fn unread_difference(alloc: Global, printed: &Printed) -> Told {
-    let told = Vec::from_slice(alloc, b"standard input cannot be read\n")?;
-    let refused = Wanted {
+fn unread_difference(alloc: Global, printed: &Printed) -> Difference {
+    let message = Vec::from_slice(alloc, b"standard input cannot be read\n")?;
+    let refused = Expected {
         output: b"refused Input\n",
         lines: None,
-        faults: &Faults::Exactly(told),
+        faults: &Faults::Exactly(message),
         status: 1,
     };
-    difference(alloc, &refused, printed)
+    compare(alloc, &refused, printed)
 }
 
 /// Returns two texts joined.
-fn joined(alloc: Global, front: &[u8], rest: &[u8]) -> Result<Vec<u8>, AllocError> {
-    let mut all = Vec::from_slice(alloc, front)?;
-    all.extend_from_slice(rest)?;
+fn joined(alloc: Global, first: &[u8], second: &[u8]) -> Result<Vec<u8>, AllocError> {
+    let mut all = Vec::from_slice(alloc, first)?;
+    all.extend_from_slice(second)?;
     Ok(all)
 }
 
 /// Returns what the row expects, with this output.
-fn wanted_of<'a>(row: &'a Row, output: &'a [u8]) -> Wanted<'a> {
-    Wanted {
+fn expected_of<'a>(row: &'a Row, output: &'a [u8]) -> Expected<'a> {
+    Expected {
         output,
         lines: row.lines,
         faults: &row.faults,
@@ -277,10 +281,10 @@ fn wanted_of<'a>(row: &'a Row, output: &'a [u8]) -> Wanted<'a> {
 }
 
 /// Returns the expected output for the input truncated here.
-fn output_at<'a>(cuts: &'a [Cut], end: usize, elsewhere: &'a [u8]) -> &'a [u8] {
-    for cut in cuts {
-        if cut.before_line_feed == end || cut.after == end {
-            return cut.output.as_slice();
+fn output_at<'a>(truncations: &'a [Truncation], end: usize, elsewhere: &'a [u8]) -> &'a [u8] {
+    for truncation in truncations {
+        if truncation.before_line_feed == end || truncation.after == end {
+            return truncation.output.as_slice();
         }
     }
     elsewhere
@@ -290,11 +294,11 @@ fn output_at<'a>(cuts: &'a [Cut], end: usize, elsewhere: &'a [u8]) -> &'a [u8] {
 fn write_difference(
     alloc: Global,
     called_again: bool,
-    front: &Wanted<'_>,
+    prefix: &Expected<'_>,
     printed: &Printed,
-) -> Told {
+) -> Difference {
     if called_again {
         return Ok(Some(String::from_str(alloc, "more was written")?));
     }
-    difference(alloc, front, printed)
+    compare(alloc, prefix, printed)
 }

@@ -20,7 +20,7 @@ impl LimitedFolder {
     }
 
     /// Counts a call. Errors: no calls are left.
-    fn count(&mut self) -> Result<(), FolderFault> {
+    fn count_call(&mut self) -> Result<(), FolderFault> {
         match self.calls_left {
             None => Ok(()),
             Some(0) => Err(FolderFault::Refused),
@@ -34,12 +34,12 @@ impl LimitedFolder {
 
 impl Folder for LimitedFolder {
     fn open(&mut self, path: &str) -> Result<(), FolderFault> {
-        self.count()?;
+        self.count_call()?;
         self.folder.open(path)
     }
 
     fn write(&mut self, name: &str, bytes: &[u8]) -> Result<(), FolderFault> {
-        self.count()?;
+        self.count_call()?;
         self.folder.write(name, bytes)
     }
 }

@@ -2,10 +2,11 @@
 //!
 //! Reading order: `row` (a row), `row_texts` and `row_parser` (its syntax), `files` (the files of a
 //! folder); `failing_streams` (readers and writers that fail), `limited_folder` (a folder that refuses
-//! calls), `wanted_output` (compares outputs), `judging` (whether a row holds), `folder`
-//! (`run_files`).
+//! calls), `expected_output` (compares outputs), `judging` (whether a row holds), `folder`
+//! (`run_folder`).
 #![tactic(auto)]
 
+mod expected_output;
 mod failing_streams;
 mod files;
 mod folder;
@@ -14,19 +15,18 @@ mod limited_folder;
 mod row;
 mod row_parser;
 mod row_texts;
-mod wanted_output;
 
-use folder::run_files;
+use folder::run_folder;
 use std::process::ExitCode;
 use std::{env, io};
 
 fn main(rt: HostRuntime) -> ExitCode {
-    let held = match asked_folder(&rt) {
-        Ok(Some(folder)) => run_files(&rt, folder.as_str()),
-        Ok(None) => run_files(&rt, "."),
+    let passed = match folder_argument(&rt) {
+        Ok(Some(folder)) => run_folder(&rt, folder.as_str()),
+        Ok(None) => run_folder(&rt, "."),
         Err(error) => Err(error),
     };
-    match held {
+    match passed {
         Ok(true) => ExitCode::from(0),
         Ok(false) => ExitCode::from(1),
         Err(error) => {
@@ -37,6 +37,6 @@ fn main(rt: HostRuntime) -> ExitCode {
 }
 
 /// Returns the folder of rows that the first argument names, or `None` for the current directory.
-fn asked_folder(rt: &HostRuntime) -> io::Result<Option<String>> {
+fn folder_argument(rt: &HostRuntime) -> io::Result<Option<String>> {
     Ok(env::args(rt)?.nth(1))
 }

@@ -10,22 +10,22 @@ pub struct Row {
     pub input: Vec<u8>,
     pub output: Vec<u8>,
     /// The endings of the input for which the row holds, each appended to `input`; if there are none, `input` is the whole input.
-    pub choices: Vec<Choice>,
+    pub endings: Vec<Ending>,
     /// The number of lines of the output, if `output` is only its beginning.
     pub lines: Option<u64>,
     pub faults: Faults,
     /// `None` means 1 if a line of the output begins with `refused`, else 0.
     pub status: Option<u8>,
-    pub way: Way,
+    pub mode: Mode,
     /// How many calls the folder of `pages` answers, if not all.
-    pub files: Option<u64>,
+    pub folder_calls: Option<u64>,
     /// The outputs for prefixes of the input.
-    pub cuts: Vec<Cut>,
+    pub truncations: Vec<Truncation>,
 }
 
 /// One of several endings of the input, and the ending of the output for it.
 #[derive(Drop)]
-pub struct Choice {
+pub struct Ending {
     pub input: Vec<u8>,
     pub output: Vec<u8>,
 }
@@ -34,20 +34,20 @@ pub struct Choice {
 #[derive(Drop)]
 pub enum Faults {
     /// Not given: it is empty, or any text if a text is refused, since the explanation is written there.
-    Unsaid,
+    Unspecified,
     /// This text.
     Exactly(Vec<u8>),
     /// A text that begins with this one.
     Beginning(Vec<u8>),
 }
 
-/// How the input is given and the output is taken.
+/// How the input is read and the output is written.
 #[derive(Clone, Copy, PartialEq, Eq)]
-pub enum Way {
-    /// The whole input is given, and the whole output is taken.
+pub enum Mode {
+    /// The whole input is read, and the whole output is written.
     Whole,
     /// The input is truncated at each of its bytes in turn.
-    Cut,
+    Truncated,
     /// The input must not be read.
     NoReads,
     /// Each read fails in turn.
@@ -58,7 +58,7 @@ pub enum Way {
 
 /// The output for the input truncated here, before or after the line feed.
 #[derive(Drop)]
-pub struct Cut {
+pub struct Truncation {
     pub before_line_feed: usize,
     pub after: usize,
     pub output: Vec<u8>,

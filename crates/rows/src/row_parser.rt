@@ -1,42 +1,42 @@
 //! Parses the rows of a file.
-use crate::row::{Choice, Cut, Faults, Row, Way};
+use crate::row::{Ending, Faults, Mode, Row, Truncation};
 use crate::row_texts::{RowFault, push_line, push_lines, word_of};
 use numbers::parse_number;
 use std::alloc::{AllocError, Global};
 
 /// Why the rows of a file are not parsed.
 #[derive(Drop)]
-pub enum UnreadRows {
+pub enum ParseFault {
     /// A line is not a line of a row, or is not allowed where it is.
     Line(String),
     /// An allocation failed.
     Memory,
 }
 
-impl From<AllocError> for UnreadRows {
-    fn from(_error: AllocError) -> UnreadRows {
-        UnreadRows::Memory
+impl From<AllocError> for ParseFault {
+    fn from(_error: AllocError) -> ParseFault {
+        ParseFault::Memory
     }
 }
 
 /// Parses the rows of a text. Empty lines and lines that begin with `#` are skipped.
-pub fn parse_rows(alloc: Global, text: &str) -> Result<Vec<Row>, UnreadRows> {
+pub fn parse_rows(alloc: Global, text: &str) -> Result<Vec<Row>, ParseFault> {
     let mut rows = Vec::new(alloc);
     for line in text.split('\n') {
         if line.is_empty() || line.starts_with('#') {
             continue;
         }
-        match read_line(alloc, &mut rows, line) {
+        match parse_line(alloc, &mut rows, line) {
             Ok(()) => {}
-            Err(RowFault::Bad) => return Err(UnreadRows::Line(String::from_str(alloc, line)?)),
-            Err(RowFault::Memory) => return Err(UnreadRows::Memory),
+            Err(RowFault::NotALine) => return Err(ParseFault::Line(String::from_str(alloc, line)?)),
+            Err(RowFault::Memory) => return Err(ParseFault::Memory),
         }
     }
     Ok(rows)
 }
 
 /// Parses a line, which begins a row or belongs to the last one.
-fn read_line(alloc: Global, rows: &mut Vec<Row>, line: &str) -> Result<(), RowFault> {
+fn parse_line(alloc: Global, rows: &mut Vec<Row>, line: &str) -> Result<(), RowFault> {
     match line.strip_prefix("row ") {
         Some(sentence) => {
             let row = new_row(alloc, sentence)?;
@@ -44,8 +44,8 @@ fn read_line(alloc: Global, rows: &mut Vec<Row>, line: &str) -> Result<(), RowFa
             Ok(())
         }
         None => match rows.last_mut() {
-            Some(row) => read_more(alloc, row, line),
-            None => Err(RowFault::Bad),
+            Some(row) => parse_row_line(alloc, row, line),
+            None => Err(RowFault::NotALine),
         },
     }
 }
@@ -57,32 +57,32 @@ fn new_row(alloc: Global, sentence: &str) -> Result<Row, AllocError> {
         commands: Vec::new(alloc),
         input: Vec::new(alloc),
         output: Vec::new(alloc),
-        choices: Vec::new(alloc),
+        endings: Vec::new(alloc),
         lines: None,
-        faults: Faults::Unsaid,
+        faults: Faults::Unspecified,
         status: None,
-        way: Way::Whole,
-        files: None,
-        cuts: Vec::new(alloc),
+        mode: Mode::Whole,
+        folder_calls: None,
+        truncations: Vec::new(alloc),
     })
 }
 
 /// Parses a line of a row: a mark, and a text after a space.
-fn read_more(alloc: Global, row: &mut Row, line: &str) -> Result<(), RowFault> {
+fn parse_row_line(alloc: Global, row: &mut Row, line: &str) -> Result<(), RowFault> {
     let (mark, text) = line.split_once(' ').unwrap_or((line, ""));
     match mark {
         "run" => add_command(alloc, row, text),
         "status" => set_status(row, text),
         "lines" => set_lines(row, text),
-        "files" => set_files(row, text),
-        "cut" => set_way(row, Way::Cut, text, ""),
-        "reads" if text == "none" => set_way(row, Way::NoReads, text, "none"),
-        "reads" => set_way(row, Way::FailingReads, text, "fail"),
-        "writes" => set_way(row, Way::FailingWrites, text, "fail"),
+        "files" => set_folder_calls(row, text),
+        "cut" => set_mode(row, Mode::Truncated, text, ""),
+        "reads" if text == "none" => set_mode(row, Mode::NoReads, text, "none"),
+        "reads" => set_mode(row, Mode::FailingReads, text, "fail"),
+        "writes" => set_mode(row, Mode::FailingWrites, text, "fail"),
         "!" => add_fault(alloc, row, text),
         "!~" => set_beginning(alloc, row, text),
-        "</" => add_choice(alloc, row, text, "\\"),
-        "</>" => add_choice_with_answer(alloc, row, text),
+        "</" => add_ending(alloc, row, text, "\\"),
+        "</>" => add_ending_with_answer(alloc, row, text),
         _ => add_lines(alloc, row, mark, text),
     }
 }
@@ -99,42 +99,46 @@ fn add_command(alloc: Global, row: &mut Row, text: &str) -> Result<(), RowFault>
 }
 
 fn set_status(row: &mut Row, text: &str) -> Result<(), RowFault> {
-    let number = parse_number(text.as_bytes()).ok_or(RowFault::Bad)?;
+    let number = parse_number(text.as_bytes()).ok_or(RowFault::NotALine)?;
     if number > 255 {
-        return Err(RowFault::Bad);
+        return Err(RowFault::NotALine);
     }
     row.status = Some(number as u8);
     Ok(())
 }
 
 fn set_lines(row: &mut Row, text: &str) -> Result<(), RowFault> {
-    row.lines = Some(parse_number(text.as_bytes()).ok_or(RowFault::Bad)?);
+    row.lines = Some(parse_number(text.as_bytes()).ok_or(RowFault::NotALine)?);
     Ok(())
 }
 
-fn set_files(row: &mut Row, text: &str) -> Result<(), RowFault> {
-    row.files = Some(parse_number(text.as_bytes()).ok_or(RowFault::Bad)?);
+fn set_folder_calls(row: &mut Row, text: &str) -> Result<(), RowFault> {
+    row.folder_calls = Some(parse_number(text.as_bytes()).ok_or(RowFault::NotALine)?);
     Ok(())
 }
 
-/// Sets the way, which must come before the input and the output.
-fn set_way(row: &mut Row, way: Way, text: &str, wanted: &str) -> Result<(), RowFault> {
-    if text != wanted || !row.input.is_empty() || !row.output.is_empty() || row.way != Way::Whole {
-        return Err(RowFault::Bad);
+/// Sets the mode, which must come before the input and the output.
+fn set_mode(row: &mut Row, mode: Mode, text: &str, expected: &str) -> Result<(), RowFault> {
+    if text != expected
+        || !row.input.is_empty()
+        || !row.output.is_empty()
+        || row.mode != Mode::Whole
+    {
+        return Err(RowFault::NotALine);
     }
-    row.way = way;
+    row.mode = mode;
     Ok(())
 }
 
 /// Appends a line of standard error.
 fn add_fault(alloc: Global, row: &mut Row, text: &str) -> Result<(), RowFault> {
     match &mut row.faults {
-        Faults::Exactly(told) => push_line(told, text, 0),
-        Faults::Beginning(_) => Err(RowFault::Bad),
-        Faults::Unsaid => {
-            let mut told = Vec::new(alloc);
-            push_line(&mut told, text, 0)?;
-            row.faults = Faults::Exactly(told);
+        Faults::Exactly(lines) => push_line(lines, text, 0),
+        Faults::Beginning(_) => Err(RowFault::NotALine),
+        Faults::Unspecified => {
+            let mut lines = Vec::new(alloc);
+            push_line(&mut lines, text, 0)?;
+            row.faults = Faults::Exactly(lines);
             Ok(())
         }
     }
@@ -146,50 +150,53 @@ fn set_beginning(alloc: Global, row: &mut Row, text: &str) -> Result<(), RowFaul
 }
 
 /// Appends one of several endings of the input.
-fn add_choice(alloc: Global, row: &mut Row, text: &str, answer: &str) -> Result<(), RowFault> {
-    let mut choice = Choice {
+fn add_ending(alloc: Global, row: &mut Row, text: &str, answer: &str) -> Result<(), RowFault> {
+    let mut ending = Ending {
         input: Vec::new(alloc),
         output: Vec::new(alloc),
     };
-    push_line(&mut choice.input, text, 0)?;
-    push_line(&mut choice.output, answer, 0)?;
-    row.choices.push(choice).map_err(AllocError::from)?;
+    push_line(&mut ending.input, text, 0)?;
+    push_line(&mut ending.output, answer, 0)?;
+    row.endings.push(ending).map_err(AllocError::from)?;
     Ok(())
 }
 
-fn add_choice_with_answer(alloc: Global, row: &mut Row, text: &str) -> Result<(), RowFault> {
-    let (text, answer) = text.rsplit_once(" => ").ok_or(RowFault::Bad)?;
-    add_choice(alloc, row, text, answer)
+fn add_ending_with_answer(alloc: Global, row: &mut Row, text: &str) -> Result<(), RowFault> {
+    let (text, answer) = text.rsplit_once(" => ").ok_or(RowFault::NotALine)?;
+    add_ending(alloc, row, text, answer)
 }
 
 /// Appends lines to the input, the output or both. The mark may end in `*` and how many.
 fn add_lines(alloc: Global, row: &mut Row, mark: &str, text: &str) -> Result<(), RowFault> {
     let (mark, times) = match mark.split_once('*') {
-        Some((mark, times)) => (mark, parse_number(times.as_bytes()).ok_or(RowFault::Bad)?),
+        Some((mark, times)) => (
+            mark,
+            parse_number(times.as_bytes()).ok_or(RowFault::NotALine)?,
+        ),
         None => (mark, 1),
     };
     match mark {
         "<" => push_lines(&mut row.input, text, times),
         ">" => push_lines(&mut row.output, text, times),
         "<>" => {
-            let (text, answer) = text.rsplit_once(" => ").ok_or(RowFault::Bad)?;
+            let (text, answer) = text.rsplit_once(" => ").ok_or(RowFault::NotALine)?;
             push_lines(&mut row.input, text, times)?;
-            match row.way {
-                Way::Cut => add_cut(alloc, row, text, answer),
+            match row.mode {
+                Mode::Truncated => add_truncation(alloc, row, text, answer),
                 _ => push_lines(&mut row.output, answer, times),
             }
         }
-        _ => Err(RowFault::Bad),
+        _ => Err(RowFault::NotALine),
     }
 }
 
 /// Appends the output for the input truncated after its last line so far.
-fn add_cut(alloc: Global, row: &mut Row, text: &str, answer: &str) -> Result<(), RowFault> {
+fn add_truncation(alloc: Global, row: &mut Row, text: &str, answer: &str) -> Result<(), RowFault> {
     let after = row.input.len();
     let mut output = Vec::new(alloc);
     push_line(&mut output, answer, 0)?;
     let has_line_feed = !text.ends_with('\\');
-    let cut = Cut {
+    let truncation = Truncation {
         before_line_feed: if has_line_feed {
             after.saturating_sub(1)
         } else {
@@ -198,6 +205,6 @@ fn add_cut(alloc: Global, row: &mut Row, text: &str, answer: &str) -> Result<(),
         after,
         output,
     };
-    row.cuts.push(cut).map_err(AllocError::from)?;
+    row.truncations.push(truncation).map_err(AllocError::from)?;
     Ok(())
 }

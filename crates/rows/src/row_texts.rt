@@ -6,7 +6,7 @@ use std::alloc::{AllocError, Global};
 #[derive(Drop)]
 pub enum RowFault {
     /// It is not a line of a row.
-    Bad,
+    NotALine,
     /// An allocation failed.
     Memory,
 }
@@ -43,7 +43,7 @@ pub fn word_of(alloc: Global, text: &str) -> Result<String, RowFault> {
     push_text(&mut bytes, text.strip_suffix("\\").unwrap_or(text), 0)?;
     match String::from_utf8(bytes) {
         Ok(word) => Ok(word),
-        Err(_) => Err(RowFault::Bad),
+        Err(_) => Err(RowFault::NotALine),
     }
 }
 
@@ -65,12 +65,12 @@ fn push_escaped(bytes: &mut Vec<u8>, piece: &str, time: u64) -> Result<(), RowFa
         return push_byte(bytes, digits);
     }
     let Some(number_and_rest) = piece.strip_prefix("{") else {
-        return Err(RowFault::Bad);
+        return Err(RowFault::NotALine);
     };
     let Some((number, rest)) = number_and_rest.split_once('}') else {
-        return Err(RowFault::Bad);
+        return Err(RowFault::NotALine);
     };
-    let number = number_at(number, time).ok_or(RowFault::Bad)?;
+    let number = number_at(number, time).ok_or(RowFault::NotALine)?;
     push_number(bytes, number)?;
     bytes.extend_from_slice(rest.as_bytes())?;
     Ok(())
@@ -79,10 +79,10 @@ fn push_escaped(bytes: &mut Vec<u8>, piece: &str, time: u64) -> Result<(), RowFa
 /// Appends the byte of two hexadecimal digits, and the text after them.
 fn push_byte(bytes: &mut Vec<u8>, digits: &str) -> Result<(), RowFault> {
     let Some((digits, rest)) = digits.split_at_checked(2) else {
-        return Err(RowFault::Bad);
+        return Err(RowFault::NotALine);
     };
     let Ok(byte) = u8::from_str_radix(digits, 16) else {
-        return Err(RowFault::Bad);
+        return Err(RowFault::NotALine);
     };
     bytes.extend_from_slice(&[byte])?;
     bytes.extend_from_slice(rest.as_bytes())?;

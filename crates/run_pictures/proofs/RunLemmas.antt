@@ -1,7 +1,7 @@
 -- A run whose world takes a step.
 use Rattle.run_pictures.proofs.Words.{◌≡◌, ℕ, false, List, [], ◌∷◌, ◌++◌, Option, Some, None, Result, Ok, Err, IfOk, IfSome, IsSomeAnd, OnErr, length, filter, sym, ◌∙◌, ap, Event, StepFault, Taken, with_event, world_of, packets_after, Entry, Verdict, Carried, carried_size, Replicas, new_replicas, next_entry, IsApplied, Step, StepStart, ended_of, Reached, step_start_of, is_event, learned_in, node_in, step_of, steps_of, IsRecorded, packets_of}
 use Rattle.world.specs.Replicas.{then_event}
-use Rattle.run_pictures.proofs.StepsLemmas.{next_is, one_more, none_more}
+use Rattle.run_pictures.proofs.StepsLemmas.{next_is, with_event_step, with_application_step}
 
 -- new nodes have no step
 pub new_recorded : (world : Replicas) (weights : List ℕ) → world ≡ new_replicas weights → IsRecorded world [] 0
@@ -35,7 +35,7 @@ pub event_recorded : (old new : Replicas) (steps more : List Step) (posted count
     → step ≡ step_of (length old.taken.events) (world_of carried_size old.taken) e (world_of carried_size (with_event old.taken e))
     → count ≡ length (packets_of new) → IsRecorded new more count
 event_recorded old new steps more posted count e step recorded taken added is counted = record {
-  events = ap (λ ss. filter is_event ss) added ∙ one_more steps old.taken e step recorded.events (is ∙ sym (next_is old.taken e)) ∙ ap steps_of (sym (ap (λ (r : Replicas). r.taken) taken));
+  events = ap (λ ss. filter is_event ss) added ∙ with_event_step steps old.taken e step recorded.events (is ∙ sym (next_is old.taken e)) ∙ ap steps_of (sym (ap (λ (r : Replicas). r.taken) taken));
   count = counted;
 }
 
@@ -50,7 +50,7 @@ same_recorded old new steps posted recorded taken = record {
 pub application_recorded : (old new : Replicas) (steps more : List Step) (posted : ℕ) (step : Step)
     → IsRecorded old steps posted → new.taken ≡ old.taken → more ≡ steps ++ step ∷ [] → is_event step ≡ false → IsRecorded new more posted
 application_recorded old new steps more posted step recorded taken added is = record {
-  events = ap (λ ss. filter is_event ss) added ∙ none_more steps step (steps_of old.taken) recorded.events is ∙ ap steps_of (sym taken);
+  events = ap (λ ss. filter is_event ss) added ∙ with_application_step steps step (steps_of old.taken) recorded.events is ∙ ap steps_of (sym taken);
   count = recorded.count ∙ ap (λ (t : Taken Carried). length (packets_of (record { taken = t; libraries = new.libraries }))) (sym taken);
 }
 

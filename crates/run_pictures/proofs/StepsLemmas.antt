@@ -1,5 +1,5 @@
 -- One event more is one step more.
-use Rattle.run_pictures.proofs.Words.{◌≡◌, ℕ, suc, ◌+◌, true, false, List, [], ◌∷◌, ◌++◌, Result, Ok, Err, length, filter, refl, sym, ◌∙◌, ap, arith, append-nil, filter-append, Event, Offer, Begin, Deliver, Restart, StepFault, all_happen, Taken, with_event, world_of, Carried, carried_size, Step, Reached, then_event, step_of, steps_from, steps_of, act_of, is_event, is_event_act}
+use Rattle.run_pictures.proofs.Words.{◌≡◌, ℕ, suc, ◌+◌, true, false, List, [], ◌∷◌, ◌++◌, Result, Ok, Err, length, filter, refl, sym, ◌∙◌, ap, arith, append-nil, filter-append, Event, Offer, Begin, Deliver, Restart, StepFault, all_happen, Taken, with_event, world_of, Carried, carried_size, Step, Reached, reached_after, step_of, steps_from, steps_of, act_of, is_event, is_event_act}
 
 -- a fault stays
 fault_stays : (es : List (Event Carried)) (fault : StepFault) → all_happen carried_size es (Err fault) ≡ Err fault
@@ -7,25 +7,25 @@ fault_stays [] fault = refl
 fault_stays (e ∷ es) fault = refl
 
 -- the first event, and then the others
-first_happens : (e : Event Carried) (es : List (Event Carried)) (r : Reached) → all_happen carried_size es (then_event r e) ≡ all_happen carried_size (e ∷ es) r
+first_happens : (e : Event Carried) (es : List (Event Carried)) (r : Reached) → all_happen carried_size es (reached_after r e) ≡ all_happen carried_size (e ∷ es) r
 first_happens e es (Ok w) = refl
 first_happens e es (Err fault) = fault_stays es fault
 
 -- the last event, after the others
-last_happens : (es : List (Event Carried)) (e : Event Carried) (r : Reached) → all_happen carried_size (es ++ e ∷ []) r ≡ then_event (all_happen carried_size es r) e
+last_happens : (es : List (Event Carried)) (e : Event Carried) (r : Reached) → all_happen carried_size (es ++ e ∷ []) r ≡ reached_after (all_happen carried_size es r) e
 last_happens [] e r = refl
-last_happens (x ∷ es) e (Ok w) = last_happens es e (then_event (Ok w) x)
+last_happens (x ∷ es) e (Ok w) = last_happens es e (reached_after (Ok w) x)
 last_happens (x ∷ es) e (Err fault) = refl
 
 -- the steps of the events, and the step of the last one
 steps_from-append : (index : ℕ) (r : Reached) (es : List (Event Carried)) (e : Event Carried)
     → steps_from index r (es ++ e ∷ [])
-    ≡ steps_from index r es ++ step_of (index + length es) (all_happen carried_size es r) e (then_event (all_happen carried_size es r) e) ∷ []
-steps_from-append index r [] e = ap (λ n. step_of n r e (then_event r e) ∷ []) (omega arith)
+    ≡ steps_from index r es ++ step_of (index + length es) (all_happen carried_size es r) e (reached_after (all_happen carried_size es r) e) ∷ []
+steps_from-append index r [] e = ap (λ n. step_of n r e (reached_after r e) ∷ []) (omega arith)
 steps_from-append index r (x ∷ es) e =
-    ap (λ steps. step_of index r x (then_event r x) ∷ steps) (steps_from-append (suc index) (then_event r x) es e
-    ∙ ap (λ n. steps_from (suc index) (then_event r x) es ++ step_of n (all_happen carried_size es (then_event r x)) e (then_event (all_happen carried_size es (then_event r x)) e) ∷ []) (omega arith)
-    ∙ ap (λ s. steps_from (suc index) (then_event r x) es ++ step_of (index + length (x ∷ es)) s e (then_event s e) ∷ []) (first_happens x es r))
+    ap (λ steps. step_of index r x (reached_after r x) ∷ steps) (steps_from-append (suc index) (reached_after r x) es e
+    ∙ ap (λ n. steps_from (suc index) (reached_after r x) es ++ step_of n (all_happen carried_size es (reached_after r x)) e (reached_after (all_happen carried_size es (reached_after r x)) e) ∷ []) (omega arith)
+    ∙ ap (λ s. steps_from (suc index) (reached_after r x) es ++ step_of (index + length (x ∷ es)) s e (reached_after s e) ∷ []) (first_happens x es r))
 
 -- the act of an event is that of an event
 is_event-act_of : (index : ℕ) (e : Event Carried) → is_event_act (act_of index e) ≡ true
@@ -47,7 +47,7 @@ steps_of-with_event : (taken : Taken Carried) (e : Event Carried) → steps_of (
 unfolding next_step
 steps_of-with_event taken e =
     steps_from-append 0 (all_happen carried_size [] (world_of carried_size (record { weights = taken.weights; events = [] }))) taken.events e
-    ∙ ap (λ n. steps_of taken ++ step_of n (world_of carried_size taken) e (then_event (world_of carried_size taken) e) ∷ []) (omega arith)
+    ∙ ap (λ n. steps_of taken ++ step_of n (world_of carried_size taken) e (reached_after (world_of carried_size taken) e) ∷ []) (omega arith)
     ∙ ap (λ s. steps_of taken ++ step_of (length taken.events) (world_of carried_size taken) e s ∷ []) (sym (last_happens taken.events e (world_of carried_size (record { weights = taken.weights; events = [] }))))
 
 -- a step that is an event is kept by the filter
@@ -55,10 +55,10 @@ kept_one : (s : Step) → is_event s ≡ true → filter is_event (s ∷ []) ≡
 kept_one s e = rw e refl
 
 -- the recorded steps are those of the history with one event more
-pub one_more : (steps : List Step) (taken : Taken Carried) (e : Event Carried) (step : Step)
+pub with_event_step : (steps : List Step) (taken : Taken Carried) (e : Event Carried) (step : Step)
     → filter is_event steps ≡ steps_of taken → step ≡ next_step taken e → filter is_event (steps ++ step ∷ []) ≡ steps_of (with_event taken e)
 unfolding next_step
-one_more steps taken e step recorded is =
+with_event_step steps taken e step recorded is =
     filter-append is_event steps (step ∷ [])
     ∙ ap (λ more. filter is_event steps ++ more) (kept_one step (ap (λ s. is_event s) is ∙ is_event-act_of (length taken.events) e))
     ∙ ap (λ done. done ++ step ∷ []) recorded
@@ -66,6 +66,6 @@ one_more steps taken e step recorded is =
     ∙ sym (steps_of-with_event taken e)
 
 -- an application of an entry is not kept by the filter
-pub none_more : (steps : List Step) (step : Step) (all : List Step)
+pub with_application_step : (steps : List Step) (step : Step) (all : List Step)
     → filter is_event steps ≡ all → is_event step ≡ false → filter is_event (steps ++ step ∷ []) ≡ all
-none_more steps step all recorded is = filter-append is_event steps (step ∷ []) ∙ rw is (rw recorded (append-nil all))
+with_application_step steps step all recorded is = filter-append is_event steps (step ∷ []) ∙ rw is (rw recorded (append-nil all))

@@ -80,12 +80,12 @@ abbrev pub stumps : Packets → List Step → ℕ → Step → List Mark
 stumps packets shown row s = stumps_from packets shown row s s.first_post (s.end_post - s.first_post)
 
 -- the point of a step, and the break of a restart
-abbrev pub own_marks : ℕ → Step → List Mark
-own_marks row s = Point (spot row s) ∷ [] ++ breaks row s s.act
+abbrev pub point_marks : ℕ → Step → List Mark
+point_marks row s = Point (spot row s) ∷ [] ++ breaks row s s.act
 
 -- the marks of the step in a row
 abbrev pub step_marks : Packets → List Step → ℕ → Step → List Mark
-step_marks packets shown row s = own_marks row s ++ arrows packets shown row s.act ++ learned_marks row s ++ stumps packets shown row s
+step_marks packets shown row s = point_marks row s ++ arrows packets shown row s.act ++ learned_marks row s ++ stumps packets shown row s
 
 abbrev pub marks_from : Packets → List Step → ℕ → List Step → List Mark
 marks_from packets shown row [] = []

@@ -23,8 +23,8 @@ abbrev pub Reached : Type 0
 Reached = Result (World Carried) StepFault
 
 -- the world after one more event
-abbrev pub then_event : Reached → Event Carried → Reached
-then_event r e = all_happen carried_size (e ∷ []) r
+abbrev pub reached_after : Reached → Event Carried → Reached
+reached_after r e = all_happen carried_size (e ∷ []) r
 
 -- the receiver of a packet, or 0 if there is none
 abbrev pub receiver_of : Option (Packet Carried) → ℕ
@@ -67,7 +67,7 @@ step_of index before e reached = ended_of (step_start_of index before e) (length
 
 abbrev pub steps_from : ℕ → Reached → List (Event Carried) → List Step
 steps_from index r [] = []
-steps_from index r (e ∷ es) = step_of index r e (then_event r e) ∷ steps_from (suc index) (then_event r e) es
+steps_from index r (e ∷ es) = step_of index r e (reached_after r e) ∷ steps_from (suc index) (reached_after r e) es
 
 -- the steps of a history, in order, one for each event
 abbrev pub steps_of : Taken Carried → List Step

@@ -12,7 +12,7 @@ use crate::step::{Act, Step};
 use library::Verdict;
 use std::alloc::{AllocError, Global};
 use synod::Weights;
-use timelines::{MOST_ROWS, Place, Sign, Timeline};
+use timelines::{GridPoint, MOST_ROWS, PointStyle, Timeline};
 use world::World;
 
 /// Why a run has no picture.
@@ -34,7 +34,7 @@ impl From<AllocError> for PictureFault {
 
 /// The steps to draw, and the world after the run.
 #[derive(Clone, Copy)]
-struct Scene<'a> {
+struct ShownSteps<'a> {
     world: &'a World,
     shown: &'a [Step],
     /// The number of the first step.
@@ -56,24 +56,24 @@ pub fn draw(alloc: Global, weights: Weights, run: &Run, part: Part) -> Result<Ve
     if shown.len() as u64 > MOST_ROWS {
         return Err(PictureFault::TooLarge);
     }
-    let scene = Scene {
+    let steps = ShownSteps {
         world: run.world(),
         shown,
         from: part.from,
     };
     let marks = run.marks(alloc, part)?;
-    Ok(drawn(alloc, weights, scene, marks.as_slice())?)
+    Ok(picture_of(alloc, weights, steps, marks.as_slice())?)
 }
 
 /// Returns the picture of some marks.
-fn drawn(
+fn picture_of(
     alloc: Global,
     weights: Weights,
-    scene: Scene<'_>,
+    steps: ShownSteps<'_>,
     marks: &[Mark],
 ) -> Result<Vec<u8>, AllocError> {
     let mut timeline = Timeline::new(alloc, weights.count());
-    draw_marks(alloc, &mut timeline, scene, marks)?;
+    draw_marks(alloc, &mut timeline, steps, marks)?;
     timeline.into_svg(alloc)
 }
 
@@ -81,11 +81,11 @@ fn drawn(
 fn draw_marks(
     alloc: Global,
     timeline: &mut Timeline,
-    scene: Scene<'_>,
+    steps: ShownSteps<'_>,
     marks: &[Mark],
 ) -> Result<(), AllocError> {
     for mark in marks {
-        draw_mark(alloc, timeline, scene, *mark)?;
+        draw_mark(alloc, timeline, steps, *mark)?;
     }
     Ok(())
 }
@@ -94,15 +94,15 @@ fn draw_marks(
 fn draw_mark(
     alloc: Global,
     timeline: &mut Timeline,
-    scene: Scene<'_>,
+    steps: ShownSteps<'_>,
     mark: Mark,
 ) -> Result<(), AllocError> {
     match mark {
-        Mark::Point { at } => draw_point(alloc, timeline, scene, at),
-        Mark::Break { at } => timeline.push_break(place(at)),
+        Mark::Point { at } => draw_point(alloc, timeline, steps, at),
+        Mark::Break { at } => timeline.push_break(grid_point(at)),
         Mark::Learned { first, end, .. } => draw_learned(alloc, timeline, first, end),
-        Mark::Arrow { packet, from, to } => draw_arrow(alloc, timeline, scene, packet, from, to),
-        Mark::Stump { packet, to, .. } => draw_stump(alloc, timeline, scene, packet, to),
+        Mark::Arrow { packet, from, to } => draw_arrow(alloc, timeline, steps, packet, from, to),
+        Mark::Stump { packet, to, .. } => draw_stump(alloc, timeline, steps, packet, to),
     }
 }
 
@@ -110,15 +110,15 @@ fn draw_mark(
 fn draw_point(
     alloc: Global,
     timeline: &mut Timeline,
-    scene: Scene<'_>,
+    steps: ShownSteps<'_>,
     at: Spot,
 ) -> Result<(), AllocError> {
-    let Some(step) = scene.shown.get(at.row) else {
+    let Some(step) = steps.shown.get(at.row) else {
         return Ok(());
     };
-    let number = scene.from.saturating_add(at.row) as u64;
-    let label = step_label(alloc, scene.world, step.act)?;
-    timeline.push_row(at.node, sign(step.act), number, label.as_slice())
+    let number = steps.from.saturating_add(at.row) as u64;
+    let label = step_label(alloc, steps.world, step.act)?;
+    timeline.push_row(at.node, style(step.act), number, label.as_slice())
 }
 
 /// Writes which slots a node learned.
@@ -136,27 +136,27 @@ fn draw_learned(
 fn draw_arrow(
     alloc: Global,
     timeline: &mut Timeline,
-    scene: Scene<'_>,
+    steps: ShownSteps<'_>,
     number: u64,
     from: Origin,
     to: Spot,
 ) -> Result<(), AllocError> {
-    let Ok(packet) = scene.world.packet(number) else {
+    let Ok(packet) = steps.world.packet(number) else {
         return Ok(());
     };
     let label = packet_label(alloc, packet)?;
-    timeline.push_arrow(origin(from), place(to), label.as_slice())
+    timeline.push_arrow(origin(from), grid_point(to), label.as_slice())
 }
 
 /// Draws the stump of a packet of the step that was drawn last.
 fn draw_stump(
     alloc: Global,
     timeline: &mut Timeline,
-    scene: Scene<'_>,
+    steps: ShownSteps<'_>,
     number: u64,
     to: u8,
 ) -> Result<(), AllocError> {
-    let Ok(packet) = scene.world.packet(number) else {
+    let Ok(packet) = steps.world.packet(number) else {
         return Ok(());
     };
     let title = packet_title(alloc, packet)?;
@@ -164,39 +164,39 @@ fn draw_stump(
 }
 
 /// Returns where a spot is drawn.
-fn place(spot: Spot) -> Place {
-    Place {
+fn grid_point(spot: Spot) -> GridPoint {
+    GridPoint {
         node: spot.node,
-        row: Some(drawn_row(spot.row)),
+        row: Some(grid_row(spot.row)),
     }
 }
 
 /// Returns where an arrow begins.
-fn origin(from: Origin) -> Place {
-    Place {
+fn origin(from: Origin) -> GridPoint {
+    GridPoint {
         node: from.node,
-        row: from.row.map(drawn_row),
+        row: from.row.map(grid_row),
     }
 }
 
 /// Returns a row as it is drawn.
-fn drawn_row(row: usize) -> u32 {
+fn grid_row(row: usize) -> u32 {
     u32::try_from(row).unwrap_or(u32::MAX)
 }
 
 /// Returns how the point of an act looks: green if an entry is added, red if it is refused.
-fn sign(act: Act) -> Sign {
+fn style(act: Act) -> PointStyle {
     match act {
-        Act::Apply { verdict, .. } => verdict_sign(verdict),
-        _ => Sign::Plain,
+        Act::Apply { verdict, .. } => verdict_style(verdict),
+        _ => PointStyle::Plain,
     }
 }
 
 /// Returns how the application of an entry looks.
-fn verdict_sign(verdict: Verdict) -> Sign {
+fn verdict_style(verdict: Verdict) -> PointStyle {
     match verdict {
-        Verdict::Added => Sign::Good,
-        Verdict::Refused(_) => Sign::Bad,
-        _ => Sign::Plain,
+        Verdict::Added => PointStyle::Good,
+        Verdict::Refused(_) => PointStyle::Bad,
+        _ => PointStyle::Plain,
     }
 }

@@ -16,7 +16,7 @@ use world::{Carried, World};
 const MOST_SHOWN: usize = 48;
 
 /// The byte that replaces one that is not printable ASCII.
-const UNSEEN: u8 = b'?';
+const REPLACEMENT: u8 = b'?';
 
 /// Returns the name of a step: its kind; for an offer with the author, the serial and the start of the
 /// text, for a delivery with the number of the packet, for an application with the slot and the verdict.
@@ -69,7 +69,7 @@ fn push_numbered(name: &mut Vec<u8>, before: &[u8], number: u64) -> Result<(), A
 /// Appends the start of some bytes, with `?` for each byte that is not printable ASCII.
 fn push_start(name: &mut Vec<u8>, bytes: &[u8]) -> Result<(), AllocError> {
     for byte in bytes.iter().take(MOST_SHOWN) {
-        name.push(shown_byte(*byte))?;
+        name.push(printable(*byte))?;
     }
     if bytes.len() > MOST_SHOWN {
         name.extend_from_slice(b" ..")?;
@@ -78,11 +78,11 @@ fn push_start(name: &mut Vec<u8>, bytes: &[u8]) -> Result<(), AllocError> {
 }
 
 /// Returns the byte as a label shows it.
-fn shown_byte(byte: u8) -> u8 {
+fn printable(byte: u8) -> u8 {
     if b' ' <= byte && byte <= b'~' {
         byte
     } else {
-        UNSEEN
+        REPLACEMENT
     }
 }
 

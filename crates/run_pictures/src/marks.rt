@@ -3,7 +3,7 @@ ghost use Rattle.std.specs.Prelude.{◌≡◌, ◌≤◌, ◌+◌, ◌++◌, [],
 ghost use Rattle.std.specs.List.{list_any, position_from};
 ghost use Rattle.timelines.specs.declared.grid.TheConstants.{MOST_ROWS};
 ghost use Rattle.run_pictures.specs.Marks.{arrow, arrows, breaks, delivers, delivers_act, learned_marks, marks_from, marks_of as marks_shown};
-ghost use Rattle.run_pictures.specs.Marks.{own_marks, posts, spot, step_marks, stump, stumps, undelivered};
+ghost use Rattle.run_pictures.specs.Marks.{point_marks, posts, spot, step_marks, stump, stumps, undelivered};
 ghost use Rattle.run_pictures.specs.RunView.{packets_of};
 
 use crate::mark::{Mark, Origin, Spot};
@@ -58,7 +58,7 @@ fn push_step(
     ensures { OnOk result (marks.new.items
         ≡ marks.old.items ++ step_marks (packets_of world.now) shown.now row step) }
 {
-    push_own(marks, row, step)?;
+    push_point(marks, row, step)?;
     push_arrows(marks, world, shown, row, step.act)?;
     push_learned(marks, row, step)?;
     push_stumps(marks, world, shown, row, step)
@@ -73,8 +73,8 @@ fn push_mark(marks: &mut Vec<Mark>, mark: Mark) -> Result<(), AllocError>
 }
 
 /// Appends the point of a step, and the break of a restart.
-fn push_own(marks: &mut Vec<Mark>, row: usize, step: Step) -> Result<(), AllocError>
-    ensures { OnOk result (marks.new.items ≡ marks.old.items ++ own_marks row step) }
+fn push_point(marks: &mut Vec<Mark>, row: usize, step: Step) -> Result<(), AllocError>
+    ensures { OnOk result (marks.new.items ≡ marks.old.items ++ point_marks row step) }
 {
     push_mark(
         marks,

@@ -17,12 +17,12 @@ pub struct Part {
 pub(crate) fn shown(steps: &[Step], part: Part) -> &[Step]
     ensures { result.now ≡ shown_of steps.now part.from part.count }
 {
-    first(without(steps, part.from), part.count)
+    take_steps(skip_steps(steps, part.from), part.count)
 }
 
 /// Returns the steps after the first `count`.
 #[tactic(auto, using(std::proofs::lemmas::List::drop_all))]
-fn without(steps: &[Step], count: usize) -> &[Step]
+fn skip_steps(steps: &[Step], count: usize) -> &[Step]
     ensures { result.now ≡ drop count steps.now }
 {
     if count < steps.len() {
@@ -34,7 +34,7 @@ fn without(steps: &[Step], count: usize) -> &[Step]
 
 /// Returns the first `count` steps, or all if there are fewer.
 #[tactic(auto, using(std::proofs::lemmas::List::take_all))]
-fn first(steps: &[Step], count: usize) -> &[Step]
+fn take_steps(steps: &[Step], count: usize) -> &[Step]
     ensures { result.now ≡ take count steps.now }
 {
     if count < steps.len() {

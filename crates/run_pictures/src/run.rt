@@ -91,7 +91,8 @@ impl Run {
         let slot = self.world.applied(k)?;
         let learned = self.world.state(k)?.learned;
         if let Some(verdict) = apply_on(&mut self.world, k)? {
-            self.steps.push_reserved(applied(k, learned, slot, verdict));
+            self.steps
+                .push_reserved(application_step(k, learned, slot, verdict));
         }
         Ok(())
     }
@@ -198,7 +199,7 @@ fn apply_on(world: &mut World, k: u8) -> Result<Option<Verdict>, StepFault>
 }
 
 /// Returns the step in which the entry of a slot is applied.
-fn applied(node: u8, learned: u32, slot: u32, verdict: Verdict) -> Step
+fn application_step(node: u8, learned: u32, slot: u32, verdict: Verdict) -> Step
     ensures { is_event result ≡ false }
 {
     Step {

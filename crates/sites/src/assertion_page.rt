@@ -86,9 +86,9 @@ fn push_assertion(
         frames: library.frames(),
         at,
         proof,
-        neighbours: RelatedItems {
+        related: RelatedItems {
             axioms: axioms.as_slice(),
-            users: cited_by.as_slice(),
+            cited_by: cited_by.as_slice(),
             description: description_at(sources, index),
         },
     };

@@ -3,7 +3,7 @@ ghost use Rattle.std.specs.Prelude.{◌≡◌, ◌∷◌, ◌++◌, []};
 ghost use Rattle.mm_read.specs.Statements.{AreShaped, Database};
 ghost use Rattle.scope.specs.Active.{bare};
 
-use crate::first_example::{NORMAL, PACKED, items_of, push_all};
+use crate::first_example::{COMPRESSED, NORMAL, items_of, push_all};
 use frame::Frames;
 use mm_lex::Words;
 use mm_read::{Stmt, read};
@@ -14,7 +14,7 @@ use verify::{Answer, Tree, TreeFault, check, derivation};
 /// A call in which an allocation fails returns its result when it is repeated. Each allocation fails in turn.
 #[test]
 fn right_after_a_failed_allocation(rt: HostRuntime) {
-    for text in [NORMAL, PACKED] {
+    for text in [NORMAL, COMPRESSED] {
         let mut nodes = nodes_of(rt.alloc(), text);
         if nodes.is_none() {
             nodes = nodes_of(rt.alloc(), text);
@@ -74,7 +74,7 @@ fn nodes_at(alloc: Global, frames: &Frames, stmt: &Stmt, mandatory: &Words) -> O
             Answer::Wrong => return Some(0),
         }
         match derivation(alloc, frames, at, &items) {
-            Ok(tree) => Some(count(&tree)),
+            Ok(tree) => Some(count_nodes(&tree)),
             Err(TreeFault::Memory) => None,
             Err(_) => Some(0),
         }
@@ -84,13 +84,13 @@ fn nodes_at(alloc: Global, frames: &Frames, stmt: &Stmt, mandatory: &Words) -> O
 }
 
 /// Returns how many nodes a tree has.
-fn count(tree: &Tree) -> usize {
+fn count_nodes(tree: &Tree) -> usize {
     match tree {
         Tree::Hyp(_) => 1,
         Tree::Apply(_, kids) => {
             let mut nodes = 1usize;
             for kid in kids {
-                nodes = nodes.saturating_add(count(kid));
+                nodes = nodes.saturating_add(count_nodes(kid));
             }
             nodes
         }

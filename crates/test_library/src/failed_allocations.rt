@@ -1,7 +1,7 @@
 //! A submission during which an allocation fails has no verdict; submitted again, it has its usual one. Each allocation fails
 //! in turn.
-use crate::library_workers::by_workers;
-use crate::text_entries::{entry, of_new, verdict_on};
+use crate::library_workers::verdict_by_workers;
+use crate::text_entries::{entry, verdict_on, with_new_library};
 use bytes::Bytes;
 use library::{Cause, Library, Verdict};
 use scope::Rule;
@@ -33,7 +33,7 @@ fn whole_or_nothing_after_a_failed_allocation(rt: HostRuntime) {
 }
 
 fn decides_each(alloc: Global) -> bool {
-    of_new(alloc, |library| decides_rows(alloc, library))
+    with_new_library(alloc, |library| decides_rows(alloc, library))
 }
 
 /// Returns whether each text has its verdict, and the library has the expected number of statements after it.
@@ -54,15 +54,15 @@ fn is_decided(
     library: &mut Library,
     serial: u64,
     text: &[u8],
-    want: Verdict,
+    expected: Verdict,
 ) -> bool {
     let before = library.statements().len();
     match verdict_of(alloc, library, serial, text) {
-        Some(verdict) => verdict == want,
+        Some(verdict) => verdict == expected,
         None => {
             library.status(1, serial).is_none()
                 && library.statements().len() == before
-                && verdict_of(alloc, library, serial, text) == Some(want)
+                && verdict_of(alloc, library, serial, text) == Some(expected)
         }
     }
 }
@@ -83,9 +83,9 @@ const BOOK: &[u8] =
 
 #[test]
 fn two_workers_after_a_failed_allocation(rt: HostRuntime) {
-    let mut verdict = by_workers(&rt, rt.alloc(), 2, BOOK, &OpenGate);
+    let mut verdict = verdict_by_workers(&rt, rt.alloc(), 2, BOOK, &OpenGate);
     if verdict.is_none() {
-        verdict = by_workers(&rt, rt.alloc(), 2, BOOK, &OpenGate);
+        verdict = verdict_by_workers(&rt, rt.alloc(), 2, BOOK, &OpenGate);
     }
     assert!(rt; verdict == Some(Verdict::Added));
 }

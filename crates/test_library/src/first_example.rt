@@ -20,7 +20,7 @@ pub const NORMAL: &[u8] =
     wim tt a2 tt tze tpl tt tt a1 mp mp $.";
 
 /// The book's first example, with a compressed proof.
-pub const PACKED: &[u8] =
+pub const COMPRESSED: &[u8] =
     b"$c 0 + = -> ( ) term wff |- $. $v t r s P Q $. tt $f term t $. tr $f term r $. \
     ts $f term s $. wp $f wff P $. wq $f wff Q $. tze $a term 0 $. tpl $a term ( t + r ) $. \
     weq $a wff t = r $. wim $a wff ( P -> Q ) $. a1 $a |- ( t = r -> ( t = s -> r = s ) ) $. \

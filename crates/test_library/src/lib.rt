@@ -1,10 +1,8 @@
-//! Tests of the crates up to `library` that rows cannot express: places of tokens and items of proof tokens, texts parsed in
+//! Tests of the crates up to `library` that rows cannot express: spans of tokens and items of proof tokens, texts parsed in
 //! parts, copies of a scope, worked frames, simultaneous substitution, trees of the book's first theorem, verdicts by several
 //! workers in parallel, texts of the greatest length, and verdicts after a failed allocation.
 #![tactic(auto)]
 
-#[cfg(test)]
-mod cut_texts;
 #[cfg(test)]
 mod derivations;
 #[cfg(test)]
@@ -14,11 +12,11 @@ mod first_example;
 #[cfg(test)]
 mod library_workers;
 #[cfg(test)]
-mod meeting;
-#[cfg(test)]
 mod pool_workers;
 #[cfg(test)]
 mod proof_tokens;
+#[cfg(test)]
+mod rendezvous;
 #[cfg(test)]
 mod scopes;
 #[cfg(test)]
@@ -26,6 +24,8 @@ mod substitution;
 #[cfg(test)]
 mod text_entries;
 #[cfg(test)]
-mod token_places;
+mod texts_in_parts;
+#[cfg(test)]
+mod token_spans;
 #[cfg(test)]
 mod worked_frames;

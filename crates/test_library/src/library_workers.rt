@@ -1,8 +1,8 @@
 //! Any number of workers give the same verdict, and two workers run in parallel.
 ghost use Rattle.std.specs.Prelude.{◌≤◌};
 
-use crate::meeting::Meeting;
-use crate::text_entries::{entry, of_new};
+use crate::rendezvous::Rendezvous;
+use crate::text_entries::{entry, with_new_library};
 use bytes::Bytes;
 use library::{Cause, Entry, Library, Verdict};
 use numbers::push_number;
@@ -62,14 +62,14 @@ fn is_judged_by_each<R: Threads + Sync>(
     text: &[u8],
     verdict: Verdict,
 ) -> bool {
-    by_workers(rt, alloc, 1, text, &OpenGate) == Some(verdict)
-        && by_workers(rt, alloc, 2, text, &OpenGate) == Some(verdict)
-        && by_workers(rt, alloc, 3, text, &OpenGate) == Some(verdict)
-        && by_workers(rt, alloc, 16, text, &OpenGate) == Some(verdict)
+    verdict_by_workers(rt, alloc, 1, text, &OpenGate) == Some(verdict)
+        && verdict_by_workers(rt, alloc, 2, text, &OpenGate) == Some(verdict)
+        && verdict_by_workers(rt, alloc, 3, text, &OpenGate) == Some(verdict)
+        && verdict_by_workers(rt, alloc, 16, text, &OpenGate) == Some(verdict)
 }
 
 /// Returns the verdict of a new library with this number of workers.
-pub fn by_workers<G: Gate + Sync, R: Threads + Sync>(
+pub fn verdict_by_workers<G: Gate + Sync, R: Threads + Sync>(
     rt: &R,
     alloc: Global,
     workers: usize,
@@ -80,14 +80,14 @@ pub fn by_workers<G: Gate + Sync, R: Threads + Sync>(
 {
     let entry = entry(1, Bytes::copy_from_slice(alloc, text).ok()?);
     let workers = Workers::of(workers);
-    of_new(
+    with_new_library(
         alloc,
-        |library| asked_again(rt, library, &entry, workers, gate),
+        |library| verdict_with_retry(rt, library, &entry, workers, gate),
     )
 }
 
 /// Returns the verdict on the entry. Repeats the call if an allocation fails.
-fn asked_again<G: Gate + Sync, R: Threads + Sync>(
+fn verdict_with_retry<G: Gate + Sync, R: Threads + Sync>(
     rt: &R,
     library: &mut Library,
     entry: &Entry,
@@ -151,8 +151,8 @@ fn push_proof(text: &mut Vec<u8>, number: u64, is_right: bool) -> Result<(), All
 /// Each of the first two proofs waits at the gate for the other, so two workers run in parallel.
 #[test]
 fn gate_two_proofs(rt: HostRuntime) {
-    let meeting = Meeting::new();
-    let verdict = by_workers(&rt, rt.alloc(), 2, TWO, &meeting);
+    let rendezvous = Rendezvous::new();
+    let verdict = verdict_by_workers(&rt, rt.alloc(), 2, TWO, &rendezvous);
     assert!(rt; verdict == Some(Verdict::Added));
-    assert!(rt; meeting.was_kept());
+    assert!(rt; rendezvous.has_met());
 }

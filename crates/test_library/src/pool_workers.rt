@@ -5,7 +5,7 @@ ghost use Rattle.scope.specs.Active.{bare};
 ghost use Rattle.verify_pool.specs.Jobs.{AreJobs};
 
 use crate::first_example::push;
-use crate::meeting::Meeting;
+use crate::rendezvous::Rendezvous;
 use frame::Frames;
 use mm_lex::Words;
 use mm_read::{Stmt, read};
@@ -31,10 +31,10 @@ fn answered_after_a_failed_allocation(rt: HostRuntime) {
 /// Each of the first two jobs waits at the gate for the other, so two workers run in parallel.
 #[test]
 fn gate_two_jobs(rt: HostRuntime) {
-    let meeting = Meeting::new();
-    let answer = answer_of(&rt, rt.alloc(), TWO, 2, &meeting);
+    let rendezvous = Rendezvous::new();
+    let answer = answer_of(&rt, rt.alloc(), TWO, 2, &rendezvous);
     assert_eq!(rt; answer, Some(None));
-    assert!(rt; meeting.was_kept());
+    assert!(rt; rendezvous.has_met());
 }
 
 /// Returns the answer for the proofs of a text, or `None` if the text is not a legal database or an allocation fails.
@@ -48,13 +48,13 @@ fn answer_of<G: Gate + Sync, R: Threads + Sync>(
     requires { (1 ≤ workers) × (workers ≤ 16) }
 {
     match read(alloc, text) {
-        Ok(statements) => judge(rt, alloc, &statements, workers, gate),
+        Ok(statements) => first_wrong(rt, alloc, &statements, workers, gate),
         Err(_) => None,
     }
 }
 
 /// Returns the answer for the proofs of these statements.
-fn judge<G: Gate + Sync, R: Threads + Sync>(
+fn first_wrong<G: Gate + Sync, R: Threads + Sync>(
     rt: &R,
     alloc: Global,
     statements: &[Stmt],
@@ -66,7 +66,7 @@ fn judge<G: Gate + Sync, R: Threads + Sync>(
 {
     let mut frames = Frames::new(alloc);
     let mut jobs = Vec::new(alloc);
-    let least = judge_in(rt, alloc, statements, workers, gate, &mut jobs, &mut frames);
+    let least = first_wrong_in(rt, alloc, statements, workers, gate, &mut jobs, &mut frames);
     // An explicit `drop` is proved once for each type; a drop at the end of the scope would be proved here.
     drop(jobs);
     drop(frames);
@@ -74,7 +74,7 @@ fn judge<G: Gate + Sync, R: Threads + Sync>(
 }
 
 /// Returns the answer, given empty jobs and frames to fill.
-fn judge_in<G: Gate + Sync, R: Threads + Sync>(
+fn first_wrong_in<G: Gate + Sync, R: Threads + Sync>(
     rt: &R,
     alloc: Global,
     statements: &[Stmt],
@@ -89,14 +89,14 @@ fn judge_in<G: Gate + Sync, R: Threads + Sync>(
     requires jobs { AreJobs frames.old.statements jobs.old.items }
 {
     if push_all(alloc, statements, frames, jobs) {
-        checked_again(rt, alloc, frames, jobs.as_slice(), workers, gate)
+        check_with_retry(rt, alloc, frames, jobs.as_slice(), workers, gate)
     } else {
         None
     }
 }
 
 /// Returns the first job that is wrong, if any. Repeats the call if an allocation fails.
-fn checked_again<G: Gate + Sync, R: Threads + Sync>(
+fn check_with_retry<G: Gate + Sync, R: Threads + Sync>(
     rt: &R,
     alloc: Global,
     frames: &Frames,
@@ -166,7 +166,7 @@ fn push_one(
 }
 
 /// Returns the items of a normal proof. Repeats the call if an allocation fails.
-fn items_again(alloc: Global, tokens: &Words) -> Result<Items, CodeFault> {
+fn items_with_retry(alloc: Global, tokens: &Words) -> Result<Items, CodeFault> {
     match normal(alloc, tokens) {
         Err(CodeFault::Memory) => normal(alloc, tokens),
         items => items,
@@ -180,7 +180,7 @@ fn push_job(alloc: Global, frames: &Frames, stmt: &Stmt, jobs: &mut Vec<Job>) ->
 {
     if let Stmt::Prove { proof, .. } = stmt {
         let at = frames.len();
-        let code = items_again(alloc, proof).ok();
+        let code = items_with_retry(alloc, proof).ok();
         jobs.push(Job { at, code }).ok()?;
     }
     Some(())

@@ -20,9 +20,9 @@ fn items_have_their_numbers(rt: HostRuntime) {
     }
 }
 
-fn has_numbers(alloc: Global, tokens: &[u8], want: &[u32]) -> bool {
+fn has_numbers(alloc: Global, tokens: &[u8], expected: &[u32]) -> bool {
     match items_of(alloc, tokens) {
-        Ok(items) => items.parts().numbers == want,
+        Ok(items) => items.parts().numbers == expected,
         Err(_) => false,
     }
 }
@@ -68,10 +68,10 @@ fn long_word(alloc: Global) -> Result<Vec<u8>, AllocError> {
     Ok(tokens)
 }
 
-fn has_fault(alloc: Global, tokens: &[u8], want: CodeFault) -> bool {
+fn has_fault(alloc: Global, tokens: &[u8], expected: CodeFault) -> bool {
     match items_of(alloc, tokens) {
         Ok(_) => false,
-        Err(fault) => fault == want,
+        Err(fault) => fault == expected,
     }
 }
 

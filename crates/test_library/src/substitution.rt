@@ -15,46 +15,59 @@ const ROWS: [(&[u32], &[u32], &[u32], &[u32]); 3] = [
 ];
 
 #[test]
-fn images_are_put_in_at_once(rt: HostRuntime) {
-    for (x, y, expr, want) in ROWS {
-        assert!(rt; gives(rt.alloc(), x, y, expr, want) == Ok(true), "{expr:?}");
+fn images_are_substituted_at_once(rt: HostRuntime) {
+    for (x, y, expr, expected) in ROWS {
+        assert!(rt;
+            yields(rt.alloc(), x, y, expr, expected) == Ok(true),
+            "{expr:?}"
+        );
     }
 }
 
-/// Returns whether substituting these images of x and y in an expression gives `want`, also when appended to a buffer.
-fn gives(
+/// Returns whether substituting these images of x and y in an expression yields `expected`, also when appended to a buffer.
+fn yields(
     alloc: Global,
     x: &[u32],
     y: &[u32],
     expr: &[u32],
-    want: &[u32],
+    expected: &[u32],
 ) -> Result<bool, AllocError> {
     let mut subst = Subst::new(alloc);
-    gives_by(alloc, &mut subst, x, y, expr, want)
+    yields_by(alloc, &mut subst, x, y, expr, expected)
 }
 
-/// Returns whether it gives `want`, with `subst` empty at first.
-fn gives_by(
+/// Returns whether it yields `expected`, with `subst` empty at first.
+fn yields_by(
     alloc: Global,
     subst: &mut Subst,
     x: &[u32],
     y: &[u32],
     expr: &[u32],
-    want: &[u32],
+    expected: &[u32],
 ) -> Result<bool, AllocError> {
     subst.set(X, &[X, X])?;
     subst.set(X, x)?;
     subst.set(Y, y)?;
-    Ok(becomes(alloc, subst, expr, want)? && is_added(alloc, subst, expr, want)?)
+    Ok(is_result(alloc, subst, expr, expected)? && is_appended(alloc, subst, expr, expected)?)
 }
 
-/// Returns whether the substitution turns the expression into `want`.
-fn becomes(alloc: Global, subst: &Subst, expr: &[u32], want: &[u32]) -> Result<bool, AllocError> {
-    Ok(apply(alloc, subst, expr)?.as_slice() == want)
+/// Returns whether the substitution turns the expression into `expected`.
+fn is_result(
+    alloc: Global,
+    subst: &Subst,
+    expr: &[u32],
+    expected: &[u32],
+) -> Result<bool, AllocError> {
+    Ok(apply(alloc, subst, expr)?.as_slice() == expected)
 }
 
-/// Returns whether appending it to a buffer twice gives `want` twice.
-fn is_added(alloc: Global, subst: &Subst, expr: &[u32], want: &[u32]) -> Result<bool, AllocError> {
+/// Returns whether appending it to a buffer twice yields `expected` twice.
+fn is_appended(
+    alloc: Global,
+    subst: &Subst,
+    expr: &[u32],
+    expected: &[u32],
+) -> Result<bool, AllocError> {
     let mut buffer = Buffer::new(alloc);
     if !has_room(subst, expr, &buffer) {
         return Ok(false);
@@ -64,6 +77,6 @@ fn is_added(alloc: Global, subst: &Subst, expr: &[u32], want: &[u32]) -> Result<
         return Ok(false);
     }
     let _second = apply_into(subst, expr, &mut buffer)?;
-    let rest = buffer.as_slice().strip_prefix(want);
-    Ok(rest == Some(want))
+    let rest = buffer.as_slice().strip_prefix(expected);
+    Ok(rest == Some(expected))
 }

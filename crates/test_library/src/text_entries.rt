@@ -31,15 +31,15 @@ fn texts_have_a_limit(rt: HostRuntime) {
 fn spaces_verdict(alloc: Global, length: usize) -> Option<Verdict> {
     let text = Bytes::from_vec(vec![in alloc; b' '; length].ok()?).ok()?;
     let entry = entry(1, text);
-    of_new(alloc, |library| verdict_on(library, &entry))
+    with_new_library(alloc, |library| verdict_on(library, &entry))
 }
 
-/// Calls `ask` on a new library. The library is dropped explicitly, since `drop` is proved once for each type.
-pub fn of_new<T, F: FnOnce(&mut Library) -> T>(alloc: Global, ask: F) -> T
-    requires { F.IsAlwaysCallable ask }
+/// Calls `action` on a new library. The library is dropped explicitly, since `drop` is proved once for each type.
+pub fn with_new_library<T, F: FnOnce(&mut Library) -> T>(alloc: Global, action: F) -> T
+    requires { F.IsAlwaysCallable action }
 {
     let mut library = Library::new(alloc);
-    let answer = ask(&mut library);
+    let answer = action(&mut library);
     drop(library);
     answer
 }

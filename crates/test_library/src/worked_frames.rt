@@ -14,7 +14,7 @@ const ARITHMETIC: &[u8] = b"$c 0 + = -> ( ) term wff |- $. $v t r s P Q $. \
     ${ min $e |- P $. maj $e |- ( P -> Q ) $. mp $a |- Q $. $}";
 
 /// A `$d` on the variables of `ax`, and one on a dummy variable of `th`.
-const APART: &[u8] = b"$c wff |- R $. $v x y z $. wx $f wff x $. wy $f wff y $. wz $f wff z $. \
+const DISJOINT: &[u8] = b"$c wff |- R $. $v x y z $. wx $f wff x $. wy $f wff y $. wz $f wff z $. \
     ${ $d x y $. ax $a |- x R y $. $} ${ h $e |- x R y $. r $a |- R x $. $} \
     ${ $d x z $. th $p |- R x $= wx wz wx wz ax r $. $}";
 
@@ -30,8 +30,8 @@ const ROWS: [(&[u8], usize, &[usize], &[u8], &[u8]); 5] = [
         b"|- ( t = r -> ( t = s -> r = s ) )",
     ),
     (ARITHMETIC, 7, &[], b"", b"term 0"),
-    (APART, 7, &[3, 4], b"x y", b"|- x R y"),
-    (APART, 15, &[3], b"", b"|- R x"),
+    (DISJOINT, 7, &[3, 4], b"x y", b"|- x R y"),
+    (DISJOINT, 15, &[3], b"", b"|- R x"),
 ];
 
 #[test]

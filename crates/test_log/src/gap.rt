@@ -1,7 +1,7 @@
 //! A scenario with a gap in the log, by the calls that borrow the locked values. Each cell fills the gap, and cells compare as
 //! their statements do, even if the first node's keep fails at any call and the node restarts after any event.
 
-use crate::fuse::{Fuse, entry, restart_first, three};
+use crate::failing_keep::{FailingKeep, entry, make_three, restart_first};
 use cluster::{
     Ahead, NodeCell, Switch, apply_on, begin_on, belongs, compare_on, deliver_on, list_on,
     offer_on, take_on,
@@ -19,7 +19,7 @@ enum Step {
 }
 
 /// Each step with the number of packets posted after it.
-const GAP: [(Step, u64); 17] = [
+const STEPS: [(Step, u64); 17] = [
     (Step::Begin, 3),
     (Step::Deliver(0), 4),
     (Step::Deliver(1), 5),
@@ -41,12 +41,12 @@ const GAP: [(Step, u64); 17] = [
 
 #[test]
 fn each_cell_fills_the_gap(rt: HostRuntime) {
-    assert!(rt; is_filled(rt.alloc()) == Ok(true));
+    assert!(rt; fills_each_cell(rt.alloc()) == Ok(true));
 }
 
-fn is_filled(alloc: Global) -> Result<bool, StepFault> {
-    let (mut switch, mut cells) = three(alloc, Fuse::new(alloc, None, false))?;
-    let filled = makes_and_fills(alloc, &mut switch, &mut cells);
+fn fills_each_cell(alloc: Global) -> Result<bool, StepFault> {
+    let (mut switch, mut cells) = make_three(alloc, FailingKeep::new(alloc, None, false))?;
+    let filled = steps_fill_gap(alloc, &mut switch, &mut cells);
     // An explicit `drop` is proved once for each type; a drop at the end of the scope would be proved here.
     drop(cells);
     drop(switch);
@@ -54,18 +54,18 @@ fn is_filled(alloc: Global) -> Result<bool, StepFault> {
 }
 
 /// Returns whether all steps succeed, and the cells fill the gap.
-fn makes_and_fills(
+fn steps_fill_gap(
     alloc: Global,
-    switch: &mut Switch<Carried, Fuse>,
+    switch: &mut Switch<Carried, FailingKeep>,
     cells: &mut Vec<NodeCell>,
 ) -> Result<bool, StepFault> {
-    Ok(makes_all(alloc, switch) && fills(switch, cells)?)
+    Ok(all_steps_succeed(alloc, switch) && fills_gap(switch, cells)?)
 }
 
 /// Returns whether all steps succeed, and no other packet and no other node exists.
-fn makes_all(alloc: Global, switch: &mut Switch<Carried, Fuse>) -> bool {
-    for (step, want) in GAP {
-        if make(alloc, switch, step) != Ok(want) {
+fn all_steps_succeed(alloc: Global, switch: &mut Switch<Carried, FailingKeep>) -> bool {
+    for (step, posted) in STEPS {
+        if make_step(alloc, switch, step) != Ok(posted) {
             return false;
         }
     }
@@ -73,10 +73,13 @@ fn makes_all(alloc: Global, switch: &mut Switch<Carried, Fuse>) -> bool {
         && begin_on(switch, 3) == Err(StepFault::NoNode)
 }
 
-/// Returns whether each cell adds as many statements as `added_at` returns, and all agree.
-fn fills(switch: &Switch<Carried, Fuse>, cells: &mut Vec<NodeCell>) -> Result<bool, StepFault> {
+/// Returns whether each cell adds as many statements as `expected_added` returns, and all agree.
+fn fills_gap(
+    switch: &Switch<Carried, FailingKeep>,
+    cells: &mut Vec<NodeCell>,
+) -> Result<bool, StepFault> {
     for cell in cells.iter_mut() {
-        if !adds(cell, switch, added_at(cell.at()))? {
+        if !adds_statements(cell, switch, expected_added(cell.at()))? {
             return Ok(false);
         }
     }
@@ -84,7 +87,7 @@ fn fills(switch: &Switch<Carried, Fuse>, cells: &mut Vec<NodeCell>) -> Result<bo
 }
 
 /// Returns how many statements a node is expected to add.
-fn added_at(node: u8) -> usize {
+fn expected_added(node: u8) -> usize {
     match node {
         0 => 1,
         1 => 0,
@@ -93,20 +96,24 @@ fn added_at(node: u8) -> usize {
 }
 
 /// Returns whether the cell copies and applies the entries of its log, and then has `added` statements, none with a label.
-fn adds(
+fn adds_statements(
     cell: &mut NodeCell,
-    switch: &Switch<Carried, Fuse>,
+    switch: &Switch<Carried, FailingKeep>,
     added: usize,
 ) -> Result<bool, StepFault> {
-    let was_ahead = apply_on(cell)?.is_some();
-    settle(cell, switch)?;
-    let is_behind = take_on(cell, switch)? || apply_on(cell)?.is_some();
+    let had_entry = apply_on(cell)?.is_some();
+    copy_and_apply(cell, switch)?;
+    let has_more = take_on(cell, switch)? || apply_on(cell)?.is_some();
     let listed = list_on(cell)?.len();
-    Ok(!was_ahead && !is_behind && listed == 0 && cell.library().statements().len() == added)
+    Ok(!had_entry && !has_more && listed == 0 && cell.library().statements().len() == added)
 }
 
 /// Makes a step of the scenario.
-fn make(alloc: Global, switch: &mut Switch<Carried, Fuse>, step: Step) -> Result<u64, StepFault> {
+fn make_step(
+    alloc: Global,
+    switch: &mut Switch<Carried, FailingKeep>,
+    step: Step,
+) -> Result<u64, StepFault> {
     match step {
         Step::Begin => begin_on(switch, 0),
         Step::Offer(1) => offer_on(switch, 0, entry(alloc, 1, b"$c a $.")?),
@@ -116,7 +123,10 @@ fn make(alloc: Global, switch: &mut Switch<Carried, Fuse>, step: Step) -> Result
 }
 
 /// Copies and applies all entries of the cell's log.
-fn settle(cell: &mut NodeCell, switch: &Switch<Carried, Fuse>) -> Result<(), StepFault> {
+fn copy_and_apply(
+    cell: &mut NodeCell,
+    switch: &Switch<Carried, FailingKeep>,
+) -> Result<(), StepFault> {
     for _entry in 0..3 {
         if !take_on(cell, switch)? {
             break;
@@ -127,10 +137,10 @@ fn settle(cell: &mut NodeCell, switch: &Switch<Carried, Fuse>) -> Result<(), Ste
 }
 
 /// Returns whether each cell belongs to the switch, and each two compare as their statements do.
-fn all_agree(switch: &Switch<Carried, Fuse>, cells: &[NodeCell]) -> bool {
+fn all_agree(switch: &Switch<Carried, FailingKeep>, cells: &[NodeCell]) -> bool {
     for one in cells {
         for other in cells {
-            if ahead(one, other, switch) != Some(counted(one, other)) {
+            if compared(one, other, switch) != Some(ahead_by_count(one, other)) {
                 return false;
             }
         }
@@ -139,7 +149,11 @@ fn all_agree(switch: &Switch<Carried, Fuse>, cells: &[NodeCell]) -> bool {
 }
 
 /// Returns which of two cells is ahead, if both belong to the switch.
-fn ahead(one: &NodeCell, other: &NodeCell, switch: &Switch<Carried, Fuse>) -> Option<Ahead> {
+fn compared(
+    one: &NodeCell,
+    other: &NodeCell,
+    switch: &Switch<Carried, FailingKeep>,
+) -> Option<Ahead> {
     if belongs(one, switch) && belongs(other, switch) {
         Some(compare_on(one, other, switch))
     } else {
@@ -148,7 +162,7 @@ fn ahead(one: &NodeCell, other: &NodeCell, switch: &Switch<Carried, Fuse>) -> Op
 }
 
 /// Returns which cell's library has more statements, by counting them.
-fn counted(one: &NodeCell, other: &NodeCell) -> Ahead {
+fn ahead_by_count(one: &NodeCell, other: &NodeCell) -> Ahead {
     let first = one.library().statements().len();
     let second = other.library().statements().len();
     if first == second {
@@ -161,14 +175,14 @@ fn counted(one: &NodeCell, other: &NodeCell) -> Ahead {
 }
 
 #[test]
-fn stop_at_each(rt: HostRuntime) {
-    for stop in 0..GAP.len() {
+fn restart_after_each(rt: HostRuntime) {
+    for restart in 0..STEPS.len() {
         for calls in 0..18 {
-            let old = agrees(rt.alloc(), Some(calls), false, stop);
-            let new = agrees(rt.alloc(), Some(calls), true, stop);
+            let old = agrees(rt.alloc(), Some(calls), false, restart);
+            let new = agrees(rt.alloc(), Some(calls), true, restart);
             assert!(rt;
                 old == Ok(true) && new == Ok(true),
-                "stop {stop}, call {calls}"
+                "restart {restart}, call {calls}"
             );
         }
     }
@@ -176,33 +190,44 @@ fn stop_at_each(rt: HostRuntime) {
 
 /// Returns whether all cells agree after the steps if node 0 has this keep and restarts after one of them. A step that fails
 /// is skipped. After each step, each cell copies and applies the entries that it can.
-fn agrees(alloc: Global, left: Option<u32>, new: bool, stop: usize) -> Result<bool, StepFault> {
-    let (mut switch, mut cells) = three(alloc, Fuse::new(alloc, left, new))?;
-    let agreed = go_on(alloc, &mut switch, &mut cells, stop);
+fn agrees(
+    alloc: Global,
+    calls_left: Option<u32>,
+    leaves_new: bool,
+    restart: usize,
+) -> Result<bool, StepFault> {
+    let (mut switch, mut cells) = make_three(
+        alloc,
+        FailingKeep::new(alloc, calls_left, leaves_new),
+    )?;
+    let agreed = run_with_restart(alloc, &mut switch, &mut cells, restart);
     drop(cells);
     drop(switch);
     agreed
 }
 
-fn go_on(
+fn run_with_restart(
     alloc: Global,
-    switch: &mut Switch<Carried, Fuse>,
+    switch: &mut Switch<Carried, FailingKeep>,
     cells: &mut Vec<NodeCell>,
-    stop: usize,
+    restart: usize,
 ) -> Result<bool, StepFault> {
-    for (i, (step, _)) in GAP.iter().enumerate() {
-        let _ = make(alloc, switch, *step);
-        settle_each(cells, switch)?;
-        if i == stop {
+    for (i, (step, _)) in STEPS.iter().enumerate() {
+        let _ = make_step(alloc, switch, *step);
+        copy_and_apply_each(cells, switch)?;
+        if i == restart {
             let _ = restart_first(switch, cells);
         }
     }
     Ok(all_agree(switch, cells))
 }
 
-fn settle_each(cells: &mut Vec<NodeCell>, switch: &Switch<Carried, Fuse>) -> Result<(), StepFault> {
+fn copy_and_apply_each(
+    cells: &mut Vec<NodeCell>,
+    switch: &Switch<Carried, FailingKeep>,
+) -> Result<(), StepFault> {
     for cell in cells.iter_mut() {
-        settle(cell, switch)?;
+        copy_and_apply(cell, switch)?;
     }
     Ok(())
 }

@@ -3,11 +3,11 @@
 #![tactic(auto)]
 
 #[cfg(test)]
-mod failing_keeps;
-#[cfg(test)]
-mod fuse;
+mod failing_keep;
 #[cfg(test)]
 mod gap;
+#[cfg(test)]
+mod keep_failures;
 #[cfg(test)]
 mod node_limits;
 #[cfg(test)]

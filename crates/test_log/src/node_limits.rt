@@ -43,12 +43,12 @@ fn is_filled(alloc: Global, node: &mut NodeCore<Number>) -> Option<bool> {
     if node.begin().is_err() {
         return None;
     }
-    let proposed = proposed_behind(alloc, node)?;
+    let proposed = proposals_after_report(alloc, node)?;
     Some(proposed == SLOTS as usize && node.offer(Number(2)).err() == Some(Refusal::LogFull))
 }
 
 /// Returns how many packets the node posts after a promise that reports a value at the last slot.
-fn proposed_behind(alloc: Global, node: &mut NodeCore<Number>) -> Option<usize> {
+fn proposals_after_report(alloc: Global, node: &mut NodeCore<Number>) -> Option<usize> {
     if node.nodes() == 0 {
         return None;
     }
@@ -85,19 +85,19 @@ fn last_reported(alloc: Global) -> Option<Reports<Number>>
 
 #[test]
 fn the_rounds_may_be_spent(rt: HostRuntime) {
-    assert!(rt; spends_its_rounds(rt.alloc()) == Some(true));
+    assert!(rt; has_no_greater_round(rt.alloc()) == Some(true));
 }
 
 /// Returns whether a node that receives a packet of the greatest round begins no ballot.
-fn spends_its_rounds(alloc: Global) -> Option<bool> {
+fn has_no_greater_round(alloc: Global) -> Option<bool> {
     let mut node = NodeCore::new(alloc, 0, Weights::equal(1));
-    let spent = are_spent(&mut node);
+    let refused = begins_no_ballot(&mut node);
     drop(node);
-    spent
+    refused
 }
 
 /// Returns whether a new node begins no ballot after that.
-fn are_spent(node: &mut NodeCore<Number>) -> Option<bool> {
+fn begins_no_ballot(node: &mut NodeCore<Number>) -> Option<bool> {
     if node.nodes() == 0 {
         return None;
     }

@@ -1,6 +1,6 @@
 //! A text submitted at one node is added and listed at each, whichever node leads; a cluster that is stopped still answers
 //! queries; a desk works in another thread.
-use crate::three::{EntryKeep, added_by_all, everywhere, open, text};
+use crate::three_nodes::{EntryKeep, is_added_by_all, same_weathers, start_three_open, text_entry};
 use cluster::Ahead;
 use library::Entry;
 use net::StepFault;
@@ -14,11 +14,11 @@ use synod::Weights;
 use verify_pool::{Gate, OpenGate};
 
 /// The node that leads, and the weight of the first node.
-const ROWS: [(u8, u8); 3] = [(0, 1), (0, 100), (1, 1)];
+const LEADERS: [(u8, u8); 3] = [(0, 1), (0, 100), (1, 1)];
 
 #[test]
 fn three_threads_agree(rt: HostRuntime) {
-    for (leader, heaviest) in ROWS {
+    for (leader, heaviest) in LEADERS {
         assert!(rt;
             agree(&rt, rt.alloc(), leader, heaviest) == Ok(true),
             "{leader} leads"
@@ -35,23 +35,23 @@ fn agree<R: Threads + Wait + Clock + Copy + Send + Sync + Drop + 'static>(
     let Some(weights) = Weights::new(&[heaviest, 1, 1]) else {
         return Ok(false);
     };
-    let weathers = everywhere(alloc, Clear)?;
-    let mut cluster = open(rt, alloc, weights, weathers)?;
-    works(rt, alloc, &mut cluster, leader)
+    let weathers = same_weathers(alloc, Clear)?;
+    let mut cluster = start_three_open(rt, alloc, weights, weathers)?;
+    serves_and_stops(rt, alloc, &mut cluster, leader)
 }
 
 /// Returns whether the cluster serves as expected, and then stops.
-fn works<R: Threads + Wait + Clock>(
+fn serves_and_stops<R: Threads + Wait + Clock>(
     rt: &R,
     alloc: Global,
     cluster: &mut Cluster<OpenGate, EntryKeep>,
     leader: u8,
 ) -> Result<bool, StepFault> {
     let desk = cluster.desk()?;
-    works_at(rt, alloc, cluster, &desk, leader)
+    serves_and_stops_at(rt, alloc, cluster, &desk, leader)
 }
 
-fn works_at<R: Threads + Wait + Clock>(
+fn serves_and_stops_at<R: Threads + Wait + Clock>(
     rt: &R,
     alloc: Global,
     cluster: &mut Cluster<OpenGate, EntryKeep>,
@@ -71,22 +71,22 @@ fn serves<R: Wait + Clock>(
     leader: u8,
 ) -> Result<bool, StepFault> {
     desk.begin(rt, leader)?;
-    desk.submit(rt, leader, text(alloc, 1, b"$c |- $. p $a |- $.")?)?;
+    desk.submit(rt, leader, text_entry(alloc, 1, b"$c |- $. p $a |- $.")?)?;
     Ok(
-        added_by_all(rt, desk, 1)?
-            && lists_alike(rt, desk)?
-            && knows_no_node(rt, alloc, desk, 3)?
-            && comes_back(rt, desk)?,
+        is_added_by_all(rt, desk, 1)?
+            && lists_only_axiom(rt, desk)?
+            && has_no_node(rt, alloc, desk, 3)?
+            && has_text_after_restart(rt, desk)?,
     )
 }
 
 /// Returns whether node 2 has the text again after a restart, from the answers of the others.
-fn comes_back<R: Wait + Clock>(
+fn has_text_after_restart<R: Wait + Clock>(
     rt: &R,
     desk: &Desk<OpenGate, EntryKeep>,
 ) -> Result<bool, StepFault> {
     desk.restart(rt, 2)?;
-    added_by_all(rt, desk, 1)
+    is_added_by_all(rt, desk, 1)
 }
 
 /// Returns whether the cluster stops after its first two nodes of three took events, and then refuses events.
@@ -97,15 +97,15 @@ fn stops<R: Threads + Wait>(
     desk: &Desk<OpenGate, EntryKeep>,
 ) -> Result<bool, StepFault> {
     let report = cluster.stop(rt)?;
-    let worked = match report.handled.as_slice() {
+    let handled = match report.handled.as_slice() {
         [first, second, _] => *first > 0 && *second > 0,
         _ => false,
     };
-    Ok(worked && has_stopped(rt, alloc, cluster, desk)?)
+    Ok(handled && has_stopped(rt, alloc, cluster, desk)?)
 }
 
 /// Returns whether node 1 lists only the axiom p, and no node is ahead.
-fn lists_alike<R: Wait>(rt: &R, desk: &Desk<OpenGate, EntryKeep>) -> Result<bool, StepFault> {
+fn lists_only_axiom<R: Wait>(rt: &R, desk: &Desk<OpenGate, EntryKeep>) -> Result<bool, StepFault> {
     let list = desk.list(rt, 1)?;
     let listed = match list.as_slice() {
         [only] => !only.proved && only.label.as_bytes() == b"p".as_slice(),
@@ -115,7 +115,7 @@ fn lists_alike<R: Wait>(rt: &R, desk: &Desk<OpenGate, EntryKeep>) -> Result<bool
 }
 
 /// Returns whether each call at that node reports that there is no such node.
-fn knows_no_node<R: Wait>(
+fn has_no_node<R: Wait>(
     rt: &R,
     alloc: Global,
     desk: &Desk<OpenGate, EntryKeep>,
@@ -123,7 +123,7 @@ fn knows_no_node<R: Wait>(
 ) -> Result<bool, StepFault> {
     Ok(
         desk.begin(rt, k) == Err(StepFault::NoNode)
-            && desk.submit(rt, k, text(alloc, 1, b"")?) == Err(StepFault::NoNode)
+            && desk.submit(rt, k, text_entry(alloc, 1, b"")?) == Err(StepFault::NoNode)
             && desk.restart(rt, k) == Err(StepFault::NoNode),
     )
 }
@@ -137,24 +137,24 @@ fn has_stopped<R: Threads + Wait>(
 ) -> Result<bool, StepFault> {
     Ok(
         desk.begin(rt, 0) == Err(StepFault::Stopped)
-            && desk.submit(rt, 0, text(alloc, 2, b"")?) == Err(StepFault::Stopped)
+            && desk.submit(rt, 0, text_entry(alloc, 2, b"")?) == Err(StepFault::Stopped)
             && desk.restart(rt, 0) == Err(StepFault::Stopped)
             && matches!(cluster.stop(rt), Err(StepFault::Stopped))
-            && lists_alike(rt, desk)?,
+            && lists_only_axiom(rt, desk)?,
     )
 }
 
 #[test]
 fn a_desk_in_another_thread(rt: HostRuntime) {
-    assert!(rt; submits_elsewhere(&rt, rt.alloc()) == Ok(true));
+    assert!(rt; adds_from_thread(&rt, rt.alloc()) == Ok(true));
 }
 
-fn submits_elsewhere<R: Threads + Wait + Clock + Copy + Send + Sync + Drop + 'static>(
+fn adds_from_thread<R: Threads + Wait + Clock + Copy + Send + Sync + Drop + 'static>(
     rt: &R,
     alloc: Global,
 ) -> Result<bool, StepFault> {
-    let weathers = everywhere(alloc, Clear)?;
-    let mut cluster = open(rt, alloc, Weights::equal(3), weathers)?;
+    let weathers = same_weathers(alloc, Clear)?;
+    let mut cluster = start_three_open(rt, alloc, Weights::equal(3), weathers)?;
     adds_and_stops(rt, alloc, &mut cluster)
 }
 
@@ -164,33 +164,33 @@ fn adds_and_stops<R: Threads + Wait + Clock + Copy + Send + Sync + Drop + 'stati
     alloc: Global,
     cluster: &mut Cluster<OpenGate, EntryKeep>,
 ) -> Result<bool, StepFault> {
-    let added = adds_theirs(rt, alloc, cluster);
+    let added = adds_text_of_thread(rt, alloc, cluster);
     cluster.stop(rt)?;
     added
 }
 
 /// Returns whether each node adds a text that another thread submits.
-fn adds_theirs<R: Threads + Wait + Clock + Copy + Send + Sync + Drop + 'static>(
+fn adds_text_of_thread<R: Threads + Wait + Clock + Copy + Send + Sync + Drop + 'static>(
     rt: &R,
     alloc: Global,
     cluster: &Cluster<OpenGate, EntryKeep>,
 ) -> Result<bool, StepFault> {
     let desk = cluster.desk()?;
-    let submitted = submit_elsewhere(rt, alloc, cluster);
-    Ok(submitted == Ok(()) && added_by_all(rt, &desk, 1)?)
+    let submitted = submit_from_thread(rt, alloc, cluster);
+    Ok(submitted == Ok(()) && is_added_by_all(rt, &desk, 1)?)
 }
 
 /// Has another thread begin a ballot and submit a text, and joins it.
-fn submit_elsewhere<R: Threads + Wait + Copy + Send + Sync + Drop + 'static>(
+fn submit_from_thread<R: Threads + Wait + Copy + Send + Sync + Drop + 'static>(
     rt: &R,
     alloc: Global,
     cluster: &Cluster<OpenGate, EntryKeep>,
 ) -> Result<(), StepFault> {
-    let entry = text(alloc, 1, b"$c a $.")?;
-    let theirs = cluster.desk()?;
-    let handle = *rt;
-    match thread::spawn(rt, move || submit_first(handle, theirs, entry)) {
-        Ok(author) => author.join(rt),
+    let entry = text_entry(alloc, 1, b"$c a $.")?;
+    let thread_desk = cluster.desk()?;
+    let thread_rt = *rt;
+    match thread::spawn(rt, move || submit_first(thread_rt, thread_desk, entry)) {
+        Ok(thread) => thread.join(rt),
         Err(_) => Err(StepFault::Memory),
     }
 }

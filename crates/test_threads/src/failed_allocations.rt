@@ -1,5 +1,5 @@
 //! A text has a verdict even if any one allocation fails.
-use crate::three::{EntryKeep, everywhere, open, settled, text};
+use crate::three_nodes::{EntryKeep, polled_verdict, same_weathers, start_three_open, text_entry};
 use library::Verdict;
 use net::StepFault;
 use nodes::{Clear, Cluster, Desk};
@@ -26,8 +26,8 @@ fn decided_by_three<R: Threads + Wait + Clock + Copy + Send + Sync + Drop + 'sta
     rt: &R,
     alloc: Global,
 ) -> Result<Option<Verdict>, StepFault> {
-    let weathers = everywhere(alloc, Clear)?;
-    let mut cluster = open(rt, alloc, Weights::equal(3), weathers)?;
+    let weathers = same_weathers(alloc, Clear)?;
+    let mut cluster = start_three_open(rt, alloc, Weights::equal(3), weathers)?;
     decided_and_stopped(rt, alloc, &mut cluster)
 }
 
@@ -54,13 +54,13 @@ fn decided<G: Gate, R: Wait + Clock>(
     alloc: Global,
     desk: &Desk<G, EntryKeep>,
 ) -> Result<Option<Verdict>, StepFault> {
-    for _turn in 0..30u8 {
+    for _attempt in 0..30u8 {
         if desk.begin(rt, 0) == Err(StepFault::Down) {
             let _restarted = desk.restart(rt, 0);
             let _begun = desk.begin(rt, 0);
         }
-        let _offered = desk.submit(rt, 0, text(alloc, 1, b"$c |- $. p $a |- $.")?);
-        let verdict = settled(rt, desk, 0, 1, 200)?;
+        let _offered = desk.submit(rt, 0, text_entry(alloc, 1, b"$c |- $. p $a |- $.")?);
+        let verdict = polled_verdict(rt, desk, 0, 1, 200)?;
         if verdict.is_some() {
             return Ok(verdict);
         }

@@ -1,5 +1,5 @@
 //! Two nodes apply an entry in parallel: each waits for the other before it does.
-use crate::three::{EntryKeep, added_by_all, everywhere, submit_one, three};
+use crate::three_nodes::{EntryKeep, is_added_by_all, same_weathers, start_three, submit_text};
 use net::StepFault;
 use nodes::{Clear, Cluster, Desk};
 use std::alloc::Global;
@@ -13,15 +13,15 @@ use verify_pool::{Gate, Place};
 
 /// A gate that holds each of the first two nodes before an entry until the other has arrived.
 #[derive(Drop)]
-struct Meeting {
-    first: AtomicBool,
-    second: AtomicBool,
-    missed: AtomicBool,
+struct Rendezvous {
+    first_arrived: AtomicBool,
+    second_arrived: AtomicBool,
+    timed_out: AtomicBool,
 }
 
-impl Meeting {
-    fn meet(&self, mine: &AtomicBool, other: &AtomicBool) {
-        mine.store(true, Ordering::SeqCst);
+impl Rendezvous {
+    fn wait_for(&self, this: &AtomicBool, other: &AtomicBool) {
+        this.store(true, Ordering::SeqCst);
         for turn in 0..1_000_000_000u32 {
             if other.load(Ordering::SeqCst) {
                 return;
@@ -30,15 +30,15 @@ impl Meeting {
                 thread::yield_now();
             }
         }
-        self.missed.store(true, Ordering::SeqCst);
+        self.timed_out.store(true, Ordering::SeqCst);
     }
 }
 
-impl Gate for Meeting {
+impl Gate for Rendezvous {
     fn pass(&self, place: Place) {
         match place {
-            Place::Apply(0) => self.meet(&self.first, &self.second),
-            Place::Apply(1) => self.meet(&self.second, &self.first),
+            Place::Apply(0) => self.wait_for(&self.first_arrived, &self.second_arrived),
+            Place::Apply(1) => self.wait_for(&self.second_arrived, &self.first_arrived),
             _ => {}
         }
     }
@@ -46,34 +46,34 @@ impl Gate for Meeting {
 
 #[test]
 fn gate_two_nodes(rt: HostRuntime) {
-    assert!(rt; meet(&rt, rt.alloc()) == Ok(true));
+    assert!(rt; two_nodes_wait(&rt, rt.alloc()) == Ok(true));
 }
 
 /// Returns whether the first two nodes, which wait for each other, both add a text.
-fn meet<R: Threads + Wait + Clock + Copy + Send + Sync + Drop + 'static>(
+fn two_nodes_wait<R: Threads + Wait + Clock + Copy + Send + Sync + Drop + 'static>(
     rt: &R,
     alloc: Global,
 ) -> Result<bool, StepFault> {
-    let meeting = Meeting {
-        first: AtomicBool::new(false),
-        second: AtomicBool::new(false),
-        missed: AtomicBool::new(false),
+    let rendezvous = Rendezvous {
+        first_arrived: AtomicBool::new(false),
+        second_arrived: AtomicBool::new(false),
+        timed_out: AtomicBool::new(false),
     };
-    let Ok(gate) = Arc::new(alloc, meeting) else {
+    let Ok(gate) = Arc::new(alloc, rendezvous) else {
         return Err(StepFault::Memory);
     };
-    let added = meet_at(rt, alloc, Arc::try_clone(&gate)?);
-    Ok(added? && !gate.missed.load(Ordering::SeqCst))
+    let added = three_nodes_add(rt, alloc, Arc::try_clone(&gate)?);
+    Ok(added? && !gate.timed_out.load(Ordering::SeqCst))
 }
 
 /// Returns whether three nodes with this gate add a text.
-fn meet_at<R: Threads + Wait + Clock + Copy + Send + Sync + Drop + 'static>(
+fn three_nodes_add<R: Threads + Wait + Clock + Copy + Send + Sync + Drop + 'static>(
     rt: &R,
     alloc: Global,
-    gate: Arc<Meeting>,
+    gate: Arc<Rendezvous>,
 ) -> Result<bool, StepFault> {
-    let weathers = everywhere(alloc, Clear)?;
-    let mut cluster = three(rt, alloc, Weights::equal(3), gate, weathers)?;
+    let weathers = same_weathers(alloc, Clear)?;
+    let mut cluster = start_three(rt, alloc, Weights::equal(3), gate, weathers)?;
     let added = adds_one(rt, alloc, &cluster);
     cluster.stop(rt)?;
     added
@@ -82,7 +82,7 @@ fn meet_at<R: Threads + Wait + Clock + Copy + Send + Sync + Drop + 'static>(
 fn adds_one<R: Wait + Clock>(
     rt: &R,
     alloc: Global,
-    cluster: &Cluster<Meeting, EntryKeep>,
+    cluster: &Cluster<Rendezvous, EntryKeep>,
 ) -> Result<bool, StepFault> {
     let desk = cluster.desk()?;
     adds_at(rt, alloc, &desk)
@@ -91,9 +91,9 @@ fn adds_one<R: Wait + Clock>(
 fn adds_at<R: Wait + Clock>(
     rt: &R,
     alloc: Global,
-    desk: &Desk<Meeting, EntryKeep>,
+    desk: &Desk<Rendezvous, EntryKeep>,
 ) -> Result<bool, StepFault> {
     desk.begin(rt, 0)?;
-    submit_one(rt, alloc, desk, 1, b"$c a $.")?;
-    added_by_all(rt, desk, 1)
+    submit_text(rt, alloc, desk, 1, b"$c a $.")?;
+    is_added_by_all(rt, desk, 1)
 }

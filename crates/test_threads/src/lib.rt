@@ -8,6 +8,6 @@ mod failed_allocations;
 #[cfg(test)]
 mod gates;
 #[cfg(test)]
-mod three;
+mod three_nodes;
 #[cfg(test)]
 mod weathers;

@@ -1,7 +1,10 @@
 //! Repeated and delayed hints, a restart, and a gap in one node's log that a later answer fills.
 ghost use Rattle.std.specs.Prelude.{◌≡◌, length, IfOk};
 
-use crate::three::{EntryKeep, OFTEN, added_by_all, everywhere, open, settled, submit_one, text};
+use crate::three_nodes::{
+    EntryKeep, MAX_POLLS, is_added_by_all, polled_verdict, same_weathers, start_three_open,
+    submit_text, text_entry,
+};
 use library::{Entry, Library, Verdict};
 use net::StepFault;
 use nodes::{Cluster, Desk, Fate, Weather};
@@ -16,9 +19,9 @@ use verify_pool::{Gate, OpenGate};
 
 /// Passes, repeats and delays hints in turn.
 #[derive(Clone, Copy)]
-struct Turns(u8);
+struct CyclingWeather(u8);
 
-impl Weather for Turns {
+impl Weather for CyclingWeather {
     fn turn(&mut self, _number: u64) -> Fate {
         match self.0 {
             0 => {
@@ -47,34 +50,34 @@ const TEXTS: [(u64, &[u8]); 4] = [
 
 #[test]
 fn served_by_all(rt: HostRuntime) {
-    assert!(rt; serve_as_one(&rt, rt.alloc()) == Ok(true));
+    assert!(rt; nodes_answer_alike(&rt, rt.alloc()) == Ok(true));
 }
 
 /// Returns whether each node answers like one library to which the texts are applied in order, also after a restart.
-fn serve_as_one<R: Threads + Wait + Clock + Copy + Send + Sync + Drop + 'static>(
+fn nodes_answer_alike<R: Threads + Wait + Clock + Copy + Send + Sync + Drop + 'static>(
     rt: &R,
     alloc: Global,
 ) -> Result<bool, StepFault> {
     let mut library = Library::new(alloc);
-    let served = serve_as(rt, alloc, &mut library);
+    let served = nodes_answer_like_new(rt, alloc, &mut library);
     // An explicit `drop` is proved once for each type; a drop at the end of the scope would be proved here.
     drop(library);
     served
 }
 
 /// Returns whether each node answers like this new library after the texts are applied to it.
-fn serve_as<R: Threads + Wait + Clock + Copy + Send + Sync + Drop + 'static>(
+fn nodes_answer_like_new<R: Threads + Wait + Clock + Copy + Send + Sync + Drop + 'static>(
     rt: &R,
     alloc: Global,
     library: &mut Library,
 ) -> Result<bool, StepFault> {
-    Ok(apply_all(alloc, library)? && serve_like(rt, alloc, library)?)
+    Ok(apply_all(alloc, library)? && nodes_answer_like(rt, alloc, library)?)
 }
 
 /// Applies the texts to the library in order. Returns whether it has three statements then.
 fn apply_all(alloc: Global, library: &mut Library) -> Result<bool, AllocError> {
     for (serial, source) in TEXTS {
-        apply_one(library, &text(alloc, serial, source)?)?;
+        apply_one(library, &text_entry(alloc, serial, source)?)?;
     }
     Ok(library.statements().len() == 3)
 }
@@ -85,59 +88,59 @@ fn apply_one(library: &mut Library, entry: &Entry) -> Result<(), AllocError> {
 }
 
 /// Returns whether each of three nodes answers like that library, also after a restart.
-fn serve_like<R: Threads + Wait + Clock + Copy + Send + Sync + Drop + 'static>(
+fn nodes_answer_like<R: Threads + Wait + Clock + Copy + Send + Sync + Drop + 'static>(
     rt: &R,
     alloc: Global,
     library: &Library,
 ) -> Result<bool, StepFault> {
-    let weathers = everywhere(alloc, Turns(0))?;
-    let mut cluster = open(rt, alloc, Weights::equal(3), weathers)?;
-    serves_and_stops(rt, alloc, &mut cluster, library)
+    let weathers = same_weathers(alloc, CyclingWeather(0))?;
+    let mut cluster = start_three_open(rt, alloc, Weights::equal(3), weathers)?;
+    answers_and_stops(rt, alloc, &mut cluster, library)
 }
 
 /// Returns whether the nodes of this cluster answer like the library, and stops the cluster.
-fn serves_and_stops<R: Threads + Wait + Clock>(
+fn answers_and_stops<R: Threads + Wait + Clock>(
     rt: &R,
     alloc: Global,
     cluster: &mut Cluster<OpenGate, EntryKeep>,
     library: &Library,
 ) -> Result<bool, StepFault> {
-    let served = serve_all(rt, alloc, cluster, library);
+    let served = cluster_answers_like(rt, alloc, cluster, library);
     cluster.stop(rt)?;
     served
 }
 
-fn serve_all<R: Wait + Clock>(
+fn cluster_answers_like<R: Wait + Clock>(
     rt: &R,
     alloc: Global,
     cluster: &Cluster<OpenGate, EntryKeep>,
     library: &Library,
 ) -> Result<bool, StepFault> {
     let desk = cluster.desk()?;
-    serve_at(rt, alloc, &desk, library)
+    desk_answers_like(rt, alloc, &desk, library)
 }
 
-fn serve_at<R: Wait + Clock>(
+fn desk_answers_like<R: Wait + Clock>(
     rt: &R,
     alloc: Global,
     desk: &Desk<OpenGate, EntryKeep>,
     library: &Library,
 ) -> Result<bool, StepFault> {
-    if !is_new(rt, desk)? {
+    if !lists_nothing(rt, desk)? {
         return Ok(false);
     }
     submit_all(rt, alloc, desk)?;
     for k in [0, 1, 2] {
-        if !serves(rt, desk, k, library)? {
+        if !node_answers_like(rt, desk, k, library)? {
             return Ok(false);
         }
     }
     desk.restart(rt, 2)?;
-    serves(rt, desk, 2, library)
+    node_answers_like(rt, desk, 2, library)
 }
 
 /// Returns whether each node lists no assertion.
-fn is_new<R: Wait>(rt: &R, desk: &Desk<OpenGate, EntryKeep>) -> Result<bool, StepFault> {
+fn lists_nothing<R: Wait>(rt: &R, desk: &Desk<OpenGate, EntryKeep>) -> Result<bool, StepFault> {
     for k in [0, 1, 2] {
         if !desk.list(rt, k)?.is_empty() {
             return Ok(false);
@@ -154,54 +157,54 @@ fn submit_all<G: Gate, R: Wait>(
 ) -> Result<(), StepFault> {
     desk.begin(rt, 0)?;
     for (serial, source) in TEXTS {
-        submit_one(rt, alloc, desk, serial, source)?;
+        submit_text(rt, alloc, desk, serial, source)?;
     }
     Ok(())
 }
 
 /// Returns whether node `k` has the verdicts and the assertions of that library.
-fn serves<G: Gate, R: Wait + Clock>(
+fn node_answers_like<G: Gate, R: Wait + Clock>(
     rt: &R,
     desk: &Desk<G, EntryKeep>,
     k: u8,
     library: &Library,
 ) -> Result<bool, StepFault> {
     for serial in [1, 2, 3] {
-        if settled(rt, desk, k, serial, OFTEN)? != library.status(7, serial) {
+        if polled_verdict(rt, desk, k, serial, MAX_POLLS)? != library.status(7, serial) {
             return Ok(false);
         }
     }
     let list = desk.list(rt, k)?;
-    let want = library.list()?;
-    let same = list.iter().zip(want.iter()).all(|(one, other)| {
+    let expected = library.list()?;
+    let same = list.iter().zip(expected.iter()).all(|(one, other)| {
         one.label.as_bytes() == other.label.as_bytes() && one.proved == other.proved
     });
-    Ok(same && list.len() == want.len())
+    Ok(same && list.len() == expected.len())
 }
 
-/// With this setting of the test a node's hints pass; with `LOSE` they are lost, with `HOLD` they are delayed.
+/// With this setting of the test a node's hints pass; with `LOSE` they are lost, with `DELAY` they are delayed.
 const PASS: u8 = 0;
 
 const LOSE: u8 = 1;
 
-const HOLD: u8 = 2;
+const DELAY: u8 = 2;
 
 /// Passes a node's first hint, and treats the others as the test sets.
 #[derive(Drop)]
-struct Told {
-    told: Arc<AtomicU8>,
+struct SetWeather {
+    setting: Arc<AtomicU8>,
     first: bool,
 }
 
-impl Weather for Told {
+impl Weather for SetWeather {
     fn turn(&mut self, _number: u64) -> Fate {
         if self.first {
             self.first = false;
             return Fate::Pass;
         }
-        match self.told.load(Ordering::SeqCst) {
+        match self.setting.load(Ordering::SeqCst) {
             LOSE => Fate::Drop,
-            HOLD => Fate::Later,
+            DELAY => Fate::Later,
             _ => Fate::Pass,
         }
     }
@@ -224,8 +227,8 @@ fn fills_its_gap<R: Threads + Wait + Clock + Copy + Send + Sync + Drop + 'static
     ) else {
         return Err(StepFault::Memory);
     };
-    let weathers = all_told(alloc, &first, &last)?;
-    let mut cluster = open(rt, alloc, Weights::equal(3), weathers)?;
+    let weathers = all_weathers(alloc, &first, &last)?;
+    let mut cluster = start_three_open(rt, alloc, Weights::equal(3), weathers)?;
     learns_and_stops(rt, alloc, &mut cluster, &first, &last)
 }
 
@@ -243,23 +246,23 @@ fn learns_and_stops<R: Threads + Wait + Clock>(
 }
 
 /// Returns three weathers: two share the first setting, and the third has the last.
-fn all_told(
+fn all_weathers(
     alloc: Global,
     first: &Arc<AtomicU8>,
     last: &Arc<AtomicU8>,
-) -> Result<Vec<Told>, AllocError>
+) -> Result<Vec<SetWeather>, AllocError>
     ensures { IfOk result (λ weathers. length weathers.items ≡ 3) }
 {
     let mut weathers = Vec::with_capacity(alloc, 3)?;
-    weathers.push_reserved(told_by(first)?);
-    weathers.push_reserved(told_by(first)?);
-    weathers.push_reserved(told_by(last)?);
+    weathers.push_reserved(weather_of(first)?);
+    weathers.push_reserved(weather_of(first)?);
+    weathers.push_reserved(weather_of(last)?);
     Ok(weathers)
 }
 
-fn told_by(told: &Arc<AtomicU8>) -> Result<Told, AllocError> {
-    Ok(Told {
-        told: Arc::try_clone(told)?,
+fn weather_of(setting: &Arc<AtomicU8>) -> Result<SetWeather, AllocError> {
+    Ok(SetWeather {
+        setting: Arc::try_clone(setting)?,
         first: true,
     })
 }
@@ -284,22 +287,22 @@ fn learns_at<R: Wait + Clock>(
 ) -> Result<bool, StepFault> {
     desk.begin(rt, 0)?;
     let decided = decide(rt, alloc, desk, 1)?;
-    last.store(HOLD, Ordering::SeqCst);
+    last.store(DELAY, Ordering::SeqCst);
     let more = decide(rt, alloc, desk, 2)?
         && decide(rt, alloc, desk, 3)?
         && decide(rt, alloc, desk, 4)?
         && decide(rt, alloc, desk, 5)?;
     first.store(LOSE, Ordering::SeqCst);
     last.store(PASS, Ordering::SeqCst);
-    thread::sleep(rt, Duration::from_millis(QUIET));
+    thread::sleep(rt, Duration::from_millis(TRANSIT_MILLIS));
     first.store(PASS, Ordering::SeqCst);
-    let missed = desk.status(rt, 2, 7, 5)?.is_none();
-    submit_one(rt, alloc, desk, 6, b"$c a $.")?;
-    Ok(decided && more && missed && added_by_all(rt, desk, 6)?)
+    let lacks_fifth = desk.status(rt, 2, 7, 5)?.is_none();
+    submit_text(rt, alloc, desk, 6, b"$c a $.")?;
+    Ok(decided && more && lacks_fifth && is_added_by_all(rt, desk, 6)?)
 }
 
 /// How many milliseconds the test waits for hints in transit.
-const QUIET: u64 = 100;
+const TRANSIT_MILLIS: u64 = 100;
 
 /// Submits a text at node 0. Returns whether the first two nodes add it, after its hints have reached the third.
 fn decide<R: Wait + Clock>(
@@ -308,10 +311,10 @@ fn decide<R: Wait + Clock>(
     desk: &Desk<OpenGate, EntryKeep>,
     serial: u64,
 ) -> Result<bool, StepFault> {
-    submit_one(rt, alloc, desk, serial, b"")?;
+    submit_text(rt, alloc, desk, serial, b"")?;
     let added = Some(Verdict::Added);
-    let decided = settled(rt, desk, 0, serial, OFTEN)? == added
-        && settled(rt, desk, 1, serial, OFTEN)? == added;
-    thread::sleep(rt, Duration::from_millis(QUIET));
+    let decided = polled_verdict(rt, desk, 0, serial, MAX_POLLS)? == added
+        && polled_verdict(rt, desk, 1, serial, MAX_POLLS)? == added;
+    thread::sleep(rt, Duration::from_millis(TRANSIT_MILLIS));
     Ok(decided)
 }

@@ -13,5 +13,5 @@ mod parts;
 mod style;
 mod timeline;
 
-pub use grid::{MOST_ROWS, Place};
-pub use timeline::{Sign, Timeline};
+pub use grid::{GridPoint, MOST_ROWS};
+pub use timeline::{PointStyle, Timeline};

@@ -1,58 +1,66 @@
 //! The parts of a picture: lines, points and texts.
-use crate::grid::{EDGE, Place, STUMP_DEPTH, column, stump_end};
+use crate::grid::{GridPoint, STUMP_DEPTH, TOP_EDGE, column_x, stump_end};
 use numbers::push_number;
 use std::alloc::AllocError;
 
 /// How far an arrow from a node to itself goes to the left.
-const BULGE: u64 = 30;
+const LOOP_WIDTH: u64 = 30;
 
 /// How many characters fit below a stump without covering those of the next stump.
 const MOST_CHARACTERS: usize = 8;
 
 /// Appends some text and a number.
-pub(crate) fn push_at(text: &mut Vec<u8>, before: &[u8], number: u64) -> Result<(), AllocError> {
+pub(crate) fn push_numbered(
+    text: &mut Vec<u8>,
+    before: &[u8],
+    number: u64,
+) -> Result<(), AllocError> {
     text.extend_from_slice(before)?;
     push_number(text, number)
 }
 
 /// Appends two numbers, each after some text.
-fn push_pair(
+fn push_two_numbered(
     text: &mut Vec<u8>,
     first: &[u8],
     x: u64,
     second: &[u8],
     y: u64,
 ) -> Result<(), AllocError> {
-    push_at(text, first, x)?;
-    push_at(text, second, y)
+    push_numbered(text, first, x)?;
+    push_numbered(text, second, y)
 }
 
 /// Appends the line of a node, down to `bottom`, and the name of the node above it.
 pub(crate) fn push_node(text: &mut Vec<u8>, node: u8, bottom: u64) -> Result<(), AllocError> {
-    let x = column(node);
-    push_pair(text, b"<path class=\"l\" d=\"M", x, b" ", EDGE)?;
-    push_at(text, b"V", bottom)?;
-    push_pair(
+    let x = column_x(node);
+    push_two_numbered(text, b"<path class=\"l\" d=\"M", x, b" ", TOP_EDGE)?;
+    push_numbered(text, b"V", bottom)?;
+    push_two_numbered(
         text,
         b"\"/>\n<text class=\"h\" x=\"",
         x,
         b"\" y=\"",
-        EDGE - 12,
+        TOP_EDGE - 12,
     )?;
-    push_at(text, b"\">node ", u64::from(node))?;
+    push_numbered(text, b"\">node ", u64::from(node))?;
     text.extend_from_slice(b"</text>\n")
 }
 
 /// Appends an arrow: a straight one between two nodes, a bent one from a node to itself.
-pub(crate) fn push_arrow(text: &mut Vec<u8>, from: Place, to: Place) -> Result<(), AllocError> {
-    push_pair(text, b"<path d=\"M", from.x(), b" ", from.y())?;
+pub(crate) fn push_arrow(
+    text: &mut Vec<u8>,
+    from: GridPoint,
+    to: GridPoint,
+) -> Result<(), AllocError> {
+    push_two_numbered(text, b"<path d=\"M", from.x(), b" ", from.y())?;
     if from.node == to.node {
-        let side = to.x().saturating_sub(BULGE);
-        push_pair(text, b"C", side, b" ", from.y())?;
-        push_pair(text, b" ", side, b" ", to.y())?;
-        push_pair(text, b" ", to.x(), b" ", to.y())?;
+        let side = to.x().saturating_sub(LOOP_WIDTH);
+        push_two_numbered(text, b"C", side, b" ", from.y())?;
+        push_two_numbered(text, b" ", side, b" ", to.y())?;
+        push_two_numbered(text, b" ", to.x(), b" ", to.y())?;
     } else {
-        push_pair(text, b"L", to.x(), b" ", to.y())?;
+        push_two_numbered(text, b"L", to.x(), b" ", to.y())?;
     }
     text.extend_from_slice(b"\" marker-end=\"url(#a)\"/>\n")
 }
@@ -60,13 +68,13 @@ pub(crate) fn push_arrow(text: &mut Vec<u8>, from: Place, to: Place) -> Result<(
 /// Appends a stump towards a node, with a title.
 pub(crate) fn push_stump(
     text: &mut Vec<u8>,
-    from: Place,
+    from: GridPoint,
     to: u8,
     title: &[u8],
 ) -> Result<(), AllocError> {
     let end = stump_end(from.node, to);
-    push_pair(text, b"<path class=\"s\" d=\"M", from.x(), b" ", from.y())?;
-    push_pair(text, b"L", end, b" ", from.y() + STUMP_DEPTH)?;
+    push_two_numbered(text, b"<path class=\"s\" d=\"M", from.x(), b" ", from.y())?;
+    push_two_numbered(text, b"L", end, b" ", from.y() + STUMP_DEPTH)?;
     text.extend_from_slice(b"\"><title>")?;
     text.extend_from_slice(title)?;
     text.extend_from_slice(b"</title></path>\n")
@@ -76,12 +84,12 @@ pub(crate) fn push_stump(
 /// only the first ones are shown, followed by `..`.
 pub(crate) fn push_stump_numbers(
     text: &mut Vec<u8>,
-    from: Place,
+    from: GridPoint,
     to: u8,
     numbers: &[u8],
 ) -> Result<(), AllocError> {
     let end = stump_end(from.node, to);
-    push_pair(
+    push_two_numbered(
         text,
         b"<text class=\"n\" x=\"",
         end,
@@ -111,34 +119,34 @@ fn first_numbers(numbers: &[u8]) -> &[u8] {
 }
 
 /// Appends a break of a node's line.
-pub(crate) fn push_break(text: &mut Vec<u8>, at: Place) -> Result<(), AllocError> {
+pub(crate) fn push_break(text: &mut Vec<u8>, at: GridPoint) -> Result<(), AllocError> {
     let (x, y) = (at.x(), at.y());
-    push_pair(text, b"<path class=\"g\" d=\"M", x, b" ", y - 8)?;
-    push_pair(
+    push_two_numbered(text, b"<path class=\"g\" d=\"M", x, b" ", y - 8)?;
+    push_two_numbered(
         text,
         b"v16\"/>\n<path class=\"b\" d=\"M",
         x - 7,
         b" ",
         y - 8,
     )?;
-    push_pair(text, b"h14M", x - 7, b" ", y + 8)?;
+    push_two_numbered(text, b"h14M", x - 7, b" ", y + 8)?;
     text.extend_from_slice(b"h14\"/>\n")
 }
 
 /// Appends a point; `class` is an attribute of the element, or empty.
-pub(crate) fn push_dot(text: &mut Vec<u8>, at: Place, class: &[u8]) -> Result<(), AllocError> {
+pub(crate) fn push_dot(text: &mut Vec<u8>, at: GridPoint, class: &[u8]) -> Result<(), AllocError> {
     text.extend_from_slice(b"<circle")?;
     text.extend_from_slice(class)?;
-    push_pair(text, b" cx=\"", at.x(), b"\" cy=\"", at.y())?;
+    push_two_numbered(text, b" cx=\"", at.x(), b"\" cy=\"", at.y())?;
     text.extend_from_slice(b"\" r=\"4\"/>\n")
 }
 
 /// Appends the number of a row at the left, and the start of its text.
-pub(crate) fn push_row(text: &mut Vec<u8>, at: Place, number: u64) -> Result<(), AllocError> {
+pub(crate) fn push_row(text: &mut Vec<u8>, at: GridPoint, number: u64) -> Result<(), AllocError> {
     let base = at.y() + 4;
-    push_at(text, b"<text class=\"r\" x=\"40\" y=\"", base)?;
-    push_at(text, b"\">", number)?;
-    push_pair(text, b"</text>\n<text x=\"", at.x() + 10, b"\" y=\"", base)?;
+    push_numbered(text, b"<text class=\"r\" x=\"40\" y=\"", base)?;
+    push_numbered(text, b"\">", number)?;
+    push_two_numbered(text, b"</text>\n<text x=\"", at.x() + 10, b"\" y=\"", base)?;
     text.extend_from_slice(b"\">")
 }
 

@@ -1,7 +1,7 @@
 //! A picture that is drawn row by row.
-use crate::grid::{Place, below, width};
+use crate::grid::{GridPoint, row_y, width};
 use crate::parts::{
-    push_arrow, push_at, push_break, push_dot, push_node, push_row, push_span, push_stump,
+    push_arrow, push_break, push_dot, push_node, push_numbered, push_row, push_span, push_stump,
     push_stump_numbers,
 };
 use crate::style::{END, HEAD, STYLE};
@@ -10,7 +10,7 @@ use std::alloc::{AllocError, Global};
 
 /// The look of a point.
 #[derive(Clone, Copy, Debug, PartialEq, Eq)]
-pub enum Sign {
+pub enum PointStyle {
     /// Dark.
     Plain,
     /// Green.
@@ -30,7 +30,7 @@ pub struct Timeline {
     /// How many rows there are.
     rows: u32,
     /// The point of the last row.
-    last: Place,
+    last: GridPoint,
     /// The stumps of the last row, one for each node that they go to.
     stumps: Vec<Stump>,
     /// Arrows and stumps, which are drawn below points and texts.
@@ -58,7 +58,7 @@ impl Timeline {
         Timeline {
             nodes,
             rows: 0,
-            last: Place { node: 0, row: None },
+            last: GridPoint { node: 0, row: None },
             stumps: Vec::new(alloc),
             lines: Vec::new(alloc),
             points: Vec::new(alloc),
@@ -72,16 +72,16 @@ impl Timeline {
     pub fn push_row(
         &mut self,
         node: u8,
-        sign: Sign,
+        style: PointStyle,
         number: u64,
         label: &[u8],
     ) -> Result<(), AllocError> {
         self.end_row()?;
-        let at = Place {
+        let at = GridPoint {
             node,
             row: Some(self.rows),
         };
-        push_dot(&mut self.points, at, class_of(sign))?;
+        push_dot(&mut self.points, at, class_of(style))?;
         push_row(&mut self.texts, at, number)?;
         self.texts.extend_from_slice(label)?;
         self.last = at;
@@ -90,13 +90,18 @@ impl Timeline {
         Ok(())
     }
 
-    /// Breaks the line of a node at a place.
-    pub fn push_break(&mut self, at: Place) -> Result<(), AllocError> {
+    /// Breaks the line of a node at a point.
+    pub fn push_break(&mut self, at: GridPoint) -> Result<(), AllocError> {
         push_break(&mut self.lines, at)
     }
 
     /// Draws an arrow, and appends its label to the text of the last row.
-    pub fn push_arrow(&mut self, from: Place, to: Place, label: &[u8]) -> Result<(), AllocError> {
+    pub fn push_arrow(
+        &mut self,
+        from: GridPoint,
+        to: GridPoint,
+        label: &[u8],
+    ) -> Result<(), AllocError> {
         push_arrow(&mut self.lines, from, to)?;
         self.push_words(b"p", label)
     }
@@ -106,14 +111,14 @@ impl Timeline {
     pub fn push_stump(&mut self, to: u8, number: u64, title: &[u8]) -> Result<(), AllocError> {
         for stump in self.stumps.iter_mut() {
             if stump.to == to {
-                return stump.join(number, title);
+                return stump.append(number, title);
             }
         }
-        self.begin_stump(to, number, title)
+        self.add_stump(to, number, title)
     }
 
-    /// Begins the stump of the last row towards a node.
-    fn begin_stump(&mut self, to: u8, number: u64, title: &[u8]) -> Result<(), AllocError> {
+    /// Adds the first stump of the last row towards a node.
+    fn add_stump(&mut self, to: u8, number: u64, title: &[u8]) -> Result<(), AllocError> {
         let alloc = *self.lines.allocator();
         let mut numbers = Vec::new(alloc);
         push_number(&mut numbers, number)?;
@@ -171,10 +176,10 @@ impl Timeline {
     /// Returns the picture as SVG. Cost: its size.
     pub fn into_svg(mut self, alloc: Global) -> Result<Vec<u8>, AllocError> {
         self.end_row()?;
-        let bottom = below(self.rows);
+        let bottom = row_y(self.rows);
         let mut svg = Vec::new(alloc);
-        push_at(&mut svg, HEAD, width(self.nodes, self.longest))?;
-        push_at(&mut svg, b"\" height=\"", bottom)?;
+        push_numbered(&mut svg, HEAD, width(self.nodes, self.longest))?;
+        push_numbered(&mut svg, b"\" height=\"", bottom)?;
         svg.extend_from_slice(STYLE)?;
         for node in 0..self.nodes {
             push_node(&mut svg, node, bottom)?;
@@ -189,19 +194,19 @@ impl Timeline {
 
 impl Stump {
     /// Adds a number and a title.
-    fn join(&mut self, number: u64, title: &[u8]) -> Result<(), AllocError> {
-        push_at(&mut self.numbers, b",", number)?;
+    fn append(&mut self, number: u64, title: &[u8]) -> Result<(), AllocError> {
+        push_numbered(&mut self.numbers, b",", number)?;
         self.titles.extend_from_slice(b"\n")?;
         self.titles.extend_from_slice(title)
     }
 }
 
 /// Returns the attribute for the look of a point.
-fn class_of(sign: Sign) -> &'static [u8] {
-    match sign {
-        Sign::Plain => b"",
-        Sign::Good => b" class=\"y\"",
-        Sign::Bad => b" class=\"x\"",
+fn class_of(style: PointStyle) -> &'static [u8] {
+    match style {
+        PointStyle::Plain => b"",
+        PointStyle::Good => b" class=\"y\"",
+        PointStyle::Bad => b" class=\"x\"",
     }
 }
 

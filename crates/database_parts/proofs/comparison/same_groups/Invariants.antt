@@ -2,4 +2,4 @@ use Rattle.std.proofs.Common.{◌≡◌, take}
 use Rattle.database_parts.proofs.comparison.same_groups.Given as goal
 
 abbrev pub invariant-loop-index : goal.invariant-loop-index
-invariant-loop-index l = take l.index l.one ≡ take l.index l.other
+invariant-loop-index l = take l.index l.left ≡ take l.index l.right

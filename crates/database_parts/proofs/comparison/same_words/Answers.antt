@@ -5,4 +5,4 @@ use Rattle.database_parts.proofs.comparison.same_words.Goals as goal
 pub returns : goal.returns
 returns c =
     let e : c.eq.result ≡ true → c.as_text.result.now ≡ c.as_text-2.result.now = search rules in
-    λ yes. same-words c.args.one.now c.args.other.now c.as_text.ensures.words c.as_text-2.ensures.words (sym c.as_text.ensures.text ∙ (e yes ∙ c.as_text-2.ensures.text))
+    λ yes. same-words c.args.left.now c.args.right.now c.as_text.ensures.words c.as_text-2.ensures.words (sym c.as_text.ensures.text ∙ (e yes ∙ c.as_text-2.ensures.text))

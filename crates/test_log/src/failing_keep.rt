@@ -20,63 +20,63 @@ pub fn entry(alloc: Global, serial: u64, text: &[u8]) -> Result<Entry, AllocErro
     }))
 }
 
-/// A keep that fails once, after `left` calls, and then works again. A store that fails leaves the new record if `new`, else
-/// the old one.
+/// A keep that fails once, after `calls_left` calls, and then works again. A store that fails leaves the new record if
+/// `leaves_new`, else the old one.
 #[derive(Drop)]
-pub struct Fuse {
+pub struct FailingKeep {
     keep: MemoryKeep<Carried>,
-    left: Option<u32>,
-    new: bool,
-    blown: Steps,
+    calls_left: Option<u32>,
+    leaves_new: bool,
+    failures: Steps,
 }
 
-impl Fuse {
-    pub fn new(alloc: Global, left: Option<u32>, new: bool) -> Self
+impl FailingKeep {
+    pub fn new(alloc: Global, calls_left: Option<u32>, leaves_new: bool) -> Self
         ensures { ⟦<MemoryKeep<Carried> as Keep<Carried>>⟧.kept result.keep ≡ new_kept }
     {
-        Fuse {
+        FailingKeep {
             keep: MemoryKeep::new(alloc),
-            left,
-            new,
-            blown: Steps::new(),
+            calls_left,
+            leaves_new,
+            failures: Steps::new(),
         }
     }
 }
 
-impl Keep<Carried> for Fuse {
+impl Keep<Carried> for FailingKeep {
     ghost kept = { λ s. ⟦<MemoryKeep<Carried> as Keep<Carried>>⟧.kept s.keep };
 
-    ghost failures = { λ s. s.blown.count + ⟦<MemoryKeep<Carried> as Keep<Carried>>⟧.failures s.keep };
+    ghost failures = { λ s. s.failures.count + ⟦<MemoryKeep<Carried> as Keep<Carried>>⟧.failures s.keep };
 
     fn store(&mut self, change: &Change<Carried>) -> Result<(), Failed> {
-        if !blows(&mut self.left) {
+        if !fails_now(&mut self.calls_left) {
             return self.keep.store(change);
         }
-        if self.new && self.keep.store(change).is_err() {
+        if self.leaves_new && self.keep.store(change).is_err() {
             return Err(Failed);
         }
-        self.blown.tick();
+        self.failures.tick();
         Err(Failed)
     }
 
     fn load(&mut self) -> Result<Record<Carried>, Failed> {
-        if !blows(&mut self.left) {
+        if !fails_now(&mut self.calls_left) {
             return self.keep.load();
         }
-        self.blown.tick();
+        self.failures.tick();
         Err(Failed)
     }
 }
 
 /// Returns whether this call is the one that fails.
-fn blows(left: &mut Option<u32>) -> bool {
-    match *left {
+fn fails_now(calls_left: &mut Option<u32>) -> bool {
+    match *calls_left {
         Some(0) => {
-            *left = None;
+            *calls_left = None;
             true
         }
         Some(n) => {
-            *left = Some(n - 1);
+            *calls_left = Some(n - 1);
             false
         }
         None => false,
@@ -84,14 +84,14 @@ fn blows(left: &mut Option<u32>) -> bool {
 }
 
 /// Makes three nodes, of which the first has this keep.
-pub fn three(
+pub fn make_three(
     alloc: Global,
-    first: Fuse,
-) -> Result<(Switch<Carried, Fuse>, Vec<NodeCell>), StepFault>
+    first: FailingKeep,
+) -> Result<(Switch<Carried, FailingKeep>, Vec<NodeCell>), StepFault>
     requires { ⟦<MemoryKeep<Carried> as Keep<Carried>>⟧.kept first.keep ≡ new_kept }
 {
-    let others = Fuse::new(alloc, None, false);
-    let Ok(keeps) = vec![in alloc; first, others, Fuse::new(alloc, None, false)] else {
+    let others = FailingKeep::new(alloc, None, false);
+    let Ok(keeps) = vec![in alloc; first, others, FailingKeep::new(alloc, None, false)] else {
         return Err(StepFault::Memory);
     };
     cells(alloc, Weights::equal(3), keeps)
@@ -99,7 +99,7 @@ pub fn three(
 
 /// Restarts the first node.
 pub fn restart_first(
-    switch: &mut Switch<Carried, Fuse>,
+    switch: &mut Switch<Carried, FailingKeep>,
     cells: &mut Vec<NodeCell>,
 ) -> Result<u64, StepFault> {
     match cells.get_mut(0) {

@@ -36,12 +36,12 @@ pub fn partition_essential(
     statements: &[Stmt],
     positions: &[u32],
 ) -> Result<Partition, AllocError> {
-    let mut parted = Partition::new(alloc);
+    let mut partition = Partition::new(alloc);
     for position in positions {
         let passes = is_essential_at(statements, *position as usize);
-        parted.add(*position, passes)?;
+        partition.add(*position, passes)?;
     }
-    Ok(parted)
+    Ok(partition)
 }
 
 fn is_essential_at(statements: &[Stmt], position: usize) -> bool {
@@ -59,13 +59,13 @@ pub fn partition_by_typecode(
     at: usize,
     positions: &[u32],
 ) -> Result<Partition, AllocError> {
-    let mut parted = Partition::new(alloc);
-    let own = typecode_at(frames, at);
+    let mut partition = Partition::new(alloc);
+    let typecode = typecode_at(frames, at);
     for position in positions {
-        let passes = typecode_at(frames, *position as usize) == own;
-        parted.add(*position, passes)?;
+        let passes = typecode_at(frames, *position as usize) == typecode;
+        partition.add(*position, passes)?;
     }
-    Ok(parted)
+    Ok(partition)
 }
 
 /// Returns the first symbol of the statement at a position.

@@ -4,7 +4,7 @@ ghost use Rattle.mm_read.specs.declared.stmt.Stmt.{Stmt as Statement};
 ghost use Rattle.scope.specs.Active.{bares, stmt_at, is_assertion};
 ghost use Rattle.frame.specs.AtPosition.{HasLabelsOnce};
 ghost use Rattle.extract.specs.declared.fault.ExtractFault.{ExtractFault as Fault};
-ghost use Rattle.extract.specs.Wanted.{AreRight, IsFirstWrong, IsJudged};
+ghost use Rattle.extract.specs.Labels.{AreValidLabels, IsFirstLabelFault, IsLabelResult};
 
 use crate::fault::ExtractFault;
 use database_parts::is_among;
@@ -13,20 +13,20 @@ use mm_read::Stmt;
 
 /// Returns the fault of the first label that no assertion has or that occurs earlier in the list; `None` if no label is
 /// wrong. Does not allocate.
-pub(crate) fn first_wrong(
+pub(crate) fn first_label_fault(
     frames: &Frames,
     statements: &[Stmt],
     labels: &[&str],
 ) -> Option<ExtractFault>
     requires same { frames.now.statements ≡ bares statements.now }
     requires once { HasLabelsOnce frames.now.statements }
-    ensures right { result ≡ None → AreRight statements.now [] (map (λ label. label.now) labels.now) }
-    ensures wrong { (fault : Fault) → result ≡ Some fault → IsFirstWrong statements.now [] (map (λ label. label.now) labels.now) fault }
-    ensures only { (fault : Fault) → IsFirstWrong statements.now [] (map (λ label. label.now) labels.now) fault → result ≡ Some fault }
+    ensures valid { result ≡ None → AreValidLabels statements.now [] (map (λ label. label.now) labels.now) }
+    ensures wrong { (fault : Fault) → result ≡ Some fault → IsFirstLabelFault statements.now [] (map (λ label. label.now) labels.now) fault }
+    ensures only { (fault : Fault) → IsFirstLabelFault statements.now [] (map (λ label. label.now) labels.now) fault → result ≡ Some fault }
 {
     for index in 0..labels.len() {
         let label = labels[index].as_bytes();
-        match wrong(frames, statements, &labels[..index], label) {
+        match label_fault(frames, statements, &labels[..index], label) {
             Some(fault) => return Some(fault),
             None => {}
         }
@@ -35,7 +35,7 @@ pub(crate) fn first_wrong(
 }
 
 /// Returns the fault of a label that follows `earlier` ones, if it is wrong.
-fn wrong(
+fn label_fault(
     frames: &Frames,
     statements: &[Stmt],
     earlier: &[&str],
@@ -43,7 +43,7 @@ fn wrong(
 ) -> Option<ExtractFault>
     requires same { frames.now.statements ≡ bares statements.now }
     requires once { HasLabelsOnce frames.now.statements }
-    ensures { IsJudged statements.now (map (λ label. label.now) earlier.now) label.now result }
+    ensures { IsLabelResult statements.now (map (λ label. label.now) earlier.now) label.now result }
 {
     let Some(at) = frames.position(label) else {
         return Some(ExtractFault::NoLabel);

@@ -1,5 +1,5 @@
 use Rattle.extract.proofs.Words.{sym, ◌∙◌, named, no-label, stands-within}
-use Rattle.extract.proofs.wanted.wrong.Goals as goal
+use Rattle.extract.proofs.labels.label_fault.Goals as goal
 
 pub returns-in_default : goal.returns-in_default
 returns-in_default c = no-label c.args.statements.now c.args.frames.now.statements c.requires.same c.args.label.now c.in_default.ensures

@@ -4,7 +4,7 @@ use crate::notation::Notation;
 
 /// The values that the parts of a page share.
 #[derive(Drop)]
-pub struct Draft<'a> {
+pub struct PageValues<'a> {
     pub contents: &'a PageContents<'a>,
     pub notation: Notation<'a>,
     /// The positions of the mandatory hypotheses.

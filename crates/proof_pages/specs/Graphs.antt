@@ -13,20 +13,20 @@ abbrev pub quoted_expr : List Name → List ℕ → List ℕ
 quoted_expr names [] = []
 quoted_expr names (symbol ∷ symbols) = quoted_text (name_at names symbol) ++ flat_map (quoted_symbol names) symbols
 
--- an arrow from a step that is taken to the step at this place
+-- an arrow from a step that is taken to the step at this index
 abbrev pub arrow_line : ℕ → ℕ → List ℕ
-arrow_line place taken = number_text taken ++ codes " -> " ++ number_text place ++ codes ";\n"
+arrow_line index taken = number_text taken ++ codes " -> " ++ number_text index ++ codes ";\n"
 
 abbrev pub node_line : Database → List Name → ℕ → Row → List ℕ
-node_line S names place row =
-    number_text place ++ codes " [label=\"" ++ quoted_text (label_or_none (stmt_at S row.step.position)) ++ codes "\\n" ++ quoted_expr names row.expr ++ codes "\"];\n"
+node_line S names index row =
+    number_text index ++ codes " [label=\"" ++ quoted_text (label_or_none (stmt_at S row.step.position)) ++ codes "\\n" ++ quoted_expr names row.expr ++ codes "\"];\n"
 
 -- a node, and an arrow from each step that it takes
 abbrev pub node_text : Database → List Name → ℕ → Row → List ℕ
-node_text S names place row = node_line S names place row ++ flat_map (arrow_line place) row.step.taken
+node_text S names index row = node_line S names index row ++ flat_map (arrow_line index) row.step.taken
 
-abbrev pub picture_head : Name → List ℕ
-picture_head label = codes "digraph \"" ++ quoted_text label ++ codes "\" {\n"
+abbrev pub graph_header : Name → List ℕ
+graph_header label = codes "digraph \"" ++ quoted_text label ++ codes "\" {\n"
 
-abbrev pub picture_text : Database → List Name → Name → List Row → List ℕ
-picture_text S names label rows = picture_head label ++ concat_texts (node_text S names) 0 rows ++ codes "}\n"
+abbrev pub graph_text : Database → List Name → Name → List Row → List ℕ
+graph_text S names label rows = graph_header label ++ concat_texts (node_text S names) 0 rows ++ codes "}\n"

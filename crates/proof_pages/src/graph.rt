@@ -1,17 +1,17 @@
 //! A step as a node of a graph in the DOT language of Graphviz.
 ghost use Rattle.std.specs.Prelude.{◌≡◌, ◌<◌, ◌++◌, length, get_or, flat_map, OnOk};
 ghost use Rattle.steps.specs.Rows.{no_row};
-ghost use Rattle.proof_pages.specs.Pictures.{quoted_symbol, quoted_expr, arrow_line, node_line, node_text, picture_head};
+ghost use Rattle.proof_pages.specs.Graphs.{quoted_symbol, quoted_expr, arrow_line, node_line, node_text, graph_header};
 
-use crate::step_lines::{label_at, push_place};
+use crate::step_lines::{label_at, push_step_number};
 use frame::Frames;
 use markup::push_quoted;
 use std::alloc::AllocError;
 use steps::ProofTable;
 
 /// Appends the first line of the graph of a theorem.
-pub fn push_head(text: &mut Vec<u8>, label: &[u8]) -> Result<(), AllocError>
-    ensures { OnOk result (text.new.items ≡ text.old.items ++ picture_head label.now) }
+pub fn push_graph_header(text: &mut Vec<u8>, label: &[u8]) -> Result<(), AllocError>
+    ensures { OnOk result (text.new.items ≡ text.old.items ++ graph_header label.now) }
 {
     text.extend_from_slice(b"digraph \"")?;
     push_quoted(text, label)?;
@@ -51,20 +51,20 @@ fn push_quoted_expr(text: &mut Vec<u8>, frames: &Frames, expr: &[u32]) -> Result
     }
 }
 
-fn push_arrow(text: &mut Vec<u8>, place: usize, taken: usize) -> Result<(), AllocError>
-    ensures { OnOk result (text.new.items ≡ text.old.items ++ arrow_line place taken) }
+fn push_arrow(text: &mut Vec<u8>, index: usize, taken: usize) -> Result<(), AllocError>
+    ensures { OnOk result (text.new.items ≡ text.old.items ++ arrow_line index taken) }
 {
-    push_place(text, taken)?;
+    push_step_number(text, taken)?;
     text.extend_from_slice(b" -> ")?;
-    push_place(text, place)?;
+    push_step_number(text, index)?;
     text.extend_from_slice(b";\n")
 }
 
-fn push_arrows(text: &mut Vec<u8>, place: usize, places: &[usize]) -> Result<(), AllocError>
-    ensures { OnOk result (text.new.items ≡ text.old.items ++ flat_map (arrow_line place) places.now) }
+fn push_arrows(text: &mut Vec<u8>, index: usize, indexes: &[usize]) -> Result<(), AllocError>
+    ensures { OnOk result (text.new.items ≡ text.old.items ++ flat_map (arrow_line index) indexes.now) }
 {
-    for taken in places {
-        push_arrow(text, place, *taken)?;
+    for taken in indexes {
+        push_arrow(text, index, *taken)?;
     }
     Ok(())
 }
@@ -73,31 +73,31 @@ fn push_node_line(
     text: &mut Vec<u8>,
     frames: &Frames,
     table: &ProofTable,
-    place: usize,
+    index: usize,
 ) -> Result<(), AllocError>
-    requires { place < length table.now }
-    ensures { OnOk result (text.new.items ≡ text.old.items ++ node_line frames.now.statements frames.now.names place (get_or table.now place no_row)) }
+    requires { index < length table.now }
+    ensures { OnOk result (text.new.items ≡ text.old.items ++ node_line frames.now.statements frames.now.names index (get_or table.now index no_row)) }
 {
-    push_place(text, place)?;
+    push_step_number(text, index)?;
     text.extend_from_slice(b" [label=\"")?;
-    push_quoted(text, label_at(frames, table.position(place)))?;
+    push_quoted(text, label_at(frames, table.position(index)))?;
     text.extend_from_slice(b"\\n")?;
-    push_quoted_expr(text, frames, table.expr(place))?;
+    push_quoted_expr(text, frames, table.expr(index))?;
     text.extend_from_slice(b"\"];\n")
 }
 
-/// Appends the step at a place as a node, with an arrow from each step that it takes.
+/// Appends the step at an index as a node, with an arrow from each step that it takes.
 ///
 /// Errors: an allocation fails. Cost: the size of the lines.
 pub(crate) fn push_node(
     text: &mut Vec<u8>,
     frames: &Frames,
     table: &ProofTable,
-    place: usize,
+    index: usize,
 ) -> Result<(), AllocError>
-    requires { place < length table.now }
-    ensures { OnOk result (text.new.items ≡ text.old.items ++ node_text frames.now.statements frames.now.names place (get_or table.now place no_row)) }
+    requires { index < length table.now }
+    ensures { OnOk result (text.new.items ≡ text.old.items ++ node_text frames.now.statements frames.now.names index (get_or table.now index no_row)) }
 {
-    push_node_line(text, frames, table, place)?;
-    push_arrows(text, place, table.taken(place))
+    push_node_line(text, frames, table, index)?;
+    push_arrows(text, index, table.taken(index))
 }

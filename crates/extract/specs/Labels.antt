@@ -26,28 +26,28 @@ pub record NamesHypothesis (S : Database) (label : Name) : Type 0 where
   pub other : IsFalse (is_assertion stmt)
 
 -- the fault of a label that follows `earlier` ones
-abbrev pub IsWrong : Database → List Name → Name → ExtractFault → Type 0
-IsWrong S earlier label NoLabel = HasNoLabel S label
-IsWrong S earlier label NotAssertion = NamesHypothesis S label
-IsWrong S earlier label SameLabel = NamesAssertion S label × (has_name label earlier ≡ true)
-IsWrong S earlier label Memory = ⊥
+abbrev pub IsLabelFault : Database → List Name → Name → ExtractFault → Type 0
+IsLabelFault S earlier label NoLabel = HasNoLabel S label
+IsLabelFault S earlier label NotAssertion = NamesHypothesis S label
+IsLabelFault S earlier label SameLabel = NamesAssertion S label × (has_name label earlier ≡ true)
+IsLabelFault S earlier label Memory = ⊥
 
 -- the label names an assertion, and is not among the earlier ones
-abbrev pub IsRight : Database → List Name → Name → Type 0
-IsRight S earlier label = NamesAssertion S label × (has_name label earlier ≡ false)
+abbrev pub IsValidLabel : Database → List Name → Name → Type 0
+IsValidLabel S earlier label = NamesAssertion S label × (has_name label earlier ≡ false)
 
 -- the fault of the label, if it is wrong
-abbrev pub IsJudged : Database → List Name → Name → Option ExtractFault → Type 0
-IsJudged S earlier label None = IsRight S earlier label
-IsJudged S earlier label (Some fault) = IsWrong S earlier label fault
+abbrev pub IsLabelResult : Database → List Name → Name → Option ExtractFault → Type 0
+IsLabelResult S earlier label None = IsValidLabel S earlier label
+IsLabelResult S earlier label (Some fault) = IsLabelFault S earlier label fault
 
 -- no label of a list that follows `earlier` ones is wrong
-abbrev pub AreRight : Database → List Name → List Name → Type 0
-AreRight S earlier [] = Unit {0}
-AreRight S earlier (label ∷ labels) = IsRight S earlier label × AreRight S (earlier ++ label ∷ []) labels
+abbrev pub AreValidLabels : Database → List Name → List Name → Type 0
+AreValidLabels S earlier [] = Unit {0}
+AreValidLabels S earlier (label ∷ labels) = IsValidLabel S earlier label × AreValidLabels S (earlier ++ label ∷ []) labels
 
 -- the fault of the first wrong label of a list that follows `earlier` ones
-abbrev pub IsFirstWrong : Database → List Name → List Name → ExtractFault → Type 0
-IsFirstWrong S earlier [] fault = ⊥
-IsFirstWrong S earlier (label ∷ labels) fault =
-    IsWrong S earlier label fault ⊎ (IsRight S earlier label × IsFirstWrong S (earlier ++ label ∷ []) labels fault)
+abbrev pub IsFirstLabelFault : Database → List Name → List Name → ExtractFault → Type 0
+IsFirstLabelFault S earlier [] fault = ⊥
+IsFirstLabelFault S earlier (label ∷ labels) fault =
+    IsLabelFault S earlier label fault ⊎ (IsValidLabel S earlier label × IsFirstLabelFault S (earlier ++ label ∷ []) labels fault)

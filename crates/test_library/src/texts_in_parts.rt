@@ -11,14 +11,14 @@ const LINE: &[u8] = b"$( $c b $. $) $c a $.\n";
 const LINES: usize = 200_000;
 
 #[test]
-fn cut_texts_read_alike(rt: HostRuntime) {
+fn texts_in_parts_read_alike(rt: HostRuntime) {
     for workers in [1usize, 2, 3, 16] {
-        assert!(rt; reads(&rt, rt.alloc(), workers), "{workers}");
-        assert!(rt; is_refused(&rt, rt.alloc(), workers), "{workers}");
+        assert!(rt; reads_all(&rt, rt.alloc(), workers), "{workers}");
+        assert!(rt; refuses_unended(&rt, rt.alloc(), workers), "{workers}");
     }
 }
 
-fn reads<R: Threads + Sync>(rt: &R, alloc: Global, workers: usize) -> bool {
+fn reads_all<R: Threads + Sync>(rt: &R, alloc: Global, workers: usize) -> bool {
     let Ok(text) = lines(alloc) else {
         return false;
     };
@@ -29,7 +29,7 @@ fn reads<R: Threads + Sync>(rt: &R, alloc: Global, workers: usize) -> bool {
 }
 
 /// Returns whether a text whose last statement has no end is refused.
-fn is_refused<R: Threads + Sync>(rt: &R, alloc: Global, workers: usize) -> bool {
+fn refuses_unended<R: Threads + Sync>(rt: &R, alloc: Global, workers: usize) -> bool {
     let Ok(mut text) = lines(alloc) else {
         return false;
     };

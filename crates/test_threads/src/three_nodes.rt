@@ -18,7 +18,7 @@ use world::Carried;
 pub type EntryKeep = MemoryKeep<Carried>;
 
 /// Returns a text of author 7 as an entry.
-pub fn text(alloc: Global, serial: u64, text: &[u8]) -> Result<Entry, AllocError> {
+pub fn text_entry(alloc: Global, serial: u64, text: &[u8]) -> Result<Entry, AllocError> {
     Ok(Entry::Text(Submission {
         author: 7,
         serial,
@@ -27,7 +27,7 @@ pub fn text(alloc: Global, serial: u64, text: &[u8]) -> Result<Entry, AllocError
 }
 
 /// Starts three nodes with keeps in memory, and two workers each.
-pub fn three<
+pub fn start_three<
     G: Gate + Send + Sync + Drop + 'static,
     W: Weather + Send + Drop + 'static,
     R: Threads + Wait + Copy + Send + Sync + Drop + 'static,
@@ -52,7 +52,7 @@ pub fn three<
 }
 
 /// Starts three nodes with these weathers and an open gate.
-pub fn open<
+pub fn start_three_open<
     W: Weather + Send + Drop + 'static,
     R: Threads + Wait + Copy + Send + Sync + Drop + 'static,
 >(
@@ -67,23 +67,23 @@ pub fn open<
     let Ok(gate) = Arc::new(alloc, OpenGate) else {
         return Err(StepFault::Memory);
     };
-    three(rt, alloc, weights, gate, weathers)
+    start_three(rt, alloc, weights, gate, weathers)
 }
 
 /// Submits the text at node 0.
-pub fn submit_one<G: Gate, R: Wait>(
+pub fn submit_text<G: Gate, R: Wait>(
     rt: &R,
     alloc: Global,
     desk: &Desk<G, EntryKeep>,
     serial: u64,
     source: &[u8],
 ) -> Result<(), StepFault> {
-    let entry = text(alloc, serial, source)?;
+    let entry = text_entry(alloc, serial, source)?;
     desk.submit(rt, 0, entry)
 }
 
 /// Returns the same weather at each node.
-pub fn everywhere<W: Weather + Copy>(alloc: Global, weather: W) -> Result<Vec<W>, AllocError>
+pub fn same_weathers<W: Weather + Copy>(alloc: Global, weather: W) -> Result<Vec<W>, AllocError>
     ensures { IfOk result (λ weathers. length weathers.items ≡ 3) }
 {
     let mut weathers = Vec::with_capacity(alloc, 3)?;
@@ -95,14 +95,14 @@ pub fn everywhere<W: Weather + Copy>(alloc: Global, weather: W) -> Result<Vec<W>
 
 /// Returns the verdict at node `k` on the text with that serial number. Polls once a millisecond until it is known, a limited
 /// number of times.
-pub fn settled<G: Gate, R: Wait + Clock>(
+pub fn polled_verdict<G: Gate, R: Wait + Clock>(
     rt: &R,
     desk: &Desk<G, EntryKeep>,
     k: u8,
     serial: u64,
-    asked: u32,
+    polls: u32,
 ) -> Result<Option<Verdict>, StepFault> {
-    for _time in 0..asked {
+    for _poll in 0..polls {
         let status = desk.status(rt, k, 7, serial)?;
         if status.is_some() {
             return Ok(status);
@@ -113,16 +113,16 @@ pub fn settled<G: Gate, R: Wait + Clock>(
 }
 
 /// How many times a desk is polled for a verdict, once a millisecond: for 20 seconds.
-pub const OFTEN: u32 = 20_000;
+pub const MAX_POLLS: u32 = 20_000;
 
 /// Returns whether each node adds the text with that serial number.
-pub fn added_by_all<G: Gate, R: Wait + Clock>(
+pub fn is_added_by_all<G: Gate, R: Wait + Clock>(
     rt: &R,
     desk: &Desk<G, EntryKeep>,
     serial: u64,
 ) -> Result<bool, StepFault> {
     for k in [0, 1, 2] {
-        if settled(rt, desk, k, serial, OFTEN)? != Some(Verdict::Added) {
+        if polled_verdict(rt, desk, k, serial, MAX_POLLS)? != Some(Verdict::Added) {
             return Ok(false);
         }
     }

@@ -1,5 +1,5 @@
 //! A node whose keep fails is down until it restarts.
-use crate::fuse::{Fuse, restart_first, three};
+use crate::failing_keep::{FailingKeep, make_three, restart_first};
 use cluster::{MemoryKeep, NodeCell, Switch, begin_on};
 use net::{Event, StepFault};
 use slots::SLOTS;
@@ -9,15 +9,18 @@ use world::Carried;
 
 #[test]
 fn a_store_fails(rt: HostRuntime) {
-    for new in [false, true] {
-        assert!(rt; store_fails(rt.alloc(), new) == Ok(true), "new {new}");
+    for leaves_new in [false, true] {
+        assert!(rt;
+            store_fails(rt.alloc(), leaves_new) == Ok(true),
+            "new {leaves_new}"
+        );
     }
 }
 
 /// Returns whether the first node is down after its first store fails, and up again after it restarts. The failed store leaves
 /// the new record or the old one.
-fn store_fails(alloc: Global, new: bool) -> Result<bool, StepFault> {
-    let (mut switch, mut cells) = three(alloc, Fuse::new(alloc, Some(0), new))?;
+fn store_fails(alloc: Global, leaves_new: bool) -> Result<bool, StepFault> {
+    let (mut switch, mut cells) = make_three(alloc, FailingKeep::new(alloc, Some(0), leaves_new))?;
     let down = goes_down(&mut switch, &mut cells);
     // An explicit `drop` is proved once for each type; a drop at the end of the scope would be proved here.
     drop(cells);
@@ -26,27 +29,31 @@ fn store_fails(alloc: Global, new: bool) -> Result<bool, StepFault> {
 }
 
 fn goes_down(
-    switch: &mut Switch<Carried, Fuse>,
+    switch: &mut Switch<Carried, FailingKeep>,
     cells: &mut Vec<NodeCell>,
 ) -> Result<bool, StepFault> {
     Ok(
         begin_on(switch, 0) == Err(StepFault::Device)
             && begin_on(switch, 0) == Err(StepFault::Down)
             && restart_first(switch, cells) == Ok(5)
-            && comes_back(switch)?,
+            && is_up_again(switch)?,
     )
 }
 
 /// Returns whether the node asked both others when it restarted, and its next ballot is its second.
-fn comes_back(switch: &mut Switch<Carried, Fuse>) -> Result<bool, StepFault> {
+fn is_up_again(switch: &mut Switch<Carried, FailingKeep>) -> Result<bool, StepFault> {
     let asked = matches!(switch.history(), [Event::Begin(0), Event::Restart(0)])
-        && asks(switch, 3, 1)?
-        && asks(switch, 4, 2)?;
-    Ok(asked && begin_on(switch, 0) == Ok(8) && prepares(switch, 6)?)
+        && is_ask_for_first(switch, 3, 1)?
+        && is_ask_for_first(switch, 4, 2)?;
+    Ok(asked && begin_on(switch, 0) == Ok(8) && is_second_prepare(switch, 6)?)
 }
 
-/// Returns whether node 0 asks node `to` for the first entry with this packet.
-fn asks(switch: &Switch<Carried, Fuse>, number: u64, to: u8) -> Result<bool, StepFault> {
+/// Returns whether in this packet node 0 asks node `to` for the first entry.
+fn is_ask_for_first(
+    switch: &Switch<Carried, FailingKeep>,
+    number: u64,
+    to: u8,
+) -> Result<bool, StepFault> {
     let packet = switch.packet(number)?;
     let asked = match &packet.body {
         Body::Ask { slot } => *slot == 0,
@@ -56,13 +63,16 @@ fn asks(switch: &Switch<Carried, Fuse>, number: u64, to: u8) -> Result<bool, Ste
 }
 
 /// Returns whether the packet is a prepare request to node 1 for the ballot of round 2 and node 0.
-fn prepares(switch: &Switch<Carried, Fuse>, number: u64) -> Result<bool, StepFault> {
+fn is_second_prepare(
+    switch: &Switch<Carried, FailingKeep>,
+    number: u64,
+) -> Result<bool, StepFault> {
     let packet = switch.packet(number)?;
-    let prepared = match &packet.body {
+    let is_second = match &packet.body {
         Body::Prepare { ballot, first } => *first == 0 && ballot.round == 2 && ballot.node == 0,
         _ => false,
     };
-    Ok(prepared && packet.to == 1)
+    Ok(is_second && packet.to == 1)
 }
 
 #[test]
@@ -71,14 +81,14 @@ fn a_load_fails(rt: HostRuntime) {
 }
 
 fn load_fails(alloc: Global) -> Result<bool, StepFault> {
-    let (mut switch, mut cells) = three(alloc, Fuse::new(alloc, Some(0), false))?;
+    let (mut switch, mut cells) = make_three(alloc, FailingKeep::new(alloc, Some(0), false))?;
     let restarted = restarts_twice(&mut switch, &mut cells);
     drop(cells);
     drop(switch);
     Ok(restarted)
 }
 
-fn restarts_twice(switch: &mut Switch<Carried, Fuse>, cells: &mut Vec<NodeCell>) -> bool {
+fn restarts_twice(switch: &mut Switch<Carried, FailingKeep>, cells: &mut Vec<NodeCell>) -> bool {
     restart_first(switch, cells) == Err(StepFault::Device)
         && restart_first(switch, cells) == Ok(2)
         && matches!(switch.history(), [Event::Restart(0)])
@@ -90,11 +100,11 @@ const SLOTS_KEPT: [u32; 5] = [0, 255, 256, 300, SLOTS - 1];
 #[test]
 fn each_slot_is_kept(rt: HostRuntime) {
     for slot in SLOTS_KEPT {
-        assert!(rt; keeps(rt.alloc(), slot) == Ok(true), "slot {slot}");
+        assert!(rt; is_slot_kept(rt.alloc(), slot) == Ok(true), "slot {slot}");
     }
 }
 
-fn keeps(alloc: Global, slot: u32) -> Result<bool, Failed> {
+fn is_slot_kept(alloc: Global, slot: u32) -> Result<bool, Failed> {
     let mut keep: MemoryKeep<Carried> = MemoryKeep::new(alloc);
     let kept = is_kept(&mut keep, slot);
     drop(keep);
@@ -106,7 +116,7 @@ fn is_kept<K: Keep<Carried>>(keep: &mut K, slot: u32) -> Result<bool, Failed> {
     let ballot = Ballot { round: 1, node: 0 };
     store(keep, slot, ballot)?;
     let record = keep.load()?;
-    let kept = has(&record, slot, ballot);
+    let kept = has_entry(&record, slot, ballot);
     drop(record);
     Ok(kept)
 }
@@ -124,7 +134,7 @@ fn store<K: Keep<Carried>>(keep: &mut K, slot: u32, ballot: Ballot) -> Result<()
 }
 
 /// Returns whether the record has an entry of that ballot at the slot.
-fn has(record: &Record<Carried>, slot: u32, ballot: Ballot) -> bool {
+fn has_entry(record: &Record<Carried>, slot: u32, ballot: Ballot) -> bool {
     match record.get(slot) {
         Some(held) => held.ballot.is_same(ballot),
         None => false,

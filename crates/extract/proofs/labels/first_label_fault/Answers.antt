@@ -1,13 +1,13 @@
-use Rattle.extract.proofs.Words.{◌≡◌, Some, [], map, ap, subst, IsFirstWrong}
-use Rattle.extract.proofs.WantedLemmas.{label-right, label-wrong, label-only}
-use Rattle.extract.proofs.wanted.first_wrong.Goals as goal
+use Rattle.extract.proofs.Words.{◌≡◌, Some, [], map, ap, subst, IsFirstLabelFault}
+use Rattle.extract.proofs.LabelsLemmas.{label-valid, label-fault, label-only}
+use Rattle.extract.proofs.labels.first_label_fault.Goals as goal
 
 pub returns-in-Some-clause-wrong : goal.returns-in-Some-clause-wrong
 returns-in-Some-clause-wrong c =
     λ fault e.
     let same : c.in-Some.fault ≡ fault = (let h = e in cc) in
-    subst (IsFirstWrong c.args.statements.now [] (map (λ label. label.now) c.args.labels.now)) same
-    (label-wrong c.args.statements.now c.args.frames.now.statements c.requires.same c.requires.once (λ label. label.now) c.args.labels.now c.loop-index.index _
+    subst (IsFirstLabelFault c.args.statements.now [] (map (λ label. label.now) c.args.labels.now)) same
+    (label-fault c.args.statements.now c.args.frames.now.statements c.requires.same c.requires.once (λ label. label.now) c.args.labels.now c.loop-index.index _
     c.as_bytes-label.result.now c.loop-index-test.true c.as_bytes-label.ensures.value c.loop-index.invariant c.in-Some.fault c.in-Some.ensures)
 
 pub returns-in-Some-clause-only : goal.returns-in-Some-clause-only
@@ -19,5 +19,5 @@ returns-in-Some-clause-only c =
 
 pub loop-index-preserved : goal.loop-index-preserved
 loop-index-preserved c =
-    label-right c.args.statements.now c.args.frames.now.statements c.requires.same c.requires.once (λ label. label.now) c.args.labels.now c.loop-index.index _
+    label-valid c.args.statements.now c.args.frames.now.statements c.requires.same c.requires.once (λ label. label.now) c.args.labels.now c.loop-index.index _
     c.as_bytes-label.result.now c.loop-index-test.true c.as_bytes-label.ensures.value c.loop-index.invariant c.in-None.ensures

@@ -1,0 +1,21 @@
+//! The spans of tokens.
+use mm_lex::{Span, tokens};
+use std::alloc::Global;
+
+/// Two tokens and a comment between them. A token of the comment only begins like `$(`.
+const TEXT: &[u8] = b"$. $( hi $(x $) p";
+
+const SPANS: [Span; 2] = [Span { start: 0, end: 2 }, Span { start: 16, end: 17 }];
+
+#[test]
+fn tokens_have_their_spans(rt: HostRuntime) {
+    assert!(rt; has_tokens(rt.alloc(), TEXT, &SPANS));
+    assert!(rt; has_tokens(rt.alloc(), b"", &[]));
+}
+
+fn has_tokens(alloc: Global, text: &[u8], expected: &[Span]) -> bool {
+    match tokens(alloc, text) {
+        Ok(spans) => spans.as_slice() == expected,
+        Err(_) => false,
+    }
+}
