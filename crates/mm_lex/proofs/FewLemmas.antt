@@ -1,5 +1,5 @@
 -- No more tokens stand between two places than bytes.
-use Rattle.mm_lex.proofs.Prelude.{◌≡◌, ℕ, ◌+◌, ◌-◌, ◌<◌, ◌≤◌, zero, suc, Bool, true, false, List, [], ◌∷◌, length, drop, flat_map, refl, sym, ◌∙◌, ap, arith, length-append, drop-cons, get_or, subst, length-map, drop-length, Span, Name, is_white, starts_white, with_byte, word, runs_from, Part, part_spans, Cuts, runs_after, HasBetween, AreAfter}
+use Rattle.mm_lex.proofs.Prelude.{◌≡◌, ℕ, ◌+◌, ◌-◌, ◌<◌, ◌≤◌, zero, suc, Bool, true, false, List, [], ◌∷◌, length, drop, flat_map, refl, sym, ◌∙◌, ap, arith, length-append, drop-cons, get_or, subst, length-map, drop-length, Span, Name, is_white, starts_white, with_byte, word, runs_from, Part, part_spans, SplitsInto, runs_after, HasBetween, AreAfter}
 
 -- a visible byte before runs makes at most one run more
 with_few : (at : ℕ) (t : Bool) (spans : List Span) → length (with_byte at t spans) ≤ 1 + length spans
@@ -43,16 +43,16 @@ module _ (text : List ℕ) where
         length-append p.inside (p.end ∷ p.after),
       )
 
-  -- a cut leaves no more tokens than there are runs
-  cuts_few : (spans tokens : List Span) → Cuts text spans tokens → length tokens ≤ length spans
-  cuts_few spans tokens cut =
+  -- a split leaves no more tokens than there are runs
+  splits_few : (spans tokens : List Span) → SplitsInto text spans tokens → length tokens ≤ length spans
+  splits_few spans tokens split =
       omega (
         arith,
-        parts_few cut.parts,
-        ap length cut.whole,
-        ap length cut.outside,
-        length-append cut.first (flat_map part_spans cut.parts),
-        length-append cut.first (flat_map (λ (p : Part). p.after) cut.parts),
+        parts_few split.parts,
+        ap length split.whole,
+        ap length split.outside,
+        length-append split.first (flat_map part_spans split.parts),
+        length-append split.first (flat_map (λ (p : Part). p.after) split.parts),
       )
 
   -- the tokens between two places are no more than the bytes there
@@ -66,7 +66,7 @@ module _ (text : List ℕ) where
         runs,
         ap length has.whole,
         length-append has.passed (runs_after text at),
-        cuts_few has.passed has.tokens has.cut,
+        splits_few has.passed has.tokens has.split,
         ap length has.are,
         length-map has.tokens (word text),
         has.later,
@@ -79,4 +79,4 @@ module _ (text : List ℕ) where
       let none : runs_after text (length text) ≡ [] = ap (λ r. runs_from (length text) r) (drop-length text) in
       let runs : length (runs_after text at) ≤ (length text - at) + length (runs_after text (length text)) =
       subst (λ k. length (runs_after text at) ≤ (length text - at) + length (runs_after text k)) same (runs_few (length text - at) at (omega (arith, same))) in
-      omega (arith, runs, ap length none, cuts_few (runs_after text at) are.0 are.1, ap length are.2, length-map are.0 (word text), within)
+      omega (arith, runs, ap length none, splits_few (runs_after text at) are.0 are.1, ap length are.2, length-map are.0 (word text), within)

@@ -1,5 +1,5 @@
--- Symbols with one space between two: a stretch of bytes is tidy, and the words of tidy bytes.
-use Rattle.mm_lex.proofs.Prelude.{◌≡◌, ℕ, ◌<◌, zero, suc, Bool, true, false, not, cond, ◌&&◌, ◌||◌, ◌==◌, List, [], ◌∷◌, take, refl, list_all, slice_split, onto_first, sym, ◌∙◌, ap, arith, and_from, and_parts, Name, is_white, is_visible, is_allowed, starts_white, is_symbol, has_byte, is_empty, IsClean, stretch, ends_here, ends_between}
+-- Symbols with one space between two: a spaced prefix of bytes is tidy, and the words of tidy bytes.
+use Rattle.mm_lex.proofs.Prelude.{◌≡◌, ℕ, ◌<◌, zero, suc, Bool, true, false, not, cond, ◌&&◌, ◌||◌, ◌==◌, List, [], ◌∷◌, take, refl, list_all, slice_split, onto_first, sym, ◌∙◌, ap, arith, and_from, and_parts, Name, is_white, is_visible, is_allowed, starts_white, is_symbol, has_byte, is_empty, IsClean, spaced_prefix_len, ends_here, ends_between}
 use Rattle.mm_lex.proofs.WordsLemmas.{first_part}
 
 abbrev pub is_space : ℕ → Bool
@@ -15,7 +15,7 @@ is_tidy [] = false
 is_tidy (b ∷ []) = is_symbol_byte b
 is_tidy (b ∷ c ∷ bytes) = is_symbol_byte b && cond (is_space c) (is_tidy bytes) (is_tidy (c ∷ bytes))
 
--- ---- a stretch is tidy
+-- ---- a spaced prefix is tidy
 
 -- a byte that is not white, where symbols do not end
 shown_byte : (b next : ℕ) → is_allowed b ≡ true → is_white b ≡ false → ends_between b next ≡ false → is_symbol_byte b ≡ true
@@ -37,26 +37,26 @@ other_byte c next h e goes = grind (arith, h, e, goes)
 tidy_cons : (b c : ℕ) (bytes : List ℕ) (t : Bool) → is_space c ≡ t → is_symbol_byte b ≡ true → cond t (is_tidy bytes) (is_tidy (c ∷ bytes)) ≡ true → is_tidy (b ∷ c ∷ bytes) ≡ true
 tidy_cons b c bytes t e h k = and_from (is_symbol_byte b) _ h (ap (λ u. cond u (is_tidy bytes) (is_tidy (c ∷ bytes))) e ∙ k)
 
--- where symbols do not end at the first byte, it belongs to the stretch
-stretch_on : (b : ℕ) (bytes : List ℕ) → ends_here (b ∷ bytes) ≡ false → stretch (b ∷ bytes) ≡ suc (stretch bytes)
-stretch_on b bytes e = rw e refl
+-- where symbols do not end at the first byte, it belongs to the spaced prefix
+prefix_on : (b : ℕ) (bytes : List ℕ) → ends_here (b ∷ bytes) ≡ false → spaced_prefix_len (b ∷ bytes) ≡ suc (spaced_prefix_len bytes)
+prefix_on b bytes e = rw e refl
 
--- where they end at the first byte, the stretch is empty
-stretch_off : (b : ℕ) (bytes : List ℕ) → ends_here (b ∷ bytes) ≡ true → stretch (b ∷ bytes) ≡ zero
-stretch_off b bytes e = rw e refl
+-- where they end at the first byte, the spaced prefix is empty
+prefix_off : (b : ℕ) (bytes : List ℕ) → ends_here (b ∷ bytes) ≡ true → spaced_prefix_len (b ∷ bytes) ≡ zero
+prefix_off b bytes e = rw e refl
 
 -- the bytes after the first one of a symbol
 abbrev rest_of : List ℕ → List ℕ
-rest_of bytes = take (stretch bytes) bytes
+rest_of bytes = take (spaced_prefix_len bytes) bytes
 
 -- the claim for the bytes from one on that is not white
 abbrev Tidies : ℕ → List ℕ → Type 0
 Tidies b bytes = is_white b ≡ false → ends_here (b ∷ bytes) ≡ false → is_tidy (b ∷ rest_of bytes) ≡ true
 
--- at the last two bytes, the first of a symbol: their stretch is tidy
+-- at the last two bytes, the first of a symbol: their spaced prefix is tidy
 last_two : (b c : ℕ) → is_symbol_byte b ≡ true → is_allowed c ≡ true → Tidies c [] → (t : Bool) → ends_here (c ∷ []) ≡ t → is_tidy (b ∷ rest_of (c ∷ [])) ≡ true
-last_two b c shown clean from true e = rw (stretch_off c [] e) shown
-last_two b c shown clean from false e = rw (stretch_on c [] e) (by (is_space c) refl)
+last_two b c shown clean from true e = rw (prefix_off c [] e) shown
+last_two b c shown clean from false e = rw (prefix_on c [] e) (by (is_space c) refl)
   where
     by : (u : Bool) → is_space c ≡ u → is_tidy (b ∷ c ∷ []) ≡ true
     by true k = absurd (omega (arith, space_byte c 32 k e))
@@ -70,18 +70,18 @@ goes_next d (e ∷ bytes) h = (above_dollar d e h).0
 -- at three bytes or more: what holds from the next one and from the one after it, holds from here
 two_more : (b c d : ℕ) (bytes : List ℕ) → is_symbol_byte b ≡ true → is_allowed c ≡ true → Tidies c (d ∷ bytes) → Tidies d bytes
     → (t : Bool) → ends_here (c ∷ d ∷ bytes) ≡ t → is_tidy (b ∷ rest_of (c ∷ d ∷ bytes)) ≡ true
-two_more b c d bytes shown clean from goes_on true e = rw (stretch_off c (d ∷ bytes) e) shown
-two_more b c d bytes shown clean from goes_on false e = rw (stretch_on c (d ∷ bytes) e) (by (is_space c) refl)
+two_more b c d bytes shown clean from goes_on true e = rw (prefix_off c (d ∷ bytes) e) shown
+two_more b c d bytes shown clean from goes_on false e = rw (prefix_on c (d ∷ bytes) e) (by (is_space c) refl)
   where
     by : (u : Bool) → is_space c ≡ u → is_tidy (b ∷ c ∷ rest_of (d ∷ bytes)) ≡ true
     by true k =
         let high = space_byte c d k e in
         let on = goes_next d bytes high in
         tidy_cons b c (rest_of (d ∷ bytes)) true k shown
-        (ap (λ n. is_tidy (take n (d ∷ bytes))) (stretch_on d bytes on) ∙ goes_on (above_dollar d 32 high).1 on)
+        (ap (λ n. is_tidy (take n (d ∷ bytes))) (prefix_on d bytes on) ∙ goes_on (above_dollar d 32 high).1 on)
     by false k = tidy_cons b c (rest_of (d ∷ bytes)) false k shown (from (other_byte c d clean k e) e)
 
--- the stretch from a byte that is not white is tidy
+-- the spaced prefix from a byte that is not white is tidy
 tidy_from : (b : ℕ) (bytes : List ℕ) → list_all is_allowed (b ∷ bytes) ≡ true → Tidies b bytes
 tidy_from b [] clean white goes = shown_byte b 32 (and_parts (is_allowed b) _ clean).0 white goes
 tidy_from b (c ∷ []) clean white goes =
@@ -92,14 +92,14 @@ tidy_from b (c ∷ d ∷ bytes) clean white goes =
     two_more b c d bytes (shown_byte b c (and_parts (is_allowed b) _ clean).0 white goes) (and_parts (is_allowed c) _ next).0
     (tidy_from c (d ∷ bytes) next) (tidy_from d bytes (and_parts (is_allowed c) _ next).1) (ends_here (c ∷ d ∷ bytes)) refl
 
--- a stretch of a clean text that does not start white is tidy
-pub stretch_tidy : (bytes : List ℕ) → IsClean bytes → starts_white bytes ≡ false → 0 < stretch bytes → is_tidy (take (stretch bytes) bytes) ≡ true
-stretch_tidy [] clean white some = absurd (omega (arith, some))
-stretch_tidy (b ∷ bytes) clean white some = by (ends_here (b ∷ bytes)) refl
+-- a spaced prefix of a clean text that does not start white is tidy
+pub prefix_spaced : (bytes : List ℕ) → IsClean bytes → starts_white bytes ≡ false → 0 < spaced_prefix_len bytes → is_tidy (take (spaced_prefix_len bytes) bytes) ≡ true
+prefix_spaced [] clean white some = absurd (omega (arith, some))
+prefix_spaced (b ∷ bytes) clean white some = by (ends_here (b ∷ bytes)) refl
   where
-    by : (t : Bool) → ends_here (b ∷ bytes) ≡ t → is_tidy (take (stretch (b ∷ bytes)) (b ∷ bytes)) ≡ true
-    by true e = absurd (omega (arith, some, stretch_off b bytes e))
-    by false e = rw (stretch_on b bytes e) (tidy_from b bytes clean white e)
+    by : (t : Bool) → ends_here (b ∷ bytes) ≡ t → is_tidy (take (spaced_prefix_len (b ∷ bytes)) (b ∷ bytes)) ≡ true
+    by true e = absurd (omega (arith, some, prefix_off b bytes e))
+    by false e = rw (prefix_on b bytes e) (tidy_from b bytes clean white e)
 
 -- ---- the words of tidy bytes
 

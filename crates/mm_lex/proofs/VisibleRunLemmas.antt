@@ -1,7 +1,7 @@
--- The runs of tidy bytes, and the words of a stretch.
-use Rattle.mm_lex.proofs.Prelude.{◌≡◌, ℕ, ◌+◌, ◌-◌, ◌<◌, ◌≤◌, suc, Bool, true, false, not, ◌||◌, ◌==◌, List, [], ◌∷◌, ◌++◌, length, take, drop, refl, list_all, onto_first, sym, ◌∙◌, ap, arith, take-append-drop, drop-drop, length-take-le, length-drop, and_from, and_parts, Span, Name, is_white, is_visible, starts_white, with_byte, runs_from, word, is_symbol, has_byte, words_of, is_word, is_plain, AllPlain, IsClean, words, stretch}
+-- The runs of tidy bytes, and the words of a spaced prefix.
+use Rattle.mm_lex.proofs.Prelude.{◌≡◌, ℕ, ◌+◌, ◌-◌, ◌<◌, ◌≤◌, suc, Bool, true, false, not, ◌||◌, ◌==◌, List, [], ◌∷◌, ◌++◌, length, take, drop, refl, list_all, onto_first, sym, ◌∙◌, ap, arith, take-append-drop, drop-drop, length-take-le, length-drop, and_from, and_parts, Span, Name, is_white, is_visible, starts_white, with_byte, runs_from, word, is_symbol, has_byte, words_of, is_word, is_plain, AllPlain, IsClean, words, spaced_prefix_len}
 use Rattle.mm_lex.proofs.PlainLemmas.{append_step}
-use Rattle.mm_lex.proofs.TidyLemmas.{is_space, is_symbol_byte, is_tidy, stretch_tidy, space_is, not_white, split_of, split_byte, split_gap, first_byte, after_gap, after_byte, tidy_symbols}
+use Rattle.mm_lex.proofs.TidyLemmas.{is_space, is_symbol_byte, is_tidy, prefix_spaced, space_is, not_white, split_of, split_byte, split_gap, first_byte, after_gap, after_byte, tidy_symbols}
 
 -- ---- the runs of tidy bytes
 
@@ -101,7 +101,7 @@ runs_before_white at [] more white = let same : at ≡ at + 0 = omega arith in a
 runs_before_white at (b ∷ []) more white = no_more_runs at b more (is_white b) refl white
 runs_before_white at (b ∷ c ∷ bytes) more white = append_step at b c bytes more (is_white b) refl (runs_before_white (at + 1) (c ∷ bytes) more white)
 
--- ---- the words of a stretch
+-- ---- the words of a spaced prefix
 
 words_of-some : (bytes : List ℕ) → is_tidy bytes ≡ true → words_of bytes ≡ split_of bytes
 words_of-some [] h = cc
@@ -143,21 +143,21 @@ pub record IsFrontOf (text : List ℕ) (at n : ℕ) (bytes : List ℕ) : Type 0 
   pub symbols : list_all is_symbol (words_of bytes) ≡ true
   pub plain : AllPlain text spans
 
--- the bytes of a stretch that ends before white are a front of symbols
-pub stretch_front : (text : List ℕ) (at n : ℕ) → IsClean (drop at text) → starts_white (drop at text) ≡ false → n ≡ stretch (drop at text) → 0 < n
+-- the bytes of a spaced prefix that ends before white are a front of symbols
+pub prefix_front : (text : List ℕ) (at n : ℕ) → IsClean (drop at text) → starts_white (drop at text) ≡ false → n ≡ spaced_prefix_len (drop at text) → 0 < n
     → at + n ≤ length text → starts_white (drop (at + n) text) ≡ true → IsFrontOf text at n (take n (drop at text))
-stretch_front text at n clean shown e some within white =
+prefix_front text at n clean shown e some within white =
     let bytes = take n (drop at text) in
     let more : drop n (drop at text) ≡ drop (at + n) text = drop-drop n at text in
-    let cut : drop at text ≡ bytes ++ drop (at + n) text = sym (take-append-drop n (drop at text)) ∙ ap (λ r. bytes ++ r) more in
-    let tidy : is_tidy bytes ≡ true = ap (λ k. is_tidy (take k (drop at text))) e ∙ stretch_tidy (drop at text) clean shown (omega (arith, some, e)) in
+    let split : drop at text ≡ bytes ++ drop (at + n) text = sym (take-append-drop n (drop at text)) ∙ ap (λ r. bytes ++ r) more in
+    let tidy : is_tidy bytes ≡ true = ap (λ k. is_tidy (take k (drop at text))) e ∙ prefix_spaced (drop at text) clean shown (omega (arith, some, e)) in
     let long : length bytes ≡ n = length-take-le n (drop at text) (omega (arith, within, length-drop at text)) in
-    let runs = tidy_runs text (drop (at + n) text) at bytes cut tidy in
+    let runs = tidy_runs text (drop (at + n) text) at bytes split tidy in
     let symbols = ap (list_all is_symbol) (words_of-some bytes tidy) ∙ tidy_symbols bytes tidy in
     let spans : List Span = record { start = at; end = runs.end } ∷ runs.spans in
     let are : words text spans ≡ words_of bytes = runs.are ∙ sym (words_of-some bytes tidy) in record {
       spans = spans;
-      whole = ap (runs_from at) cut ∙ (runs_before_white at bytes (drop (at + n) text) white
+      whole = ap (runs_from at) split ∙ (runs_before_white at bytes (drop (at + n) text) white
           ∙ (ap (λ r. r ++ runs_from (at + length bytes) (drop (at + n) text)) runs.whole ∙ ap (λ k. spans ++ runs_from (at + k) (drop (at + n) text)) long));
       are = are;
       symbols = symbols;

@@ -8,13 +8,13 @@ use Rattle.mm_lex.specs.Alphabet.{is_white, starts_white}
 use Rattle.mm_read.specs.declared.stmt.Stmt.{Stmt}
 use Rattle.mm_read.specs.Statements.{Database}
 use Rattle.mm_read.specs.Reads.{Reads}
-use Rattle.mm_read.specs.Laws.{is_apart}
+use Rattle.mm_read.specs.Laws.{joins_no_words}
 use Rattle.mm_read.proofs.JoinedReads.{joined_reads}
 use Rattle.read_pool.specs.Cut.{IsCut}
 use Rattle.read_pool.specs.Both.{AreBoth}
 
 -- no word goes on into a text that starts white
-white_apart : (text other : List ℕ) → starts_white other ≡ true → is_apart text other ≡ true
+white_apart : (text other : List ℕ) → starts_white other ≡ true → joins_no_words text other ≡ true
 white_apart [] other white = refl
 white_apart (b ∷ []) other white = ap (λ t. is_white b || t) white ∙ or-true (is_white b)
 white_apart (b ∷ c ∷ text) other white = white_apart (c ∷ text) other white
@@ -25,7 +25,7 @@ module _ (text front back : List ℕ) (at : ℕ) (cut : IsCut text at) (begins :
   whole = ap (λ r. r ++ back) begins ∙ (ap (λ r. take at text ++ r) ends ∙ take-append-drop at text)
 
   -- no word goes on from the one into the other
-  apart : is_apart front back ≡ true
+  apart : joins_no_words front back ≡ true
   apart = white_apart front back (ap starts_white ends ∙ cut.1)
 
   module _ (first second : Option (Vec Stmt Global)) (one : IfSome first (λ S. Reads front S.items)) (other : IfSome second (λ S. Reads back S.items)) where

@@ -1,6 +1,6 @@
 use Rattle.mm_read.proofs.Words.{◌∙◌, ap, sym, refl, subst, [], name_eq, AreAfter, IsTokenAfter, IsNextToken}
 use Rattle.mm_read.proofs.PartLemmas.{starts_none, starts_other}
-use Rattle.mm_read.proofs.part.pass_token.Goals as goal
+use Rattle.mm_read.proofs.part.expect_token.Goals as goal
 
 pub returns-else-eq-clause-fault : goal.returns-else-eq-clause-fault
 returns-else-eq-clause-fault c =

@@ -1,6 +1,6 @@
 use Rattle.mm_lex.proofs.Prelude.{refl, take_rest}
 use Rattle.mm_lex.proofs.PlainLemmas.{plain_found, plain_unfound}
-use Rattle.mm_lex.proofs.comment.plain_end.Goals as goal
+use Rattle.mm_lex.proofs.comment.dollar_run_start.Goals as goal
 
 pub returns-in-Some : goal.returns-in-Some
 returns-in-Some c =

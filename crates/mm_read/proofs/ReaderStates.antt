@@ -1,19 +1,19 @@
 -- How far the tokens of a list of statements have come: a machine that goes over them one by one, and goes on exactly where
 -- some list of statements does.
-use Rattle.mm_read.proofs.Words.{◌≡◌, ℕ, ◌≤◌, zero, suc, Bool, true, false, ◌&&◌, cond, List, [], ◌∷◌, ◌++◌, length, Option, Some, None, codes, list_all, option_and_then, sym, ◌∙◌, ap, arith, refl, subst, and_parts, option_and_then_some, same_Some, Name, name_eq, is_symbol, is_label, Stmt, Open, Close, Const, Var, Disj, Float, Ess, Axiom, Prove, Database, AreShaped, is_shaped, stmt_tokens, tokens_of, CanGoOn}
+use Rattle.mm_read.proofs.Words.{◌≡◌, ℕ, ◌≤◌, zero, suc, Bool, true, false, ◌&&◌, cond, List, [], ◌∷◌, ◌++◌, length, Option, Some, None, codes, list_all, option_and_then, sym, ◌∙◌, ap, arith, refl, subst, and_parts, option_and_then_some, same_Some, Name, name_eq, is_symbol, is_label, Stmt, Open, Close, Const, Var, Disj, Float, Ess, Axiom, Prove, Database, AreShaped, is_shaped, stmt_tokens, tokens_of, IsStatementsPrefix}
 pub use Rattle.mm_lex.proofs.NameLemmas.{same_name as same}
 use Rattle.mm_read.proofs.StatementsLemmas.{append_middle, are_symbols_of, has_two_of}
 
 -- the next expected part: a statement, the keyword after a label, at least (or exactly) so many symbols and then `$.`,
 -- at least so many symbols and then `$=`
-pub data Place : Type 0 where
-  between : Place
-  labelled : Place
-  listing : ℕ → Place
-  floating : ℕ → Place
-  proving : ℕ → Place
+pub data ReaderState : Type 0 where
+  between : ReaderState
+  labelled : ReaderState
+  listing : ℕ → ReaderState
+  floating : ℕ → ReaderState
+  proving : ℕ → ReaderState
 
-abbrev pub step : Place → Name → Option Place
+abbrev pub step : ReaderState → Name → Option ReaderState
 step between t =
     cond (name_eq t (codes "${")) (Some between)
     (cond (name_eq t (codes "$}")) (Some between)
@@ -33,22 +33,22 @@ step (floating (suc n)) t = cond (is_symbol t) (Some (floating n)) None
 step (proving zero) t = cond (is_symbol t) (Some (proving 0)) (cond (name_eq t (codes "$=")) (Some (listing 0)) None)
 step (proving (suc n)) t = cond (is_symbol t) (Some (proving n)) None
 
-abbrev pub go : Place → List Name → Option Place
+abbrev pub go : ReaderState → List Name → Option ReaderState
 go q [] = Some q
 go q (t ∷ tokens) = option_and_then (λ p. go p tokens) (step q t)
 
-pub go-append : (q : Place) (xs ys : List Name) → go q (xs ++ ys) ≡ option_and_then (λ p. go p ys) (go q xs)
+pub go-append : (q : ReaderState) (xs ys : List Name) → go q (xs ++ ys) ≡ option_and_then (λ p. go p ys) (go q xs)
 go-append q [] ys = refl
 go-append q (t ∷ xs) ys = by (λ p. go-append p xs ys) (step q t)
   where
-    by : ((p : Place) → go p (xs ++ ys) ≡ option_and_then (λ r. go r ys) (go p xs)) → (o : Option Place)
+    by : ((p : ReaderState) → go p (xs ++ ys) ≡ option_and_then (λ r. go r ys) (go p xs)) → (o : Option ReaderState)
         → option_and_then (λ p. go p (xs ++ ys)) o ≡ option_and_then (λ p. go p ys) (option_and_then (λ p. go p xs) o)
     by rest None = refl
     by rest (Some p) = rest p
 
 -- ---- the tokens that can follow at a place
 
-abbrev pub CanFollow : Place → List Name → Type 0
+abbrev pub CanFollow : ReaderState → List Name → Type 0
 CanFollow between tokens = (S : Database) × AreShaped S × (tokens_of S ≡ tokens)
 CanFollow labelled tokens = (label : Name) → is_label label ≡ true → (S : Database) × AreShaped S × (tokens_of S ≡ label ∷ tokens)
 CanFollow (listing n) tokens =
@@ -100,26 +100,26 @@ prove_follows label tokens h (ws, proof, S, all, all_proof, many, hS, e) =
 -- ---- a step back
 
 -- a place that is one of two, by a test
-chosen : {P : Type 0} (b : Bool) (q p : Place) (o : Option Place) → cond b (Some q) o ≡ Some p → (b ≡ true → q ≡ p → P) → (o ≡ Some p → P) → P
+chosen : {P : Type 0} (b : Bool) (q p : ReaderState) (o : Option ReaderState) → cond b (Some q) o ≡ Some p → (b ≡ true → q ≡ p → P) → (o ≡ Some p → P) → P
 chosen true q p o e then_so else_so = then_so refl cc
 chosen false q p o e then_so else_so = else_so e
 
 -- a test that fails leads to no place
-no_place : {P : Type 0} (p : Place) → ◌≡◌ {A = Option Place} None (Some p) → P
+no_place : {P : Type 0} (p : ReaderState) → ◌≡◌ {A = Option ReaderState} None (Some p) → P
 no_place p e = absurd (none e)
   where
-    none : ◌≡◌ {A = Option Place} None (Some p) → ⊥
+    none : ◌≡◌ {A = Option ReaderState} None (Some p) → ⊥
     none e = cc
 
-module _ (t : Name) (p : Place) (tokens : List Name) (after : CanFollow p tokens) where
+module _ (t : Name) (p : ReaderState) (tokens : List Name) (after : CanFollow p tokens) where
   -- the token is this keyword, or another
-  keyword : (r : Place) (k : Name) (q : Place) (o : Option Place) → cond (name_eq t k) (Some q) o ≡ Some p
+  keyword : (r : ReaderState) (k : Name) (q : ReaderState) (o : Option ReaderState) → cond (name_eq t k) (Some q) o ≡ Some p
       → (CanFollow q tokens → CanFollow r (k ∷ tokens)) → (o ≡ Some p → CanFollow r (t ∷ tokens)) → CanFollow r (t ∷ tokens)
   keyword r k q o e written =
       chosen (name_eq t k) q p o e (λ is at. subst (λ w. CanFollow r (w ∷ tokens)) (sym (same t k is)) (written (subst (λ x. CanFollow x tokens) (sym at) after)))
 
   -- the token is a symbol, or another
-  symbol : (r q : Place) (o : Option Place) → cond (is_symbol t) (Some q) o ≡ Some p
+  symbol : (r q : ReaderState) (o : Option ReaderState) → cond (is_symbol t) (Some q) o ≡ Some p
       → (is_symbol t ≡ true → CanFollow q tokens → CanFollow r (t ∷ tokens)) → (o ≡ Some p → CanFollow r (t ∷ tokens)) → CanFollow r (t ∷ tokens)
   symbol r q o e written = chosen (is_symbol t) q p o e (λ is at. written is (subst (λ x. CanFollow x tokens) (sym at) after))
 
@@ -157,7 +157,7 @@ proof_begins : (tokens : List Name) → CanFollow (listing 0) tokens → CanFoll
 proof_begins tokens (proof, S, all, many, hS, e) = ([], proof, S, refl, all, omega arith, hS, ap (λ r. codes "$=" ∷ r) e)
 
 -- tokens that can follow after a token can follow before it, with the token in front
-back : (q : Place) (t : Name) (p : Place) (tokens : List Name) → step q t ≡ Some p → CanFollow p tokens → CanFollow q (t ∷ tokens)
+back : (q : ReaderState) (t : Name) (p : ReaderState) (tokens : List Name) → step q t ≡ Some p → CanFollow p tokens → CanFollow q (t ∷ tokens)
 back between t p tokens e after =
     keyword t p tokens after between (codes "${") between _ e (λ (S, hS, is). add Open S (codes "${" ∷ tokens) refl hS (ap (λ r. codes "${" ∷ r) is)) (λ e1.
     keyword t p tokens after between (codes "$}") between _ e1 (λ (S, hS, is). add Close S (codes "$}" ∷ tokens) refl hS (ap (λ r. codes "$}" ∷ r) is)) (λ e2.
@@ -185,7 +185,7 @@ back (proving zero) t p tokens e after =
 back (proving (suc n)) t p tokens e after = symbol t p tokens after (proving (suc n)) (proving n) None e (λ is. proving_more t tokens is n) (no_place p)
 
 -- tokens that follow the last of these tokens follow the first place
-pub go_back : (q : Place) (xs : List Name) (p : Place) (tokens : List Name) → go q xs ≡ Some p → CanFollow p tokens → CanFollow q (xs ++ tokens)
+pub go_back : (q : ReaderState) (xs : List Name) (p : ReaderState) (tokens : List Name) → go q xs ≡ Some p → CanFollow p tokens → CanFollow q (xs ++ tokens)
 go_back q [] p tokens e after = subst (λ x. CanFollow x tokens) (sym (same_Some q p e)) after
 go_back q (t ∷ xs) p tokens e after =
     option_and_then_some (λ r. go r xs) (step q t) p e (λ r is rest. back q t r (xs ++ tokens) is (go_back r xs p tokens rest after))
@@ -208,7 +208,7 @@ length-symbols zero = refl
 length-symbols (suc n) = omega (arith, length-symbols n)
 
 -- each place is left by some tokens
-leaves : (q : Place) → (tokens : List Name) × CanFollow q tokens
+leaves : (q : ReaderState) → (tokens : List Name) × CanFollow q tokens
 leaves between = ([], ([], refl, refl))
 leaves labelled = (codes "$a" ∷ codes "a" ∷ codes "$." ∷ [], λ label h. (Axiom label (codes "a" ∷ []) ∷ [], rw h refl, refl))
 leaves (listing n) = (symbols n ++ codes "$." ∷ [], (symbols n, [], all-symbols n, omega (arith, length-symbols n), refl, refl))
@@ -216,7 +216,7 @@ leaves (floating n) = (symbols n ++ codes "$." ∷ [], (symbols n, [], all-symbo
 leaves (proving n) = (symbols n ++ codes "$=" ∷ codes "$." ∷ [], (symbols n, [], [], all-symbols n, refl, omega (arith, length-symbols n), refl, refl))
 
 -- where the machine goes, some list of statements goes on
-pub can_go_on : (xs : List Name) (p : Place) → go between xs ≡ Some p → CanGoOn xs
+pub can_go_on : (xs : List Name) (p : ReaderState) → go between xs ≡ Some p → IsStatementsPrefix xs
 can_go_on xs p e =
     let way : (tokens : List Name) × CanFollow p tokens = leaves p in
     let found : CanFollow between (xs ++ way.0) = go_back between xs p way.0 e way.1 in

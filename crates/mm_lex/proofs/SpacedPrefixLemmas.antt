@@ -1,5 +1,5 @@
 -- How far symbols with one space between two go on, found in lanes of bytes.
-use Rattle.mm_lex.proofs.Prelude.{◌≡◌, ℕ, ◌+◌, ◌<◌, ◌≤◌, zero, suc, Bool, true, false, not, cond, ◌&&◌, ◌||◌, List, [], ◌∷◌, length, take, drop, map, refl, prefix_len, sym, ◌∙◌, ap, arith, leb, ltb, eqb, replicate, ◌%◌, ◌^◌, bit_or, bit_and, zip2, mask_l, top, count_trailing_zeros, trailing_mask_l, leading_from_mask_l, mask_l-mod, length-zip2, length-drop, drop-drop, prefix_len-le-length, stretch, ends_here, ends_between, lanes_end}
+use Rattle.mm_lex.proofs.Prelude.{◌≡◌, ℕ, ◌+◌, ◌<◌, ◌≤◌, zero, suc, Bool, true, false, not, cond, ◌&&◌, ◌||◌, List, [], ◌∷◌, length, take, drop, map, refl, prefix_len, sym, ◌∙◌, ap, arith, leb, ltb, eqb, replicate, ◌%◌, ◌^◌, bit_or, bit_and, zip2, mask_l, top, count_trailing_zeros, trailing_mask_l, leading_from_mask_l, mask_l-mod, length-zip2, length-drop, drop-drop, prefix_len-le-length, spaced_prefix_len, ends_here, ends_between, lanes_end}
 
 -- ---- one lane
 
@@ -87,56 +87,56 @@ abbrev pub lanes_count : ℕ → List ℕ → ℕ
 lanes_count k xs = prefix_len not (lanes_end (take k xs) (take k (drop 1 xs)))
 
 abbrev Counts : ℕ → List ℕ → ℕ → Type 0
-Counts k xs n = (n < k → stretch xs ≡ n) × (k ≤ n → stretch xs ≡ k + stretch (drop k xs))
+Counts k xs n = (n < k → spaced_prefix_len xs ≡ n) × (k ≤ n → spaced_prefix_len xs ≡ k + spaced_prefix_len (drop k xs))
 
--- one byte more in the lanes: the stretch ends in them, or goes on after them
+-- one byte more in the lanes: the spaced prefix ends in them, or goes on after them
 counts_step : (t : Bool) (k s n r : ℕ) → (n < k → s ≡ n) × (k ≤ n → s ≡ k + r)
     → (cond (not t) (1 + n) 0 < suc k → cond t zero (suc s) ≡ cond (not t) (1 + n) 0) × (suc k ≤ cond (not t) (1 + n) 0 → cond t zero (suc s) ≡ suc k + r)
 counts_step true k s n r h = (λ lt. refl, λ le. absurd (omega (arith, le)))
 counts_step false k s n r h = (λ lt. omega (arith, h.0 (omega (arith, lt))), λ le. omega (arith, h.1 (omega (arith, le))))
 
--- the count in the first lanes is the stretch, where it ends there; else the stretch goes on after them
+-- the count in the first lanes is the spaced prefix, where it ends there; else the spaced prefix goes on after them
 counts : (k : ℕ) (xs : List ℕ) → k < length xs → Counts k xs (lanes_count k xs)
 counts zero xs room = (λ lt. absurd (omega (arith, lt)), λ le. omega arith)
 counts (suc k) [] room = absurd (omega (arith, room))
 counts (suc k) (b ∷ []) room = absurd (omega (arith, room))
 counts (suc k) (b ∷ c ∷ xs) room =
-    counts_step (ends_between b c) k (stretch (c ∷ xs)) (lanes_count k (c ∷ xs)) (stretch (drop k (c ∷ xs))) (counts k (c ∷ xs) (omega (arith, room)))
+    counts_step (ends_between b c) k (spaced_prefix_len (c ∷ xs)) (lanes_count k (c ∷ xs)) (spaced_prefix_len (drop k (c ∷ xs))) (counts k (c ∷ xs) (omega (arith, room)))
 
 -- ---- the bytes after those seen
 
-module _ (text : List ℕ) (at : ℕ) (room : at + 16 < length text) (seen : stretch text ≡ at + stretch (drop at text)) (count : ℕ) (counted : count ≡ lanes_count 16 (drop at text)) where
+module _ (text : List ℕ) (at : ℕ) (room : at + 16 < length text) (seen : spaced_prefix_len text ≡ at + spaced_prefix_len (drop at text)) (count : ℕ) (counted : count ≡ lanes_count 16 (drop at text)) where
   -- .. in sixteen lanes of the text
   both : Counts 16 (drop at text) count
   both = rw counted (counts 16 (drop at text) (omega (arith, room, length-drop at text)))
 
-  -- where the symbols end in the lanes, the stretch of the text ends there
-  pub stretch_ends : count < 16 → stretch text ≡ at + count
-  stretch_ends few = omega (arith, seen, both.0 few)
+  -- where the symbols end in the lanes, the spaced prefix of the text ends there
+  pub prefix_ends : count < 16 → spaced_prefix_len text ≡ at + count
+  prefix_ends few = omega (arith, seen, both.0 few)
 
   -- where they do not, it goes on after the lanes
-  pub stretch_goes_on : count ≡ 16 → stretch text ≡ at + count + stretch (drop (at + count) text)
-  stretch_goes_on all =
+  pub prefix_goes_on : count ≡ 16 → spaced_prefix_len text ≡ at + count + spaced_prefix_len (drop (at + count) text)
+  prefix_goes_on all =
       let rest : drop 16 (drop at text) ≡ drop (at + count) text = drop-drop 16 at text ∙ ap (λ n. drop (at + n) text) (sym all) in
       let there = both.1 (omega (arith, all)) in
-      omega (arith, seen, there, ap stretch rest, all)
+      omega (arith, seen, there, ap spaced_prefix_len rest, all)
 
 -- ---- one byte more
 
--- a stretch that does not end here has one byte and more
+-- a spaced prefix that does not end here has one byte and more
 one_step : (t : Bool) (s : ℕ) → t ≡ false → cond t zero (suc s) ≡ suc s
 one_step true s e = cc
 one_step false s e = refl
 
--- where symbols do not end at the first byte, the stretch is that byte and the stretch after it
-stretch_byte : (xs : List ℕ) → 0 < length xs → ends_here xs ≡ false → stretch xs ≡ suc (stretch (drop 1 xs))
-stretch_byte [] some e = absurd (omega (arith, some))
-stretch_byte (b ∷ xs) some e = one_step (ends_here (b ∷ xs)) (stretch xs) e
+-- where symbols do not end at the first byte, the spaced prefix is that byte and the spaced prefix after it
+prefix_byte : (xs : List ℕ) → 0 < length xs → ends_here xs ≡ false → spaced_prefix_len xs ≡ suc (spaced_prefix_len (drop 1 xs))
+prefix_byte [] some e = absurd (omega (arith, some))
+prefix_byte (b ∷ xs) some e = one_step (ends_here (b ∷ xs)) (spaced_prefix_len xs) e
 
 -- where they do not end at the next byte of the text, it is passed
-pub stretch_one : (text : List ℕ) (at : ℕ) → at < length text → stretch text ≡ at + stretch (drop at text) → ends_here (drop at text) ≡ false
-    → stretch text ≡ at + 1 + stretch (drop (at + 1) text)
-stretch_one text at inside seen e =
-    let next = stretch_byte (drop at text) (omega (arith, length-drop at text, inside)) e in
+pub prefix_one : (text : List ℕ) (at : ℕ) → at < length text → spaced_prefix_len text ≡ at + spaced_prefix_len (drop at text) → ends_here (drop at text) ≡ false
+    → spaced_prefix_len text ≡ at + 1 + spaced_prefix_len (drop (at + 1) text)
+prefix_one text at inside seen e =
+    let next = prefix_byte (drop at text) (omega (arith, length-drop at text, inside)) e in
     let rest : drop 1 (drop at text) ≡ drop (at + 1) text = drop-drop 1 at text in
-    omega (arith, seen, next, ap stretch rest)
+    omega (arith, seen, next, ap spaced_prefix_len rest)

@@ -1,7 +1,7 @@
--- The machine of `Places` goes over each list of statements, back to where statements may begin.
+-- The machine of `ReaderStates` goes over each list of statements, back to where statements may begin.
 use Rattle.mm_read.proofs.Words.{◌≡◌, ℕ, ◌≤◌, zero, suc, true, false, ◌&&◌, cond, List, [], ◌∷◌, ◌++◌, length, Some, None, codes, list_all, option_and_then, sym, ◌∙◌, ap, arith, refl, true≢false, append_assoc, and_parts, Name, name_eq, is_symbol, is_label, has_byte, Stmt, Open, Close, Const, Var, Disj, Float, Ess, Axiom, Prove, Database, is_shaped, are_symbols, has_two, stmt_tokens, tokens_of}
 use Rattle.mm_read.proofs.StatementsLemmas.{label_plain, symbols_of, append_middle, plain_is_no_key}
-use Rattle.mm_read.proofs.Places.{between, labelled, listing, floating, proving, step, go}
+use Rattle.mm_read.proofs.ReaderStates.{between, labelled, listing, floating, proving, step, go}
 
 step-label : (label : Name) → is_label label ≡ true → step between label ≡ Some labelled
 step-label label h =

@@ -4,7 +4,7 @@
 use Rattle.std.specs.Prelude.{◌≡◌, ℕ, Bool, ◌+◌, ◌<◌, ◌≤◌, ◌⊎◌, IsTrue, IsFalse, List, [], ◌∷◌, ◌++◌, length, codes}
 use Rattle.std.specs.List.{list_all}
 use Rattle.mm_lex.specs.Alphabet.{Name, name_eq, has_name, is_symbol}
-use Rattle.mm_lex.specs.Between.{AreAfter, StopsAfter}
+use Rattle.mm_lex.specs.Between.{AreAfter, IsCommentFaultAfter}
 use Rattle.mm_read.specs.declared.keyword.Keyword.{Keyword}
 use Rattle.mm_read.specs.declared.keyword.Keyword.TheVariants.{Open, Close, Const, Var, Disj, Float, Ess, Axiom, Prove, Other}
 use Rattle.mm_read.specs.declared.fault.ReadFault.{ReadFault}
@@ -50,7 +50,7 @@ pub record HasBrokenList (text : List ℕ) (at number least : ℕ) (end : Name) 
 
 -- why no whole list follows an offset: a comment fault, the token at which it breaks off, or a failed allocation
 abbrev pub IsListFault : List ℕ → ℕ → ℕ → ℕ → Name → ReadFault → Type 0
-IsListFault text at number least end (Text fault) = StopsAfter text at fault
+IsListFault text at number least end (Text fault) = IsCommentFaultAfter text at fault
 IsListFault text at number least end (Shape token) = HasBrokenList text at number least end token
 IsListFault text at number least end Memory = Unit {0}
 
@@ -61,7 +61,7 @@ StartsOtherwise fits (t ∷ rest) = IsFalse (fits t)
 
 -- why no fitting token follows an offset: a comment fault, another token or none, or a failed allocation
 abbrev pub IsTokenFault : List ℕ → ℕ → ℕ → (Name → Bool) → ReadFault → Type 0
-IsTokenFault text at number fits (Text fault) = StopsAfter text at fault
+IsTokenFault text at number fits (Text fault) = IsCommentFaultAfter text at fault
 IsTokenFault text at number fits (Shape token) =
     (token ≡ number) × ((tokens : List Name) → AreAfter text at tokens → StartsOtherwise fits tokens)
 IsTokenFault text at number fits Memory = Unit {0}

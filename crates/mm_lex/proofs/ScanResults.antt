@@ -1,6 +1,6 @@
--- The result of the scan of a list of runs is justified: a cut, or the fault at its offset.
-use Rattle.mm_lex.proofs.Prelude.{◌≡◌, ℕ, Bool, true, false, ◌⊎◌, List, [], ◌∷◌, ◌++◌, flat_map, Option, Some, None, Ok, Err, refl, sym, ◌∙◌, ap, inl, inr, append_assoc, bytes_eq-Decides, and_from, Span, name_eq, word, opener, closer, is_plain, AllPlain, Part, part_spans, Cuts, StopsAt}
-use Rattle.mm_lex.proofs.Cutting.{Outcome, prepend, outside, inside, scan}
+-- The result of the scan of a list of runs is justified: a split, or the fault at its offset.
+use Rattle.mm_lex.proofs.Prelude.{◌≡◌, ℕ, Bool, true, false, ◌⊎◌, List, [], ◌∷◌, ◌++◌, flat_map, Option, Some, None, Ok, Err, refl, sym, ◌∙◌, ap, inl, inr, append_assoc, bytes_eq-Decides, and_from, Span, name_eq, word, opener, closer, is_plain, AllPlain, Part, part_spans, SplitsInto, IsCommentFaultOfRuns}
+use Rattle.mm_lex.proofs.ScanRuns.{Outcome, prepend, outside, inside, scan}
 
 module _ (text : List ℕ) where
   abbrev opens : Span → Bool
@@ -13,63 +13,63 @@ module _ (text : List ℕ) where
   pub plain : (s : Span) → opens s ≡ false → closes s ≡ false → is_plain (word text s) ≡ true
   plain s e f = rw (e, f) refl
 
-  -- ---- cuts
+  -- ---- splits
 
-  -- no runs are cut into no tokens
-  pub no_runs : Cuts text [] []
+  -- no runs are split into no tokens
+  pub no_runs : SplitsInto text [] []
   no_runs = record { first = []; parts = []; whole = refl; plain = refl; comments = tt; outside = refl }
 
-  -- a plain run before a cut
-  pub with_plain : (s : Span) (spans tokens : List Span) → is_plain (word text s) ≡ true → Cuts text spans tokens → Cuts text (s ∷ spans) (s ∷ tokens)
-  with_plain s spans tokens is cut = record {
-    first = s ∷ cut.first;
-    parts = cut.parts;
-    whole = ap (λ r. s ∷ r) cut.whole;
-    plain = and_from (is_plain (word text s)) _ is cut.plain;
-    comments = cut.comments;
-    outside = ap (λ r. s ∷ r) cut.outside;
+  -- a plain run before a split
+  pub with_plain : (s : Span) (spans tokens : List Span) → is_plain (word text s) ≡ true → SplitsInto text spans tokens → SplitsInto text (s ∷ spans) (s ∷ tokens)
+  with_plain s spans tokens is split = record {
+    first = s ∷ split.first;
+    parts = split.parts;
+    whole = ap (λ r. s ∷ r) split.whole;
+    plain = and_from (is_plain (word text s)) _ is split.plain;
+    comments = split.comments;
+    outside = ap (λ r. s ∷ r) split.outside;
   }
 
-  -- a comment before a cut
+  -- a comment before a split
   pub with_comment : (begin end : Span) (inner spans tokens : List Span) → word text begin ≡ opener → AllPlain text inner → word text end ≡ closer
-      → Cuts text spans tokens → Cuts text (begin ∷ (inner ++ end ∷ spans)) tokens
-  with_comment begin end inner spans tokens is_begin are is_end cut =
-      let p : Part = record { begin = begin; inside = inner; end = end; after = cut.first } in
-      let rest = flat_map part_spans cut.parts in record {
+      → SplitsInto text spans tokens → SplitsInto text (begin ∷ (inner ++ end ∷ spans)) tokens
+  with_comment begin end inner spans tokens is_begin are is_end split =
+      let p : Part = record { begin = begin; inside = inner; end = end; after = split.first } in
+      let rest = flat_map part_spans split.parts in record {
         first = [];
-        parts = p ∷ cut.parts;
-        whole = ap (λ r. begin ∷ (inner ++ end ∷ r)) cut.whole ∙ ap (λ r. begin ∷ r) (sym (append_assoc inner (end ∷ cut.first) rest));
+        parts = p ∷ split.parts;
+        whole = ap (λ r. begin ∷ (inner ++ end ∷ r)) split.whole ∙ ap (λ r. begin ∷ r) (sym (append_assoc inner (end ∷ split.first) rest));
         plain = refl;
-        comments = (record { begins = is_begin; inside = are; ends = is_end; after = cut.plain }, cut.comments);
-        outside = cut.outside;
+        comments = (record { begins = is_begin; inside = are; ends = is_end; after = split.plain }, split.comments);
+        outside = split.outside;
       }
 
-  -- a cut of the same runs by another list
-  pub cuts_as : (spans same tokens : List Span) → spans ≡ same → Cuts text same tokens → Cuts text spans tokens
-  cuts_as spans same tokens e cut = record {
-    first = cut.first;
-    parts = cut.parts;
-    whole = e ∙ cut.whole;
-    plain = cut.plain;
-    comments = cut.comments;
-    outside = cut.outside;
+  -- a split of the same runs by another list
+  pub splits_as : (spans same tokens : List Span) → spans ≡ same → SplitsInto text same tokens → SplitsInto text spans tokens
+  splits_as spans same tokens e split = record {
+    first = split.first;
+    parts = split.parts;
+    whole = e ∙ split.whole;
+    plain = split.plain;
+    comments = split.comments;
+    outside = split.outside;
   }
 
-  -- ---- a fault after what is cut
+  -- ---- a fault after what is split
 
-  -- runs that a cut may stand after, and their tokens
+  -- runs that a split may stand after, and their tokens
   abbrev IsFront : List Span → List Span → Type 0
-  IsFront front out = (spans tokens : List Span) → Cuts text spans tokens → Cuts text (front ++ spans) (out ++ tokens)
+  IsFront front out = (spans tokens : List Span) → SplitsInto text spans tokens → SplitsInto text (front ++ spans) (out ++ tokens)
 
   -- a fault of the runs after such a front is one of the whole
-  later_stop : (front out : List Span) → IsFront front out → (spans : List Span) (offset : ℕ) → StopsAt text spans offset → StopsAt text (front ++ spans) offset
+  later_stop : (front out : List Span) → IsFront front out → (spans : List Span) (offset : ℕ) → IsCommentFaultOfRuns text spans offset → IsCommentFaultOfRuns text (front ++ spans) offset
   later_stop front out is_front spans offset (inl is) = inl (record {
     before = front ++ is.before;
     tokens = out ++ is.tokens;
     at = is.at;
     rest = is.rest;
     whole = ap (λ r. front ++ r) is.whole ∙ sym (append_assoc front is.before (is.at ∷ is.rest));
-    cut = is_front is.before is.tokens is.cut;
+    split = is_front is.before is.tokens is.split;
     closes = is.closes;
     place = is.place;
   })
@@ -81,7 +81,7 @@ module _ (text : List ℕ) where
     at = is.at;
     rest = is.rest;
     whole = ap (λ r. front ++ r) is.whole ∙ sym (append_assoc front is.before (is.outer ∷ (is.inside ++ is.at ∷ is.rest)));
-    cut = is_front is.before is.tokens is.cut;
+    split = is_front is.before is.tokens is.split;
     opens = is.opens;
     plain = is.plain;
     opens_again = is.opens_again;
@@ -93,7 +93,7 @@ module _ (text : List ℕ) where
     at = is.at;
     inside = is.inside;
     whole = ap (λ r. front ++ r) is.whole ∙ sym (append_assoc front is.before (is.at ∷ is.inside));
-    cut = is_front is.before is.tokens is.cut;
+    split = is_front is.before is.tokens is.split;
     opens = is.opens;
     plain = is.plain;
     place = is.place;
@@ -101,16 +101,16 @@ module _ (text : List ℕ) where
 
   -- a plain run is a front, with itself as token
   plain_front : (s : Span) → is_plain (word text s) ≡ true → IsFront (s ∷ []) (s ∷ [])
-  plain_front s is spans tokens cut = with_plain s spans tokens is cut
+  plain_front s is spans tokens split = with_plain s spans tokens is split
 
   -- a whole comment is a front without tokens
   comment_front : (begin end : Span) (inner : List Span) → word text begin ≡ opener → AllPlain text inner → word text end ≡ closer → IsFront (begin ∷ (inner ++ end ∷ [])) []
-  comment_front begin end inner is_begin are is_end spans tokens cut =
-      cuts_as _ _ tokens (ap (λ r. begin ∷ r) (append_assoc inner (end ∷ []) spans)) (with_comment begin end inner spans tokens is_begin are is_end cut)
+  comment_front begin end inner is_begin are is_end spans tokens split =
+      splits_as _ _ tokens (ap (λ r. begin ∷ r) (append_assoc inner (end ∷ []) spans)) (with_comment begin end inner spans tokens is_begin are is_end split)
 
   -- ---- inside of a comment
 
-  -- these runs close the comment, and then are cut
+  -- these runs close the comment, and then are split
   record Closes (spans tokens : List Span) : Type 0 where
     inner : List Span
     end : Span
@@ -118,7 +118,7 @@ module _ (text : List ℕ) where
     whole : spans ≡ inner ++ end ∷ rest
     plain : AllPlain text inner
     ends : word text end ≡ closer
-    cut : Cuts text rest tokens
+    split : SplitsInto text rest tokens
 
   -- these runs open another
   record Nests (spans : List Span) (offset : ℕ) : Type 0 where
@@ -130,7 +130,7 @@ module _ (text : List ℕ) where
     opens_again : word text at ≡ opener
     place : at.start ≡ offset
 
-  -- these runs close the comment, and then are not cut
+  -- these runs close the comment, and then are not split
   record StopsLater (spans : List Span) (offset : ℕ) : Type 0 where
     inner : List Span
     end : Span
@@ -138,14 +138,14 @@ module _ (text : List ℕ) where
     whole : spans ≡ inner ++ end ∷ rest
     plain : AllPlain text inner
     ends : word text end ≡ closer
-    stops : StopsAt text rest offset
+    stops : IsCommentFaultOfRuns text rest offset
 
   abbrev Fails : List Span → ℕ → ℕ → Type 0
   Fails spans from offset = Nests spans offset ⊎ (AllPlain text spans × (from ≡ offset)) ⊎ StopsLater spans offset
 
   abbrev Meaning : List Span → Option ℕ → Outcome → Type 0
-  Meaning spans None (Ok tokens) = Cuts text spans tokens
-  Meaning spans None (Err offset) = StopsAt text spans offset
+  Meaning spans None (Ok tokens) = SplitsInto text spans tokens
+  Meaning spans None (Err offset) = IsCommentFaultOfRuns text spans offset
   Meaning spans (Some from) (Ok tokens) = Closes spans tokens
   Meaning spans (Some from) (Err offset) = Fails spans from offset
 
@@ -155,7 +155,7 @@ module _ (text : List ℕ) where
     -- a `$(` outside of comments: what the scan gives in the comment has its meaning for the whole
     opened : word text s ≡ opener → (r : Outcome) → Meaning spans (Some s.start) r → Meaning (s ∷ spans) None r
     opened is (Ok tokens) m =
-        cuts_as _ _ tokens (ap (λ r. s ∷ r) m.whole) (with_comment s m.end m.inner m.rest tokens is m.plain m.ends m.cut)
+        splits_as _ _ tokens (ap (λ r. s ∷ r) m.whole) (with_comment s m.end m.inner m.rest tokens is m.plain m.ends m.split)
     opened is (Err offset) (inl m) = inr (inl (record {
       before = [];
       tokens = [];
@@ -164,7 +164,7 @@ module _ (text : List ℕ) where
       at = m.at;
       rest = m.rest;
       whole = ap (λ r. s ∷ r) m.whole;
-      cut = no_runs;
+      split = no_runs;
       opens = is;
       plain = m.plain;
       opens_again = m.opens_again;
@@ -176,7 +176,7 @@ module _ (text : List ℕ) where
       at = s;
       inside = spans;
       whole = refl;
-      cut = no_runs;
+      split = no_runs;
       opens = is;
       plain = m.0;
       place = m.1;
@@ -195,12 +195,12 @@ module _ (text : List ℕ) where
         → Meaning (s ∷ spans) None (outside a b s r t)
     out_step true b e f r t m k = opened ((bytes_eq-Decides _ _).0 e) r m
     out_step false true e f r t m k =
-        inl (record { before = []; tokens = []; at = s; rest = spans; whole = refl; cut = no_runs; closes = (bytes_eq-Decides _ _).0 f; place = refl })
+        inl (record { before = []; tokens = []; at = s; rest = spans; whole = refl; split = no_runs; closes = (bytes_eq-Decides _ _).0 f; place = refl })
     out_step false false e f r t m k = passed (plain s e f) t k
 
     -- a `$)` inside of a comment: what the scan gives after it has its meaning for the whole
     closed : word text s ≡ closer → (from : ℕ) (r : Outcome) → Meaning spans None r → Meaning (s ∷ spans) (Some from) r
-    closed is from (Ok tokens) m = record { inner = []; end = s; rest = spans; whole = refl; plain = refl; ends = is; cut = m }
+    closed is from (Ok tokens) m = record { inner = []; end = s; rest = spans; whole = refl; plain = refl; ends = is; split = m }
     closed is from (Err offset) m = inr (inr (record { inner = []; end = s; rest = spans; whole = refl; plain = refl; ends = is; stops = m }))
 
     -- a plain run inside of a comment changes nothing
@@ -212,7 +212,7 @@ module _ (text : List ℕ) where
       whole = ap (λ r. s ∷ r) m.whole;
       plain = and_from _ _ is m.plain;
       ends = m.ends;
-      cut = m.cut;
+      split = m.split;
     }
     skipped is from (Err offset) (inl m) = inl (record {
       inner = s ∷ m.inner;
@@ -251,8 +251,8 @@ module _ (text : List ℕ) where
   means (s ∷ spans) (Some from) =
       in_step s spans from (opens s) (closes s) refl refl (scan text spans None) (scan text spans (Some from)) (means spans None) (means spans (Some from))
 
-  pub cut-scan : (spans tokens : List Span) → scan text spans None ≡ Ok tokens → Cuts text spans tokens
-  cut-scan spans tokens e = rw e at (means spans None)
+  pub split-scan : (spans tokens : List Span) → scan text spans None ≡ Ok tokens → SplitsInto text spans tokens
+  split-scan spans tokens e = rw e at (means spans None)
 
-  pub stops-scan : (spans : List Span) (offset : ℕ) → scan text spans None ≡ Err offset → StopsAt text spans offset
+  pub stops-scan : (spans : List Span) (offset : ℕ) → scan text spans None ≡ Err offset → IsCommentFaultOfRuns text spans offset
   stops-scan spans offset e = rw e at (means spans None)

@@ -1,14 +1,14 @@
 //! Measures the longest start of a text that is symbols separated by single spaces, many bytes at a time.
 ghost use Rattle.std.specs.Prelude.{◌≡◌, ◌+◌, ◌-◌, ◌<◌, ◌≤◌, not, length, take, drop};
 ghost use Rattle.std.specs.List.{prefix_len};
-ghost use Rattle.mm_lex.specs.Stored.Stretch.{stretch, ends_here, lanes_end};
+ghost use Rattle.mm_lex.specs.Stored.SpacedPrefix.{spaced_prefix_len, ends_here, lanes_end};
 
 use crate::lanes::LANES;
 use std::simd::prelude::*;
 
 /// Returns the number of bytes at the start of a text that are symbols separated by single spaces.
-pub(crate) fn count_spaced(text: &[u8]) -> usize
-    ensures count { result ≡ stretch text.now }
+pub(crate) fn count_spaced_prefix(text: &[u8]) -> usize
+    ensures count { result ≡ spaced_prefix_len text.now }
     ensures within { result ≤ length text.now }
 {
     let mut at = 0;
@@ -41,7 +41,7 @@ fn count_in_lanes(text: &[u8]) -> usize
 }
 
 fn count_one_by_one(text: &[u8]) -> usize
-    ensures count { result ≡ stretch text.now }
+    ensures count { result ≡ spaced_prefix_len text.now }
     ensures within { result ≤ length text.now }
 {
     let mut at = 0;

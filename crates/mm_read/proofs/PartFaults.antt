@@ -1,18 +1,18 @@
--- Where the tokens after others stop being a statement, the machine of `Places` stops.
+-- Where the tokens after others stop being a statement, the machine of `ReaderStates` stops.
 use Rattle.mm_read.proofs.Words.{◌≡◌, ℕ, ◌+◌, ◌-◌, ◌<◌, ◌⊎◌, zero, suc, true, false, cond, List, [], ◌∷◌, ◌++◌, length, Some, None, codes, list_all, option_and_then, sym, ◌∙◌, ap, arith, refl, inl, inr, subst, append_assoc, length-append, append-nil, and_parts, or_parts, Name, name_eq, has_name, is_symbol, is_label, Keyword, Other, IsShapeFault, IsKeyword, BeginsBrokenList, BreaksList}
 use Rattle.mm_read.specs.declared.keyword.Keyword.TheVariants.{Open, Close, Const, Var, Disj, Float, Ess, Axiom, Prove}
-use Rattle.mm_read.proofs.Places.{Place, between, labelled, listing, floating, proving, step, go, go-append}
+use Rattle.mm_read.proofs.ReaderStates.{ReaderState, between, labelled, listing, floating, proving, step, go, go-append}
 use Rattle.mm_read.proofs.ShapeFaults.{stops_at, ends_inside}
 
 -- ---- the machine stops
 
 -- no token, or one at which the machine stops
-abbrev pub Stuck : Place → List Name → Type 0
+abbrev pub Stuck : ReaderState → List Name → Type 0
 Stuck p [] = Unit {0}
 Stuck p (t ∷ rest) = step p t ≡ None
 
 -- inside of a statement, where no token is left or the next one stops the machine: the fault is there
-pub stuck : (tokens done rest : List Name) (p : Place) → tokens ≡ done ++ rest → go between done ≡ Some p → (p ≡ between → ⊥) → Stuck p rest → IsShapeFault tokens (length done + 1)
+pub stuck : (tokens done rest : List Name) (p : ReaderState) → tokens ≡ done ++ rest → go between done ≡ Some p → (p ≡ between → ⊥) → Stuck p rest → IsShapeFault tokens (length done + 1)
 stuck tokens done [] p whole e inside stop = subst (λ ts. IsShapeFault ts (length done + 1)) (sym (whole ∙ append-nil done)) (ends_inside done p e inside)
 stuck tokens done (t ∷ rest) p whole e inside stop = subst (λ ts. IsShapeFault ts (length done + 1)) (sym whole) (stops_at done rest t p e stop)
 

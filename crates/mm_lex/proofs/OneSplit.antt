@@ -1,5 +1,5 @@
--- The cut at the comments is unique: a list of plain runs ends where the first run stands that is not plain.
-use Rattle.mm_lex.proofs.Prelude.{◌≡◌, ℕ, true, false, List, [], ◌∷◌, ◌++◌, flat_map, refl, sym, ◌∙◌, ap, true≢false, append_assoc, and_parts, Span, word, opener, closer, is_plain, AllPlain, Part, part_spans, AreParts, Cuts}
+-- The split at the comments is unique: a list of plain runs ends where the first run stands that is not plain.
+use Rattle.mm_lex.proofs.Prelude.{◌≡◌, ℕ, true, false, List, [], ◌∷◌, ◌++◌, flat_map, refl, sym, ◌∙◌, ap, true≢false, append_assoc, and_parts, Span, word, opener, closer, is_plain, AllPlain, Part, part_spans, AreParts, SplitsInto}
 
 module _ (text : List ℕ) where
   -- the runs are none, or begin with one that is not plain
@@ -72,9 +72,9 @@ module _ (text : List ℕ) where
       let afters = outer.front in
       let same : p ≡ q = same_part p q begins insides ends afters in cc
 
-  -- two cuts of the same runs have the same first runs and the same comments
-  pub same_first : (spans a b : List Span) (cut : Cuts text spans a) (other : Cuts text spans b) → (cut.first ≡ other.first) × (cut.parts ≡ other.parts)
-  same_first spans a b cut other =
-      let split = same_split cut.first other.first (flat_map part_spans cut.parts) (flat_map part_spans other.parts) cut.plain other.plain
-      (marked_parts cut.parts cut.comments) (marked_parts other.parts other.comments) (sym cut.whole ∙ other.whole) in
-      (split.front, same_parts cut.parts other.parts cut.comments other.comments split.back)
+  -- two splits of the same runs have the same first runs and the same comments
+  pub same_first : (spans a b : List Span) (split : SplitsInto text spans a) (other : SplitsInto text spans b) → (split.first ≡ other.first) × (split.parts ≡ other.parts)
+  same_first spans a b split other =
+      let halves = same_split split.first other.first (flat_map part_spans split.parts) (flat_map part_spans other.parts) split.plain other.plain
+      (marked_parts split.parts split.comments) (marked_parts other.parts other.comments) (sym split.whole ∙ other.whole) in
+      (halves.front, same_parts split.parts other.parts split.comments other.comments halves.back)

@@ -15,9 +15,9 @@ ends_here (b ∷ []) = ends_between b 32
 ends_here (b ∷ c ∷ bytes) = ends_between b c
 
 -- the number of bytes before the end of the symbols
-abbrev pub stretch : List ℕ → ℕ
-stretch [] = zero
-stretch (b ∷ bytes) = if ends_here (b ∷ bytes) then zero else suc (stretch bytes)
+abbrev pub spaced_prefix_len : List ℕ → ℕ
+spaced_prefix_len [] = zero
+spaced_prefix_len (b ∷ bytes) = if ends_here (b ∷ bytes) then zero else suc (spaced_prefix_len bytes)
 
 -- for each of these bytes and the one after it, whether the symbols end between the two
 abbrev pub lanes_end : List ℕ → List ℕ → List Bool

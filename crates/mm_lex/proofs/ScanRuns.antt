@@ -1,8 +1,8 @@
--- The cut at the comments, read once from left to right: it gives tokens exactly where there is a cut,
+-- The split at the comments, read once from left to right: it gives tokens exactly where there is a split,
 -- and else the offset of the comment fault.
-use Rattle.mm_lex.proofs.Prelude.{◌≡◌, ℕ, Bool, true, false, ◌||◌, List, [], ◌∷◌, ◌++◌, flat_map, Option, Some, None, Result, Ok, Err, refl, sym, ◌∙◌, ap, inl, inr, append_assoc, append-nil, and_parts, or_parts, not-true, Span, name_eq, word, opener, closer, is_plain, AllPlain, Part, part_spans, IsPart, AreParts, Cuts, IsStrayCloser, IsNestedOpener, IsUnclosed, StopsAt}
+use Rattle.mm_lex.proofs.Prelude.{◌≡◌, ℕ, Bool, true, false, ◌||◌, List, [], ◌∷◌, ◌++◌, flat_map, Option, Some, None, Result, Ok, Err, refl, sym, ◌∙◌, ap, inl, inr, append_assoc, append-nil, and_parts, or_parts, not-true, Span, name_eq, word, opener, closer, is_plain, AllPlain, Part, part_spans, IsPart, AreParts, SplitsInto, IsStrayCloser, IsNestedOpener, IsUnclosed, IsCommentFaultOfRuns}
 
--- the tokens, or the offset at which the cut stops
+-- the tokens, or the offset at which the split stops
 abbrev pub Outcome : Type 0
 Outcome = Result (List Span) ℕ
 
@@ -109,7 +109,7 @@ module _ (text : List ℕ) where
       scan_inside s (xs ++ ys) offset none.0 none.1
       ∙ scan_all_inside xs ys offset (and_parts (is_plain (word text s)) _ h).1
 
-  -- ---- a cut, and then other runs
+  -- ---- a split, and then other runs
 
   -- a comment with the plain runs after it leaves these runs
   scan_part : (p : Part) (ys : List Span) → IsPart text p → scan text (part_spans p ++ ys) None ≡ prepend p.after (scan text ys None)
@@ -129,28 +129,28 @@ module _ (text : List ℕ) where
       ∙ (ap (prepend p.after) (scan_parts ps ys h.1)
       ∙ prepend-append p.after (flat_map (λ (p : Part). p.after) ps) (scan text ys None)))
 
-  -- runs that are cut leave their tokens, and the scan goes on after them
-  pub scan_cut : (spans tokens ys : List Span) → Cuts text spans tokens → scan text (spans ++ ys) None ≡ prepend tokens (scan text ys None)
-  scan_cut spans tokens ys cut =
-      let rest = flat_map part_spans cut.parts in
-      let outer = flat_map (λ (p : Part). p.after) cut.parts in
-      ap (λ r. scan text r None) (ap (λ r. r ++ ys) cut.whole ∙ append_assoc cut.first rest ys)
-      ∙ (scan_all_plain cut.first (rest ++ ys) cut.plain
-      ∙ (ap (prepend cut.first) (scan_parts cut.parts ys cut.comments)
-      ∙ (prepend-append cut.first outer (scan text ys None)
-      ∙ ap (λ ts. prepend ts (scan text ys None)) (sym cut.outside))))
+  -- runs that are split leave their tokens, and the scan goes on after them
+  pub scan_split : (spans tokens ys : List Span) → SplitsInto text spans tokens → scan text (spans ++ ys) None ≡ prepend tokens (scan text ys None)
+  scan_split spans tokens ys split =
+      let rest = flat_map part_spans split.parts in
+      let outer = flat_map (λ (p : Part). p.after) split.parts in
+      ap (λ r. scan text r None) (ap (λ r. r ++ ys) split.whole ∙ append_assoc split.first rest ys)
+      ∙ (scan_all_plain split.first (rest ++ ys) split.plain
+      ∙ (ap (prepend split.first) (scan_parts split.parts ys split.comments)
+      ∙ (prepend-append split.first outer (scan text ys None)
+      ∙ ap (λ ts. prepend ts (scan text ys None)) (sym split.outside))))
 
   -- ---- the result that the scan of a text must have
 
-  pub scan-cut : (spans tokens : List Span) → Cuts text spans tokens → scan text spans None ≡ Ok tokens
-  scan-cut spans tokens cut =
-      ap (λ r. scan text r None) (sym (append-nil spans)) ∙ (scan_cut spans tokens [] cut ∙ ap Ok (append-nil tokens))
+  pub scan-split : (spans tokens : List Span) → SplitsInto text spans tokens → scan text spans None ≡ Ok tokens
+  scan-split spans tokens split =
+      ap (λ r. scan text r None) (sym (append-nil spans)) ∙ (scan_split spans tokens [] split ∙ ap Ok (append-nil tokens))
 
   -- a `$)` outside of comments is where the scan stops
   stray : (spans : List Span) (offset : ℕ) → IsStrayCloser text spans offset → scan text spans None ≡ Err offset
   stray spans offset is =
       ap (λ r. scan text r None) is.whole
-      ∙ (scan_cut is.before is.tokens (is.at ∷ is.rest) is.cut
+      ∙ (scan_split is.before is.tokens (is.at ∷ is.rest) is.split
       ∙ (ap (prepend is.tokens) (scan_closer is.at is.rest (closer_no_opener is.at is.closes) (is_closer is.at is.closes))
       ∙ ap Err is.place))
 
@@ -158,7 +158,7 @@ module _ (text : List ℕ) where
   nested : (spans : List Span) (offset : ℕ) → IsNestedOpener text spans offset → scan text spans None ≡ Err offset
   nested spans offset is =
       ap (λ r. scan text r None) is.whole
-      ∙ (scan_cut is.before is.tokens (is.outer ∷ (is.inside ++ is.at ∷ is.rest)) is.cut
+      ∙ (scan_split is.before is.tokens (is.outer ∷ (is.inside ++ is.at ∷ is.rest)) is.split
       ∙ (ap (prepend is.tokens) (scan_opener is.outer (is.inside ++ is.at ∷ is.rest) (is_opener is.outer is.opens)
       ∙ (scan_all_inside is.inside (is.at ∷ is.rest) is.outer.start is.plain
       ∙ scan_nested is.at is.rest is.outer.start (is_opener is.at is.opens_again)))
@@ -168,13 +168,13 @@ module _ (text : List ℕ) where
   unclosed : (spans : List Span) (offset : ℕ) → IsUnclosed text spans offset → scan text spans None ≡ Err offset
   unclosed spans offset is =
       ap (λ r. scan text r None) is.whole
-      ∙ (scan_cut is.before is.tokens (is.at ∷ is.inside) is.cut
+      ∙ (scan_split is.before is.tokens (is.at ∷ is.inside) is.split
       ∙ (ap (prepend is.tokens) (scan_opener is.at is.inside (is_opener is.at is.opens)
       ∙ (ap (λ r. scan text r (Some is.at.start)) (sym (append-nil is.inside))
       ∙ scan_all_inside is.inside [] is.at.start is.plain))
       ∙ ap Err is.place))
 
-  pub scan-stops : (spans : List Span) (offset : ℕ) → StopsAt text spans offset → scan text spans None ≡ Err offset
+  pub scan-stops : (spans : List Span) (offset : ℕ) → IsCommentFaultOfRuns text spans offset → scan text spans None ≡ Err offset
   scan-stops spans offset (inl is) = stray spans offset is
   scan-stops spans offset (inr (inl is)) = nested spans offset is
   scan-stops spans offset (inr (inr is)) = unclosed spans offset is
