@@ -1,5 +1,5 @@
 -- How the stacks of a scope follow a statement that opens or closes no block, a `${` and a `$}`.
-use Rattle.scope.proofs.Words.{◌≡◌, ℕ, zero, suc, ◌+◌, ◌≤◌, Bool, true, false, cond, ◌||◌, nat_lt, List, [], ◌∷◌, ◌++◌, length, take, refl, flat_map, ◌∙◌, ap, sym, arith, append_assoc, true≢false, length-append, append-nil, map-append, take-map, same_from_push, flat_map-append, nat_tests, eqb-true, Name, has_name, Stmt, Open, Close, Database, stays_open, active_from, active, is_open, is_close, is_closed, count, variables, typed_by, numbers_in, number_in, AreNamed, stands_at, standing_of, symbols_of, sizes_of, blocks_from, blocks_of, IsKept, IsMarked, StackHeights, has_open, before_open, numbers_in-more, has-more, has_name-append}
+use Rattle.scope.proofs.Words.{◌≡◌, ℕ, zero, suc, ◌+◌, ◌≤◌, Bool, true, false, cond, ◌||◌, nat_lt, List, [], ◌∷◌, ◌++◌, length, take, refl, flat_map, ◌∙◌, ap, sym, arith, append_assoc, true≢false, length-append, append-nil, map-append, take-map, same_from_push, flat_map-append, nat_tests, eqb-true, Name, has_name, Stmt, Open, Close, Database, stays_open, active_from, active, is_open, is_close, is_closed, count, variables, typed_by, codes_or_len, code_or_len, AreNamed, stands_at, standing_of, symbols_of, sizes_of, blocks_from, blocks_of, IsKept, IsMarked, StackHeights, has_open, before_open, codes_or_len-more, has-more, has_name-append}
 use Rattle.scope.proofs.ActiveLemmas.{active_from-append, active_from-close, stays_open-append, flat_map-taken, from_open, split_open, below-deficit, no_deficit, deficit-close, left_open, count-left_open, count-append, none-left}
 use Rattle.scope.proofs.BlocksLemmas.{blocks_from-append, blocks-close}
 use Rattle.scope.proofs.NamesLemmas.{symbols_of-later, symbols_of-append, active-named}
@@ -13,14 +13,14 @@ flat_map-more f S s h =
     ∙ (flat_map-append f (active S) ((1 + length S, s) ∷ []) ∙ ap (λ r. flat_map f (active S) ++ r) (append-nil (f (1 + length S, s))))
 
 stack-more : (f : ℕ × Stmt → List Name) (S : Database) (s : Stmt) (stack : List ℕ) → is_close s ≡ false → AreNamed (symbols_of S) (flat_map f (active S))
-    → stack ≡ numbers_in (symbols_of S) (flat_map f (active S))
-    → stack ++ numbers_in (symbols_of (S ++ s ∷ [])) (f (1 + length S, s)) ≡ numbers_in (symbols_of (S ++ s ∷ [])) (flat_map f (active (S ++ s ∷ [])))
+    → stack ≡ codes_or_len (symbols_of S) (flat_map f (active S))
+    → stack ++ codes_or_len (symbols_of (S ++ s ∷ [])) (f (1 + length S, s)) ≡ codes_or_len (symbols_of (S ++ s ∷ [])) (flat_map f (active (S ++ s ∷ [])))
 stack-more f S s stack h known is =
     let more = symbols_of-later S (s ∷ []) in
-    ap (λ r. r ++ numbers_in (symbols_of (S ++ s ∷ [])) (f (1 + length S, s)))
-    (is ∙ (sym (numbers_in-more (symbols_of S) more.0 (flat_map f (active S)) known) ∙ ap (λ ns. numbers_in ns (flat_map f (active S))) (sym more.1)))
-    ∙ (sym (map-append (number_in (symbols_of (S ++ s ∷ []))) (flat_map f (active S)) (f (1 + length S, s)))
-    ∙ ap (numbers_in (symbols_of (S ++ s ∷ []))) (sym (flat_map-more f S s h)))
+    ap (λ r. r ++ codes_or_len (symbols_of (S ++ s ∷ [])) (f (1 + length S, s)))
+    (is ∙ (sym (codes_or_len-more (symbols_of S) more.0 (flat_map f (active S)) known) ∙ ap (λ ns. codes_or_len ns (flat_map f (active S))) (sym more.1)))
+    ∙ (sym (map-append (code_or_len (symbols_of (S ++ s ∷ []))) (flat_map f (active S)) (f (1 + length S, s)))
+    ∙ ap (codes_or_len (symbols_of (S ++ s ∷ []))) (sym (flat_map-more f S s h)))
 
 known-more : (f : ℕ × Stmt → List Name) (S : Database) (s : Stmt) → is_close s ≡ false → AreNamed (symbols_of S) (flat_map f (active S)) → AreNamed (symbols_of (S ++ s ∷ [])) (f (1 + length S, s))
     → AreNamed (symbols_of (S ++ s ∷ [])) (flat_map f (active (S ++ s ∷ [])))
@@ -47,7 +47,7 @@ standing-more S s h = flat_map-more (λ p. stands_at p.0 p.1) S s h
 pub kept-more : (S M : Database) (s : Stmt) (vs ts : List ℕ) (n m : ℕ) (blocks : List StackHeights) (mark : StackHeights) → is_close s ≡ false → is_open s ≡ false
     → AreNamed (symbols_of (S ++ s ∷ [])) (typed_by s) → length (stands_at (1 + length S) s) ≡ m
     → IsKept S M vs ts n blocks mark
-    → IsKept (S ++ s ∷ []) M (vs ++ numbers_in (symbols_of (S ++ s ∷ [])) (variables s)) (ts ++ numbers_in (symbols_of (S ++ s ∷ [])) (typed_by s)) (n + m) blocks mark
+    → IsKept (S ++ s ∷ []) M (vs ++ codes_or_len (symbols_of (S ++ s ∷ [])) (variables s)) (ts ++ codes_or_len (symbols_of (S ++ s ∷ [])) (typed_by s)) (n + m) blocks mark
 kept-more S M s vs ts n m blocks mark shut plain known stand k = record {
   variables_are = stack-more (λ p. variables p.1) S s vs shut (active-named S) k.variables_are;
   typed_are = stack-more (λ p. typed_by p.1) S s ts shut k.typed_known k.typed_are;
@@ -81,12 +81,12 @@ flat_map-close f S none =
     ∙ (flat_map-append f (before_open (active S)) ((1 + length S, Close) ∷ [])
     ∙ (ap (λ r. flat_map f (before_open (active S)) ++ (r ++ [])) none ∙ append-nil (flat_map f (before_open (active S)))))
 
-stack-close : (f : ℕ × Stmt → List Name) (S : Database) (stack : List ℕ) → f (1 + length S, Close) ≡ [] → stack ≡ numbers_in (symbols_of S) (flat_map f (active S))
-    → take (length (flat_map f (before_open (active S)))) stack ≡ numbers_in (symbols_of (S ++ Close ∷ [])) (flat_map f (active (S ++ Close ∷ [])))
+stack-close : (f : ℕ × Stmt → List Name) (S : Database) (stack : List ℕ) → f (1 + length S, Close) ≡ [] → stack ≡ codes_or_len (symbols_of S) (flat_map f (active S))
+    → take (length (flat_map f (before_open (active S)))) stack ≡ codes_or_len (symbols_of (S ++ Close ∷ [])) (flat_map f (active (S ++ Close ∷ [])))
 stack-close f S stack none is =
     ap (take (length (flat_map f (before_open (active S))))) is
-    ∙ (take-map (number_in (symbols_of S)) (length (flat_map f (before_open (active S)))) (flat_map f (active S))
-    ∙ (ap (numbers_in (symbols_of S)) (flat_map-taken f (active S) ∙ sym (flat_map-close f S none)) ∙ ap (λ ns. numbers_in ns (flat_map f (active (S ++ Close ∷ [])))) (sym (symbols_of-append S Close))))
+    ∙ (take-map (code_or_len (symbols_of S)) (length (flat_map f (before_open (active S)))) (flat_map f (active S))
+    ∙ (ap (codes_or_len (symbols_of S)) (flat_map-taken f (active S) ∙ sym (flat_map-close f S none)) ∙ ap (λ ns. codes_or_len ns (flat_map f (active (S ++ Close ∷ [])))) (sym (symbols_of-append S Close))))
 
 -- a block is open
 pub some_open : (S : Database) → stays_open 0 S ≡ true → nat_lt (count is_close S) (count is_open S) ≡ true → 1 ≤ left_open S

@@ -1,7 +1,7 @@
 //! The state of the rules: which variables are active, and how many were when each open block began.
 ghost use Rattle.std.specs.Prelude.{◌≡◌, ◌==◌, ◌++◌, ◌∷◌, [], length, not, nat_lt, take, None, IfOk, IfSome, OnOk, IsTrue};
 ghost use Rattle.std.specs.List.{list_any};
-ghost use Rattle.names.specs.Codes.{numbers_in};
+ghost use Rattle.names.specs.Codes.{codes_or_len};
 ghost use Rattle.scope.specs.Active.{active, active_variables, typed_variables, is_closed, count, is_open, is_close};
 ghost use Rattle.scope.specs.Kinds.{IsNumberingOf};
 ghost use Rattle.scope.specs.Legal.{broken_rule, end_rule};
@@ -179,7 +179,7 @@ impl Rules {
     /// Returns the sort of a symbol that was declared as a variable, by its number.
     #[inline(always)]
     pub(crate) fn sort_of_variable(&self, number: u32) -> Sort
-        ensures { result ≡ sort_by (list_any (λ n. n == number) (numbers_in (symbols_of self.now.statements) (active_variables self.now.statements))) (list_any (λ n. n == number) (numbers_in (symbols_of self.now.statements) (typed_variables self.now.statements))) }
+        ensures { result ≡ sort_by (list_any (λ n. n == number) (codes_or_len (symbols_of self.now.statements) (active_variables self.now.statements))) (list_any (λ n. n == number) (codes_or_len (symbols_of self.now.statements) (typed_variables self.now.statements))) }
     {
         if self.variables.place(number).is_none() {
             Sort::Inactive

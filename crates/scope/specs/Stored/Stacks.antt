@@ -2,7 +2,7 @@
 -- Source: this project's form.
 -- The model has positions and bracket counts; here each field of the code is defined as a function of the statements.
 use Rattle.std.specs.Prelude.{◌≡◌, ℕ, ◌≤◌, Bool, true, false, not, ◌&&◌, ◌==◌, List, [], ◌∷◌, ◌++◌, length, take, if◌then◌else◌}
-use Rattle.scope.specs.Words.{flat_map, list_any, Stmt, Database, numbers_in, AreNamed}
+use Rattle.scope.specs.Words.{flat_map, list_any, Stmt, Database, codes_or_len, AreNamed}
 use Rattle.scope.specs.Active.{active, stays_open, is_open, is_close, is_closed, variables, typed_by, active_variables, typed_variables}
 use Rattle.scope.specs.Kinds.{Declared, IsNumberingOf}
 use Rattle.scope.specs.Standing.{stands_at, standing_of}
@@ -45,8 +45,8 @@ pub record IsMarked (S M : Database) (mark : StackHeights) : Type 0 where
   pub typed_known : AreNamed (symbols_of M) (typed_variables M)
 
 pub record IsKept (S M : Database) (variable_stack typed_stack : List ℕ) (standing : ℕ) (blocks : List StackHeights) (mark : StackHeights) : Type 0 where
-  pub variables_are : variable_stack ≡ numbers_in (symbols_of S) (active_variables S)
-  pub typed_are : typed_stack ≡ numbers_in (symbols_of S) (typed_variables S)
+  pub variables_are : variable_stack ≡ codes_or_len (symbols_of S) (active_variables S)
+  pub typed_are : typed_stack ≡ codes_or_len (symbols_of S) (typed_variables S)
   pub typed_known : AreNamed (symbols_of S) (typed_variables S)
   pub standing_is : standing ≡ length (standing_of S)
   pub blocks_are : blocks ≡ blocks_of S

@@ -1,53 +1,53 @@
-//! The keys of names by number, and the overflow of names that found no slot in the table.
+//! The keys of names by code, and the overflow of names that found no slot in the table.
 ghost use Rattle.std.specs.Prelude.{◌≡◌, ◌≢◌, ℕ, ◌<◌, ◌≤◌, ◌^◌, length, get_or, slice_set, Some, IfOk, OnOk, OnErr, true};
 ghost use Rattle.mm_lex.specs.Alphabet.{Name};
 ghost use Rattle.names.specs.Codes.{name_at, AreDistinct};
 ghost use Rattle.names.specs.Stored.Keys.{AreBytes, key_of};
-ghost use Rattle.names.specs.Stored.Overflow.{number_of};
-ghost use Rattle.names.specs.Stored.Table.{AreKept};
-ghost use Rattle.names.specs.declared.keys.TheConstants.{APART};
+ghost use Rattle.names.specs.Stored.Overflow.{code_in_overflow};
+ghost use Rattle.names.specs.Stored.Table.{AreNameKeys};
+ghost use Rattle.names.specs.declared.keys.TheConstants.{IN_OVERFLOW};
 
-use crate::keys::{APART, key};
+use crate::keys::{IN_OVERFLOW, key};
 use crate::overflow::Overflow;
 use crate::texts::Texts;
 use entries::give_back;
 use std::alloc::{AllocError, Global};
 
-/// The key of each name by its number, or `APART` if the name is in the overflow. Keys after that of the last name
+/// The key of each name by its code, or `IN_OVERFLOW` if the name is in the overflow. Keys after that of the last name
 /// have no meaning.
 #[derive(Drop)]
-pub struct Kept {
+pub struct NameKeys {
     pub keys: Vec<u64>,
     pub overflow: Overflow,
 }
 
-impl Kept {
+impl NameKeys {
     /// Returns an empty list of keys and an empty overflow.
-    pub(crate) fn new(alloc: Global) -> Kept {
-        Kept {
+    pub(crate) fn new(alloc: Global) -> NameKeys {
+        NameKeys {
             keys: Vec::new(alloc),
             overflow: Overflow::new(alloc),
         }
     }
 
     /// Returns the keys of the texts, with an empty overflow.
-    pub(crate) fn of(alloc: Global, texts: &Texts) -> Result<Kept, AllocError>
-        ensures { IfOk result (λ kept. AreKept kept texts.now) }
+    pub(crate) fn of(alloc: Global, texts: &Texts) -> Result<NameKeys, AllocError>
+        ensures { IfOk result (λ name_keys. AreNameKeys name_keys texts.now) }
     {
-        let mut kept = Kept::new(alloc);
-        for number in 0..texts.len() {
-            kept.push(number, key(texts.get(number)))?;
+        let mut name_keys = NameKeys::new(alloc);
+        for code in 0..texts.len() {
+            name_keys.push(code, key(texts.get(code)))?;
         }
-        Ok(kept)
+        Ok(name_keys)
     }
 
-    /// Returns whether the name of a number has this key, and is not in the overflow.
-    pub(crate) fn has(&self, texts: &Texts, number: u32, key: u64) -> bool
-        requires kept { AreKept self.now texts.now }
-        requires own { key ≢ APART }
-        ensures { result ≡ true → (number < length texts.now) × AreBytes (name_at texts.now number) × (key_of (name_at texts.now number) ≡ key) }
+    /// Returns whether the name of a code has this key, and is not in the overflow.
+    pub(crate) fn has(&self, texts: &Texts, code: u32, key: u64) -> bool
+        requires name_keys { AreNameKeys self.now texts.now }
+        requires not_overflow { key ≢ IN_OVERFLOW }
+        ensures { result ≡ true → (code < length texts.now) × AreBytes (name_at texts.now code) × (key_of (name_at texts.now code) ≡ key) }
     {
-        (number as usize) < texts.len() && self.keys[number as usize] == key
+        (code as usize) < texts.len() && self.keys[code as usize] == key
     }
 
     /// Records the key of the next name, whose code is `code`.
@@ -76,18 +76,18 @@ impl Kept {
     pub(crate) fn put_in_overflow(
         &mut self,
         alloc: Global,
-        number: usize,
+        code: usize,
         name: &[u8],
     ) -> Result<(), AllocError>
-        requires there { number < length self.old.keys.items }
-        requires few { number < 2 ^ 32 }
-        ensures keys { OnOk result (self.new.keys.items ≡ slice_set self.old.keys.items number APART) }
-        ensures own { OnOk result (number_of self.new.overflow name.now ≡ Some number) }
-        ensures others { (x : Name) → AreBytes x → x ≢ name.now → number_of self.new.overflow x ≡ number_of self.old.overflow x }
+        requires there { code < length self.old.keys.items }
+        requires few { code < 2 ^ 32 }
+        ensures keys { OnOk result (self.new.keys.items ≡ slice_set self.old.keys.items code IN_OVERFLOW) }
+        ensures inserted { OnOk result (code_in_overflow self.new.overflow name.now ≡ Some code) }
+        ensures others { (x : Name) → AreBytes x → x ≢ name.now → code_in_overflow self.new.overflow x ≡ code_in_overflow self.old.overflow x }
         ensures err { OnErr result (self.new.keys ≡ self.old.keys) }
     {
-        self.overflow.insert(alloc, name, number as u32)?;
-        self.keys[number] = APART;
+        self.overflow.insert(alloc, name, code as u32)?;
+        self.keys[code] = IN_OVERFLOW;
         Ok(())
     }
 
@@ -102,20 +102,20 @@ impl Kept {
         give_back(&mut self.keys);
     }
 
-    /// Removes the names with the number `len` or a greater one from the overflow.
+    /// Removes the names with the code `len` or a greater one from the overflow.
     pub(crate) fn truncate(&mut self, texts: &Texts, len: usize)
-        requires kept { AreKept self.old texts.now }
+        requires name_keys { AreNameKeys self.old texts.now }
         requires distinct { AreDistinct texts.now }
         requires within { len ≤ length texts.now }
         ensures keys { self.new.keys ≡ self.old.keys }
-        ensures numbers { (k : ℕ) → k < len → number_of self.new.overflow (name_at texts.now k) ≡ number_of self.old.overflow (name_at texts.now k) }
+        ensures codes { (k : ℕ) → k < len → code_in_overflow self.new.overflow (name_at texts.now k) ≡ code_in_overflow self.old.overflow (name_at texts.now k) }
     {
         if self.overflow.is_empty() {
             return;
         }
-        for number in len..texts.len() {
-            if self.keys[number] == APART {
-                self.overflow.remove(texts.get(number));
+        for code in len..texts.len() {
+            if self.keys[code] == IN_OVERFLOW {
+                self.overflow.remove(texts.get(code));
             }
         }
     }
