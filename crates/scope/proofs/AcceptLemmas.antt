@@ -1,5 +1,5 @@
 -- Each kind of legal statement keeps what the rules keep.
-use Rattle.scope.proofs.Words.{◌≡◌, ℕ, ◌+◌, ◌<◌, ◌==◌, Bool, true, false, not, ◌&&◌, ◌||◌, List, [], ◌∷◌, ◌++◌, cond, nat_lt, length, None, is_some, refl, Result, Ok, Err, OnOk, is_err, list_any, list_all, ◌∙◌, ap, sym, subst, true≢false, arith, append-nil, not-true, and_parts, ltb-true, Name, name_eq, has_name, Stmt, Open, Close, Const, Var, Disj, Float, Ess, Axiom, Prove, Database, bare, has_float, active_variables, typed_variables, all_different, broken_rule, are_numbers_distinct, name_at, decode, with_names, codes_or_len, code_or_len, AreNamed, AreCodes, AreDistinct, Declared, kind_in, with_kind, with_kinds, IsKept, IsPlain, can_push, symbols_of, AreNumbers, StackHeights, NameKind, with_names-more, codes_or_len-more, has-with_names, same_name, code-at, found-number}
+use Rattle.scope.proofs.Words.{◌≡◌, ℕ, ◌+◌, ◌<◌, ◌==◌, Bool, true, false, not, ◌&&◌, ◌||◌, List, [], ◌∷◌, ◌++◌, cond, nat_lt, length, None, is_some, refl, Result, Ok, Err, OnOk, is_err, list_any, list_all, ◌∙◌, ap, sym, subst, true≢false, arith, append-nil, not-true, and_parts, ltb-true, Name, name_eq, has_name, Stmt, Open, Close, Const, Var, Disj, Float, Ess, Axiom, Prove, Database, bare, has_float, active_variables, typed_variables, all_different, broken_rule, are_numbers_distinct, name_at, decode, with_names, codes_or_len, code_or_len, AreNamed, AreCodes, AreDistinct, Declared, kind_in, with_kind, with_kinds, IsRulesState, IsPlain, can_push, symbols_of, AreNumbers, StackHeights, NameKind, with_names-more, codes_or_len-more, has-with_names, same_name, code-at, found-number}
 use Rattle.std.proofs.lemmas.List.{append_assoc}
 use Rattle.scope.proofs.NamesLemmas.{symbols_of-append, symbols-distinct, active-named}
 use Rattle.scope.proofs.SortsLemmas.{numbers-has, is_variable-active, has_float-typed}
@@ -8,10 +8,10 @@ use Rattle.scope.proofs.GoingBackLemmas.{all-has, inactive-not, can_push-names}
 use Rattle.scope.proofs.LegalLemmas.{legal-variables, legal-float}
 
 pub same-kept : {S S' M : Database} {vs vs' ts ts' : List ℕ} {n n' : ℕ} {blocks blocks' : List StackHeights} {mark : StackHeights} → S ≡ S' → vs ≡ vs' → ts ≡ ts' → n ≡ n' → blocks ≡ blocks'
-    → IsKept S M vs ts n blocks mark → IsKept S' M vs' ts' n' blocks' mark
+    → IsRulesState S M vs ts n blocks mark → IsRulesState S' M vs' ts' n' blocks' mark
 same-kept {S' = S'} {M = M} {vs = vs} {vs' = vs'} {ts = ts} {ts' = ts'} {n = n} {n' = n'} {blocks = blocks} {blocks' = blocks'} {mark = mark} a b c d e k =
-    subst (λ (x : List StackHeights). IsKept S' M vs' ts' n' x mark) e (subst (λ (x : ℕ). IsKept S' M vs' ts' x blocks mark) d (subst (λ (x : List ℕ). IsKept S' M vs' x n blocks mark) c
-    (subst (λ (x : List ℕ). IsKept S' M x ts n blocks mark) b (subst (λ (x : Database). IsKept x M vs ts n blocks mark) a k))))
+    subst (λ (x : List StackHeights). IsRulesState S' M vs' ts' n' x mark) e (subst (λ (x : ℕ). IsRulesState S' M vs' ts' x blocks mark) d (subst (λ (x : List ℕ). IsRulesState S' M vs' x n blocks mark) c
+    (subst (λ (x : List ℕ). IsRulesState S' M x ts n blocks mark) b (subst (λ (x : Database). IsRulesState x M vs ts n blocks mark) a k))))
 
 with_kind-more : (names : Declared) (kind : NameKind) (x : Name) → (more : Declared) × (with_kind names kind x ≡ names ++ more)
 with_kind-more names kind x = by (is_some (kind_in names x))
@@ -65,8 +65,8 @@ pub float-number : (S : Database) (l c v : Name) (numbers : List ℕ) → AreNum
 float-number S l c v numbers are =
     (code_or_len (symbols_of S) c, code_or_len (symbols_of S) v, sym (numbers-of (symbols_of S) numbers (c ∷ v ∷ []) (symbols-distinct S) are.0 are.1), refl)
 
-module _ (S M : Database) (vs ts : List ℕ) (n : ℕ) (blocks : List StackHeights) (mark : StackHeights) (k : IsKept S M vs ts n blocks mark) where
-  pub accept-variables : (xs : List Name) (numbers : List ℕ) → AreNumbers (with_names (symbols_of S) xs) xs numbers → IsKept (S ++ Var xs ∷ []) M (vs ++ numbers) ts n blocks mark
+module _ (S M : Database) (vs ts : List ℕ) (n : ℕ) (blocks : List StackHeights) (mark : StackHeights) (k : IsRulesState S M vs ts n blocks mark) where
+  pub accept-variables : (xs : List Name) (numbers : List ℕ) → AreNumbers (with_names (symbols_of S) xs) xs numbers → IsRulesState (S ++ Var xs ∷ []) M (vs ++ numbers) ts n blocks mark
   accept-variables xs numbers are =
       let N : List Name = symbols_of (S ++ Var xs ∷ []) in
       let is : N ≡ with_names (symbols_of S) xs = symbols_of-append S (Var xs) in
@@ -95,7 +95,7 @@ module _ (S M : Database) (vs ts : List ℕ) (n : ℕ) (blocks : List StackHeigh
       ap (λ s. list_any (λ n. n == code_or_len (symbols_of S) v) s) k.typed_are
       ∙ (numbers-has (symbols_of S) v (typed_variables S) (float-known l c v legal) ∙ (sym (has_float-typed S v) ∙ not-true (has_float S v) (legal-float S l c v legal).1))
 
-  pub accept-float : (l c v : Name) → broken_rule S (Float l c v) ≡ None → IsKept (S ++ Float l c v ∷ []) M vs (ts ++ code_or_len (symbols_of S) v ∷ []) (n + 1) blocks mark
+  pub accept-float : (l c v : Name) → broken_rule S (Float l c v) ≡ None → IsRulesState (S ++ Float l c v ∷ []) M vs (ts ++ code_or_len (symbols_of S) v ∷ []) (n + 1) blocks mark
   accept-float l c v legal =
       let known = float-known l c v legal in
       let is : symbols_of (S ++ Float l c v ∷ []) ≡ symbols_of S = symbols_of-append S (Float l c v) in
@@ -110,7 +110,7 @@ module _ (S M : Database) (vs ts : List ℕ) (n : ℕ) (blocks : List StackHeigh
           by true e h = same_name x v e
           by false e h = cc
 
-  pub accept-plain : (s : Stmt) (m : ℕ) → IsPlain s m → IsKept (S ++ s ∷ []) M vs ts (n + m) blocks mark
+  pub accept-plain : (s : Stmt) (m : ℕ) → IsPlain s m → IsRulesState (S ++ s ∷ []) M vs ts (n + m) blocks mark
   accept-plain s m is =
       let N : List Name = symbols_of (S ++ s ∷ []) in
       same-kept refl (ap (λ xs. vs ++ codes_or_len N xs) is.no_variables ∙ append-nil vs) (ap (λ xs. ts ++ codes_or_len N xs) is.untyped ∙ append-nil ts) refl refl

@@ -78,7 +78,7 @@ label-sort S x t =
     let no = not_active S x t.variable in
     record { constant = t.constant; variable = no; label = t.label; untyped = ap (λ b. not b || has_float S x) no }
 
-pub no-sort : (S : Database) (x : Name) → MatchesKind S x None → IsSort S x sort.Inactive
+pub no-sort : (S : Database) (x : Name) → MatchesKind S x None → IsSort S x sort.Other
 no-sort S x t =
     let no = not_active S x t.variable in
     record { constant = t.constant; variable = no; label = t.label; untyped = ap (λ b. not b || has_float S x) no }

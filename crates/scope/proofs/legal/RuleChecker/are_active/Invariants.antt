@@ -1,6 +1,6 @@
 use Rattle.scope.proofs.Words.{◌≡◌, list_all, is_variable, symbols_of}
 use Rattle.scope.proofs.SymbolNameLemmas.{AreDone}
-use Rattle.scope.proofs.legal.Judge.are_active.Given as goal
+use Rattle.scope.proofs.legal.RuleChecker.are_active.Given as goal
 
 abbrev pub invariant-loop-symbol : goal.invariant-loop-symbol
 invariant-loop-symbol l = record {

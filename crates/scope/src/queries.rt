@@ -19,7 +19,7 @@ impl Scope {
     pub fn is_variable(&self, name: &[u8]) -> bool
         ensures { result ≡ is_variable self.now.statements name.now }
     {
-        matches!(self.judge().sort(name), Sort::Typed | Sort::Untyped)
+        matches!(self.rule_checker().sort(name), Sort::Typed | Sort::Untyped)
     }
 
     /// Returns the active `$f`, `$e` and `$d` in order, with their positions.

@@ -1,7 +1,7 @@
 use Rattle.scope.proofs.Words.{subst, IfSome, ◌∙◌, symbols_of, AreNumbers}
 use Rattle.scope.proofs.NamesLemmas.{symbols-distinct}
 use Rattle.scope.proofs.AcceptLemmas.{numbers-differ}
-use Rattle.scope.proofs.legal.Judge.are_distinct.Goals as goal
+use Rattle.scope.proofs.legal.RuleChecker.are_distinct.Goals as goal
 
 pub returns-then-numbers-lt-FEW : goal.returns-then-numbers-lt-FEW
 returns-then-numbers-lt-FEW c =

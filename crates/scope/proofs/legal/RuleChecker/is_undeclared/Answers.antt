@@ -1,6 +1,6 @@
 use Rattle.scope.proofs.Words.{◌≡◌, ◌∙◌, ap, sym, not, is_some, Bool, true, false, ◌||◌, was_label, was_symbol, kind_in}
 use Rattle.scope.proofs.SortsLemmas.{fresh-kind, some_second}
-use Rattle.scope.proofs.legal.Judge.is_fresh.Goals as goal
+use Rattle.scope.proofs.legal.RuleChecker.is_undeclared.Goals as goal
 
 flip : (a b : Bool) → a ≡ not b → b ≡ not a
 flip a true h = ap not (sym h)

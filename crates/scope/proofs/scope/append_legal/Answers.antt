@@ -2,7 +2,7 @@ use Rattle.scope.proofs.Words.{◌∙◌, ap, sym, subst, length, take, ◌++◌
 use Rattle.scope.proofs.BareLemmas.{declared_with-bare, legal-bare}
 use Rattle.scope.proofs.DeclaredLemmas.{may-declare, numbering-after, recorded-after}
 use Rattle.scope.proofs.StandingLemmas.{standing-after, stands-bare}
-use Rattle.scope.proofs.scope.take_in.Goals as goal
+use Rattle.scope.proofs.scope.append_legal.Goals as goal
 
 pub declare_names-requires : goal.declare_names-requires
 declare_names-requires c = may-declare c.args.rules.now.statements c.args.stmt.now c.args.names.now c.requires.legal c.requires.numbering.told

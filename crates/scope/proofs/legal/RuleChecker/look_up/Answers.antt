@@ -1,8 +1,8 @@
-use Rattle.scope.proofs.Words.{◌≡◌, ◌∙◌, ap, sym, subst, Some, None, ◌==◌, Option, ℕ, List, list_any, Name, Database, Accepted, active_variables, typed_variables, is_variable, has_float, codes_or_len, Declared, kind_in, names_as, MatchesKind, MatchesKinds, IsNumberOf, symbols_of, IsSort, sort_by, NameKind, Sort, Constant, Variable, Label, code-at, found-number}
+use Rattle.scope.proofs.Words.{◌≡◌, ◌∙◌, ap, sym, subst, Some, None, ◌==◌, Option, ℕ, List, list_any, Name, Database, Accepted, active_variables, typed_variables, is_variable, has_float, codes_or_len, Declared, kind_in, names_of_kind, MatchesKind, MatchesKinds, IsNumberOf, symbols_of, IsSort, sort_by, NameKind, Sort, Constant, Variable, Label, code-at, found-number}
 use Rattle.scope.specs.declared.legal.Sort.TheVariants as sort
 use Rattle.scope.proofs.SortsLemmas.{constant-sort, label-sort, no-sort, variable-sort, numbers-has, is_variable-active, has_float-typed}
 use Rattle.scope.proofs.NamesLemmas.{symbols-distinct}
-use Rattle.scope.proofs.legal.Judge.look_up.Goals as goal
+use Rattle.scope.proofs.legal.RuleChecker.look_up.Goals as goal
 
 -- the kind of a name by the numbering tells its declarations in the statements
 tells : (S : Database) (names : Declared) (x : Name) (k : Option NameKind) → MatchesKinds S names → k ≡ kind_in names x → MatchesKind S x k
@@ -23,7 +23,7 @@ returns-in-Some-default-Label-clause-sort c =
 pub returns-in-None-clause-sort : goal.returns-in-None-clause-sort
 returns-in-None-clause-sort c =
     let S = c.self.inside.rules.now.statements in let x = c.args.name.now in
-    subst (λ (v : Accepted). IsSort v.statements x sort.Inactive) c.self.view_is
+    subst (λ (v : Accepted). IsSort v.statements x sort.Other) c.self.view_is
     (no-sort S x (tells S c.self.inside.names.now x None c.self.invariant.told c.in-None.ensures.kind))
 
 -- the sort of a variable by its number
@@ -42,5 +42,5 @@ returns-in-Some-default-Variable-clause-sort c =
     let S = c.self.inside.rules.now.statements in let x = c.args.name.now in let s = c.in-Some-default-Variable in let names = c.self.inside.names.now in
     subst (λ (v : Accepted). IsSort v.statements x c.sort_of_variable.result) c.self.view_is
     (variable S x s.number c.sort_of_variable.result (tells S names x (Some Variable) c.self.invariant.told (ap Some (sym s.field-0-1-is) ∙ s.ensures.kind))
-    (subst (λ (N : List Name). IsNumberOf N x s.number) c.self.invariant.symbols (subst (λ (k : NameKind). IsNumberOf (names_as k names) x s.number) s.field-0-1-is s.ensures.number))
+    (subst (λ (N : List Name). IsNumberOf N x s.number) c.self.invariant.symbols (subst (λ (k : NameKind). IsNumberOf (names_of_kind k names) x s.number) s.field-0-1-is s.ensures.number))
     c.sort_of_variable.ensures)
