@@ -1,6 +1,6 @@
 use Rattle.std.proofs.Common.{arith}
 use Rattle.proof_code.proofs.ReadProofLemmas.{read-more}
-use Rattle.proof_code.proofs.letter_numbers.pass_letters.Goals as goal
+use Rattle.proof_code.proofs.letter_numbers.check_letters.Goals as goal
 
 pub loop-byte-preserved : goal.loop-byte-preserved
 loop-byte-preserved c = record {

@@ -1,6 +1,6 @@
 use Rattle.std.proofs.Common.{◌≡◌, ◌+◌, ◌-◌, suc, arith}
 use Rattle.proof_code.proofs.ReadProofLemmas.{one-added}
-use Rattle.proof_code.proofs.compressed_proof.table_of.Goals as goal
+use Rattle.proof_code.proofs.compressed_proof.all_labels.Goals as goal
 
 pub loop-preserved : goal.loop-preserved
 loop-preserved c =
