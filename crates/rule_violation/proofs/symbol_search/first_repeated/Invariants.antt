@@ -1,5 +1,5 @@
 use Rattle.rule_violation.proofs.Words.{◌≡◌, ◌++◌, AreDistinct}
-use Rattle.rule_violation.proofs.symbol_search.twice.Given as goal
+use Rattle.rule_violation.proofs.symbol_search.first_repeated.Given as goal
 
 abbrev pub invariant-loop-word : goal.invariant-loop-word
 invariant-loop-word l = record {

@@ -1,6 +1,6 @@
 use Rattle.rule_violation.proofs.Words.{◌∙◌, sym, ap, ◌||◌, has_name}
 use Rattle.rule_violation.proofs.MarksLemmas.{coded_first}
-use Rattle.rule_violation.proofs.marks.names_of.Goals as goal
+use Rattle.rule_violation.proofs.marks.name_table.Goals as goal
 
 pub loop-word-preserved : goal.loop-word-preserved
 loop-word-preserved c = λ x h.

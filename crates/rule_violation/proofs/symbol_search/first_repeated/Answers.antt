@@ -1,6 +1,6 @@
 use Rattle.rule_violation.proofs.Words.{◌∙◌, sym, ap, arith, ◌<◌, ◌++◌, length, name_at}
 use Rattle.rule_violation.proofs.MarksLemmas.{again, none_again}
-use Rattle.rule_violation.proofs.symbol_search.twice.Goals as goal
+use Rattle.rule_violation.proofs.symbol_search.first_repeated.Goals as goal
 
 pub returns-then-first-index : goal.returns-then-first-index
 returns-then-first-index c =
