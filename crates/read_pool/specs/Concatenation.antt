@@ -7,7 +7,7 @@ use Rattle.mm_read.specs.declared.stmt.Stmt.{Stmt}
 use Rattle.mm_read.specs.Statements.{Database}
 
 -- both lists are there, and these are the statements of the one and then of the other
-abbrev pub AreBoth : Option (Vec Stmt Global) → Option (Vec Stmt Global) → Database → Type 0
-AreBoth (Some first) (Some second) S = S ≡ first.items ++ second.items
-AreBoth (Some first) None S = ⊥
-AreBoth None second S = ⊥
+abbrev pub IsConcatenation : Option (Vec Stmt Global) → Option (Vec Stmt Global) → Database → Type 0
+IsConcatenation (Some first) (Some second) S = S ≡ first.items ++ second.items
+IsConcatenation (Some first) None S = ⊥
+IsConcatenation None second S = ⊥
