@@ -62,7 +62,7 @@ fn slot_index(key: u64, step: usize, len: usize) -> usize
 }
 
 /// Returns how many steps a search takes at most.
-fn steps(len: usize) -> usize
+fn max_steps(len: usize) -> usize
     ensures within { result ≤ len }
     ensures near { result ≤ MAX_PROBES }
     ensures all { (len ≤ result) ⊎ (MAX_PROBES ≤ result) }
@@ -141,7 +141,7 @@ fn search_slots(slots: &[Slot], name_keys: &NameKeys, texts: &Texts, name: &[u8]
 {
     let key = key(name);
     let half = half(key);
-    for step in 0..steps(slots.len()) {
+    for step in 0..max_steps(slots.len()) {
         let slot = probe(slots, key, step);
         if slot.code == NO_NAME {
             return search_overflow(&name_keys.overflow, texts, name);
@@ -201,7 +201,7 @@ fn is_text(texts: &Texts, code: u32, name: &[u8]) -> bool
 pub(crate) fn free_slot_index(slots: &[Slot], key: u64) -> Option<usize>
     ensures { IfSome result (IsFree slots.now key) }
 {
-    for step in 0..steps(slots.len()) {
+    for step in 0..max_steps(slots.len()) {
         if probe(slots, key, step).code == NO_NAME {
             return Some(slot_index(key, step, slots.len()));
         }

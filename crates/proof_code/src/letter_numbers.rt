@@ -4,11 +4,11 @@
 //! changes the digits before it, and the only test for each letter is whether a value is over the limit.
 ghost use Rattle.std.specs.Prelude.{◌≡◌, ◌==◌, if◌then◌else◌, ◌+◌, ◌*◌, ◌^◌, ◌<◌, ◌≤◌, ◌∷◌, ℕ, List, length, take, max, None, Some, IfNone, IfSome, MatchOption};
 ghost use Rattle.proof_code.specs.Text.{letters_of, numbers_from, starts_with_mark};
-ghost use Rattle.proof_code.specs.Reading.{TakesByte, IsLetter, ended};
+ghost use Rattle.proof_code.specs.Reading.{IsByteEffect, IsLetterEffect, ended};
 
 /// The effect of a letter on the digits before it.
 #[derive(Clone, Copy)]
-struct Letter {
+struct LetterEffect {
     /// The value of the digits with the letter. For a mark it is 0, or more than any limit if there are digits.
     value: usize,
     /// The digits before the next letter.
@@ -31,17 +31,17 @@ const ALL: usize = usize::MAX;
 
 /// Returns the effect of a letter A to Z on the digits before it.
 #[inline(always)]
-fn letter_after(byte: u8, digits: usize) -> Letter
+fn letter_after(byte: u8, digits: usize) -> LetterEffect
     requires first { 65 ≤ byte }
     requires last { byte ≤ 90 }
     requires small { 20 * digits + 26 < 2 ^ 64 }
-    ensures letter { IsLetter byte digits result.value (result.ends == 1) }
+    ensures letter { IsLetterEffect byte digits result.value (result.ends == 1) }
     ensures digits { result.digits ≡ if result.ends == 1 then 0 else result.value }
     ensures one { result.ends ≤ 1 }
 {
     let step = 4 * (usize::from(byte) - 65);
     let value = digits.wrapping_mul(STEPS[step]) + STEPS[step + 1];
-    Letter {
+    LetterEffect {
         value,
         digits: value & STEPS[step + 2],
         ends: STEPS[step + 3],
@@ -63,12 +63,12 @@ impl LetterState {
     ///
     /// A word with digits over `digits_limit` has a number over the limit, however it ends.
     #[inline(always)]
-    fn read(&mut self, byte: u8, digits_limit: usize) -> Option<Option<Letter>>
+    fn read(&mut self, byte: u8, digits_limit: usize) -> Option<Option<LetterEffect>>
         requires begun { self.old.digits ≤ digits_limit }
         requires digits_limit { self.old.limit < 20 * digits_limit + 20 }
         requires small { 20 * digits_limit + 26 < 2 ^ 64 }
         requires beyond { self.old.limit + digits_limit < 2 ^ 64 }
-        ensures some { IfSome result (λ letter. TakesByte self.old.limit self.old.digits byte (ended letter) self.new.limit self.new.digits) }
+        ensures some { IfSome result (λ letter. IsByteEffect self.old.limit self.old.digits byte (ended letter) self.new.limit self.new.digits) }
         ensures none { IfNone result ((text : List ℕ) → numbers_from self.old.limit self.old.digits (letters_of (byte ∷ text)) ≡ None) }
         ensures limit { (self.old.limit ≤ self.new.limit) × (self.new.limit ≤ self.old.limit + 1) }
         ensures begun { self.new.digits ≤ digits_limit }

@@ -170,10 +170,10 @@ impl<'a> RuleChecker<'a> {
         if !self.is_undeclared(label.as_bytes()) {
             return Some(Rule::G4);
         }
-        let Some((leads, typed)) = self.are_symbols(expr, recorded) else {
+        let Some((constant_first, typed)) = self.are_symbols(expr, recorded) else {
             return Some(Rule::G5);
         };
-        if !leads {
+        if !constant_first {
             return Some(Rule::G6);
         }
         if !typed {
@@ -193,11 +193,11 @@ impl<'a> RuleChecker<'a> {
         let Some(first) = symbols.next() else {
             return Some((true, true));
         };
-        let leader = self.sort_and_record(first, recorded);
-        if matches!(leader, Sort::Label | Sort::Other) {
+        let first_sort = self.sort_and_record(first, recorded);
+        if matches!(first_sort, Sort::Label | Sort::Other) {
             return None;
         }
-        let mut typed = !matches!(leader, Sort::Untyped);
+        let mut typed = !matches!(first_sort, Sort::Untyped);
         for symbol in symbols {
             match self.sort_and_record(symbol, recorded) {
                 Sort::Constant | Sort::Typed => {}
@@ -205,7 +205,7 @@ impl<'a> RuleChecker<'a> {
                 Sort::Label | Sort::Other => return None,
             }
         }
-        Some((matches!(leader, Sort::Constant), typed))
+        Some((matches!(first_sort, Sort::Constant), typed))
     }
 
     fn are_undeclared(&self, symbols: &Words) -> bool

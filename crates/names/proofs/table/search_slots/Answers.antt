@@ -26,7 +26,7 @@ loop-step-preserved c =
 pub returns : goal.returns
 returns c =
     ended c.args.slots.now c.args.name_keys.now.overflow c.args.texts.now c.args.name.now c.key-key.result c.loop-step.step c.search_overflow-2.result c.key-key.ensures.key c.requires.found c.requires.few c.loop-step.invariant
-    (inl (elim c.steps-step-end.ensures.all [
+    (inl (elim c.max_steps-step-end.ensures.all [
       | inl p ↦ inl (omega (arith, p))
       | inr p ↦ inr (omega (arith, p))
     ])) c.search_overflow-2.ensures.some c.search_overflow-2.ensures.none
