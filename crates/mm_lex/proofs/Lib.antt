@@ -12,11 +12,11 @@ pub mod PlainLemmas
 pub mod Progress
 pub mod TokensLemmas
 pub mod SpacedPrefixLemmas
-pub mod TidyLemmas
+pub mod SingleSpacedLemmas
 pub mod VisibleRunLemmas
 pub mod BetweenLemmas
 pub mod NextRunLemmas
-pub mod FewLemmas
+pub mod TokenCountLemmas
 pub mod ListLemmas
 pub mod OneSplit
 mod Rows

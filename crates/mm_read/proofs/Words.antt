@@ -3,7 +3,7 @@ pub use Rattle.mm_lex.proofs.BadByteLemmas.{IsClean-no_fault, IsClean-none, IsFi
 pub use Rattle.mm_lex.proofs.BetweenLemmas.{after_as, after_on, after_rest, after_unique, between_as, between_none, between_on, splits_join, stops_after}
 pub use Rattle.mm_lex.proofs.ScanRuns.{Outcome, inside, outside, prepend, scan, scan-split}
 pub use Rattle.mm_lex.proofs.ScanResults.{split-scan, splits_as}
-pub use Rattle.mm_lex.proofs.FewLemmas.{after_few, between_few}
+pub use Rattle.mm_lex.proofs.TokenCountLemmas.{after_few, between_few}
 pub use Rattle.mm_lex.proofs.PlainLemmas.{append_step}
 pub use Rattle.mm_lex.proofs.TokensLemmas.{AreTokens-no_comment_fault, AreTokens-unique, IsCommentFault-unique}
 pub use Rattle.mm_lex.proofs.VisibleRunLemmas.{white_run}

@@ -1,4 +1,4 @@
--- Symbols with one space between two: a spaced prefix of bytes is tidy, and the words of tidy bytes.
+-- Symbols with one space between two: a spaced prefix of bytes is single-spaced, and the words of single-spaced bytes.
 use Rattle.mm_lex.proofs.Prelude.{◌≡◌, ℕ, ◌<◌, zero, suc, Bool, true, false, not, cond, ◌&&◌, ◌||◌, ◌==◌, List, [], ◌∷◌, take, refl, list_all, slice_split, onto_first, sym, ◌∙◌, ap, arith, and_from, and_parts, Name, is_white, is_visible, is_allowed, starts_white, is_symbol, has_byte, is_empty, IsClean, spaced_prefix_len, ends_here, ends_between}
 use Rattle.mm_lex.proofs.WordsLemmas.{first_part}
 
@@ -10,12 +10,12 @@ abbrev pub is_symbol_byte : ℕ → Bool
 is_symbol_byte b = is_visible b && not (b == 36)
 
 -- the bytes are those of symbols with one space between two
-abbrev pub is_tidy : List ℕ → Bool
-is_tidy [] = false
-is_tidy (b ∷ []) = is_symbol_byte b
-is_tidy (b ∷ c ∷ bytes) = is_symbol_byte b && cond (is_space c) (is_tidy bytes) (is_tidy (c ∷ bytes))
+abbrev pub is_single_spaced : List ℕ → Bool
+is_single_spaced [] = false
+is_single_spaced (b ∷ []) = is_symbol_byte b
+is_single_spaced (b ∷ c ∷ bytes) = is_symbol_byte b && cond (is_space c) (is_single_spaced bytes) (is_single_spaced (c ∷ bytes))
 
--- ---- a spaced prefix is tidy
+-- ---- a spaced prefix is single-spaced
 
 -- a byte that is not white, where symbols do not end
 shown_byte : (b next : ℕ) → is_allowed b ≡ true → is_white b ≡ false → ends_between b next ≡ false → is_symbol_byte b ≡ true
@@ -33,9 +33,9 @@ above_dollar d next h = (grind (arith, h), grind (arith, h))
 other_byte : (c next : ℕ) → is_allowed c ≡ true → is_space c ≡ false → ends_between c next ≡ false → is_white c ≡ false
 other_byte c next h e goes = grind (arith, h, e, goes)
 
--- a byte of a symbol before tidy bytes, with or without one space between
-tidy_cons : (b c : ℕ) (bytes : List ℕ) (t : Bool) → is_space c ≡ t → is_symbol_byte b ≡ true → cond t (is_tidy bytes) (is_tidy (c ∷ bytes)) ≡ true → is_tidy (b ∷ c ∷ bytes) ≡ true
-tidy_cons b c bytes t e h k = and_from (is_symbol_byte b) _ h (ap (λ u. cond u (is_tidy bytes) (is_tidy (c ∷ bytes))) e ∙ k)
+-- a byte of a symbol before single-spaced bytes, with or without one space between
+single_spaced_cons : (b c : ℕ) (bytes : List ℕ) (t : Bool) → is_space c ≡ t → is_symbol_byte b ≡ true → cond t (is_single_spaced bytes) (is_single_spaced (c ∷ bytes)) ≡ true → is_single_spaced (b ∷ c ∷ bytes) ≡ true
+single_spaced_cons b c bytes t e h k = and_from (is_symbol_byte b) _ h (ap (λ u. cond u (is_single_spaced bytes) (is_single_spaced (c ∷ bytes))) e ∙ k)
 
 -- where symbols do not end at the first byte, it belongs to the spaced prefix
 prefix_on : (b : ℕ) (bytes : List ℕ) → ends_here (b ∷ bytes) ≡ false → spaced_prefix_len (b ∷ bytes) ≡ suc (spaced_prefix_len bytes)
@@ -50,17 +50,17 @@ abbrev rest_of : List ℕ → List ℕ
 rest_of bytes = take (spaced_prefix_len bytes) bytes
 
 -- the claim for the bytes from one on that is not white
-abbrev Tidies : ℕ → List ℕ → Type 0
-Tidies b bytes = is_white b ≡ false → ends_here (b ∷ bytes) ≡ false → is_tidy (b ∷ rest_of bytes) ≡ true
+abbrev PrefixIsSingleSpaced : ℕ → List ℕ → Type 0
+PrefixIsSingleSpaced b bytes = is_white b ≡ false → ends_here (b ∷ bytes) ≡ false → is_single_spaced (b ∷ rest_of bytes) ≡ true
 
--- at the last two bytes, the first of a symbol: their spaced prefix is tidy
-last_two : (b c : ℕ) → is_symbol_byte b ≡ true → is_allowed c ≡ true → Tidies c [] → (t : Bool) → ends_here (c ∷ []) ≡ t → is_tidy (b ∷ rest_of (c ∷ [])) ≡ true
+-- at the last two bytes, the first of a symbol: their spaced prefix is single-spaced
+last_two : (b c : ℕ) → is_symbol_byte b ≡ true → is_allowed c ≡ true → PrefixIsSingleSpaced c [] → (t : Bool) → ends_here (c ∷ []) ≡ t → is_single_spaced (b ∷ rest_of (c ∷ [])) ≡ true
 last_two b c shown clean from true e = rw (prefix_off c [] e) shown
 last_two b c shown clean from false e = rw (prefix_on c [] e) (by (is_space c) refl)
   where
-    by : (u : Bool) → is_space c ≡ u → is_tidy (b ∷ c ∷ []) ≡ true
+    by : (u : Bool) → is_space c ≡ u → is_single_spaced (b ∷ c ∷ []) ≡ true
     by true k = absurd (omega (arith, space_byte c 32 k e))
-    by false k = tidy_cons b c [] false k shown (from (other_byte c 32 clean k e) e)
+    by false k = single_spaced_cons b c [] false k shown (from (other_byte c 32 clean k e) e)
 
 -- symbols do not end at a byte above `$`, whatever follows
 goes_next : (d : ℕ) (bytes : List ℕ) → 36 < d → ends_here (d ∷ bytes) ≡ false
@@ -68,40 +68,40 @@ goes_next d [] h = (above_dollar d 32 h).0
 goes_next d (e ∷ bytes) h = (above_dollar d e h).0
 
 -- at three bytes or more: what holds from the next one and from the one after it, holds from here
-two_more : (b c d : ℕ) (bytes : List ℕ) → is_symbol_byte b ≡ true → is_allowed c ≡ true → Tidies c (d ∷ bytes) → Tidies d bytes
-    → (t : Bool) → ends_here (c ∷ d ∷ bytes) ≡ t → is_tidy (b ∷ rest_of (c ∷ d ∷ bytes)) ≡ true
+two_more : (b c d : ℕ) (bytes : List ℕ) → is_symbol_byte b ≡ true → is_allowed c ≡ true → PrefixIsSingleSpaced c (d ∷ bytes) → PrefixIsSingleSpaced d bytes
+    → (t : Bool) → ends_here (c ∷ d ∷ bytes) ≡ t → is_single_spaced (b ∷ rest_of (c ∷ d ∷ bytes)) ≡ true
 two_more b c d bytes shown clean from goes_on true e = rw (prefix_off c (d ∷ bytes) e) shown
 two_more b c d bytes shown clean from goes_on false e = rw (prefix_on c (d ∷ bytes) e) (by (is_space c) refl)
   where
-    by : (u : Bool) → is_space c ≡ u → is_tidy (b ∷ c ∷ rest_of (d ∷ bytes)) ≡ true
+    by : (u : Bool) → is_space c ≡ u → is_single_spaced (b ∷ c ∷ rest_of (d ∷ bytes)) ≡ true
     by true k =
         let high = space_byte c d k e in
         let on = goes_next d bytes high in
-        tidy_cons b c (rest_of (d ∷ bytes)) true k shown
-        (ap (λ n. is_tidy (take n (d ∷ bytes))) (prefix_on d bytes on) ∙ goes_on (above_dollar d 32 high).1 on)
-    by false k = tidy_cons b c (rest_of (d ∷ bytes)) false k shown (from (other_byte c d clean k e) e)
+        single_spaced_cons b c (rest_of (d ∷ bytes)) true k shown
+        (ap (λ n. is_single_spaced (take n (d ∷ bytes))) (prefix_on d bytes on) ∙ goes_on (above_dollar d 32 high).1 on)
+    by false k = single_spaced_cons b c (rest_of (d ∷ bytes)) false k shown (from (other_byte c d clean k e) e)
 
--- the spaced prefix from a byte that is not white is tidy
-tidy_from : (b : ℕ) (bytes : List ℕ) → list_all is_allowed (b ∷ bytes) ≡ true → Tidies b bytes
-tidy_from b [] clean white goes = shown_byte b 32 (and_parts (is_allowed b) _ clean).0 white goes
-tidy_from b (c ∷ []) clean white goes =
+-- the spaced prefix from a byte that is not white is single-spaced
+single_spaced_from : (b : ℕ) (bytes : List ℕ) → list_all is_allowed (b ∷ bytes) ≡ true → PrefixIsSingleSpaced b bytes
+single_spaced_from b [] clean white goes = shown_byte b 32 (and_parts (is_allowed b) _ clean).0 white goes
+single_spaced_from b (c ∷ []) clean white goes =
     let next = (and_parts (is_allowed b) _ clean).1 in
-    last_two b c (shown_byte b c (and_parts (is_allowed b) _ clean).0 white goes) (and_parts (is_allowed c) _ next).0 (tidy_from c [] next) (ends_here (c ∷ [])) refl
-tidy_from b (c ∷ d ∷ bytes) clean white goes =
+    last_two b c (shown_byte b c (and_parts (is_allowed b) _ clean).0 white goes) (and_parts (is_allowed c) _ next).0 (single_spaced_from c [] next) (ends_here (c ∷ [])) refl
+single_spaced_from b (c ∷ d ∷ bytes) clean white goes =
     let next = (and_parts (is_allowed b) _ clean).1 in
     two_more b c d bytes (shown_byte b c (and_parts (is_allowed b) _ clean).0 white goes) (and_parts (is_allowed c) _ next).0
-    (tidy_from c (d ∷ bytes) next) (tidy_from d bytes (and_parts (is_allowed c) _ next).1) (ends_here (c ∷ d ∷ bytes)) refl
+    (single_spaced_from c (d ∷ bytes) next) (single_spaced_from d bytes (and_parts (is_allowed c) _ next).1) (ends_here (c ∷ d ∷ bytes)) refl
 
--- a spaced prefix of a clean text that does not start white is tidy
-pub prefix_spaced : (bytes : List ℕ) → IsClean bytes → starts_white bytes ≡ false → 0 < spaced_prefix_len bytes → is_tidy (take (spaced_prefix_len bytes) bytes) ≡ true
+-- a spaced prefix of a clean text that does not start white is single-spaced
+pub prefix_spaced : (bytes : List ℕ) → IsClean bytes → starts_white bytes ≡ false → 0 < spaced_prefix_len bytes → is_single_spaced (take (spaced_prefix_len bytes) bytes) ≡ true
 prefix_spaced [] clean white some = absurd (omega (arith, some))
 prefix_spaced (b ∷ bytes) clean white some = by (ends_here (b ∷ bytes)) refl
   where
-    by : (t : Bool) → ends_here (b ∷ bytes) ≡ t → is_tidy (take (spaced_prefix_len (b ∷ bytes)) (b ∷ bytes)) ≡ true
+    by : (t : Bool) → ends_here (b ∷ bytes) ≡ t → is_single_spaced (take (spaced_prefix_len (b ∷ bytes)) (b ∷ bytes)) ≡ true
     by true e = absurd (omega (arith, some, prefix_off b bytes e))
-    by false e = rw (prefix_on b bytes e) (tidy_from b bytes clean white e)
+    by false e = rw (prefix_on b bytes e) (single_spaced_from b bytes clean white e)
 
--- ---- the words of tidy bytes
+-- ---- the words of single-spaced bytes
 
 -- the test for a space tells the byte
 pub space_is : (c : ℕ) → is_space c ≡ true → c ≡ 32
@@ -148,18 +148,18 @@ pub split_gap : (c : ℕ) (bytes : List ℕ) → is_space c ≡ true → split_o
 split_gap c bytes h = rw h refl
 
 -- the first byte, and what follows it
-module _ (b c : ℕ) (bytes : List ℕ) (tidy : is_tidy (b ∷ c ∷ bytes) ≡ true) where
+module _ (b c : ℕ) (bytes : List ℕ) (single_spaced : is_single_spaced (b ∷ c ∷ bytes) ≡ true) where
   -- the first is a byte of a symbol
   pub first_byte : is_symbol_byte b ≡ true
-  first_byte = (and_parts (is_symbol_byte b) _ tidy).0
+  first_byte = (and_parts (is_symbol_byte b) _ single_spaced).0
 
-  -- after a space the bytes are tidy
-  pub after_gap : is_space c ≡ true → is_tidy bytes ≡ true
-  after_gap e = ap (λ u. cond u (is_tidy bytes) (is_tidy (c ∷ bytes))) (sym e) ∙ (and_parts (is_symbol_byte b) _ tidy).1
+  -- after a space the bytes are single-spaced
+  pub after_gap : is_space c ≡ true → is_single_spaced bytes ≡ true
+  after_gap e = ap (λ u. cond u (is_single_spaced bytes) (is_single_spaced (c ∷ bytes))) (sym e) ∙ (and_parts (is_symbol_byte b) _ single_spaced).1
 
-  -- after another byte they are tidy with it
-  pub after_byte : is_space c ≡ false → is_tidy (c ∷ bytes) ≡ true
-  after_byte e = ap (λ u. cond u (is_tidy bytes) (is_tidy (c ∷ bytes))) (sym e) ∙ (and_parts (is_symbol_byte b) _ tidy).1
+  -- after another byte they are single-spaced with it
+  pub after_byte : is_space c ≡ false → is_single_spaced (c ∷ bytes) ≡ true
+  after_byte e = ap (λ u. cond u (is_single_spaced bytes) (is_single_spaced (c ∷ bytes))) (sym e) ∙ (and_parts (is_symbol_byte b) _ single_spaced).1
 
 -- a byte of a symbol put to the first of some symbols leaves symbols
 symbols_onto : (b : ℕ) (parts : List Name) (w : Name) (ws : List Name) → parts ≡ w ∷ ws → is_symbol_byte b ≡ true → list_all is_symbol parts ≡ true → list_all is_symbol (onto_first b parts) ≡ true
@@ -179,9 +179,9 @@ symbols_step b c bytes h false e gap on =
     symbols_onto b (split_of (c ∷ bytes)) p.0 p.1 p.2 h (on refl)
 
 -- each is a symbol
-pub tidy_symbols : (bytes : List ℕ) → is_tidy bytes ≡ true → AreSymbols bytes
-tidy_symbols [] h = cc
-tidy_symbols (b ∷ []) h = ap (list_all is_symbol) (split_byte b [] h) ∙ and_from _ _ (symbol_one b h) refl
-tidy_symbols (b ∷ c ∷ bytes) h =
+pub single_spaced_symbols : (bytes : List ℕ) → is_single_spaced bytes ≡ true → AreSymbols bytes
+single_spaced_symbols [] h = cc
+single_spaced_symbols (b ∷ []) h = ap (list_all is_symbol) (split_byte b [] h) ∙ and_from _ _ (symbol_one b h) refl
+single_spaced_symbols (b ∷ c ∷ bytes) h =
     ap (list_all is_symbol) (split_byte b (c ∷ bytes) (first_byte b c bytes h))
-    ∙ symbols_step b c bytes (first_byte b c bytes h) (is_space c) refl (λ e. tidy_symbols bytes (after_gap b c bytes h e)) (λ e. tidy_symbols (c ∷ bytes) (after_byte b c bytes h e))
+    ∙ symbols_step b c bytes (first_byte b c bytes h) (is_space c) refl (λ e. single_spaced_symbols bytes (after_gap b c bytes h e)) (λ e. single_spaced_symbols (c ∷ bytes) (after_byte b c bytes h e))
