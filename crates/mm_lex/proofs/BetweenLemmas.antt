@@ -1,47 +1,47 @@
 -- From place to place in a text: what stands between two places, and between a third one; and what then stands after them.
-use Rattle.mm_lex.proofs.Prelude.{◌≡◌, ℕ, ◌≤◌, true, List, [], ◌∷◌, ◌++◌, length, flat_map, None, Ok, Err, refl, sym, ◌∙◌, ap, arith, subst, append_assoc, append-nil, map-append, drop-length, and_from, and_parts, Span, LexFault, Text, Comment, Memory, Name, word, runs_from, IsRunAt, opener, is_plain, AllPlain, Part, part_spans, AreParts, Cuts, words, StopsAt, runs_after, IsClosedAt, HasBetween, AreAfter, StopsAfter, FailsAfter}
-use Rattle.mm_lex.proofs.Cutting.{Outcome, prepend, scan, scan_cut, scan-cut, scan-stops}
-use Rattle.mm_lex.proofs.CuttingMeans.{with_plain, with_comment, cuts_as, no_runs, cut-scan, stops-scan}
+use Rattle.mm_lex.proofs.Prelude.{◌≡◌, ℕ, ◌≤◌, true, List, [], ◌∷◌, ◌++◌, length, flat_map, None, Ok, Err, refl, sym, ◌∙◌, ap, arith, subst, append_assoc, append-nil, map-append, drop-length, and_from, and_parts, Span, LexFault, Text, Comment, Memory, Name, word, runs_from, IsRunAt, opener, is_plain, AllPlain, Part, part_spans, AreParts, SplitsInto, words, IsCommentFaultOfRuns, runs_after, IsClosedAt, HasBetween, AreAfter, IsCommentFaultAfter, IsCommentFaultOrMemoryAfter}
+use Rattle.mm_lex.proofs.ScanRuns.{Outcome, prepend, scan, scan_split, scan-split, scan-stops}
+use Rattle.mm_lex.proofs.ScanResults.{with_plain, with_comment, splits_as, no_runs, split-scan, stops-scan}
 
 -- the runs after comments
 abbrev outer : List Part → List Span
 outer ps = flat_map (λ (p : Part). p.after) ps
 
 module _ {text : List ℕ} where
-  -- ---- a cut after another
+  -- ---- a split after another
 
-  -- plain runs before a cut are tokens before its tokens
-  plain_cut : (front spans tokens : List Span) → AllPlain text front → Cuts text spans tokens → Cuts text (front ++ spans) (front ++ tokens)
-  plain_cut [] spans tokens are cut = cut
-  plain_cut (s ∷ front) spans tokens are cut =
-      with_plain text s (front ++ spans) (front ++ tokens) (and_parts (is_plain (word text s)) _ are).0 (plain_cut front spans tokens (and_parts (is_plain (word text s)) _ are).1 cut)
+  -- plain runs before a split are tokens before its tokens
+  plain_split : (front spans tokens : List Span) → AllPlain text front → SplitsInto text spans tokens → SplitsInto text (front ++ spans) (front ++ tokens)
+  plain_split [] spans tokens are split = split
+  plain_split (s ∷ front) spans tokens are split =
+      with_plain text s (front ++ spans) (front ++ tokens) (and_parts (is_plain (word text s)) _ are).0 (plain_split front spans tokens (and_parts (is_plain (word text s)) _ are).1 split)
 
-  -- plain runs and whole comments before a cut
-  parts_cut : (first : List Span) (ps : List Part) (spans tokens : List Span) → AllPlain text first → AreParts text ps → Cuts text spans tokens
-      → Cuts text (first ++ (flat_map part_spans ps ++ spans)) (first ++ (outer ps ++ tokens))
-  parts_cut first [] spans tokens plain are cut = plain_cut first spans tokens plain cut
-  parts_cut first (p ∷ ps) spans tokens plain are cut =
+  -- plain runs and whole comments before a split
+  parts_split : (first : List Span) (ps : List Part) (spans tokens : List Span) → AllPlain text first → AreParts text ps → SplitsInto text spans tokens
+      → SplitsInto text (first ++ (flat_map part_spans ps ++ spans)) (first ++ (outer ps ++ tokens))
+  parts_split first [] spans tokens plain are split = plain_split first spans tokens plain split
+  parts_split first (p ∷ ps) spans tokens plain are split =
       let rest = flat_map part_spans ps in
-      let inner : Cuts text (p.after ++ (rest ++ spans)) (p.after ++ (outer ps ++ tokens)) = parts_cut p.after ps spans tokens are.0.after are.1 cut in
+      let inner : SplitsInto text (p.after ++ (rest ++ spans)) (p.after ++ (outer ps ++ tokens)) = parts_split p.after ps spans tokens are.0.after are.1 split in
       let whole : flat_map part_spans (p ∷ ps) ++ spans ≡ p.begin ∷ (p.inside ++ p.end ∷ (p.after ++ (rest ++ spans)))
       = append_assoc (part_spans p) rest spans ∙ ap (λ r. p.begin ∷ r) (append_assoc p.inside (p.end ∷ p.after) (rest ++ spans)) in
-      let these : Cuts text (flat_map part_spans (p ∷ ps) ++ spans) (p.after ++ (outer ps ++ tokens))
-      = cuts_as text _ _ _ whole (with_comment text p.begin p.end p.inside _ _ are.0.begins are.0.inside are.0.ends inner) in
-      plain_cut first _ _ plain (subst (λ ts. Cuts text (flat_map part_spans (p ∷ ps) ++ spans) ts) (sym (append_assoc p.after (outer ps) tokens)) these)
+      let these : SplitsInto text (flat_map part_spans (p ∷ ps) ++ spans) (p.after ++ (outer ps ++ tokens))
+      = splits_as text _ _ _ whole (with_comment text p.begin p.end p.inside _ _ are.0.begins are.0.inside are.0.ends inner) in
+      plain_split first _ _ plain (subst (λ ts. SplitsInto text (flat_map part_spans (p ∷ ps) ++ spans) ts) (sym (append_assoc p.after (outer ps) tokens)) these)
 
-  -- the cuts of two lists of runs, one after the other, are one cut
-  pub cuts_join : (a t b u : List Span) → Cuts text a t → Cuts text b u → Cuts text (a ++ b) (t ++ u)
-  cuts_join a t b u cut more =
-      let rest = flat_map part_spans cut.parts in
-      let whole : a ++ b ≡ cut.first ++ (rest ++ b) = ap (λ r. r ++ b) cut.whole ∙ append_assoc cut.first rest b in
-      let outside : t ++ u ≡ cut.first ++ (outer cut.parts ++ u) = ap (λ r. r ++ u) cut.outside ∙ append_assoc cut.first (outer cut.parts) u in
-      subst (λ ts. Cuts text (a ++ b) ts) (sym outside) (cuts_as text _ _ _ whole (parts_cut cut.first cut.parts b u cut.plain cut.comments more))
+  -- the splits of two lists of runs, one after the other, are one split
+  pub splits_join : (a t b u : List Span) → SplitsInto text a t → SplitsInto text b u → SplitsInto text (a ++ b) (t ++ u)
+  splits_join a t b u split more =
+      let rest = flat_map part_spans split.parts in
+      let whole : a ++ b ≡ split.first ++ (rest ++ b) = ap (λ r. r ++ b) split.whole ∙ append_assoc split.first rest b in
+      let outside : t ++ u ≡ split.first ++ (outer split.parts ++ u) = ap (λ r. r ++ u) split.outside ∙ append_assoc split.first (outer split.parts) u in
+      subst (λ ts. SplitsInto text (a ++ b) ts) (sym outside) (splits_as text _ _ _ whole (parts_split split.first split.parts b u split.plain split.comments more))
 
   -- ---- between two places
 
   -- nothing between a place and itself
   pub between_none : (at : ℕ) → at ≤ length text → HasBetween text at at []
-  between_none at within = record { later = omega arith; within = within; passed = []; tokens = []; whole = refl; cut = no_runs text; are = refl }
+  between_none at within = record { later = omega arith; within = within; passed = []; tokens = []; whole = refl; split = no_runs text; are = refl }
 
   -- and on from there
   pub between_on : {from at end : ℕ} {ws vs : List Name} → HasBetween text from at ws → HasBetween text at end vs → HasBetween text from end (ws ++ vs)
@@ -51,7 +51,7 @@ module _ {text : List ℕ} where
     passed = has.passed ++ more.passed;
     tokens = has.tokens ++ more.tokens;
     whole = has.whole ∙ (ap (λ r. has.passed ++ r) more.whole ∙ sym (append_assoc has.passed more.passed (runs_after text end)));
-    cut = cuts_join has.passed has.tokens more.passed more.tokens has.cut more.cut;
+    split = splits_join has.passed has.tokens more.passed more.tokens has.split more.split;
     are = map-append (word text) has.tokens more.tokens ∙ (ap (λ r. r ++ words text more.tokens) has.are ∙ ap (λ r. ws ++ r) more.are);
   }
 
@@ -61,7 +61,7 @@ module _ {text : List ℕ} where
 
   -- runs that are the same after two places
   pub between_runs : (from at : ℕ) → from ≤ at → at ≤ length text → runs_after text from ≡ runs_after text at → HasBetween text from at []
-  between_runs from at later within same = record { later = later; within = within; passed = []; tokens = []; whole = same; cut = no_runs text; are = refl }
+  between_runs from at later within same = record { later = later; within = within; passed = []; tokens = []; whole = same; split = no_runs text; are = refl }
 
   -- plain runs
   pub between_plain : (from at : ℕ) (front : List Span) → from ≤ at → at ≤ length text → runs_after text from ≡ front ++ runs_after text at → AllPlain text front
@@ -72,7 +72,7 @@ module _ {text : List ℕ} where
     passed = front;
     tokens = front;
     whole = whole;
-    cut = record { first = front; parts = []; whole = sym (append-nil front); plain = are; comments = tt; outside = sym (append-nil front) };
+    split = record { first = front; parts = []; whole = sym (append-nil front); plain = are; comments = tt; outside = sym (append-nil front) };
     are = refl;
   }
 
@@ -89,7 +89,7 @@ module _ {text : List ℕ} where
       passed = s ∷ (closed.inside ++ closed.at ∷ []);
       tokens = [];
       whole = run ∙ (ap (λ r. s ∷ r) closed.whole ∙ ap (λ r. s ∷ r) (sym (append_assoc closed.inside (closed.at ∷ []) (runs_after text end))));
-      cut = with_comment text s closed.at closed.inside [] [] opens closed.plain closed.closes (no_runs text);
+      split = with_comment text s closed.at closed.inside [] [] opens closed.plain closed.closes (no_runs text);
       are = refl;
     }
 
@@ -97,7 +97,7 @@ module _ {text : List ℕ} where
 
   -- no token after a place where no run is left
   pub none_after : (at : ℕ) → runs_after text at ≡ [] → AreAfter text at []
-  none_after at none = ([], cuts_as text (runs_after text at) [] [] none (no_runs text), refl)
+  none_after at none = ([], splits_as text (runs_after text at) [] [] none (no_runs text), refl)
 
   -- no token after the end of the text
   pub none_after_end : (at : ℕ) → length text ≤ at → at ≤ length text → AreAfter text at []
@@ -112,28 +112,28 @@ module _ {text : List ℕ} where
   module _ {from at : ℕ} {ws : List Name} (has : HasBetween text from at ws) where
     -- the scan goes on
     pub between_scan : scan text (runs_after text from) None ≡ prepend has.tokens (scan text (runs_after text at) None)
-    between_scan = ap (λ r. scan text r None) has.whole ∙ scan_cut text has.passed has.tokens (runs_after text at) has.cut
+    between_scan = ap (λ r. scan text r None) has.whole ∙ scan_split text has.passed has.tokens (runs_after text at) has.split
 
     -- the words after the later place
     pub after_on : {vs : List Name} → AreAfter text at vs → AreAfter text from (ws ++ vs)
     after_on {vs} are = (
       has.tokens ++ are.0,
-      cuts_as text _ _ _ has.whole (cuts_join has.passed has.tokens (runs_after text at) are.0 has.cut are.1),
+      splits_as text _ _ _ has.whole (splits_join has.passed has.tokens (runs_after text at) are.0 has.split are.1),
       map-append (word text) has.tokens are.0 ∙ (ap (λ r. r ++ words text are.0) has.are ∙ ap (λ r. ws ++ r) are.2),
     )
 
     -- where the comments stop after the later place, they stop after the earlier one
-    pub stops_on : (offset : ℕ) → StopsAt text (runs_after text at) offset → StopsAt text (runs_after text from) offset
+    pub stops_on : (offset : ℕ) → IsCommentFaultOfRuns text (runs_after text at) offset → IsCommentFaultOfRuns text (runs_after text from) offset
     stops_on offset is = stops-scan text (runs_after text from) offset (between_scan ∙ ap (prepend has.tokens) (scan-stops text (runs_after text at) offset is))
 
     -- a fault after the later place is one after the earlier, where no allocation failed
-    pub stops_after : (fault : LexFault) → StopsAfter text at fault → StopsAfter text from fault
+    pub stops_after : (fault : LexFault) → IsCommentFaultAfter text at fault → IsCommentFaultAfter text from fault
     stops_after (Text offset) is = is
     stops_after (Comment offset) is = stops_on offset is
     stops_after Memory is = is
 
     -- .. and where one may have been
-    pub fails_after : (fault : LexFault) → FailsAfter text at fault → FailsAfter text from fault
+    pub fails_after : (fault : LexFault) → IsCommentFaultOrMemoryAfter text at fault → IsCommentFaultOrMemoryAfter text from fault
     fails_after (Text offset) is = is
     fails_after (Comment offset) is = stops_on offset is
     fails_after Memory is = tt
@@ -143,14 +143,14 @@ module _ {text : List ℕ} where
     after_rest {vs} are = by (scan text (runs_after text at) None) refl
       where
         all : scan text (runs_after text from) None ≡ Ok are.0
-        all = scan-cut text (runs_after text from) are.0 are.1
+        all = scan-split text (runs_after text from) are.0 are.1
 
         by : (r : Outcome) → scan text (runs_after text at) None ≡ r → (us : List Name) × AreAfter text at us × (vs ≡ ws ++ us)
         by (Ok rest) e =
             let same : ◌≡◌ {A = Outcome} (Ok are.0) (Ok (has.tokens ++ rest)) = sym all ∙ (between_scan ∙ ap (prepend has.tokens) e) in
             let these : are.0 ≡ has.tokens ++ rest = cc in (
               words text rest,
-              (rest, cut-scan text (runs_after text at) rest e, refl),
+              (rest, split-scan text (runs_after text at) rest e, refl),
               sym are.2 ∙ (ap (words text) these ∙ (map-append (word text) has.tokens rest ∙ ap (λ r. r ++ words text rest) has.are)),
             )
         by (Err offset) e =
@@ -159,19 +159,19 @@ module _ {text : List ℕ} where
   -- the words after a place are one list
   pub after_unique : (at : ℕ) {ws vs : List Name} → AreAfter text at ws → AreAfter text at vs → ws ≡ vs
   after_unique at are also =
-      let a = scan-cut text (runs_after text at) are.0 are.1 in
-      let b = scan-cut text (runs_after text at) also.0 also.1 in
+      let a = scan-split text (runs_after text at) are.0 are.1 in
+      let b = scan-split text (runs_after text at) also.0 also.1 in
       let same : are.0 ≡ also.0 = cc in
       sym are.2 ∙ (ap (words text) same ∙ also.2)
 
   -- a place with tokens after it has no fault of comments after it
-  pub after_no_stop : (at offset : ℕ) {ws : List Name} → AreAfter text at ws → StopsAt text (runs_after text at) offset → ⊥
+  pub after_no_stop : (at offset : ℕ) {ws : List Name} → AreAfter text at ws → IsCommentFaultOfRuns text (runs_after text at) offset → ⊥
   after_no_stop at offset are is =
-      let a = scan-cut text (runs_after text at) are.0 are.1 in
+      let a = scan-split text (runs_after text at) are.0 are.1 in
       let b = scan-stops text (runs_after text at) offset is in cc
 
 -- a fault of the comments is one also where an allocation may have failed
-pub stops_fail : (text : List ℕ) (at : ℕ) (fault : LexFault) → StopsAfter text at fault → FailsAfter text at fault
+pub stops_fail : (text : List ℕ) (at : ℕ) (fault : LexFault) → IsCommentFaultAfter text at fault → IsCommentFaultOrMemoryAfter text at fault
 stops_fail text at (Text offset) is = is
 stops_fail text at (Comment offset) is = is
 stops_fail text at Memory is = tt

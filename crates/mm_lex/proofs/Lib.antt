@@ -6,17 +6,17 @@ pub mod BadByteLemmas
 pub mod FirstSpaceLemmas
 pub mod LanesLemmas
 pub mod RunsLemmas
-pub mod Cutting
-pub mod CuttingMeans
+pub mod ScanRuns
+pub mod ScanResults
 pub mod PlainLemmas
 pub mod Progress
 pub mod TokensLemmas
-pub mod StretchLemmas
-pub mod TidyLemmas
+pub mod SpacedPrefixLemmas
+pub mod SingleSpacedLemmas
 pub mod VisibleRunLemmas
 pub mod BetweenLemmas
 pub mod NextRunLemmas
-pub mod FewLemmas
+pub mod TokenCountLemmas
 pub mod ListLemmas
-pub mod OneCut
+pub mod OneSplit
 mod Rows

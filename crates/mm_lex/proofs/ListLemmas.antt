@@ -1,7 +1,7 @@
 -- A list of symbols, piece by piece and word by word.
-use Rattle.mm_lex.proofs.Prelude.{◌≡◌, ℕ, ◌+◌, ◌-◌, ◌<◌, ◌≤◌, true, false, List, [], ◌∷◌, ◌++◌, length, take, drop, refl, list_all, sym, ◌∙◌, ap, arith, append_assoc, append-nil, list_all-append, and_from, Span, Name, starts_white, word, is_symbol, words_of, AreWords, IsClean, words, runs_after, stretch, AreAfter, IsTokenAfter, AddsSymbols, EndsSymbols}
+use Rattle.mm_lex.proofs.Prelude.{◌≡◌, ℕ, ◌+◌, ◌-◌, ◌<◌, ◌≤◌, true, false, List, [], ◌∷◌, ◌++◌, length, take, drop, refl, list_all, sym, ◌∙◌, ap, arith, append_assoc, append-nil, list_all-append, and_from, Span, Name, starts_white, word, is_symbol, words_of, AreWords, IsClean, words, runs_after, spaced_prefix_len, AreAfter, IsTokenAfter, AddsSymbols, EndsSymbols}
 use Rattle.mm_lex.proofs.LanesLemmas.{clean-drop}
-use Rattle.mm_lex.proofs.VisibleRunLemmas.{IsFrontOf, stretch_front, symbols_words}
+use Rattle.mm_lex.proofs.VisibleRunLemmas.{IsFrontOf, prefix_front, symbols_words}
 use Rattle.mm_lex.proofs.BetweenLemmas.{between_none, between_on, between_as, between_plain, between_runs, after_on, after_as}
 
 module _ {text : List ℕ} where
@@ -52,31 +52,31 @@ module _ {text : List ℕ} where
     ends_text none = after_as from (append-nil adds.more ∙ sym adds.whole) (after_on adds.between none)
 
 module _ (text : List ℕ) where
-  -- a stretch
-  module _ (start end n : ℕ) (clean : IsClean text) (shown : starts_white (drop start text) ≡ false) (is : n ≡ stretch (drop start text)) (some : 0 < n)
+  -- a spaced prefix
+  module _ (start end n : ℕ) (clean : IsClean text) (shown : starts_white (drop start text) ≡ false) (is : n ≡ spaced_prefix_len (drop start text)) (some : 0 < n)
       (same : end ≡ start + n) (within : end ≤ length text) (white : starts_white (drop end text) ≡ true) where
-    -- the runs of the stretch, whose words are symbols
+    -- the runs of the spaced prefix, whose words are symbols
     front : IsFrontOf text start n (take n (drop start text))
-    front = stretch_front text start n (clean-drop start text clean) shown is some (omega (arith, same, within)) (ap (λ k. starts_white (drop k text)) (sym same) ∙ white)
+    front = prefix_front text start n (clean-drop start text clean) shown is some (omega (arith, same, within)) (ap (λ k. starts_white (drop k text)) (sym same) ∙ white)
 
-    -- the stretch is as long as the piece that is copied
+    -- the spaced prefix is as long as the piece that is copied
     width : end - start ≡ n
     width = omega (arith, same)
 
     abbrev piece : List ℕ
     piece = take (end - start) (drop start text)
 
-    -- the words of the bytes up to the end of the stretch are those of the piece
+    -- the words of the bytes up to the end of the spaced prefix are those of the piece
     piece_is : words_of (take n (drop start text)) ≡ words_of piece
     piece_is = ap (λ k. words_of (take k (drop start text))) (sym width)
 
     -- the words of the piece are words
-    pub stretch_words : AreWords (words_of piece)
-    stretch_words = symbols_words (words_of piece) (ap (list_all is_symbol) (sym piece_is) ∙ front.symbols)
+    pub prefix_words : AreWords (words_of piece)
+    prefix_words = symbols_words (words_of piece) (ap (list_all is_symbol) (sym piece_is) ∙ front.symbols)
 
     -- the piece adds its words to the symbols read so far
-    pub stretch_adds : (old new : List Name) → new ≡ old ++ words_of piece → AddsSymbols text start end old new
-    stretch_adds old new e = record {
+    pub prefix_adds : (old new : List Name) → new ≡ old ++ words_of piece → AddsSymbols text start end old new
+    prefix_adds old new e = record {
       more = words_of piece;
       whole = e;
       between = between_as (front.are ∙ piece_is) (between_plain start end front.spans (omega (arith, same)) within

@@ -1,6 +1,6 @@
 -- At the next run: a token, or the place at which the comments are at fault.
-use Rattle.mm_lex.proofs.Prelude.{◌≡◌, ℕ, ◌≤◌, true, List, [], ◌∷◌, refl, ◌∙◌, ap, arith, inl, inr, Span, word, IsRunAt, opener, closer, is_plain, AllPlain, IsClean, StopsAt, runs_after, IsNestedAt, HasBetween, IsTokenAfter}
-use Rattle.mm_lex.proofs.CuttingMeans.{no_runs}
+use Rattle.mm_lex.proofs.Prelude.{◌≡◌, ℕ, ◌≤◌, true, List, [], ◌∷◌, refl, ◌∙◌, ap, arith, inl, inr, Span, word, IsRunAt, opener, closer, is_plain, AllPlain, IsClean, IsCommentFaultOfRuns, runs_after, IsNestedAt, HasBetween, IsTokenAfter}
+use Rattle.mm_lex.proofs.ScanResults.{no_runs}
 use Rattle.mm_lex.proofs.Progress.{IsWordAt-run}
 use Rattle.mm_lex.proofs.BetweenLemmas.{between_on, between_token, stops_on}
 
@@ -14,13 +14,13 @@ module _ {text : List ℕ} {at from : ℕ} (has : HasBetween text at from []) (s
   }
 
   -- a `$)` is where the comments stop
-  pub stops_stray : word text s ≡ closer → StopsAt text (runs_after text at) s.start
+  pub stops_stray : word text s ≡ closer → IsCommentFaultOfRuns text (runs_after text at) s.start
   stops_stray closes =
-      stops_on has s.start (inl (record { before = []; tokens = []; at = s; rest = runs_after text s.end; whole = run; cut = no_runs text; closes = closes; place = refl }))
+      stops_on has s.start (inl (record { before = []; tokens = []; at = s; rest = runs_after text s.end; whole = run; split = no_runs text; closes = closes; place = refl }))
 
   module _ (opens : word text s ≡ opener) where
     -- a `$(` inside of the comment that begins at this run is where they stop
-    pub stops_nested : (offset : ℕ) → IsNestedAt text s.end offset → StopsAt text (runs_after text at) offset
+    pub stops_nested : (offset : ℕ) → IsNestedAt text s.end offset → IsCommentFaultOfRuns text (runs_after text at) offset
     stops_nested offset is =
         stops_on has offset (inr (inl (record {
           before = [];
@@ -30,7 +30,7 @@ module _ {text : List ℕ} {at from : ℕ} (has : HasBetween text at from []) (s
           at = is.at;
           rest = is.rest;
           whole = run ∙ ap (λ r. s ∷ r) is.whole;
-          cut = no_runs text;
+          split = no_runs text;
           opens = opens;
           plain = is.plain;
           opens_again = is.opens_again;
@@ -38,7 +38,7 @@ module _ {text : List ℕ} {at from : ℕ} (has : HasBetween text at from []) (s
         })))
 
     -- they stop at this run, where the comment that begins with it is never closed
-    pub stops_unclosed : AllPlain text (runs_after text s.end) → StopsAt text (runs_after text at) s.start
+    pub stops_unclosed : AllPlain text (runs_after text s.end) → IsCommentFaultOfRuns text (runs_after text at) s.start
     stops_unclosed plain =
         stops_on has s.start (inr (inr (record {
           before = [];
@@ -46,7 +46,7 @@ module _ {text : List ℕ} {at from : ℕ} (has : HasBetween text at from []) (s
           at = s;
           inside = runs_after text s.end;
           whole = run;
-          cut = no_runs text;
+          split = no_runs text;
           opens = opens;
           plain = plain;
           place = refl;

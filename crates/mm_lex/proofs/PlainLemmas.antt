@@ -1,4 +1,4 @@
--- Runs whose bytes hold no `$` are plain, and a list of bytes that ends white can be cut off.
+-- Runs whose bytes hold no `$` are plain, and a list of bytes that ends white can be split off.
 use Rattle.mm_lex.proofs.Prelude.{◌≡◌, ℕ, ◌+◌, ◌-◌, ◌<◌, ◌≤◌, suc, zero, Bool, true, false, List, [], ◌∷◌, ◌++◌, length, take, drop, refl, sym, ◌∙◌, ap, arith, get_or, subst, eqb, eq-eqb, append-nil, get_or-take, get_or-drop, length-take, length-drop, take-append-drop, drop-drop, drop-length, and_from, Nowhere, NoneBefore, Passes, is_byte, Span, Name, is_white, starts_white, with_byte, runs_from, word, is_plain, AllPlain, runs_after, PassesPlain}
 
 -- ---- where the runs stand
@@ -76,7 +76,7 @@ plain_spans text low high within none [] are = refl
 plain_spans text low high within none (s ∷ spans) are =
     and_from _ _ (plain_span text low high within none s are.0) (plain_spans text low high within none spans are.1)
 
--- ---- bytes cut off after a white byte
+-- ---- bytes split off after a white byte
 
 abbrev EndsWhite : List ℕ → Type 0
 EndsWhite [] = Unit {0}
@@ -157,12 +157,12 @@ module _ (text : List ℕ) (at : ℕ) (start : at ≤ length text) where
       let front = take (suc i) rest in
       let wide : length front ≡ suc i = omega (arith, length-take (suc i) rest, long) in
       let last : is_white (get_or rest i 0) ≡ true = ap is_white (get_or-drop at text i 0) ∙ white in
-      let cut = runs_append at front (drop (suc i) rest) (ends_white i rest (omega (arith, long)) last) in
+      let split = runs_append at front (drop (suc i) rest) (ends_white i rest (omega (arith, long)) last) in
       let between = runs_between_to at (at + suc i) front (ap (λ n. at + n) wide) in record {
         passed = runs_from at front;
         later = omega arith;
         within = within;
-        whole = ap (runs_from at) (sym (take-append-drop (suc i) rest)) ∙ (cut ∙ (ap (λ n. runs_from at front ++ runs_from (at + n) (drop (suc i) rest)) wide
+        whole = ap (runs_from at) (sym (take-append-drop (suc i) rest)) ∙ (split ∙ (ap (λ n. runs_from at front ++ runs_from (at + n) (drop (suc i) rest)) wide
             ∙ ap (λ r. runs_from at front ++ runs_from (at + suc i) r) (drop-drop (suc i) at text)));
         plain = plain_spans text at (at + suc i) within none (runs_from at front) between;
       }

@@ -1,8 +1,8 @@
 -- How far the code has read: what the scan of the whole text gives, by what is left of it.
 use Rattle.mm_lex.proofs.Prelude.{◌≡◌, ℕ, ◌-◌, ◌<◌, ◌≤◌, Bool, true, false, not, cond, ◌||◌, List, [], ◌∷◌, ◌++◌, length, drop, Some, None, Ok, Err, refl, list_all, All, sym, ◌∙◌, ap, arith, append_assoc, true≢false, min, append-nil, length-take, length-drop, All-push, list_all-append, bytes_eq-Decides, and_from, and_parts, Span, Name, is_white, is_visible, is_allowed, runs, word, IsRunAt, is_word, opener, closer, is_plain, AllPlain, IsClean, AreTokens, IsWordAt, IsCommentFault, runs_after, PassesPlain, IsClosedAt, IsNestedAt}
 use Rattle.mm_lex.proofs.LanesLemmas.{clean-take, clean-drop}
-use Rattle.mm_lex.proofs.Cutting.{prepend, prepend-append, scan, opens, closes, scan_opener, scan_closer, scan_plain, scan_nested, scan_closing, scan_all_inside, is_opener, is_closer, closer_no_opener, scan-stops}
-use Rattle.mm_lex.proofs.CuttingMeans.{cut-scan, stops-scan, plain}
+use Rattle.mm_lex.proofs.ScanRuns.{prepend, prepend-append, scan, opens, closes, scan_opener, scan_closer, scan_plain, scan_nested, scan_closing, scan_all_inside, is_opener, is_closer, closer_no_opener, scan-stops}
+use Rattle.mm_lex.proofs.ScanResults.{split-scan, stops-scan, plain}
 
 -- ---- a run of a clean text is a word
 
@@ -96,38 +96,38 @@ module _ {text : List ℕ} {from at : ℕ} (so : PassesPlain text from at) where
 
 -- ---- outside of comments
 
-pub record Cut (text : List ℕ) (spans : List Span) (refused : Bool) (at : ℕ) : Type 0 where
+pub record SplitUpTo (text : List ℕ) (spans : List Span) (allocation_failed : Bool) (at : ℕ) : Type 0 where
   pub tokens : List Span
   pub within : at ≤ length text
   pub whole : scan text (runs text) None ≡ prepend tokens (scan text (runs_after text at) None)
-  pub kept : refused ≡ false → spans ≡ tokens
+  pub kept : allocation_failed ≡ false → spans ≡ tokens
   pub words : All (IsWordAt text) spans
 
 -- a token more is kept, where no allocation failed before or now
-kept_push : (refused r : Bool) (spans tokens : List Span) (s : Span) → (refused ≡ false → spans ≡ tokens) → (refused ≡ true → r ≡ true)
+kept_push : (allocation_failed r : Bool) (spans tokens : List Span) (s : Span) → (allocation_failed ≡ false → spans ≡ tokens) → (allocation_failed ≡ true → r ≡ true)
     → r ≡ false → cond r spans (spans ++ s ∷ []) ≡ tokens ++ s ∷ []
 kept_push true r spans tokens s kept stays e = absurd (true≢false (sym (stays refl) ∙ e))
 kept_push false r spans tokens s kept stays e = rw e (ap (λ t. t ++ s ∷ []) (kept refl))
 
--- a span more, pushed or refused, and all are places of words
+-- a span more, pushed or allocation_failed, and all are places of words
 words_push : (text : List ℕ) (r : Bool) (spans : List Span) (s : Span) → All (IsWordAt text) spans → IsWordAt text s → All (IsWordAt text) (cond r spans (spans ++ s ∷ []))
 words_push text true spans s are is = are
 words_push text false spans s are is = All-push (IsWordAt text) spans s are is
 
-module _ {text : List ℕ} {spans : List Span} {refused : Bool} {at : ℕ} (so : Cut text spans refused at) where
+module _ {text : List ℕ} {spans : List Span} {allocation_failed : Bool} {at : ℕ} (so : SplitUpTo text spans allocation_failed at) where
   module _ (s : Span) (run : runs_after text at ≡ s ∷ runs_after text s.end) where
     -- the scan of the text, as far as this run
     here : scan text (runs text) None ≡ prepend so.tokens (scan text (s ∷ runs_after text s.end) None)
     here = so.whole ∙ ap (λ r. prepend so.tokens (scan text r None)) run
 
     -- a token more
-    pub cut_more : IsClean text → IsRunAt text s → opens text s ≡ false → closes text s ≡ false
-        → (new : List Span) (r : Bool) → new ≡ cond r spans (spans ++ s ∷ []) → (refused ≡ true → r ≡ true) → Cut text new r s.end
-    cut_more clean is unopened unclosed new r e stays = record {
+    pub split_more : IsClean text → IsRunAt text s → opens text s ≡ false → closes text s ≡ false
+        → (new : List Span) (r : Bool) → new ≡ cond r spans (spans ++ s ∷ []) → (allocation_failed ≡ true → r ≡ true) → SplitUpTo text new r s.end
+    split_more clean is unopened unclosed new r e stays = record {
       tokens = so.tokens ++ s ∷ [];
       within = is.within;
       whole = here ∙ (ap (prepend so.tokens) (scan_plain text s (runs_after text s.end) unopened unclosed) ∙ prepend-append so.tokens (s ∷ []) (scan text (runs_after text s.end) None));
-      kept = λ f. e ∙ kept_push refused r spans so.tokens s so.kept stays f;
+      kept = λ f. e ∙ kept_push allocation_failed r spans so.tokens s so.kept stays f;
       words = rw e (words_push text r spans s so.words (IsWordAt-run text s clean is));
     }
 
@@ -143,8 +143,8 @@ module _ {text : List ℕ} {spans : List Span} {refused : Bool} {at : ℕ} (so :
       opened = here ∙ ap (prepend so.tokens) (scan_opener text s (runs_after text s.end) yes)
 
       -- a comment is passed over
-      pub cut_comment : (end : ℕ) → IsClosedAt text s.end end → Cut text spans refused end
-      cut_comment end is = record {
+      pub split_comment : (end : ℕ) → IsClosedAt text s.end end → SplitUpTo text spans allocation_failed end
+      split_comment end is = record {
         tokens = so.tokens;
         within = is.within;
         whole = opened ∙ ap (prepend so.tokens) (ap (λ r. scan text r (Some s.start)) is.whole
@@ -169,13 +169,13 @@ module _ {text : List ℕ} {spans : List Span} {refused : Bool} {at : ℕ} (so :
           ∙ scan_all_inside text (runs_after text s.end) [] s.start plain)
 
   -- where no run is left, the scan of the text gives the tokens read
-  pub cut_end : runs_after text at ≡ [] → scan text (runs text) None ≡ Ok so.tokens
-  cut_end none = so.whole ∙ (ap (λ r. prepend so.tokens (scan text r None)) none ∙ ap Ok (append-nil so.tokens))
+  pub split_end : runs_after text at ≡ [] → scan text (runs text) None ≡ Ok so.tokens
+  split_end none = so.whole ∙ (ap (λ r. prepend so.tokens (scan text r None)) none ∙ ap Ok (append-nil so.tokens))
 
 -- ---- the answer that the code may then give
 
 pub AreTokens-scan : (text : List ℕ) (tokens : List Span) → IsClean text → scan text (runs text) None ≡ Ok tokens → AreTokens text tokens
-AreTokens-scan text tokens clean e = (clean, cut-scan text (runs text) tokens e)
+AreTokens-scan text tokens clean e = (clean, split-scan text (runs text) tokens e)
 
 pub IsCommentFault-scan : (text : List ℕ) (offset : ℕ) → IsClean text → scan text (runs text) None ≡ Err offset → IsCommentFault text offset
 IsCommentFault-scan text offset clean e = (clean, stops-scan text (runs text) offset e)

@@ -1,5 +1,5 @@
 -- The definitions on small texts.
-use Rattle.mm_lex.proofs.Prelude.{◌≡◌, true, false, [], ◌∷◌, ◌++◌, codes, refl, inl, inr, arith, is_label, is_symbol, spaced, words_of, AreTokens, IsFirstBadByte, IsCommentFault, stretch}
+use Rattle.mm_lex.proofs.Prelude.{◌≡◌, true, false, [], ◌∷◌, ◌++◌, codes, refl, inl, inr, arith, is_label, is_symbol, spaced, words_of, AreTokens, IsFirstBadByte, IsCommentFault, spaced_prefix_len}
 
 -- `$. $( hi $) p`: a comment goes
 comment_goes : AreTokens (codes "$. $( hi $) p") (record { start = 0; end = 2 } ∷ record { start = 12; end = 13 } ∷ [])
@@ -35,7 +35,7 @@ nested = (
     at = record { start = 3; end = 5 };
     rest = record { start = 6; end = 8 } ∷ [];
     whole = refl;
-    cut = record { first = []; parts = []; whole = refl; plain = refl; comments = tt; outside = refl };
+    split = record { first = []; parts = []; whole = refl; plain = refl; comments = tt; outside = refl };
     opens = refl;
     plain = refl;
     opens_again = refl;
@@ -53,7 +53,7 @@ unclosed = (
     at = record { start = 0; end = 2 };
     inside = record { start = 3; end = 4 } ∷ [];
     whole = refl;
-    cut = record { first = []; parts = []; whole = refl; plain = refl; comments = tt; outside = refl };
+    split = record { first = []; parts = []; whole = refl; plain = refl; comments = tt; outside = refl };
     opens = refl;
     plain = refl;
     place = refl;
@@ -70,7 +70,7 @@ stray = (
     at = record { start = 2; end = 4 };
     rest = [];
     whole = refl;
-    cut = record { first = record { start = 0; end = 1 } ∷ []; parts = []; whole = refl; plain = refl; comments = tt; outside = refl };
+    split = record { first = record { start = 0; end = 1 } ∷ []; parts = []; whole = refl; plain = refl; comments = tt; outside = refl };
     closes = refl;
     place = refl;
   }),
@@ -118,17 +118,17 @@ words_with_a_space : spaced (codes "wff" ∷ codes "P" ∷ []) ≡ codes "wff P"
 words_with_a_space = refl
 
 -- symbols with one space between two, up to a keyword, to two spaces, to a `$` in a token, and to the end
-up_to_keyword : stretch (codes "ab c $.") ≡ 4
+up_to_keyword : spaced_prefix_len (codes "ab c $.") ≡ 4
 up_to_keyword = refl
 
 -- one byte before two spaces
-up_to_spaces : stretch (codes "a  b") ≡ 1
+up_to_spaces : spaced_prefix_len (codes "a  b") ≡ 1
 up_to_spaces = refl
 
 -- three before a `$`
-up_to_dollar : stretch (codes "a b$c") ≡ 3
+up_to_dollar : spaced_prefix_len (codes "a b$c") ≡ 3
 up_to_dollar = refl
 
 -- all three, where the text ends
-up_to_end : stretch (codes "a b") ≡ 3
+up_to_end : spaced_prefix_len (codes "a b") ≡ 3
 up_to_end = refl

@@ -55,8 +55,8 @@ white_step : (at b : ℕ) (bytes : List ℕ) (n : ℕ) (t : Bool) → is_white b
     → runs_from at (b ∷ bytes) ≡ runs_from (at + cond (not (not t)) (1 + n) 0) (drop (cond (not (not t)) (1 + n) 0) (b ∷ bytes))
 white_step at b bytes n true e k =
     let same : at + 1 + n ≡ at + (1 + n) = omega arith in
-    let cut : drop (1 + n) (b ∷ bytes) ≡ drop n bytes = rw (one_more n) refl in
-    rw (e, cut) (k ∙ ap (λ m. runs_from m (drop n bytes)) same)
+    let split : drop (1 + n) (b ∷ bytes) ≡ drop n bytes = rw (one_more n) refl in
+    rw (e, split) (k ∙ ap (λ m. runs_from m (drop n bytes)) same)
 white_step at b bytes n false e k = ap (λ m. runs_from m (b ∷ bytes)) (sym (add-zero at))
 
 -- white bytes are passed over
@@ -76,8 +76,8 @@ pub record BeginsShown (bytes : List ℕ) : Type 0 where
 shown_step : (b : ℕ) (bytes : List ℕ) (n : ℕ) (t : Bool) → is_white b ≡ t → (n < length bytes → BeginsShown (drop n bytes))
     → cond (not (not t)) (1 + n) 0 < length (b ∷ bytes) → BeginsShown (drop (cond (not (not t)) (1 + n) 0) (b ∷ bytes))
 shown_step b bytes n true e k inside =
-    let cut : drop (1 + n) (b ∷ bytes) ≡ drop n bytes = rw (one_more n) refl in
-    rw cut (k (omega (arith, inside)))
+    let split : drop (1 + n) (b ∷ bytes) ≡ drop n bytes = rw (one_more n) refl in
+    rw split (k (omega (arith, inside)))
 shown_step b bytes n false e k inside = record { first = b; rest = bytes; whole = refl; shown = e }
 
 -- after the white bytes of a list stands a byte that is not white, where the list goes on
@@ -99,8 +99,8 @@ run_step : (at b c : ℕ) (bytes : List ℕ) (n : ℕ) (t : Bool) → is_white c
 run_step at b c bytes n true e k = refl
 run_step at b c bytes n false e k =
     let same : at + 1 + (1 + n) ≡ at + (1 + (1 + n)) = omega arith in
-    let cut : drop (1 + (1 + n)) (b ∷ c ∷ bytes) ≡ drop (1 + n) (c ∷ bytes) = rw (one_more (1 + n)) refl in
-    ap (with_byte at false) (k refl) ∙ rw cut (ap (λ m. span_of at m ∷ runs_from m (drop (1 + n) (c ∷ bytes))) same)
+    let split : drop (1 + (1 + n)) (b ∷ c ∷ bytes) ≡ drop (1 + n) (c ∷ bytes) = rw (one_more (1 + n)) refl in
+    ap (with_byte at false) (k refl) ∙ rw split (ap (λ m. span_of at m ∷ runs_from m (drop (1 + n) (c ∷ bytes))) same)
 
 -- a run ends at the next white byte
 pub runs_from-run : (at b : ℕ) (bytes : List ℕ) → is_white b ≡ false
@@ -162,8 +162,8 @@ module _ (text : List ℕ) (at white visible : ℕ) (within : at ≤ length text
 
 module _ (text : List ℕ) (at white : ℕ) (within : at ≤ length text) (blanks : white ≡ position_or_len is_shown (drop at text)) where
   -- the runs are the same after the white bytes
-  pub pass_white : runs_from at (drop at text) ≡ runs_from (at + white) (drop (at + white) text)
-  pass_white =
+  pub skip_white : runs_from at (drop at text) ≡ runs_from (at + white) (drop (at + white) text)
+  skip_white =
       runs_from-white at (drop at text)
       ∙ (ap (λ n. runs_from (at + n) (drop n (drop at text))) (sym blanks) ∙ ap (runs_from (at + white)) (drop-drop white at text))
 

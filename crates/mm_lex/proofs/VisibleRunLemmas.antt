@@ -1,9 +1,9 @@
--- The runs of tidy bytes, and the words of a stretch.
-use Rattle.mm_lex.proofs.Prelude.{◌≡◌, ℕ, ◌+◌, ◌-◌, ◌<◌, ◌≤◌, suc, Bool, true, false, not, ◌||◌, ◌==◌, List, [], ◌∷◌, ◌++◌, length, take, drop, refl, list_all, onto_first, sym, ◌∙◌, ap, arith, take-append-drop, drop-drop, length-take-le, length-drop, and_from, and_parts, Span, Name, is_white, is_visible, starts_white, with_byte, runs_from, word, is_symbol, has_byte, words_of, is_word, is_plain, AllPlain, IsClean, words, stretch}
+-- The runs of single-spaced bytes, and the words of a spaced prefix.
+use Rattle.mm_lex.proofs.Prelude.{◌≡◌, ℕ, ◌+◌, ◌-◌, ◌<◌, ◌≤◌, suc, Bool, true, false, not, ◌||◌, ◌==◌, List, [], ◌∷◌, ◌++◌, length, take, drop, refl, list_all, onto_first, sym, ◌∙◌, ap, arith, take-append-drop, drop-drop, length-take-le, length-drop, and_from, and_parts, Span, Name, is_white, is_visible, starts_white, with_byte, runs_from, word, is_symbol, has_byte, words_of, is_word, is_plain, AllPlain, IsClean, words, spaced_prefix_len}
 use Rattle.mm_lex.proofs.PlainLemmas.{append_step}
-use Rattle.mm_lex.proofs.TidyLemmas.{is_space, is_symbol_byte, is_tidy, stretch_tidy, space_is, not_white, split_of, split_byte, split_gap, first_byte, after_gap, after_byte, tidy_symbols}
+use Rattle.mm_lex.proofs.SingleSpacedLemmas.{is_space, is_symbol_byte, is_single_spaced, prefix_spaced, space_is, not_white, split_of, split_byte, split_gap, first_byte, after_gap, after_byte, single_spaced_symbols}
 
--- ---- the runs of tidy bytes
+-- ---- the runs of single-spaced bytes
 
 -- the first run begins at the first byte, and the words of the runs are those of the bytes
 record Runs (text : List ℕ) (at : ℕ) (bytes : List ℕ) : Type 0 where
@@ -39,14 +39,14 @@ word_more text at end b bytes e long =
     let one : end - at ≡ suc (end - (at + 1)) = omega (arith, long) in
     ap (λ n. take n (drop at text)) one ∙ (ap (take (suc (end - (at + 1)))) e ∙ ap (λ r. b ∷ take (end - (at + 1)) r) (sym (after_one text at b bytes e)))
 
--- tidy bytes begin with a byte of a symbol
-head_byte : (c : ℕ) (bytes : List ℕ) → is_tidy (c ∷ bytes) ≡ true → is_symbol_byte c ≡ true
+-- single-spaced bytes begin with a byte of a symbol
+head_byte : (c : ℕ) (bytes : List ℕ) → is_single_spaced (c ∷ bytes) ≡ true → is_symbol_byte c ≡ true
 head_byte c [] h = h
 head_byte c (d ∷ bytes) h = (and_parts (is_symbol_byte c) _ h).0
 
 module _ (text more : List ℕ) where
   -- a byte before others: after it stands a gap and the next word, or the rest of its own word
-  runs_step : (at b c : ℕ) (bytes : List ℕ) → drop at text ≡ b ∷ c ∷ (bytes ++ more) → is_tidy (b ∷ c ∷ bytes) ≡ true → (t : Bool) → is_space c ≡ t
+  runs_step : (at b c : ℕ) (bytes : List ℕ) → drop at text ≡ b ∷ c ∷ (bytes ++ more) → is_single_spaced (b ∷ c ∷ bytes) ≡ true → (t : Bool) → is_space c ≡ t
       → (t ≡ true → Runs text (at + 1 + 1) bytes) → (t ≡ false → Runs text (at + 1) (c ∷ bytes)) → Runs text at (b ∷ c ∷ bytes)
   runs_step at b c bytes e h true k gap on =
       let shown = first_byte b c bytes h in
@@ -72,21 +72,21 @@ module _ (text more : List ℕ) where
             ∙ (ap (onto_first b) rest.are ∙ sym (split_byte b (c ∷ bytes) shown));
       }
 
-  -- the runs of tidy bytes, wherever they stand in a text, have the words of these bytes
-  tidy_runs : (at : ℕ) (bytes : List ℕ) → drop at text ≡ bytes ++ more → is_tidy bytes ≡ true → Runs text at bytes
-  tidy_runs at [] e h = cc
-  tidy_runs at (b ∷ []) e h = record {
+  -- the runs of single-spaced bytes, wherever they stand in a text, have the words of these bytes
+  single_spaced_runs : (at : ℕ) (bytes : List ℕ) → drop at text ≡ bytes ++ more → is_single_spaced bytes ≡ true → Runs text at bytes
+  single_spaced_runs at [] e h = cc
+  single_spaced_runs at (b ∷ []) e h = record {
     end = at + 1;
     spans = [];
     whole = shown_run at b [] (not_white b h);
     some = omega arith;
     are = ap (λ w. w ∷ []) (word_one text at b more e) ∙ sym (split_byte b [] h);
   }
-  tidy_runs at (b ∷ c ∷ bytes) e h =
+  single_spaced_runs at (b ∷ c ∷ bytes) e h =
       let next : drop (at + 1) text ≡ c ∷ (bytes ++ more) = after_one text at b (c ∷ (bytes ++ more)) e in
       runs_step at b c bytes e h (is_space c) refl
-      (λ k. tidy_runs (at + 1 + 1) bytes (after_one text (at + 1) c (bytes ++ more) next) (after_gap b c bytes h k))
-      (λ k. tidy_runs (at + 1) (c ∷ bytes) next (after_byte b c bytes h k))
+      (λ k. single_spaced_runs (at + 1 + 1) bytes (after_one text (at + 1) c (bytes ++ more) next) (after_gap b c bytes h k))
+      (λ k. single_spaced_runs (at + 1) (c ∷ bytes) next (after_byte b c bytes h k))
 
 -- ---- runs before a white byte
 
@@ -101,9 +101,9 @@ runs_before_white at [] more white = let same : at ≡ at + 0 = omega arith in a
 runs_before_white at (b ∷ []) more white = no_more_runs at b more (is_white b) refl white
 runs_before_white at (b ∷ c ∷ bytes) more white = append_step at b c bytes more (is_white b) refl (runs_before_white (at + 1) (c ∷ bytes) more white)
 
--- ---- the words of a stretch
+-- ---- the words of a spaced prefix
 
-words_of-some : (bytes : List ℕ) → is_tidy bytes ≡ true → words_of bytes ≡ split_of bytes
+words_of-some : (bytes : List ℕ) → is_single_spaced bytes ≡ true → words_of bytes ≡ split_of bytes
 words_of-some [] h = cc
 words_of-some (b ∷ bytes) h = refl
 
@@ -143,21 +143,21 @@ pub record IsFrontOf (text : List ℕ) (at n : ℕ) (bytes : List ℕ) : Type 0 
   pub symbols : list_all is_symbol (words_of bytes) ≡ true
   pub plain : AllPlain text spans
 
--- the bytes of a stretch that ends before white are a front of symbols
-pub stretch_front : (text : List ℕ) (at n : ℕ) → IsClean (drop at text) → starts_white (drop at text) ≡ false → n ≡ stretch (drop at text) → 0 < n
+-- the bytes of a spaced prefix that ends before white are a front of symbols
+pub prefix_front : (text : List ℕ) (at n : ℕ) → IsClean (drop at text) → starts_white (drop at text) ≡ false → n ≡ spaced_prefix_len (drop at text) → 0 < n
     → at + n ≤ length text → starts_white (drop (at + n) text) ≡ true → IsFrontOf text at n (take n (drop at text))
-stretch_front text at n clean shown e some within white =
+prefix_front text at n clean shown e some within white =
     let bytes = take n (drop at text) in
     let more : drop n (drop at text) ≡ drop (at + n) text = drop-drop n at text in
-    let cut : drop at text ≡ bytes ++ drop (at + n) text = sym (take-append-drop n (drop at text)) ∙ ap (λ r. bytes ++ r) more in
-    let tidy : is_tidy bytes ≡ true = ap (λ k. is_tidy (take k (drop at text))) e ∙ stretch_tidy (drop at text) clean shown (omega (arith, some, e)) in
+    let split : drop at text ≡ bytes ++ drop (at + n) text = sym (take-append-drop n (drop at text)) ∙ ap (λ r. bytes ++ r) more in
+    let single_spaced : is_single_spaced bytes ≡ true = ap (λ k. is_single_spaced (take k (drop at text))) e ∙ prefix_spaced (drop at text) clean shown (omega (arith, some, e)) in
     let long : length bytes ≡ n = length-take-le n (drop at text) (omega (arith, within, length-drop at text)) in
-    let runs = tidy_runs text (drop (at + n) text) at bytes cut tidy in
-    let symbols = ap (list_all is_symbol) (words_of-some bytes tidy) ∙ tidy_symbols bytes tidy in
+    let runs = single_spaced_runs text (drop (at + n) text) at bytes split single_spaced in
+    let symbols = ap (list_all is_symbol) (words_of-some bytes single_spaced) ∙ single_spaced_symbols bytes single_spaced in
     let spans : List Span = record { start = at; end = runs.end } ∷ runs.spans in
-    let are : words text spans ≡ words_of bytes = runs.are ∙ sym (words_of-some bytes tidy) in record {
+    let are : words text spans ≡ words_of bytes = runs.are ∙ sym (words_of-some bytes single_spaced) in record {
       spans = spans;
-      whole = ap (runs_from at) cut ∙ (runs_before_white at bytes (drop (at + n) text) white
+      whole = ap (runs_from at) split ∙ (runs_before_white at bytes (drop (at + n) text) white
           ∙ (ap (λ r. r ++ runs_from (at + length bytes) (drop (at + n) text)) runs.whole ∙ ap (λ k. spans ++ runs_from (at + k) (drop (at + n) text)) long));
       are = are;
       symbols = symbols;

@@ -99,8 +99,8 @@ words_of-first : (text : List ℕ) → position_or_len is_space text < length te
     → words_of text ≡ take (position_or_len is_space text) text ∷ words_of (drop (position_or_len is_space text + 1) text)
 words_of-first [] inside k = absurd (omega (arith, inside))
 words_of-first (b ∷ text) inside k =
-    let cut = slice_split_first is_space (b ∷ text) 0 inside in
-    cut ∙ ap (λ r. before_first is_space (b ∷ text) ∷ r) (words_of-after (b ∷ text) (after_first is_space (b ∷ text)) (before_first is_space (b ∷ text)) cut k)
+    let split = slice_split_first is_space (b ∷ text) 0 inside in
+    split ∙ ap (λ r. before_first is_space (b ∷ text) ∷ r) (words_of-after (b ∷ text) (after_first is_space (b ∷ text)) (before_first is_space (b ∷ text)) split k)
 
 -- where the search for a space ends
 module _ (text : List ℕ) where
@@ -128,7 +128,7 @@ pub length-words_of : (text : List ℕ) → 0 < length text → length (words_of
 length-words_of [] some = absurd (omega (arith, some))
 length-words_of (b ∷ text) some = length-slice_split is_space (b ∷ text)
 
--- a list of words is what its text is cut into
+-- a list of words is what its text is split into
 split_word : (w : Name) → is_word w ≡ true → slice_split is_space w ≡ w ∷ []
 split_word [] h = cc
 split_word (b ∷ w) h = split_visible (b ∷ w) h

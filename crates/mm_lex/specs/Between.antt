@@ -6,8 +6,8 @@ use Rattle.mm_lex.specs.declared.span.Span.{Span}
 use Rattle.mm_lex.specs.declared.fault.LexFault.{LexFault}
 use Rattle.mm_lex.specs.declared.fault.LexFault.TheVariants.{Text, Comment, Memory}
 use Rattle.mm_lex.specs.Alphabet.{Name, word}
-use Rattle.mm_lex.specs.Tokens.{Cuts, IsWordAt, words}
-use Rattle.mm_lex.specs.TextFaults.{StopsAt}
+use Rattle.mm_lex.specs.Tokens.{SplitsInto, IsWordAt, words}
+use Rattle.mm_lex.specs.TextFaults.{IsCommentFaultOfRuns}
 use Rattle.mm_lex.specs.Comments.{runs_after}
 
 -- the tokens from one offset up to the other are these words
@@ -17,28 +17,28 @@ pub record HasBetween (text : List ℕ) (from at : ℕ) (ws : List Name) : Type 
   pub passed : List Span
   pub tokens : List Span
   pub whole : runs_after text from ≡ passed ++ runs_after text at
-  pub cut : Cuts text passed tokens
+  pub split : SplitsInto text passed tokens
   pub are : words text tokens ≡ ws
 
 -- the tokens from an offset to the end of the text are these words
 abbrev pub AreAfter : List ℕ → ℕ → List Name → Type 0
-AreAfter text at ws = (tokens : List Span) × Cuts text (runs_after text at) tokens × (words text tokens ≡ ws)
+AreAfter text at ws = (tokens : List Span) × SplitsInto text (runs_after text at) tokens × (words text tokens ≡ ws)
 
 -- there are `count` tokens from an offset to the end of the text
 abbrev pub CountAfter : List ℕ → ℕ → ℕ → Type 0
 CountAfter text at count = (ws : List Name) × AreAfter text at ws × (length ws ≡ count)
 
 -- the fault is the comment fault of the text after an offset
-abbrev pub StopsAfter : List ℕ → ℕ → LexFault → Type 0
-StopsAfter text at (Text offset) = ⊥
-StopsAfter text at (Comment offset) = StopsAt text (runs_after text at) offset
-StopsAfter text at Memory = ⊥
+abbrev pub IsCommentFaultAfter : List ℕ → ℕ → LexFault → Type 0
+IsCommentFaultAfter text at (Text offset) = ⊥
+IsCommentFaultAfter text at (Comment offset) = IsCommentFaultOfRuns text (runs_after text at) offset
+IsCommentFaultAfter text at Memory = ⊥
 
 -- the fault is the comment fault of the text after an offset, or a failed allocation
-abbrev pub FailsAfter : List ℕ → ℕ → LexFault → Type 0
-FailsAfter text at (Text offset) = ⊥
-FailsAfter text at (Comment offset) = StopsAt text (runs_after text at) offset
-FailsAfter text at Memory = Unit {0}
+abbrev pub IsCommentFaultOrMemoryAfter : List ℕ → ℕ → LexFault → Type 0
+IsCommentFaultOrMemoryAfter text at (Text offset) = ⊥
+IsCommentFaultOrMemoryAfter text at (Comment offset) = IsCommentFaultOfRuns text (runs_after text at) offset
+IsCommentFaultOrMemoryAfter text at Memory = Unit {0}
 
 -- the span is the place of the next token after an offset
 pub record IsTokenAfter (text : List ℕ) (at : ℕ) (s : Span) : Type 0 where

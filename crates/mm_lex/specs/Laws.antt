@@ -3,13 +3,13 @@
 -- The contracts of the code cite the same definitions; these laws state that they determine its answer.
 use Rattle.std.specs.Prelude.{◌≡◌, ℕ, ◌⊎◌, List}
 use Rattle.mm_lex.specs.declared.span.Span.{Span}
-use Rattle.mm_lex.specs.Tokens.{Cuts, AreTokens}
+use Rattle.mm_lex.specs.Tokens.{SplitsInto, AreTokens}
 use Rattle.mm_lex.specs.TextFaults.{IsFirstBadByte, IsCommentFault}
 
 -- two splits of the same runs have the same tokens and the same comments
-abbrev pub OneCut : Type 0
-OneCut = (text : List ℕ) (spans tokens others : List Span) (cut : Cuts text spans tokens) (other : Cuts text spans others)
-    → (tokens ≡ others) × (cut.first ≡ other.first) × (cut.parts ≡ other.parts)
+abbrev pub OneSplit : Type 0
+OneSplit = (text : List ℕ) (spans tokens others : List Span) (split : SplitsInto text spans tokens) (other : SplitsInto text spans others)
+    → (tokens ≡ others) × (split.first ≡ other.first) × (split.parts ≡ other.parts)
 
 -- a text has tokens, or a text fault, or a comment fault
 abbrev pub SomeAnswer : List ℕ → Type 0

@@ -6,7 +6,7 @@ use Rattle.mm_lex.specs.declared.span.Span.{Span}
 use Rattle.mm_lex.specs.declared.fault.LexFault.{LexFault}
 use Rattle.mm_lex.specs.declared.fault.LexFault.TheVariants.{Text, Comment, Memory}
 use Rattle.mm_lex.specs.Alphabet.{is_allowed, runs, word}
-use Rattle.mm_lex.specs.Tokens.{opener, closer, AllPlain, IsClean, Cuts}
+use Rattle.mm_lex.specs.Tokens.{opener, closer, AllPlain, IsClean, SplitsInto}
 
 -- the first byte that is not allowed
 pub record IsFirstBadByte (text : List ℕ) (offset : ℕ) : Type 0 where
@@ -21,7 +21,7 @@ pub record IsStrayCloser (text : List ℕ) (spans : List Span) (offset : ℕ) : 
   pub at : Span
   pub rest : List Span
   pub whole : spans ≡ before ++ at ∷ rest
-  pub cut : Cuts text before tokens
+  pub split : SplitsInto text before tokens
   pub closes : word text at ≡ closer
   pub place : at.start ≡ offset
 
@@ -34,7 +34,7 @@ pub record IsNestedOpener (text : List ℕ) (spans : List Span) (offset : ℕ) :
   pub at : Span
   pub rest : List Span
   pub whole : spans ≡ before ++ outer ∷ (inside ++ at ∷ rest)
-  pub cut : Cuts text before tokens
+  pub split : SplitsInto text before tokens
   pub opens : word text outer ≡ opener
   pub plain : AllPlain text inside
   pub opens_again : word text at ≡ opener
@@ -47,18 +47,18 @@ pub record IsUnclosed (text : List ℕ) (spans : List Span) (offset : ℕ) : Typ
   pub at : Span
   pub inside : List Span
   pub whole : spans ≡ before ++ at ∷ inside
-  pub cut : Cuts text before tokens
+  pub split : SplitsInto text before tokens
   pub opens : word text at ≡ opener
   pub plain : AllPlain text inside
   pub place : at.start ≡ offset
 
 -- these runs of the text can be split up to this offset and no further
-abbrev pub StopsAt : List ℕ → List Span → ℕ → Type 0
-StopsAt text spans offset = IsStrayCloser text spans offset ⊎ IsNestedOpener text spans offset ⊎ IsUnclosed text spans offset
+abbrev pub IsCommentFaultOfRuns : List ℕ → List Span → ℕ → Type 0
+IsCommentFaultOfRuns text spans offset = IsStrayCloser text spans offset ⊎ IsNestedOpener text spans offset ⊎ IsUnclosed text spans offset
 
 -- the comment fault of a text whose bytes are all allowed
 abbrev pub IsCommentFault : List ℕ → ℕ → Type 0
-IsCommentFault text offset = IsClean text × StopsAt text (runs text) offset
+IsCommentFault text offset = IsClean text × IsCommentFaultOfRuns text (runs text) offset
 
 -- the meaning of a fault of the text
 abbrev pub IsLexFault : List ℕ → LexFault → Type 0

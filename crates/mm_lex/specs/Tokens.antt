@@ -42,7 +42,7 @@ AreParts text [] = Unit {0}
 AreParts text (p ∷ ps) = IsPart text p × AreParts text ps
 
 -- the runs split into plain runs and whole comments; the plain runs outside the comments are the tokens
-pub record Cuts (text : List ℕ) (spans tokens : List Span) : Type 0 where
+pub record SplitsInto (text : List ℕ) (spans tokens : List Span) : Type 0 where
   pub first : List Span
   pub parts : List Part
   pub whole : spans ≡ first ++ flat_map part_spans parts
@@ -56,7 +56,7 @@ IsClean text = IsTrue (list_all is_allowed text)
 
 -- the tokens of the text, as spans
 abbrev pub AreTokens : List ℕ → List Span → Type 0
-AreTokens text tokens = IsClean text × Cuts text (runs text) tokens
+AreTokens text tokens = IsClean text × SplitsInto text (runs text) tokens
 
 -- the bytes of the tokens
 abbrev pub words : List ℕ → List Span → List Name

@@ -26,7 +26,7 @@ pub(crate) fn comment_end(text: &[u8], from: usize) -> CommentEnd
     ensures { EndsComment text.now from result }
 {
     let mut at = from;
-    while let Some(span) = next_run(text, plain_end(text, at)) {
+    while let Some(span) = next_run(text, dollar_run_start(text, at)) {
         let word = &text[span.start..span.end];
         if is_closer(word) {
             return CommentEnd::Closed(span.end);
@@ -40,7 +40,7 @@ pub(crate) fn comment_end(text: &[u8], from: usize) -> CommentEnd
 }
 
 /// Returns the start of the run with the next `$`, or the end of the text if there is no `$`. The runs before it have no `$`.
-fn plain_end(text: &[u8], at: usize) -> usize
+fn dollar_run_start(text: &[u8], at: usize) -> usize
     requires { at ≤ length text.now }
     ensures { PassesPlain text.now at result }
 {

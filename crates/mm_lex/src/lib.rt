@@ -3,8 +3,8 @@
 //! `tokens` returns the spans of a text's tokens, comments excluded. `next_token`, `symbols` and `count_tokens` walk through a
 //! text without such a list, and return a comment fault when they meet it. `Word` and `Words` store words compactly.
 //!
-//! Reading order: `span`, `fault`, `lanes`, `visible_run`, `comment`, `scan`; `word`, `words`, `word_iter`; `walk`, `stretch`,
-//! `symbol_list`; `label`; `laws`.
+//! Reading order: `span`, `fault`, `lanes`, `visible_run`, `comment`, `scan`; `word`, `words`, `word_iter`; `walk`,
+//! `spaced_prefix`, `symbol_list`; `label`; `laws`.
 #![tactic(auto)]
 
 mod comment;
@@ -13,8 +13,8 @@ mod label;
 mod lanes;
 mod laws;
 mod scan;
+mod spaced_prefix;
 mod span;
-mod stretch;
 mod symbol_list;
 mod visible_run;
 mod walk;
@@ -24,7 +24,7 @@ mod words;
 
 pub use fault::LexFault;
 pub use label::is_label;
-pub use laws::{one_answer, one_cut};
+pub use laws::{one_answer, one_split};
 pub use scan::{first_bad_byte, tokens};
 pub use span::Span;
 pub use symbol_list::{is_symbol, symbols};

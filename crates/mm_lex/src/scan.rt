@@ -29,11 +29,11 @@ pub fn tokens(alloc: Global, text: &[u8]) -> Result<Vec<Span>, LexFault>
     if let Some(offset) = first_bad_byte(text) {
         return Err(LexFault::Text { offset });
     }
-    cut(alloc, text)
+    split_tokens(alloc, text)
 }
 
 /// Returns the tokens of a text whose bytes are all allowed.
-fn cut(alloc: Global, text: &[u8]) -> Result<Vec<Span>, LexFault>
+fn split_tokens(alloc: Global, text: &[u8]) -> Result<Vec<Span>, LexFault>
     requires { IsClean text.now }
     ensures tokens { IfOk result (λ spans. AreTokens text.now spans.items) }
     ensures words { IfOk result (λ spans. All (IsWordAt text.now) spans.items) }
@@ -41,7 +41,7 @@ fn cut(alloc: Global, text: &[u8]) -> Result<Vec<Span>, LexFault>
     ensures fault { IfErr result (λ fault. IsLexFault text.now fault) }
 {
     let mut spans = Vec::new(alloc);
-    let mut refused = false;
+    let mut allocation_failed = false;
     let mut at = 0;
     while let Some(span) = next_run(text, at) {
         let word = &text[span.start..span.end];
@@ -55,22 +55,22 @@ fn cut(alloc: Global, text: &[u8]) -> Result<Vec<Span>, LexFault>
                 CommentEnd::Unclosed => return Err(LexFault::Comment { offset: span.start }),
             }
         } else {
-            refused = add_token(&mut spans, refused, span);
+            allocation_failed = add_token(&mut spans, allocation_failed, span);
             at = span.end;
         }
     }
-    if refused {
+    if allocation_failed {
         return Err(LexFault::Memory);
     }
     Ok(spans)
 }
 
 /// Appends a token, unless an earlier allocation failed. Returns whether an allocation has failed by now.
-fn add_token(spans: &mut Vec<Span>, refused: bool, span: Span) -> bool
+fn add_token(spans: &mut Vec<Span>, allocation_failed: bool, span: Span) -> bool
     ensures items { spans.new.items ≡ (if result then spans.old.items else spans.old.items ++ span ∷ []) }
-    ensures stays { IsTrue refused → IsTrue result }
+    ensures stays { IsTrue allocation_failed → IsTrue result }
 {
-    refused || spans.push(span).is_err()
+    allocation_failed || spans.push(span).is_err()
 }
 
 /// Returns the offset of the first byte that is not allowed in a text, or `None` if there is none.

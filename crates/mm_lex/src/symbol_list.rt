@@ -4,13 +4,13 @@ ghost use Rattle.std.specs.List.{list_all};
 ghost use Rattle.mm_lex.specs.Alphabet.{starts_white, is_symbol};
 ghost use Rattle.mm_lex.specs.Words.{is_word};
 ghost use Rattle.mm_lex.specs.Tokens.{IsClean};
-ghost use Rattle.mm_lex.specs.Between.{FailsAfter};
+ghost use Rattle.mm_lex.specs.Between.{IsCommentFaultOrMemoryAfter};
 ghost use Rattle.mm_lex.specs.SymbolList.{AddsSymbols, IsListEnd};
 
 use crate::fault::LexFault;
+use crate::spaced_prefix::count_spaced_prefix;
 use crate::span::Span;
-use crate::stretch::count_spaced;
-use crate::visible_run::pass_white;
+use crate::visible_run::skip_white;
 use crate::walk::next_token;
 use crate::words::Words;
 use memchr::memchr;
@@ -25,9 +25,9 @@ pub fn symbols(alloc: Global, text: &[u8], from: usize) -> Result<(Words, Option
     requires place { from ≤ length text.now }
     ensures symbols { IfOk result (λ r. IsTrue (list_all is_symbol r.0)) }
     ensures end { IfOk result (λ r. IsListEnd text.now from r.0 r.1) }
-    ensures fault { IfErr result (FailsAfter text.now from) }
+    ensures fault { IfErr result (IsCommentFaultOrMemoryAfter text.now from) }
 {
-    let mut words = with_room(alloc, &text[from..])?;
+    let mut words = with_estimated_capacity(alloc, &text[from..])?;
     let mut at = push_pieces(&mut words, text, from)?;
     while let Some(span) = next_token(text, at)? {
         let word = &text[span.start..span.end];
@@ -49,7 +49,7 @@ pub fn is_symbol(word: &[u8]) -> bool
 }
 
 /// Returns an empty list with capacity for the words up to the next `$`.
-fn with_room(alloc: Global, text: &[u8]) -> Result<Words, AllocError>
+fn with_estimated_capacity(alloc: Global, text: &[u8]) -> Result<Words, AllocError>
     ensures { IfOk result (λ words. words ≡ []) }
 {
     let room = memchr(b'$', text).unwrap_or(text.len());
@@ -65,9 +65,9 @@ fn push_pieces(words: &mut Words, text: &[u8], from: usize) -> Result<usize, All
 {
     let mut at = from;
     while at < text.len() {
-        let start = pass_white(text, at);
-        let end = start + count_spaced(&text[start..]);
-        if start == end || !is_after_word(text, end) {
+        let start = skip_white(text, at);
+        let end = start + count_spaced_prefix(&text[start..]);
+        if start == end || !is_word_end(text, end) {
             return Ok(start);
         }
         words.push_text(&text[start..end])?;
@@ -77,7 +77,7 @@ fn push_pieces(words: &mut Words, text: &[u8], from: usize) -> Result<usize, All
 }
 
 /// Returns whether a word that reaches `at` ends there: at white space or at the end of the text.
-fn is_after_word(text: &[u8], at: usize) -> bool
+fn is_word_end(text: &[u8], at: usize) -> bool
     requires { at ≤ length text.now }
     ensures { result ≡ starts_white (drop at text.now) }
 {

@@ -30,7 +30,7 @@ pub(crate) fn next_run(text: &[u8], at: usize) -> Option<Span>
 }
 
 /// Returns the offset of the first byte at or after `at` that is not white, or the end of the text.
-pub(crate) fn pass_white(text: &[u8], at: usize) -> usize
+pub(crate) fn skip_white(text: &[u8], at: usize) -> usize
     requires clean { IsClean text.now }
     requires place { at ≤ length text.now }
     ensures later { at ≤ result }

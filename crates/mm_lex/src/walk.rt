@@ -1,7 +1,7 @@
 //! Walks from token to token through a text, without a list of them.
 ghost use Rattle.std.specs.Prelude.{◌≤◌, length, IfOk, IfErr};
 ghost use Rattle.mm_lex.specs.Tokens.{IsClean};
-ghost use Rattle.mm_lex.specs.Between.{IsNextToken, CountAfter, StopsAfter};
+ghost use Rattle.mm_lex.specs.Between.{IsNextToken, CountAfter, IsCommentFaultAfter};
 
 use crate::comment::{CommentEnd, comment_end};
 use crate::fault::LexFault;
@@ -16,7 +16,7 @@ pub fn next_token(text: &[u8], at: usize) -> Result<Option<Span>, LexFault>
     requires clean { IsClean text.now }
     requires place { at ≤ length text.now }
     ensures next { IfOk result (IsNextToken text.now at) }
-    ensures fault { IfErr result (StopsAfter text.now at) }
+    ensures fault { IfErr result (IsCommentFaultAfter text.now at) }
 {
     let mut from = at;
     while let Some(run) = next_run(text, from) {
@@ -44,7 +44,7 @@ pub fn count_tokens(text: &[u8], at: usize) -> Result<usize, LexFault>
     requires place { at ≤ length text.now }
     ensures count { IfOk result (CountAfter text.now at) }
     ensures within { IfOk result (λ count. count ≤ length text.now) }
-    ensures fault { IfErr result (StopsAfter text.now at) }
+    ensures fault { IfErr result (IsCommentFaultAfter text.now at) }
 {
     let mut count = 0;
     let mut from = at;

@@ -1,7 +1,7 @@
 //! One word, stored inline if it is short.
 ghost use Rattle.std.specs.Prelude.{◌≡◌, IsTrue, IfOk};
 ghost use Rattle.mm_lex.specs.Words.{is_word};
-ghost use Rattle.mm_lex.specs.Stored.WordBytes.{bytes_of, AreCounted};
+ghost use Rattle.mm_lex.specs.Stored.WordStorage.{bytes_of, IsLengthValid};
 
 use std::alloc::{AllocError, Global};
 use std::marker::Model;
@@ -11,7 +11,7 @@ const INLINE: usize = 22;
 
 /// The bytes of a word.
 #[derive(Drop)]
-enum WordBytes {
+enum WordStorage {
     /// The first `len` of these.
     Inline { len: u8, bytes: [u8; INLINE] },
     /// All of these, boxed so that a `Word` is no larger than an inline one.
@@ -21,19 +21,19 @@ enum WordBytes {
 /// A word: at least one byte, each from 0x21 to 0x7E. Contracts see its bytes.
 #[derive(Drop)]
 pub struct Word {
-    bytes: WordBytes,
+    bytes: WordStorage,
 }
 
 impl Model for Word {
     ghost use Rattle.std.specs.Prelude.{ℕ, List, IsTrue};
     ghost use Rattle.mm_lex.specs.Words.{is_word};
-    ghost use Rattle.mm_lex.specs.Stored.WordBytes.{bytes_of, AreCounted};
+    ghost use Rattle.mm_lex.specs.Stored.WordStorage.{bytes_of, IsLengthValid};
 
     ghost Value = { List ℕ };
 
     ghost view = { λ a. bytes_of a.bytes };
 
-    ghost invariant = { λ a. AreCounted a.bytes × IsTrue (is_word (bytes_of a.bytes)) };
+    ghost invariant = { λ a. IsLengthValid a.bytes × IsTrue (is_word (bytes_of a.bytes)) };
 }
 
 impl Word {
@@ -44,7 +44,7 @@ impl Word {
         requires { IsTrue (is_word bytes.now) }
         ensures { IfOk result (λ word. word ≡ bytes.now) }
     {
-        let bytes = keep(alloc, bytes)?;
+        let bytes = store_bytes(alloc, bytes)?;
         Ok(Word { bytes })
     }
 
@@ -54,8 +54,8 @@ impl Word {
         ensures word { IsTrue (is_word self.now) }
     {
         match &self.bytes {
-            WordBytes::Inline { len, bytes } => &bytes[..*len as usize],
-            WordBytes::Heap(bytes) => bytes.as_slice(),
+            WordStorage::Inline { len, bytes } => &bytes[..*len as usize],
+            WordStorage::Heap(bytes) => bytes.as_slice(),
         }
     }
 
@@ -70,18 +70,18 @@ impl Word {
 }
 
 /// Returns a copy of the bytes, inline if they fit.
-fn keep(alloc: Global, bytes: &[u8]) -> Result<WordBytes, AllocError>
+fn store_bytes(alloc: Global, bytes: &[u8]) -> Result<WordStorage, AllocError>
     ensures bytes { IfOk result (λ kept. bytes_of kept ≡ bytes.now) }
-    ensures counted { IfOk result AreCounted }
+    ensures valid { IfOk result IsLengthValid }
 {
     let len = bytes.len();
     if len > INLINE {
         let all = Vec::from_slice(alloc, bytes)?;
-        return Ok(WordBytes::Heap(Box::new(alloc, all)?));
+        return Ok(WordStorage::Heap(Box::new(alloc, all)?));
     }
     let mut inline = [0; INLINE];
     inline[..len].copy_from_slice(bytes);
-    Ok(WordBytes::Inline {
+    Ok(WordStorage::Inline {
         len: len as u8,
         bytes: inline,
     })

@@ -7,7 +7,7 @@ use std::marker::Model;
 use std::simd::prelude::*;
 
 /// How many bytes are compared at once.
-const FIRST: usize = 8;
+const LANES: usize = 8;
 
 /// An iterator over the words of a list. Contracts see the words that are left.
 #[derive(Drop)]
@@ -80,9 +80,9 @@ fn find_space(text: &[u8]) -> Option<usize>
     ensures place { result ≡ position (λ b. b == 32) text.now }
     ensures within { IfSome result (λ end. end < length text.now) }
 {
-    if text.len() >= FIRST {
+    if text.len() >= LANES {
         let end = count_before_space(text);
-        if end < FIRST {
+        if end < LANES {
             return Some(end);
         }
     }
@@ -98,7 +98,7 @@ fn count_before_space(text: &[u8]) -> usize
     let bytes = u8x8::from_slice(text);
     let mask = bytes.simd_eq(u8x8::splat(b' ')).to_bitmask();
     if mask == 0 {
-        FIRST
+        LANES
     } else {
         mask.trailing_zeros() as usize
     }

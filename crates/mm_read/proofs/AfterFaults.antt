@@ -1,13 +1,13 @@
 -- Why no statement stands after a place: by the tokens that stand before it, and what the parts of the statement tell.
-use Rattle.mm_read.proofs.Words.{◌≡◌, ℕ, Bool, ◌+◌, ◌≤◌, true, false, List, [], ◌∷◌, ◌++◌, length, Some, None, codes, list_all, option_and_then, sym, ◌∙◌, ap, arith, refl, subst, append_assoc, length-append, LexFault, Name, name_eq, is_symbol, is_label, HasBetween, AreAfter, StopsAfter, after_rest, after_unique, stops_after, between_on, ReadFault, Text, Shape, Memory, IsShapeFault, read_fault, BeginsBrokenList, HasBrokenList, IsListFault, StartsOtherwise, IsTokenFault, IsFaultAfter}
+use Rattle.mm_read.proofs.Words.{◌≡◌, ℕ, Bool, ◌+◌, ◌≤◌, true, false, List, [], ◌∷◌, ◌++◌, length, Some, None, codes, list_all, option_and_then, sym, ◌∙◌, ap, arith, refl, subst, append_assoc, length-append, LexFault, Name, name_eq, is_symbol, is_label, HasBetween, AreAfter, IsCommentFaultAfter, after_rest, after_unique, stops_after, between_on, ReadFault, Text, Shape, Memory, IsShapeFault, read_fault, BeginsBrokenList, HasBrokenList, IsListFault, StartsOtherwise, IsTokenFault, IsFaultAfter}
 use Rattle.mm_lex.specs.declared.fault.LexFault.TheVariants as lex
-use Rattle.mm_read.proofs.Places.{Place, between, labelled, listing, floating, proving, step, go}
-use Rattle.mm_read.proofs.PlacesOver.{go-label, go-proving}
+use Rattle.mm_read.proofs.ReaderStates.{ReaderState, between, labelled, listing, floating, proving, step, go}
+use Rattle.mm_read.proofs.ReaderRuns.{go-label, go-proving}
 use Rattle.mm_read.proofs.ShapeFaults.{stops_at}
-use Rattle.mm_read.proofs.FrontFaults.{Stuck, stuck, list_stops, expr_stops, step-floating_symbol, step-floating_end, go-floating_one, go-floating_two}
+use Rattle.mm_read.proofs.PartFaults.{Stuck, stuck, list_stops, expr_stops, step-floating_symbol, step-floating_end, go-floating_one, go-floating_two}
 
 -- after a label and its keyword the machine is at the place of that keyword
-goes_on : (label : Name) → is_label label ≡ true → (k : Name) (p : Place) (ws : List Name) → step labelled k ≡ Some p → go between (label ∷ k ∷ ws) ≡ go p ws
+goes_on : (label : Name) → is_label label ≡ true → (k : Name) (p : ReaderState) (ws : List Name) → step labelled k ≡ Some p → go between (label ∷ k ∷ ws) ≡ go p ws
 goes_on label is_one k p ws e = go-label label (k ∷ ws) is_one ∙ ap (option_and_then (λ q. go q ws)) e
 
 module _ (text : List ℕ) where
@@ -23,14 +23,14 @@ module _ (text : List ℕ) where
   fault_back before has Memory is = tt
 
   -- a fault of the comments
-  pub comments_after : (at : ℕ) (before : List Name) (fault : LexFault) → StopsAfter text at fault → IsFaultAfter text before at (read_fault fault)
+  pub comments_after : (at : ℕ) (before : List Name) (fault : LexFault) → IsCommentFaultAfter text at fault → IsFaultAfter text before at (read_fault fault)
   comments_after at before (lex.Text offset) is = is
   comments_after at before (lex.Comment offset) is = is
   comments_after at before lex.Memory is = tt
 
   -- ---- at one token
 
-  module _ (at : ℕ) (done : List Name) (p : Place) (goes : go between done ≡ Some p) (inside : p ≡ between → ⊥) where
+  module _ (at : ℕ) (done : List Name) (p : ReaderState) (goes : go between done ≡ Some p) (inside : p ≡ between → ⊥) where
     -- none is left
     pub none_after : AreAfter text at [] → IsFaultAfter text done at (Shape (length done + 1))
     none_after none = λ tokens are. stuck (done ++ tokens) done tokens p refl goes inside (subst (Stuck p) (after_unique at none are) tt)

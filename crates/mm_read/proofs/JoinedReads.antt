@@ -1,7 +1,7 @@
 -- Two joined texts read as the statements of the first and then those of the second, if no word goes on from the first into the
--- other: the runs of both are those of the one and then those of the other, runs with the same words are cut at the same
--- comments, and a cut may stand after another.
-use Rattle.mm_read.proofs.Words.{◌≡◌, ℕ, ◌+◌, ◌-◌, ◌<◌, suc, Bool, true, false, ◌||◌, if◌then◌else◌, List, [], ◌∷◌, ◌++◌, length, take, drop, Option, Some, None, Ok, Err, refl, list_all, sym, ◌∙◌, ap, arith, subst, true≢false, drop-append_seam, and_from, flat_map-append, drop-drop, map-append, list_all-append, Span, Name, name_eq, is_white, is_allowed, starts_white, with_byte, runs, runs_from, word, opener, closer, Cuts, words, append_step, Outcome, outside, inside, prepend, scan, scan-cut, cuts_as, cut-scan, cuts_join, is_shaped, stmt_tokens, tokens_of, HasTokens, is_apart}
+-- other: the runs of both are those of the one and then those of the other, runs with the same words are split at the same
+-- comments, and a split may stand after another.
+use Rattle.mm_read.proofs.Words.{◌≡◌, ℕ, ◌+◌, ◌-◌, ◌<◌, suc, Bool, true, false, ◌||◌, if◌then◌else◌, List, [], ◌∷◌, ◌++◌, length, take, drop, Option, Some, None, Ok, Err, refl, list_all, sym, ◌∙◌, ap, arith, subst, true≢false, drop-append_seam, and_from, flat_map-append, drop-drop, map-append, list_all-append, Span, Name, name_eq, is_white, is_allowed, starts_white, with_byte, runs, runs_from, word, opener, closer, SplitsInto, words, append_step, Outcome, outside, inside, prepend, scan, scan-split, splits_as, split-scan, splits_join, is_shaped, stmt_tokens, tokens_of, HasTokens, joins_no_words}
 use Rattle.std.proofs.lemmas.List.{append-nil}
 use Rattle.mm_read.specs.Laws as laws
 
@@ -13,10 +13,10 @@ last_byte : (at b : ℕ) (other : List ℕ) (t : Bool) → is_white b ≡ t → 
 last_byte at b other true e h = rw e refl
 last_byte at b other false e h = rw (e, h) refl
 
-runs-apart : (at : ℕ) (text other : List ℕ) → is_apart text other ≡ true → runs_from at (text ++ other) ≡ runs_from at text ++ runs_from (at + length text) other
-runs-apart at [] other h = let same : at ≡ at + 0 = omega arith in ap (λ n. runs_from n other) same
-runs-apart at (b ∷ []) other h = last_byte at b other (is_white b) refl h
-runs-apart at (b ∷ c ∷ text) other h = append_step at b c text other (is_white b) refl (runs-apart (at + 1) (c ∷ text) other h)
+runs-joined : (at : ℕ) (text other : List ℕ) → joins_no_words text other ≡ true → runs_from at (text ++ other) ≡ runs_from at text ++ runs_from (at + length text) other
+runs-joined at [] other h = let same : at ≡ at + 0 = omega arith in ap (λ n. runs_from n other) same
+runs-joined at (b ∷ []) other h = last_byte at b other (is_white b) refl h
+runs-joined at (b ∷ c ∷ text) other h = append_step at b c text other (is_white b) refl (runs-joined (at + 1) (c ∷ text) other h)
 
 -- ---- the words of runs, by the bytes alone
 
@@ -163,22 +163,22 @@ module _ (text other : List ℕ) where
   scans_alike (s ∷ spans) (u ∷ others) None (Some n) state same = absurd state
   scans_alike (s ∷ spans) (u ∷ others) (Some m) None state same = absurd state
 
-  -- these spans are cut, and the tokens that are left are these words
-  abbrev IsCutTo : List Span → List Name → Type 0
-  IsCutTo others ws = (us : List Span) × Cuts other others us × (words other us ≡ ws)
+  -- these spans are split, and the tokens that are left are these words
+  abbrev IsSplitAs : List Span → List Name → Type 0
+  IsSplitAs others ws = (us : List Span) × SplitsInto other others us × (words other us ≡ ws)
 
-  -- where the runs of the one text are cut, those of the other are, into the same words
-  same_cut : (spans tokens others : List Span) → Cuts text spans tokens → words text spans ≡ words other others → IsCutTo others (words text tokens)
-  same_cut spans tokens others cut same =
-      by (scan other others None) refl (subst (λ r. Alike r (scan other others None)) (scan-cut text spans tokens cut) (scans_alike spans others None None tt same))
+  -- where the runs of the one text are split, those of the other are, into the same words
+  same_split_words : (spans tokens others : List Span) → SplitsInto text spans tokens → words text spans ≡ words other others → IsSplitAs others (words text tokens)
+  same_split_words spans tokens others split same =
+      by (scan other others None) refl (subst (λ r. Alike r (scan other others None)) (scan-split text spans tokens split) (scans_alike spans others None None tt same))
     where
-      by : (r : Outcome) → scan other others None ≡ r → Alike (Ok tokens) r → IsCutTo others (words text tokens)
-      by (Ok us) e are = (us, cut-scan other others us e, sym are)
+      by : (r : Outcome) → scan other others None ≡ r → Alike (Ok tokens) r → IsSplitAs others (words text tokens)
+      by (Ok us) e are = (us, split-scan other others us e, sym are)
       by (Err n) e are = absurd are
 
 -- ---- together
 
-module _ (text other : List ℕ) (apart : is_apart text other ≡ true) where
+module _ (text other : List ℕ) (apart : joins_no_words text other ≡ true) where
   abbrev both : List ℕ
   both = text ++ other
 
@@ -197,18 +197,18 @@ module _ (text other : List ℕ) (apart : is_apart text other ≡ true) where
 
   -- the runs of both texts are those of the one and those of the other after it
   whole : runs both ≡ runs text ++ later
-  whole = let none : 0 + length text ≡ length text = omega arith in runs-apart 0 text other apart ∙ ap (λ n. runs text ++ runs_from n other) none
+  whole = let none : 0 + length text ≡ length text = omega arith in runs-joined 0 text other apart ∙ ap (λ n. runs text ++ runs_from n other) none
 
   -- the tokens of both texts are those of the one and then those of the other
   joined_tokens : (ts us : List Name) → HasTokens text ts → HasTokens other us → HasTokens both (ts ++ us)
   joined_tokens ts us has also =
-      let one : IsCutTo text both (runs text) (words text has.0) = same_cut text both (runs text) has.0 (runs text) has.1.1 front in
-      let two : IsCutTo other both later (words other also.0) = same_cut other both (runs other) also.0 later also.1.1 back in
+      let one : IsSplitAs text both (runs text) (words text has.0) = same_split_words text both (runs text) has.0 (runs text) has.1.1 front in
+      let two : IsSplitAs other both later (words other also.0) = same_split_words other both (runs other) also.0 later also.1.1 back in
       let clean : list_all is_allowed both ≡ true = list_all-append is_allowed text other ∙ and_from (list_all is_allowed text) (list_all is_allowed other) has.1.0 also.1.0 in
-      let cut : Cuts both (runs both) (one.0 ++ two.0) = cuts_as both (runs both) (runs text ++ later) (one.0 ++ two.0) whole (cuts_join (runs text) one.0 later two.0 one.1 two.1) in
+      let split : SplitsInto both (runs both) (one.0 ++ two.0) = splits_as both (runs both) (runs text ++ later) (one.0 ++ two.0) whole (splits_join (runs text) one.0 later two.0 one.1 two.1) in
       let first : words both one.0 ≡ ts = one.2 ∙ has.2 in
       let second : words both two.0 ≡ us = two.2 ∙ also.2 in
-      (one.0 ++ two.0, (clean, cut), map-append (word both) one.0 two.0 ∙ (ap (λ r. r ++ words both two.0) first ∙ ap (λ r. ts ++ r) second))
+      (one.0 ++ two.0, (clean, split), map-append (word both) one.0 two.0 ∙ (ap (λ r. r ++ words both two.0) first ∙ ap (λ r. ts ++ r) second))
 
 -- the law: two joined texts read as both read
 pub joined_reads : laws.JoinedReads

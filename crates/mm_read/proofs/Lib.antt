@@ -2,10 +2,10 @@ pub mod Words
 pub mod StatementsLemmas
 pub mod SpacedLemmas
 pub mod OneStatementList
-pub mod Places
-pub mod PlacesOver
+pub mod ReaderStates
+pub mod ReaderRuns
 pub mod ShapeFaults
-pub mod FrontFaults
+pub mod PartFaults
 pub mod AfterFaults
 pub mod PartLemmas
 pub mod StatementByStatement

@@ -1,6 +1,6 @@
 -- Statement by statement from place to place: what stands between two places reads as a statement, and what stands before as the
 -- statements so far.
-use Rattle.mm_read.proofs.Words.{◌≡◌, ℕ, ◌+◌, ◌<◌, true, List, [], ◌∷◌, ◌++◌, length, codes, Result, Ok, Err, IfOk, IfErr, refl, list_all, sym, ◌∙◌, ap, arith, length-append, append-nil, and_from, Name, is_symbol, is_label, IsClean, HasBetween, AreAfter, CountAfter, between_on, between_as, after_on, after_as, after_unique, Stmt, Float, Ess, Axiom, Prove, Database, are_symbols, is_shaped, stmt_tokens, tokens_of, Reads, IsNext, IsOneMore, AreBefore}
+use Rattle.mm_read.proofs.Words.{◌≡◌, ℕ, ◌+◌, ◌<◌, true, List, [], ◌∷◌, ◌++◌, length, codes, Result, Ok, Err, IfOk, IfErr, refl, list_all, sym, ◌∙◌, ap, arith, length-append, append-nil, and_from, Name, is_symbol, is_label, IsClean, HasBetween, AreAfter, CountAfter, between_on, between_as, after_on, after_as, after_unique, Stmt, Float, Ess, Axiom, Prove, Database, are_symbols, is_shaped, stmt_tokens, tokens_of, Reads, IsNext, IsOneMore, ReadsUpTo}
 use Rattle.mm_read.proofs.StatementsLemmas.{append_middle}
 use Rattle.mm_read.proofs.StatementByStatement.{tokens_of-append, shaped-append}
 
@@ -61,7 +61,7 @@ module _ {text : List ℕ} where
   -- ---- the statements so far
 
   -- a statement more stands before the later place
-  pub before_more : {at next : ℕ} {old new : Database} → AreBefore text at old → IsOneMore text at next old new → AreBefore text next new
+  pub before_more : {at next : ℕ} {old new : Database} → ReadsUpTo text at old → IsOneMore text at next old new → ReadsUpTo text next new
   before_more {old = old} are more = record {
     shaped = ap (list_all is_shaped) more.whole ∙ shaped-append old (more.statement ∷ []) are.shaped (and_from _ _ more.next_is.shaped refl);
     between = between_as (ap (λ r. tokens_of old ++ r) (sym (append-nil (stmt_tokens more.statement))) ∙ (sym (tokens_of-append old (more.statement ∷ [])) ∙ ap tokens_of (sym more.whole)))
@@ -69,13 +69,13 @@ module _ {text : List ℕ} where
   }
 
   -- all of them
-  pub reads_all : (at : ℕ) (S : Database) → IsClean text → AreBefore text at S → AreAfter text at [] → Reads text S
+  pub reads_all : (at : ℕ) (S : Database) → IsClean text → ReadsUpTo text at S → AreAfter text at [] → Reads text S
   reads_all at S clean are none =
       let all : AreAfter text 0 (tokens_of S) = after_as 0 (append-nil (tokens_of S)) (after_on are.between none) in
       record { shaped = are.shaped; tokens = (all.0, (clean, all.1), all.2) }
 
 -- the tokens of the text are those of the statements and those after them
-pub count_before : (text : List ℕ) (at : ℕ) (S : Database) → AreBefore text at S → (n m : ℕ) → CountAfter text at n → CountAfter text 0 m → m ≡ length (tokens_of S) + n
+pub count_before : (text : List ℕ) (at : ℕ) (S : Database) → ReadsUpTo text at S → (n m : ℕ) → CountAfter text at n → CountAfter text 0 m → m ≡ length (tokens_of S) + n
 count_before text at S are n m rest all =
     let whole : AreAfter text 0 (tokens_of S ++ rest.0) = after_on are.between rest.1 in
     let same : tokens_of S ++ rest.0 ≡ all.0 = after_unique 0 whole all.1 in

@@ -1,6 +1,6 @@
 -- Small texts, worked out: the statements that they read as, their export form, and misplaced tokens.
 use Rattle.mm_read.proofs.Words.{◌≡◌, ℕ, [], ◌∷◌, ◌++◌, false, codes, refl, Span, Const, Float, Axiom, Prove, Database, is_shaped, Reads, IsShapeFault, line_of, export_of, with_proof}
-use Rattle.mm_read.proofs.Places.{between, labelled, listing, floating, proving}
+use Rattle.mm_read.proofs.ReaderStates.{between, labelled, listing, floating, proving}
 use Rattle.mm_read.proofs.ShapeFaults.{stops_at, ends_inside}
 
 -- a constant, an axiom and its one-step theorem

@@ -1,6 +1,6 @@
 -- A list of statements and what stands after it: what fits there fits the whole, and what does not fit there does not fit the
 -- whole.
-use Rattle.mm_read.proofs.Words.{◌≡◌, ℕ, ◌+◌, ◌-◌, ◌<◌, ◌⊎◌, suc, zero, true, List, [], ◌∷◌, ◌++◌, length, take, list_all, sym, ◌∙◌, ap, arith, refl, subst, inl, inr, append_assoc, length-append, take-append-add, and_parts, Name, Stmt, Open, Close, Const, Var, Disj, Float, Ess, Axiom, Prove, Database, is_shaped, stmt_tokens, tokens_of, CanGoOn, IsShapeFault}
+use Rattle.mm_read.proofs.Words.{◌≡◌, ℕ, ◌+◌, ◌-◌, ◌<◌, ◌⊎◌, suc, zero, true, List, [], ◌∷◌, ◌++◌, length, take, list_all, sym, ◌∙◌, ap, arith, refl, subst, inl, inr, append_assoc, length-append, take-append-add, and_parts, Name, Stmt, Open, Close, Const, Var, Disj, Float, Ess, Axiom, Prove, Database, is_shaped, stmt_tokens, tokens_of, IsStatementsPrefix, IsShapeFault}
 use Rattle.mm_read.proofs.OneStatementList.{same_front}
 
 pub tokens_of-append : (S T : Database) → tokens_of (S ++ T) ≡ tokens_of S ++ tokens_of T
@@ -26,28 +26,28 @@ no_tokens (Axiom label expr) rest e = absurd cc
 no_tokens (Prove label expr proof) rest e = absurd cc
 
 -- statements whose tokens begin with those of these statements begin with these statements
-cut : (S T : Database) (rest : List Name) → list_all is_shaped S ≡ true → list_all is_shaped T ≡ true → tokens_of T ≡ tokens_of S ++ rest
+after_prefix : (S T : Database) (rest : List Name) → list_all is_shaped S ≡ true → list_all is_shaped T ≡ true → tokens_of T ≡ tokens_of S ++ rest
     → (U : Database) × (list_all is_shaped U ≡ true) × (tokens_of U ≡ rest)
-cut [] T rest hS hT e = (T, hT, e)
-cut (s ∷ S) [] rest hS hT e = absurd (no_tokens s (tokens_of S ++ rest) (sym (append_assoc (stmt_tokens s) (tokens_of S) rest) ∙ sym e))
-cut (s ∷ S) (t ∷ T) rest hS hT e =
+after_prefix [] T rest hS hT e = (T, hT, e)
+after_prefix (s ∷ S) [] rest hS hT e = absurd (no_tokens s (tokens_of S ++ rest) (sym (append_assoc (stmt_tokens s) (tokens_of S) rest) ∙ sym e))
+after_prefix (s ∷ S) (t ∷ T) rest hS hT e =
     let of_s : (is_shaped s ≡ true) × (list_all is_shaped S ≡ true) = and_parts (is_shaped s) (list_all is_shaped S) hS in
     let of_t : (is_shaped t ≡ true) × (list_all is_shaped T ≡ true) = and_parts (is_shaped t) (list_all is_shaped T) hT in
     let same : (t ≡ s) × (tokens_of T ≡ tokens_of S ++ rest) = same_front t s (tokens_of T) (tokens_of S ++ rest) of_t.0 of_s.0 (e ∙ append_assoc (stmt_tokens s) (tokens_of S) rest) in
-    cut S T rest of_s.1 of_t.1 same.1
+    after_prefix S T rest of_s.1 of_t.1 same.1
 
 -- the token of a fault counts from 1
 fault_some : (tokens : List Name) (token : ℕ) → IsShapeFault tokens token → 0 < token
 fault_some tokens zero fault = absurd (by fault.here)
   where
-    by : (CanGoOn [] → ⊥) ⊎ (0 ≡ length tokens + 1) → ⊥
+    by : (IsStatementsPrefix [] → ⊥) ⊎ (0 ≡ length tokens + 1) → ⊥
     by (inl stop) = stop (record { statements = []; rest = []; shaped = refl; whole = refl })
     by (inr end) = omega (arith, end)
 fault_some tokens (suc token) fault = omega arith
 
 module _ (S : Database) (shaped : list_all is_shaped S ≡ true) (rest : List Name) where
   -- tokens that can go on can go on after statements
-  forth : (ts : List Name) → CanGoOn ts → CanGoOn (tokens_of S ++ ts)
+  forth : (ts : List Name) → IsStatementsPrefix ts → IsStatementsPrefix (tokens_of S ++ ts)
   forth ts on = record {
     statements = S ++ on.statements;
     rest = on.rest;
@@ -56,22 +56,22 @@ module _ (S : Database) (shaped : list_all is_shaped S ≡ true) (rest : List Na
   }
 
   -- tokens that can go on after statements can go on without them
-  back : (ts : List Name) → CanGoOn (tokens_of S ++ ts) → CanGoOn ts
+  back : (ts : List Name) → IsStatementsPrefix (tokens_of S ++ ts) → IsStatementsPrefix ts
   back ts on =
-      let found : (U : Database) × (list_all is_shaped U ≡ true) × (tokens_of U ≡ ts ++ on.rest) = cut S on.statements (ts ++ on.rest) shaped on.shaped (on.whole ∙ append_assoc (tokens_of S) ts on.rest) in
+      let found : (U : Database) × (list_all is_shaped U ≡ true) × (tokens_of U ≡ ts ++ on.rest) = after_prefix S on.statements (ts ++ on.rest) shaped on.shaped (on.whole ∙ append_assoc (tokens_of S) ts on.rest) in
       record { statements = found.0; rest = on.rest; shaped = found.1; whole = found.2 }
 
   -- a fault after statements is a fault of the whole
   pub fault_after : (token : ℕ) → IsShapeFault rest token → IsShapeFault (tokens_of S ++ rest) (length (tokens_of S) + token)
   fault_after token fault = record {
-    none = λ T hT e. let found : (U : Database) × (list_all is_shaped U ≡ true) × (tokens_of U ≡ rest) = cut S T rest shaped hT e in fault.none found.0 found.1 found.2;
-    before = subst CanGoOn (sym earlier) (forth (take (token - 1) rest) fault.before);
+    none = λ T hT e. let found : (U : Database) × (list_all is_shaped U ≡ true) × (tokens_of U ≡ rest) = after_prefix S T rest shaped hT e in fault.none found.0 found.1 found.2;
+    before = subst IsStatementsPrefix (sym earlier) (forth (take (token - 1) rest) fault.before);
     here = by fault.here;
   }
     where
       earlier : take (length (tokens_of S) + token - 1) (tokens_of S ++ rest) ≡ tokens_of S ++ take (token - 1) rest
       earlier = ap (λ n. take n (tokens_of S ++ rest)) (omega (arith, fault_some rest token fault)) ∙ take-append-add (tokens_of S) rest (token - 1)
 
-      by : (CanGoOn (take token rest) → ⊥) ⊎ (token ≡ length rest + 1) → (CanGoOn (take (length (tokens_of S) + token) (tokens_of S ++ rest)) → ⊥) ⊎ (length (tokens_of S) + token ≡ length (tokens_of S ++ rest) + 1)
-      by (inl stop) = inl (λ on. stop (back (take token rest) (subst CanGoOn (take-append-add (tokens_of S) rest token) on)))
+      by : (IsStatementsPrefix (take token rest) → ⊥) ⊎ (token ≡ length rest + 1) → (IsStatementsPrefix (take (length (tokens_of S) + token) (tokens_of S ++ rest)) → ⊥) ⊎ (length (tokens_of S) + token ≡ length (tokens_of S ++ rest) + 1)
+      by (inl stop) = inl (λ on. stop (back (take token rest) (subst IsStatementsPrefix (take-append-add (tokens_of S) rest token) on)))
       by (inr end) = inr (omega (arith, end, length-append (tokens_of S) rest))

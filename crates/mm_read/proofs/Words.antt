@@ -1,26 +1,26 @@
 -- The words in which this crate is proved, passed on from one place.
 pub use Rattle.mm_lex.proofs.BadByteLemmas.{IsClean-no_fault, IsClean-none, IsFirstBadByte-found, IsFirstBadByte-unique}
-pub use Rattle.mm_lex.proofs.BetweenLemmas.{after_as, after_on, after_rest, after_unique, between_as, between_none, between_on, cuts_join, stops_after}
-pub use Rattle.mm_lex.proofs.Cutting.{Outcome, inside, outside, prepend, scan, scan-cut}
-pub use Rattle.mm_lex.proofs.CuttingMeans.{cut-scan, cuts_as}
-pub use Rattle.mm_lex.proofs.FewLemmas.{after_few, between_few}
+pub use Rattle.mm_lex.proofs.BetweenLemmas.{after_as, after_on, after_rest, after_unique, between_as, between_none, between_on, splits_join, stops_after}
+pub use Rattle.mm_lex.proofs.ScanRuns.{Outcome, inside, outside, prepend, scan, scan-split}
+pub use Rattle.mm_lex.proofs.ScanResults.{split-scan, splits_as}
+pub use Rattle.mm_lex.proofs.TokenCountLemmas.{after_few, between_few}
 pub use Rattle.mm_lex.proofs.PlainLemmas.{append_step}
 pub use Rattle.mm_lex.proofs.TokensLemmas.{AreTokens-no_comment_fault, AreTokens-unique, IsCommentFault-unique}
 pub use Rattle.mm_lex.proofs.VisibleRunLemmas.{white_run}
 pub use Rattle.mm_lex.proofs.WordsLemmas.{spaced-words_of, word-visible, words_of-one, words_of-spaced}
 pub use Rattle.mm_lex.specs.Alphabet.{Name, has_byte, has_name, is_allowed, is_empty, is_label, is_label_byte, is_symbol, is_visible, is_white, name_eq, runs, runs_from, starts_white, with_byte, word}
-pub use Rattle.mm_lex.specs.Between.{AreAfter, CountAfter, HasBetween, IsNextToken, IsTokenAfter, StopsAfter}
+pub use Rattle.mm_lex.specs.Between.{AreAfter, CountAfter, HasBetween, IsNextToken, IsTokenAfter, IsCommentFaultAfter}
 pub use Rattle.mm_lex.specs.SymbolList.{EndsSymbols, IsListEnd}
 pub use Rattle.mm_lex.specs.TextFaults.{IsCommentFault, IsFirstBadByte}
-pub use Rattle.mm_lex.specs.Tokens.{Cuts, IsClean, closer, is_plain, opener, words}
+pub use Rattle.mm_lex.specs.Tokens.{SplitsInto, IsClean, closer, is_plain, opener, words}
 pub use Rattle.mm_lex.specs.Words.{is_word, spaced, words_of}
 pub use Rattle.mm_lex.specs.declared.fault.LexFault.{LexFault}
 pub use Rattle.mm_lex.specs.declared.span.Span.{Span}
 pub use Rattle.mm_read.specs.Export.{export_of, line_of, with_proof}
-pub use Rattle.mm_read.specs.Front.{BreaksList, IsKeyword, IsListFault, HasBrokenList, IsTokenFault, StartsOtherwise, BeginsBrokenList}
-pub use Rattle.mm_read.specs.Laws.{is_apart}
-pub use Rattle.mm_read.specs.Next.{AreBefore, IsFaultAfter, IsFaultOf, IsNext, IsNextStep, IsOneMore}
-pub use Rattle.mm_read.specs.Reads.{CanGoOn, HasShapeFault, HasTokens, IsReadFault, IsShapeFault, Reads, read_fault}
+pub use Rattle.mm_read.specs.StatementParts.{BreaksList, IsKeyword, IsListFault, HasBrokenList, IsTokenFault, StartsOtherwise, BeginsBrokenList}
+pub use Rattle.mm_read.specs.Laws.{joins_no_words}
+pub use Rattle.mm_read.specs.Next.{ReadsUpTo, IsFaultAfter, IsFaultOf, IsNext, IsNextStep, IsOneMore}
+pub use Rattle.mm_read.specs.Reads.{IsStatementsPrefix, HasShapeFault, HasTokens, IsReadFault, IsShapeFault, Reads, read_fault}
 pub use Rattle.mm_read.specs.Statements.{AreShaped, Database, are_symbols, has_two, is_shaped, tokens_of, stmt_tokens}
 pub use Rattle.mm_read.specs.declared.fault.ReadFault.{ReadFault}
 pub use Rattle.mm_read.specs.declared.fault.ReadFault.TheVariants.{Memory, Shape, Text}

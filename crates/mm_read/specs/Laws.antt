@@ -25,11 +25,11 @@ abbrev pub ExportReads : Type 0
 ExportReads = (S : Database) → AreShaped S → Reads (export_of S) S
 
 -- joining the texts does not make one word of two: the first is empty or ends white, or the second is empty or begins white
-abbrev pub is_apart : List ℕ → List ℕ → Bool
-is_apart [] other = true
-is_apart (b ∷ []) other = is_white b || starts_white other
-is_apart (b ∷ c ∷ text) other = is_apart (c ∷ text) other
+abbrev pub joins_no_words : List ℕ → List ℕ → Bool
+joins_no_words [] other = true
+joins_no_words (b ∷ []) other = is_white b || starts_white other
+joins_no_words (b ∷ c ∷ text) other = joins_no_words (c ∷ text) other
 
 -- two texts that are so joined read as the statements of the first followed by those of the second
 abbrev pub JoinedReads : Type 0
-JoinedReads = (text other : List ℕ) (S T : Database) → Reads text S → Reads other T → IsTrue (is_apart text other) → Reads (text ++ other) (S ++ T)
+JoinedReads = (text other : List ℕ) (S T : Database) → Reads text S → Reads other T → IsTrue (joins_no_words text other) → Reads (text ++ other) (S ++ T)

@@ -1,6 +1,6 @@
 pub mod Statements
 pub mod Reads
-pub mod Front
+pub mod StatementParts
 pub mod Next
 pub mod Export
 pub mod Laws

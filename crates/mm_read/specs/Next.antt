@@ -3,7 +3,7 @@
 -- The functions that read one statement cite these; `Reads` defines reading for a whole text.
 use Rattle.std.specs.Prelude.{◌≡◌, ℕ, ◌<◌, List, [], ◌∷◌, ◌++◌, Option, Some, None}
 use Rattle.mm_lex.specs.Alphabet.{Name}
-use Rattle.mm_lex.specs.Between.{HasBetween, AreAfter, StopsAfter}
+use Rattle.mm_lex.specs.Between.{HasBetween, AreAfter, IsCommentFaultAfter}
 use Rattle.mm_read.specs.declared.stmt.Stmt.{Stmt}
 use Rattle.mm_read.specs.declared.fault.ReadFault.{ReadFault}
 use Rattle.mm_read.specs.declared.fault.ReadFault.TheVariants.{Text, Shape, Memory}
@@ -23,7 +23,7 @@ IsNextAfter text before at s next = (from : ℕ) → from < at → HasBetween te
 -- why no statement begins with the tokens `before`, up to `at`: a comment fault after `at`, a shape fault, which is counted from
 -- the first of `before`, or a failed allocation
 abbrev pub IsFaultAfter : List ℕ → List Name → ℕ → ReadFault → Type 0
-IsFaultAfter text before at (Text fault) = StopsAfter text at fault
+IsFaultAfter text before at (Text fault) = IsCommentFaultAfter text at fault
 IsFaultAfter text before at (Shape token) = (tokens : List Name) → AreAfter text at tokens → IsShapeFault (before ++ tokens) token
 IsFaultAfter text before at Memory = Unit {0}
 
@@ -39,12 +39,12 @@ IsNextStep text at old new (Some next) = IsOneMore text at next old new
 IsNextStep text at old new None = AreAfter text at [] × (new ≡ old)
 
 -- the tokens up to an offset read as these statements
-pub record AreBefore (text : List ℕ) (at : ℕ) (S : Database) : Type 0 where
+pub record ReadsUpTo (text : List ℕ) (at : ℕ) (S : Database) : Type 0 where
   pub shaped : AreShaped S
   pub between : HasBetween text 0 at (tokens_of S)
 
 -- why a text without a bad byte is refused: a comment fault, or else a shape fault or a failed allocation
 abbrev pub IsFaultOf : List ℕ → ReadFault → Type 0
-IsFaultOf text (Text fault) = StopsAfter text 0 fault
+IsFaultOf text (Text fault) = IsCommentFaultAfter text 0 fault
 IsFaultOf text (Shape token) = (tokens : List Name) × AreAfter text 0 tokens × IsShapeFault tokens token
 IsFaultOf text Memory = (tokens : List Name) × AreAfter text 0 tokens

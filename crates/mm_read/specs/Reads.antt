@@ -23,7 +23,7 @@ pub record Reads (text : List ℕ) (S : Database) : Type 0 where
   pub tokens : HasTokens text (tokens_of S)
 
 -- some list of statements begins with these tokens
-pub record CanGoOn (tokens : List Name) : Type 0 where
+pub record IsStatementsPrefix (tokens : List Name) : Type 0 where
   pub statements : Database
   pub rest : List Name
   pub shaped : AreShaped statements
@@ -37,8 +37,8 @@ IsNoDatabase tokens = (S : Database) → AreShaped S → tokens_of S ≡ tokens 
 -- statement is not whole, the number of tokens plus 1
 pub record IsShapeFault (tokens : List Name) (token : ℕ) : Type 0 where
   pub none : IsNoDatabase tokens
-  pub before : CanGoOn (take (token - 1) tokens)
-  pub here : (CanGoOn (take token tokens) → ⊥) ⊎ (token ≡ length tokens + 1)
+  pub before : IsStatementsPrefix (take (token - 1) tokens)
+  pub here : (IsStatementsPrefix (take token tokens) → ⊥) ⊎ (token ≡ length tokens + 1)
 
 -- the text has tokens, and this is their shape fault
 abbrev pub HasShapeFault : List ℕ → ℕ → Type 0

@@ -7,7 +7,7 @@ use Rattle.mm_lex.specs.Alphabet.{Name, is_empty, is_symbol, is_label}
 use Rattle.mm_read.specs.declared.stmt.Stmt.{Stmt}
 use Rattle.mm_read.specs.declared.stmt.Stmt.TheVariants.{Open, Close, Const, Var, Disj, Float, Ess, Axiom, Prove}
 
--- a list of symbols, such as an expression or the variables of a `$v`
+-- an expression: a list of symbols
 abbrev pub Expr : Type 0
 Expr = List Name
 
@@ -16,11 +16,11 @@ abbrev pub Database : Type 0
 Database = List Stmt
 
 -- one or more symbols
-abbrev pub are_symbols : Expr → Bool
+abbrev pub are_symbols : List Name → Bool
 are_symbols ws = not (is_empty ws) && list_all is_symbol ws
 
 -- two or more words
-abbrev pub has_two : Expr → Bool
+abbrev pub has_two : List Name → Bool
 has_two [] = false
 has_two (w ∷ ws) = not (is_empty ws)
 

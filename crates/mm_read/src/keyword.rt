@@ -2,7 +2,7 @@
 ghost use Rattle.std.specs.Prelude.{◌≡◌, ◌≤◌, [], ◌∷◌, IsTrue, length};
 ghost use Rattle.mm_lex.specs.Alphabet.{word};
 ghost use Rattle.mm_lex.specs.Words.{is_word};
-ghost use Rattle.mm_read.specs.Front.{IsKeyword};
+ghost use Rattle.mm_read.specs.StatementParts.{IsKeyword};
 
 use mm_lex::Span;
 

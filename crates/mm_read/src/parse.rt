@@ -2,10 +2,10 @@
 ghost use Rattle.std.specs.Prelude.{◌≡◌, ℕ, ◌≤◌, ◌⊎◌, [], IfOk, IfErr, IsErrAnd, MatchResult, length};
 ghost use Rattle.mm_lex.specs.Tokens.{IsClean};
 ghost use Rattle.mm_lex.specs.TextFaults.{IsFirstBadByte, IsCommentFault};
-ghost use Rattle.mm_lex.specs.Between.{StopsAfter};
+ghost use Rattle.mm_lex.specs.Between.{IsCommentFaultAfter};
 ghost use Rattle.mm_read.specs.Statements.{Database};
 ghost use Rattle.mm_read.specs.Reads.{Reads, HasShapeFault, IsReadFault};
-ghost use Rattle.mm_read.specs.Next.{IsNextStep, IsFaultAfter, AreBefore, IsFaultOf};
+ghost use Rattle.mm_read.specs.Next.{IsNextStep, IsFaultAfter, ReadsUpTo, IsFaultOf};
 
 use crate::fault::ReadFault;
 use crate::statement::statement;
@@ -13,11 +13,11 @@ use crate::stmt::Stmt;
 use mm_lex::{LexFault, count_tokens, first_bad_byte, next_token};
 use std::alloc::Global;
 
-/// The number of bytes of text after which `ask_for_room` allocates again.
-const STRETCH: usize = 90_000;
+/// The number of bytes of text between two allocations of `grow_heap`.
+const BYTES_BETWEEN_RESERVES: usize = 90_000;
 
-/// The number of bytes that it allocates: more than the statements of a stretch usually take.
-const ROOM: usize = 120_000;
+/// The number of bytes that it allocates: more than the statements of so much text usually take.
+const RESERVE_BYTES: usize = 120_000;
 
 /// Returns the statements that the text reads as.
 ///
@@ -80,15 +80,15 @@ fn add_next(
     };
     let (statement, next) = statement(alloc, text, first)?;
     statements.push(statement)?;
-    ask_for_room(alloc, at, next);
+    grow_heap(alloc, at, next);
     Ok(Some(next))
 }
 
-/// Allocates a block and frees it, once for each stretch of the text. A heap that otherwise grows by one request at a time,
-/// as that of a thread may, then grows once for hundreds of statements. A failed allocation is ignored.
-fn ask_for_room(alloc: Global, at: usize, next: usize) {
-    if at / STRETCH != next / STRETCH {
-        let _ = Vec::<u8>::with_capacity(alloc, ROOM);
+/// Allocates a block and frees it, once for each `BYTES_BETWEEN_RESERVES` bytes of text. A heap that otherwise grows by one
+/// request at a time, as that of a thread may, then grows once for hundreds of statements. A failed allocation is ignored.
+fn grow_heap(alloc: Global, at: usize, next: usize) {
+    if at / BYTES_BETWEEN_RESERVES != next / BYTES_BETWEEN_RESERVES {
+        let _ = Vec::<u8>::with_capacity(alloc, RESERVE_BYTES);
     }
 }
 
@@ -98,10 +98,10 @@ fn ask_for_room(alloc: Global, at: usize, next: usize) {
 fn first_fault(text: &[u8], at: usize, fault: ReadFault) -> Result<ReadFault, LexFault>
     requires clean { IsClean text.now }
     requires place { at ≤ length text.now }
-    requires before { (S : Database) × AreBefore text.now at S }
+    requires before { (S : Database) × ReadsUpTo text.now at S }
     requires fault { IsFaultAfter text.now [] at fault }
     ensures fault { IfOk result (IsFaultOf text.now) }
-    ensures comment { IfErr result (StopsAfter text.now 0) }
+    ensures comment { IfErr result (IsCommentFaultAfter text.now 0) }
 {
     match fault {
         ReadFault::Text(lex) => Err(lex),

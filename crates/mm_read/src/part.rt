@@ -4,7 +4,7 @@ ghost use Rattle.std.specs.List.{list_all};
 ghost use Rattle.mm_lex.specs.Alphabet.{name_eq, is_symbol};
 ghost use Rattle.mm_lex.specs.Tokens.{IsClean};
 ghost use Rattle.mm_lex.specs.Between.{HasBetween};
-ghost use Rattle.mm_read.specs.Front.{IsListFault, IsTokenFault};
+ghost use Rattle.mm_read.specs.StatementParts.{IsListFault, IsTokenFault};
 
 use crate::fault::ReadFault;
 use crate::keyword::token;
@@ -84,7 +84,7 @@ pub fn next_symbol(
 ///
 /// `number` is the number of that token in its statement. Errors: `Text`, if a comment before it is malformed; `Shape`, its
 /// number, if it is not `end` or no token is left.
-pub fn pass_token(text: &[u8], at: usize, number: usize, end: &[u8]) -> Result<usize, ReadFault>
+pub fn expect_token(text: &[u8], at: usize, number: usize, end: &[u8]) -> Result<usize, ReadFault>
     requires clean { IsClean text.now }
     requires place { at ≤ length text.now }
     ensures between { IfOk result (λ next. HasBetween text.now at next (end.now ∷ [])) }

@@ -7,7 +7,7 @@ ghost use Rattle.mm_read.specs.Next.{IsNextAfter, IsFaultAfter};
 
 use crate::fault::ReadFault;
 use crate::keyword::{Keyword, keyword_of, token};
-use crate::part::{next_symbol, pass_token, symbols_until};
+use crate::part::{expect_token, next_symbol, symbols_until};
 use crate::stmt::Stmt;
 use mm_lex::{Span, Word, is_label, next_token};
 use std::alloc::Global;
@@ -84,7 +84,7 @@ fn floating(alloc: Global, text: &[u8], label: &[u8], at: usize) -> Result<(Stmt
 {
     let (constant, after_constant) = next_symbol(alloc, text, at, 3)?;
     let (variable, after_variable) = next_symbol(alloc, text, after_constant, 4)?;
-    let next = pass_token(text, after_variable, 5, b"$.")?;
+    let next = expect_token(text, after_variable, 5, b"$.")?;
     let label = Word::new(alloc, label)?;
     let statement = Stmt::Float {
         label,

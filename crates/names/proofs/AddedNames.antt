@@ -1,5 +1,5 @@
 -- Names are only added at the end, and a name keeps its code.
-use Rattle.names.proofs.Words.{◌≡◌, ℕ, ◌+◌, Bool, true, false, not, cond, ◌||◌, List, [], ◌∷◌, ◌++◌, refl, sym, ◌∙◌, ap, subst, arith, inl, inr, append_assoc, append-nil, or_left, or_right, or_assoc, Name, name_eq, has_name, with_name, with_names, number_in, numbers_in, AreNamed, name_same, same_name}
+use Rattle.names.proofs.Words.{◌≡◌, ℕ, ◌+◌, Bool, true, false, not, cond, ◌||◌, List, [], ◌∷◌, ◌++◌, refl, sym, ◌∙◌, ap, subst, arith, inl, inr, append_assoc, append-nil, or_left, or_right, or_assoc, Name, name_eq, has_name, with_name, with_names, code_or_len, codes_or_len, AreNamed, name_same, same_name}
 pub use Rattle.std.proofs.lemmas.Bool.{or_cases}
 
 pub has_name-append : (x : Name) (xs ys : List Name) → has_name x (xs ++ ys) ≡ (has_name x xs || has_name x ys)
@@ -38,33 +38,33 @@ has-with_names x names (y ∷ xs) h = elim (or_cases (name_eq x y) (has_name x x
   | inr k ↦ has-with_names x (with_name names y) xs k
 ]
 
-pub number_in-more : (x : Name) (names more : List Name) → has_name x names ≡ true → number_in (names ++ more) x ≡ number_in names x
-number_in-more x [] more h = cc
-number_in-more x (y ∷ names) more h = by (name_eq x y) h (number_in-more x names more)
+pub code_or_len-more : (x : Name) (names more : List Name) → has_name x names ≡ true → code_or_len (names ++ more) x ≡ code_or_len names x
+code_or_len-more x [] more h = cc
+code_or_len-more x (y ∷ names) more h = by (name_eq x y) h (code_or_len-more x names more)
   where
-    by : (b : Bool) → (b || has_name x names) ≡ true → (has_name x names ≡ true → number_in (names ++ more) x ≡ number_in names x)
-        → cond (not b) (1 + number_in (names ++ more) x) 0 ≡ cond (not b) (1 + number_in names x) 0
+    by : (b : Bool) → (b || has_name x names) ≡ true → (has_name x names ≡ true → code_or_len (names ++ more) x ≡ code_or_len names x)
+        → cond (not b) (1 + code_or_len (names ++ more) x) 0 ≡ cond (not b) (1 + code_or_len names x) 0
     by true h rest = refl
     by false h rest = ap (λ n. 1 + n) (rest h)
 
-pub numbers_in-more : (names more xs : List Name) → AreNamed names xs → numbers_in (names ++ more) xs ≡ numbers_in names xs
-numbers_in-more names more [] named = refl
-numbers_in-more names more (x ∷ xs) named =
-    ap (λ n. n ∷ numbers_in (names ++ more) xs) (number_in-more x names more (named x (or_left (name_eq x x) (has_name x xs) (name_same x))))
-    ∙ ap (λ ns. number_in names x ∷ ns) (numbers_in-more names more xs (λ y h. named y (or_right (name_eq y x) (has_name y xs) h)))
+pub codes_or_len-more : (names more xs : List Name) → AreNamed names xs → codes_or_len (names ++ more) xs ≡ codes_or_len names xs
+codes_or_len-more names more [] named = refl
+codes_or_len-more names more (x ∷ xs) named =
+    ap (λ n. n ∷ codes_or_len (names ++ more) xs) (code_or_len-more x names more (named x (or_left (name_eq x x) (has_name x xs) (name_same x))))
+    ∙ ap (λ ns. code_or_len names x ∷ ns) (codes_or_len-more names more xs (λ y h. named y (or_right (name_eq y x) (has_name y xs) h)))
 
--- two names of one number are one
-pub number_in-same : (x y : Name) (names : List Name) → has_name x names ≡ true → number_in names x ≡ number_in names y → name_eq y x ≡ true
-number_in-same x y [] h e = cc
-number_in-same x y (z ∷ names) h e = by (name_eq x z) (name_eq y z) refl refl h e (number_in-same x y names)
+-- two names of one code are one
+pub code_or_len-same : (x y : Name) (names : List Name) → has_name x names ≡ true → code_or_len names x ≡ code_or_len names y → name_eq y x ≡ true
+code_or_len-same x y [] h e = cc
+code_or_len-same x y (z ∷ names) h e = by (name_eq x z) (name_eq y z) refl refl h e (code_or_len-same x y names)
   where
     suc_same : (m n : ℕ) → 1 + m ≡ 1 + n → m ≡ n
     suc_same m n e = omega arith
 
     by : (a b : Bool) → name_eq x z ≡ a → name_eq y z ≡ b → (a || has_name x names) ≡ true
-        → cond (not a) (1 + number_in names x) 0 ≡ cond (not b) (1 + number_in names y) 0
-        → (has_name x names ≡ true → number_in names x ≡ number_in names y → name_eq y x ≡ true) → name_eq y x ≡ true
+        → cond (not a) (1 + code_or_len names x) 0 ≡ cond (not b) (1 + code_or_len names y) 0
+        → (has_name x names ≡ true → code_or_len names x ≡ code_or_len names y → name_eq y x ≡ true) → name_eq y x ≡ true
     by true true p q h e rest = subst (λ w. name_eq y w ≡ true) (sym (same_name x z p)) q
     by true false p q h e rest = absurd (omega arith)
     by false true p q h e rest = absurd (omega arith)
-    by false false p q h e rest = rest h (suc_same (number_in names x) (number_in names y) e)
+    by false false p q h e rest = rest h (suc_same (code_or_len names x) (code_or_len names y) e)

@@ -1,5 +1,5 @@
 -- Names and the places where they stand.
-use Rattle.names.proofs.Words.{◌≡◌, ℕ, zero, suc, ◌+◌, ◌<◌, Bool, true, false, not, cond, ◌||◌, nat_lt, length, List, [], ◌∷◌, ◌++◌, map, Option, Some, None, get_or, refl, list_any, position_or_len, prefix_len, sym, ◌∙◌, ap, true≢false, arith, length-append, position-Some, or_right, false_from_ne_true, cond_some, Name, name_eq, has_name, name_at, code_of, AreDistinct, number_in, AreNamed}
+use Rattle.names.proofs.Words.{◌≡◌, ℕ, zero, suc, ◌+◌, ◌<◌, Bool, true, false, not, cond, ◌||◌, nat_lt, length, List, [], ◌∷◌, ◌++◌, map, Option, Some, None, get_or, refl, list_any, position_or_len, prefix_len, sym, ◌∙◌, ap, true≢false, arith, length-append, position-Some, or_right, false_from_ne_true, cond_some, Name, name_eq, has_name, name_at, code_of, AreDistinct, code_or_len, AreNamed}
 pub use Rattle.mm_lex.proofs.NameLemmas.{name_same, same_name}
 
 pub list_any-map : {A B : Type 0} (f : A → B) (p : B → Bool) (xs : List A) → list_any (λ a. p (f a)) xs ≡ list_any p (map f xs)
@@ -95,13 +95,13 @@ none_cond : {A : Type 0} (b : Bool) (x : A) → cond b (Some x) None ≡ None �
 none_cond true x h = cc
 none_cond false x h = refl
 
-pub found-number : (names : List Name) (x : Name) (n : ℕ) → Some n ≡ code_of names x → (has_name x names ≡ true) × (number_in names x ≡ n)
+pub found-number : (names : List Name) (x : Name) (n : ℕ) → Some n ≡ code_of names x → (has_name x names ≡ true) × (code_or_len names x ≡ n)
 found-number names x n h =
-    let s = cond_some (nat_lt (number_in names x) (length names)) (number_in names x) n (sym h) in
+    let s = cond_some (nat_lt (code_or_len names x) (length names)) (code_or_len names x) n (sym h) in
     (sym (lt-list_any (name_eq x) names) ∙ s.0, s.1)
 
 pub unknown-number : (names : List Name) (x : Name) → None ≡ code_of names x → has_name x names ≡ false
-unknown-number names x h = sym (lt-list_any (name_eq x) names) ∙ none_cond (nat_lt (number_in names x) (length names)) (number_in names x) (sym h)
+unknown-number names x h = sym (lt-list_any (name_eq x) names) ∙ none_cond (nat_lt (code_or_len names x) (length names)) (code_or_len names x) (sym h)
 
 -- the next of the names that have numbers has one
 pub first-named : (names words rest : List Name) (x : Name) → AreNamed names words → words ≡ x ∷ rest → has_name x names ≡ true

@@ -1,12 +1,12 @@
 -- Below the hints a key is the key of one name alone.
-use Rattle.names.proofs.Words.{◌≡◌, ℕ, zero, suc, ◌+◌, ◌-◌, ◌*◌, ◌/◌, ◌%◌, ◌<◌, ◌≤◌, ◌^◌, Bool, true, false, cond, List, [], ◌∷◌, length, nat_lt, refl, sym, ◌∙◌, ap, subst, arith, Name, LONG, HINTS, AreBytes, digits, ends, front_and_back, picked, eight, mixed, mixed_front, key_of}
-use Rattle.names.specs.Stored.Keys.{hint_of}
+use Rattle.names.proofs.Words.{◌≡◌, ℕ, zero, suc, ◌+◌, ◌-◌, ◌*◌, ◌/◌, ◌%◌, ◌<◌, ◌≤◌, ◌^◌, Bool, true, false, cond, List, [], ◌∷◌, length, nat_lt, refl, sym, ◌∙◌, ap, subst, arith, Name, LEAST_HASHED_LEN, LEAST_HASH, AreBytes, digits, first_middle_last, first_four_last_three, key_bytes, eight, mixed, mixed_front, key_of}
+use Rattle.names.specs.Stored.Keys.{hash_of}
 
 -- the first digit and the others
 digit-same : (a b m n : ℕ) → a < 256 → b < 256 → a + 256 * m ≡ b + 256 * n → (a ≡ b) × (m ≡ n)
 digit-same a b m n p q e = (omega (arith, p, q, e), omega (arith, p, q, e))
 
--- a name from its length and what is picked of it
+-- a name from its length and its key bytes
 abbrev unpicked : ℕ → List ℕ → Name
 unpicked (suc zero) (a ∷ bs) = a ∷ []
 unpicked (suc (suc zero)) (a ∷ b ∷ bs) = a ∷ b ∷ []
@@ -17,16 +17,16 @@ unpicked (suc (suc (suc (suc (suc (suc zero)))))) (a ∷ b ∷ c ∷ d ∷ x ∷
 unpicked (suc (suc (suc (suc (suc (suc (suc zero))))))) (a ∷ b ∷ c ∷ d ∷ x ∷ y ∷ z ∷ bs) = a ∷ b ∷ c ∷ d ∷ x ∷ y ∷ z ∷ []
 unpicked n bs = []
 
-unpicked-picked : (x : Name) → length x < 8 → unpicked (length x) (picked x) ≡ x
-unpicked-picked [] h = refl
-unpicked-picked (a ∷ []) h = refl
-unpicked-picked (a ∷ b ∷ []) h = refl
-unpicked-picked (a ∷ b ∷ c ∷ []) h = refl
-unpicked-picked (a ∷ b ∷ c ∷ d ∷ []) h = refl
-unpicked-picked (a ∷ b ∷ c ∷ d ∷ e ∷ []) h = refl
-unpicked-picked (a ∷ b ∷ c ∷ d ∷ e ∷ f ∷ []) h = refl
-unpicked-picked (a ∷ b ∷ c ∷ d ∷ e ∷ f ∷ g ∷ []) h = refl
-unpicked-picked (a ∷ b ∷ c ∷ d ∷ e ∷ f ∷ g ∷ i ∷ x) h = absurd (omega (arith, h))
+unpicked-key_bytes : (x : Name) → length x < 8 → unpicked (length x) (key_bytes x) ≡ x
+unpicked-key_bytes [] h = refl
+unpicked-key_bytes (a ∷ []) h = refl
+unpicked-key_bytes (a ∷ b ∷ []) h = refl
+unpicked-key_bytes (a ∷ b ∷ c ∷ []) h = refl
+unpicked-key_bytes (a ∷ b ∷ c ∷ d ∷ []) h = refl
+unpicked-key_bytes (a ∷ b ∷ c ∷ d ∷ e ∷ []) h = refl
+unpicked-key_bytes (a ∷ b ∷ c ∷ d ∷ e ∷ f ∷ []) h = refl
+unpicked-key_bytes (a ∷ b ∷ c ∷ d ∷ e ∷ f ∷ g ∷ []) h = refl
+unpicked-key_bytes (a ∷ b ∷ c ∷ d ∷ e ∷ f ∷ g ∷ i ∷ x) h = absurd (omega (arith, h))
 
 -- the digits of two numbers of as many digits
 abbrev AreDigits : List ℕ → Type 0
@@ -43,17 +43,17 @@ digits-same (a ∷ xs) (b ∷ ys) p q l e =
     let first = d.0 in
     cc
 
-picked-digits : (x : Name) → AreBytes x → AreDigits (picked x)
-picked-digits x h = by (nat_lt (length x) 4)
+key_bytes-digits : (x : Name) → AreBytes x → AreDigits (key_bytes x)
+key_bytes-digits x h = by (nat_lt (length x) 4)
   where
-    by : (b : Bool) → AreDigits (cond b (ends x) (front_and_back x))
+    by : (b : Bool) → AreDigits (cond b (first_middle_last x) (first_four_last_three x))
     by true = (h 0, (h (length x / 2), (h (length x - 1), tt)))
     by false = (h 0, (h 1, (h 2, (h 3, (h (length x - 3), (h (length x - 2), (h (length x - 1), tt)))))))
 
-picked-below : (x : Name) → AreBytes x → digits (picked x) < 2 ^ 56
-picked-below x h = by (nat_lt (length x) 4)
+key_bytes-below : (x : Name) → AreBytes x → digits (key_bytes x) < 2 ^ 56
+key_bytes-below x h = by (nat_lt (length x) 4)
   where
-    by : (b : Bool) → digits (cond b (ends x) (front_and_back x)) < 2 ^ 56
+    by : (b : Bool) → digits (cond b (first_middle_last x) (first_four_last_three x)) < 2 ^ 56
     by true =
         let p = h 0 in
         let q = h (length x / 2) in
@@ -69,53 +69,53 @@ picked-below x h = by (nat_lt (length x) 4)
         let r = h (length x - 1) in
         omega (arith, a, b, d, e, p, q, r)
 
-picked-same : (x y : Name) → AreBytes x → AreBytes y → length x ≡ length y → length x < 8 → digits (picked x) ≡ digits (picked y) → x ≡ y
-picked-same x y p q l h e =
-    let same = digits-same (picked x) (picked y) (picked-digits x p) (picked-digits y q) (sizes (length x) (length y) l) e in
-    sym (unpicked-picked x h) ∙ (ap (unpicked (length x)) same ∙ (ap (λ n. unpicked n (picked y)) l ∙ unpicked-picked y (subst (λ n. n < 8) l h)))
+key_bytes-same : (x y : Name) → AreBytes x → AreBytes y → length x ≡ length y → length x < 8 → digits (key_bytes x) ≡ digits (key_bytes y) → x ≡ y
+key_bytes-same x y p q l h e =
+    let same = digits-same (key_bytes x) (key_bytes y) (key_bytes-digits x p) (key_bytes-digits y q) (sizes (length x) (length y) l) e in
+    sym (unpicked-key_bytes x h) ∙ (ap (unpicked (length x)) same ∙ (ap (λ n. unpicked n (key_bytes y)) l ∙ unpicked-key_bytes y (subst (λ n. n < 8) l h)))
   where
-    size : (z : Name) → length (picked z) ≡ cond (nat_lt (length z) 4) 3 7
+    size : (z : Name) → length (key_bytes z) ≡ cond (nat_lt (length z) 4) 3 7
     size z = by (nat_lt (length z) 4)
       where
-        by : (b : Bool) → length (cond b (ends z) (front_and_back z)) ≡ cond b 3 7
+        by : (b : Bool) → length (cond b (first_middle_last z) (first_four_last_three z)) ≡ cond b 3 7
         by true = refl
         by false = refl
 
-    sizes : (m n : ℕ) → m ≡ n → length (picked x) ≡ length (picked y)
+    sizes : (m n : ℕ) → m ≡ n → length (key_bytes x) ≡ length (key_bytes y)
     sizes m n s = size x ∙ (ap (λ k. cond (nat_lt k 4) 3 7) l ∙ sym (size y))
 
-pub hint-is : (x : Name) (front block last r : ℕ) → LONG ≤ length x → front ≡ mixed_front x block → block ≤ (length x - 1) / 8 → (length x - 1) / 8 ≤ block → last ≡ digits (eight x (length x - 8)) → r ≡ mixed front last
-    → r % HINTS + HINTS ≡ key_of x
-unfolding hint_of
-hint-is x front block last r long e p q l m =
+pub hash-is : (x : Name) (front block last r : ℕ) → LEAST_HASHED_LEN ≤ length x → front ≡ mixed_front x block → block ≤ (length x - 1) / 8 → (length x - 1) / 8 ≤ block → last ≡ digits (eight x (length x - 8)) → r ≡ mixed front last
+    → r % LEAST_HASH + LEAST_HASH ≡ key_of x
+unfolding hash_of
+hash-is x front block last r long e p q l m =
     let s : block ≡ (length x - 1) / 8 = omega (arith, p, q) in
-    let t : nat_lt (length x) LONG ≡ false = grind (arith, long) in
-    ap (λ n. n % HINTS + HINTS) (m ∙ (ap (mixed front) l ∙ ap (λ f. mixed f (digits (eight x (length x - 8)))) (e ∙ ap (mixed_front x) s)))
-    ∙ sym (ap (λ b. cond b (digits (picked x) * 8 + length x) (hint_of x)) t)
+    let t : nat_lt (length x) LEAST_HASHED_LEN ≡ false = grind (arith, long) in
+    ap (λ n. n % LEAST_HASH + LEAST_HASH) (m ∙ (ap (mixed front) l ∙ ap (λ f. mixed f (digits (eight x (length x - 8)))) (e ∙ ap (mixed_front x) s)))
+    ∙ sym (ap (λ b. cond b (digits (key_bytes x) * 8 + length x) (hash_of x)) t)
 
-hint-above : (x : Name) → HINTS ≤ hint_of x
-unfolding hint_of
-hint-above x = omega arith
+hash-above : (x : Name) → LEAST_HASH ≤ hash_of x
+unfolding hash_of
+hash-above x = omega arith
 
 -- a short name shares its key with no other
-pub key-same : (x y : Name) → AreBytes x → AreBytes y → length x < LONG → key_of x ≡ key_of y → x ≡ y
-key-same x y p q short e = by (nat_lt (length x) LONG) (nat_lt (length y) LONG) refl refl e
+pub key-same : (x y : Name) → AreBytes x → AreBytes y → length x < LEAST_HASHED_LEN → key_of x ≡ key_of y → x ≡ y
+key-same x y p q short e = by (nat_lt (length x) LEAST_HASHED_LEN) (nat_lt (length y) LEAST_HASHED_LEN) refl refl e
   where
-    below : (n : ℕ) → nat_lt n LONG ≡ true → n < LONG
+    below : (n : ℕ) → nat_lt n LEAST_HASHED_LEN ≡ true → n < LEAST_HASHED_LEN
     below n t = grind (arith, t)
 
-    above : (n : ℕ) → nat_lt n LONG ≡ false → LONG ≤ n
+    above : (n : ℕ) → nat_lt n LEAST_HASHED_LEN ≡ false → LEAST_HASHED_LEN ≤ n
     above n t = grind (arith, t)
 
-    by : (a b : Bool) → nat_lt (length x) LONG ≡ a → nat_lt (length y) LONG ≡ b
-        → cond a (digits (picked x) * 8 + length x) (hint_of x) ≡ cond b (digits (picked y) * 8 + length y) (hint_of y) → x ≡ y
+    by : (a b : Bool) → nat_lt (length x) LEAST_HASHED_LEN ≡ a → nat_lt (length y) LEAST_HASHED_LEN ≡ b
+        → cond a (digits (key_bytes x) * 8 + length x) (hash_of x) ≡ cond b (digits (key_bytes y) * 8 + length y) (hash_of y) → x ≡ y
     by true true s t e =
         let m = below (length x) s in
         let n = below (length y) t in
-        picked-same x y p q (omega (arith, m, n, e)) m (omega (arith, m, n, e))
+        key_bytes-same x y p q (omega (arith, m, n, e)) m (omega (arith, m, n, e))
     by true false s t e =
-        let d = picked-below x p in
+        let d = key_bytes-below x p in
         let m = below (length x) s in
-        let above = hint-above y in
+        let above = hash-above y in
         absurd (omega (arith, d, m, e, above))
     by false b s t e = let m = above (length x) s in absurd (omega (arith, short, m))

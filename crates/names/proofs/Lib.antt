@@ -1,6 +1,6 @@
 pub mod Words
 pub mod OverflowLemmas
-pub mod KeptKeyLemmas
+pub mod NameKeyLemmas
 pub mod AddedNames
 pub mod CodesLemmas
 pub mod DistinctLemmas

@@ -1,5 +1,5 @@
--- A name's number in the overflow stays when that of another is written or taken away.
-use Rattle.names.proofs.Words.{◌≡◌, ◌≢◌, ◌<◌, ◌≤◌, Bool, true, false, List, ℕ, Option, length, nat_lt, if◌then◌else◌, refl, sym, ◌∙◌, ap, arith, ◌⊎◌, inl, inr, Vec, Global, BTreeMap, UpdatesBy, get_by, IsKeyTest, AreApart, lookup, eq_by_cmp_equiv, Equal-is, slice_cmp, nat_list_cmp_total, nat_cmp, is_eq, bytes_eq, cases_lt, exact_unsigned, is_eq-slice_cmp, bytes_eq-Decides, Name, AreBytes, key_of, number_of, LONG, Overflow}
+-- A name's code in the overflow stays when that of another is written or taken away.
+use Rattle.names.proofs.Words.{◌≡◌, ◌≢◌, ◌<◌, ◌≤◌, Bool, true, false, List, ℕ, Option, length, nat_lt, if◌then◌else◌, refl, sym, ◌∙◌, ap, arith, ◌⊎◌, inl, inr, Vec, Global, BTreeMap, UpdatesBy, get_by, IsKeyTest, AreApart, lookup, eq_by_cmp_equiv, Equal-is, slice_cmp, nat_list_cmp_total, nat_cmp, is_eq, bytes_eq, cases_lt, exact_unsigned, is_eq-slice_cmp, bytes_eq-Decides, Name, AreBytes, key_of, code_in_overflow, LEAST_HASHED_LEN, Overflow}
 use Rattle.std.specs.Map.{KeepsOthers}
 use Rattle.names.proofs.KeysLemmas.{key-same}
 
@@ -22,14 +22,14 @@ other-text : {K X : Type 0} (f : K → List ℕ) (xs : List ℕ) (m n : BTreeMap
 other-text f xs m n w h ys ne =
     keeps _ _ m.entries n.entries h.3 (λ k. is_eq (slice_cmp nat_cmp ys (f k))) (λ x y. (eq_by_cmp_equiv nat_list_cmp_total).congr ys (f x) (f y)) (λ k e. apart xs ys (f k) ne e)
 
-pub of-short : (a : Overflow) (x : Name) → length x < LONG → number_of a x ≡ get_by (nat_cmp (key_of x)) a.short
+pub of-short : (a : Overflow) (x : Name) → length x < LEAST_HASHED_LEN → code_in_overflow a x ≡ get_by (nat_cmp (key_of x)) a.short
 of-short a x h =
-    let t : nat_lt (length x) LONG ≡ true = grind (arith, h) in
+    let t : nat_lt (length x) LEAST_HASHED_LEN ≡ true = grind (arith, h) in
     ap (λ (b : Bool). if b then get_by (nat_cmp (key_of x)) a.short else get_by (λ k. slice_cmp nat_cmp x k.items) a.long) t
 
-pub of-long : (a : Overflow) (x : Name) → LONG ≤ length x → number_of a x ≡ get_by (λ k. slice_cmp nat_cmp x k.items) a.long
+pub of-long : (a : Overflow) (x : Name) → LEAST_HASHED_LEN ≤ length x → code_in_overflow a x ≡ get_by (λ k. slice_cmp nat_cmp x k.items) a.long
 of-long a x h =
-    let t : nat_lt (length x) LONG ≡ false = grind (arith, h) in
+    let t : nat_lt (length x) LEAST_HASHED_LEN ≡ false = grind (arith, h) in
     ap (λ (b : Bool). if b then get_by (nat_cmp (key_of x)) a.short else get_by (λ k. slice_cmp nat_cmp x k.items) a.long) t
 
 nat-apart : (a b : ℕ) → b ≢ a → is_eq (nat_cmp a b) ≡ false
@@ -41,10 +41,10 @@ nat-apart a b ne = by (is_eq (nat_cmp a b)) refl
 
 -- a short name was written or taken away
 pub others-short : (a b : Overflow) (name : Name) (key : ℕ) (w : Option ℕ) → AreBytes name → key ≡ key_of name → b.long ≡ a.long → UpdatesBy nat_cmp (nat_cmp key) a.short b.short w
-    → (x : Name) → AreBytes x → x ≢ name → number_of b x ≡ number_of a x
-others-short a b name key w own is same h x bytes ne = by (cases_lt (length x) LONG)
+    → (x : Name) → AreBytes x → x ≢ name → code_in_overflow b x ≡ code_in_overflow a x
+others-short a b name key w own is same h x bytes ne = by (cases_lt (length x) LEAST_HASHED_LEN)
   where
-    by : (length x < LONG) ⊎ (LONG ≤ length x) → number_of b x ≡ number_of a x
+    by : (length x < LEAST_HASHED_LEN) ⊎ (LEAST_HASHED_LEN ≤ length x) → code_in_overflow b x ≡ code_in_overflow a x
     by (inl short) =
         let other : key_of x ≢ key = λ e. ne (key-same x name bytes own short (e ∙ is)) in
         of-short b x short ∙ (h.2 (key_of x) (nat-apart key (key_of x) other) ∙ sym (of-short a x short))
@@ -52,9 +52,9 @@ others-short a b name key w own is same h x bytes ne = by (cases_lt (length x) L
 
 -- a long name was written or taken away
 pub others-long : (a b : Overflow) (name : Name) (w : Option ℕ) → b.short ≡ a.short → UpdatesBy (λ p q. slice_cmp nat_cmp p.items q.items) (λ k. slice_cmp nat_cmp name k.items) a.long b.long w
-    → (x : Name) → x ≢ name → number_of b x ≡ number_of a x
-others-long a b name w same h x ne = by (cases_lt (length x) LONG)
+    → (x : Name) → x ≢ name → code_in_overflow b x ≡ code_in_overflow a x
+others-long a b name w same h x ne = by (cases_lt (length x) LEAST_HASHED_LEN)
   where
-    by : (length x < LONG) ⊎ (LONG ≤ length x) → number_of b x ≡ number_of a x
+    by : (length x < LEAST_HASHED_LEN) ⊎ (LEAST_HASHED_LEN ≤ length x) → code_in_overflow b x ≡ code_in_overflow a x
     by (inl short) = of-short b x short ∙ (ap (λ (m : BTreeMap ℕ ℕ). get_by (nat_cmp (key_of x)) m) same ∙ sym (of-short a x short))
     by (inr long) = of-long b x long ∙ (other-text (λ k. k.items) name a.long b.long w h x ne ∙ sym (of-long a x long))

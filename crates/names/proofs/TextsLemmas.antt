@@ -1,28 +1,28 @@
 -- Texts one after the other in one buffer.
-use Rattle.names.proofs.Words.{◌≡◌, ℕ, zero, suc, ◌+◌, ◌-◌, ◌<◌, ◌≤◌, List, [], ◌∷◌, ◌++◌, length, take, drop, slice_get, slice_range, Some, refl, ◌∙◌, ap, sym, subst, arith, length-drop, length-take-le, take-append-le, drop-append-le, take-append-drop, take_all, drop-append_seam, same_Some, name_at, cut, start_of, AreLaid}
+use Rattle.names.proofs.Words.{◌≡◌, ℕ, zero, suc, ◌+◌, ◌-◌, ◌<◌, ◌≤◌, List, [], ◌∷◌, ◌++◌, length, take, drop, slice_get, slice_range, Some, refl, ◌∙◌, ap, sym, subst, arith, length-drop, length-take-le, take-append-le, drop-append-le, take-append-drop, take_all, drop-append_seam, same_Some, name_at, texts_from, start_of, AreAscendingEnds}
 
-pub cut-length : (xs : List ℕ) (from : ℕ) (ends : List ℕ) → length (cut xs from ends) ≡ length ends
-cut-length xs from [] = refl
-cut-length xs from (to ∷ ends) = ap suc (cut-length xs to ends)
+pub texts_from-length : (xs : List ℕ) (from : ℕ) (ends : List ℕ) → length (texts_from xs from ends) ≡ length ends
+texts_from-length xs from [] = refl
+texts_from-length xs from (to ∷ ends) = ap suc (texts_from-length xs to ends)
 
 -- the last end is after the others
-laid-behind : (n from : ℕ) (ends : List ℕ) → AreLaid n from ends → from ≤ n
-laid-behind n from [] l = omega (arith, l)
-laid-behind n from (to ∷ ends) l = let r = laid-behind n to ends l.1 in let a = l.0 in omega (arith, a, r)
+ascending-behind : (n from : ℕ) (ends : List ℕ) → AreAscendingEnds n from ends → from ≤ n
+ascending-behind n from [] l = omega (arith, l)
+ascending-behind n from (to ∷ ends) l = let r = ascending-behind n to ends l.1 in let a = l.0 in omega (arith, a, r)
 
-laid-start : (n from : ℕ) (ends : List ℕ) (i : ℕ) → AreLaid n from ends → from ≤ start_of from ends i
-laid-start n from [] i l = omega arith
-laid-start n from (to ∷ ends) zero l = omega arith
-laid-start n from (to ∷ ends) (suc i) l = let r = laid-start n to ends i l.1 in let a = l.0 in omega (arith, a, r)
+ascending-start : (n from : ℕ) (ends : List ℕ) (i : ℕ) → AreAscendingEnds n from ends → from ≤ start_of from ends i
+ascending-start n from [] i l = omega arith
+ascending-start n from (to ∷ ends) zero l = omega arith
+ascending-start n from (to ∷ ends) (suc i) l = let r = ascending-start n to ends i l.1 in let a = l.0 in omega (arith, a, r)
 
-pub laid-in : (n from : ℕ) (ends : List ℕ) (i to : ℕ) → AreLaid n from ends → slice_get ends i ≡ Some to → (start_of from ends i ≤ to) × (to ≤ n)
-laid-in n from [] i to l h = cc
-laid-in n from (t ∷ ends) zero to l h = subst (λ x. (from ≤ x) × (x ≤ n)) (same_Some _ _ h) (l.0, laid-behind n t ends l.1)
-laid-in n from (t ∷ ends) (suc i) to l h = laid-in n t ends i to l.1 h
+pub ascending-in : (n from : ℕ) (ends : List ℕ) (i to : ℕ) → AreAscendingEnds n from ends → slice_get ends i ≡ Some to → (start_of from ends i ≤ to) × (to ≤ n)
+ascending-in n from [] i to l h = cc
+ascending-in n from (t ∷ ends) zero to l h = subst (λ x. (from ≤ x) × (x ≤ n)) (same_Some _ _ h) (l.0, ascending-behind n t ends l.1)
+ascending-in n from (t ∷ ends) (suc i) to l h = ascending-in n t ends i to l.1 h
 
-pub start-within : (n from : ℕ) (ends : List ℕ) (i : ℕ) → AreLaid n from ends → start_of from ends i ≤ n
+pub start-within : (n from : ℕ) (ends : List ℕ) (i : ℕ) → AreAscendingEnds n from ends → start_of from ends i ≤ n
 start-within n from [] i l = omega (arith, l)
-start-within n from (to ∷ ends) zero l = laid-behind n from (to ∷ ends) l
+start-within n from (to ∷ ends) zero l = ascending-behind n from (to ∷ ends) l
 start-within n from (to ∷ ends) (suc i) l = start-within n to ends i l.1
 
 -- a text begins where the one before it ends
@@ -35,7 +35,7 @@ start-next from [] i to h = cc
 start-next from (t ∷ ends) zero to h = start-first t ends ∙ same_Some _ _ h
 start-next from (t ∷ ends) (suc i) to h = start-next t ends i to h
 
-pub text-at : (xs : List ℕ) (from : ℕ) (ends : List ℕ) (i to : ℕ) → slice_get ends i ≡ Some to → slice_range xs (start_of from ends i) to ≡ name_at (cut xs from ends) i
+pub text-at : (xs : List ℕ) (from : ℕ) (ends : List ℕ) (i to : ℕ) → slice_get ends i ≡ Some to → slice_range xs (start_of from ends i) to ≡ name_at (texts_from xs from ends) i
 text-at xs from [] i to h = cc
 text-at xs from (t ∷ ends) zero to h = ap (slice_range xs from) (sym (same_Some _ _ h))
 text-at xs from (t ∷ ends) (suc i) to h = text-at xs t ends i to h
@@ -58,27 +58,27 @@ range-last xs ys from to p q =
     ap (λ n. take n (drop from (xs ++ ys))) k ∙ (ap (λ n. take (length ys) (drop n (xs ++ ys))) p ∙ (ap (take (length ys)) (drop-append_seam xs ys) ∙ take_all (length ys) ys (omega arith)))
 
 -- a text put at the end
-pub push-text : (xs ys : List ℕ) (from : ℕ) (ends : List ℕ) (to : ℕ) → AreLaid (length xs) from ends → to ≡ length xs + length ys → cut (xs ++ ys) from (ends ++ to ∷ []) ≡ cut xs from ends ++ ys ∷ []
+pub push-text : (xs ys : List ℕ) (from : ℕ) (ends : List ℕ) (to : ℕ) → AreAscendingEnds (length xs) from ends → to ≡ length xs + length ys → texts_from (xs ++ ys) from (ends ++ to ∷ []) ≡ texts_from xs from ends ++ ys ∷ []
 push-text xs ys from [] to l q = ap (λ r. r ∷ []) (range-last xs ys from to (sym l) q)
 push-text xs ys from (t ∷ ends) to l q =
-    let first = range-more xs ys from t l.0 (laid-behind (length xs) t ends l.1) in
+    let first = range-more xs ys from t l.0 (ascending-behind (length xs) t ends l.1) in
     let rest = push-text xs ys t ends to l.1 q in
     cc
 
-pub laid-push : (n m from : ℕ) (ends : List ℕ) → n ≤ m → AreLaid n from ends → AreLaid m from (ends ++ m ∷ [])
-laid-push n m from [] le l = (omega (arith, l, le), refl)
-laid-push n m from (t ∷ ends) le l = (l.0, laid-push n m t ends le l.1)
+pub ascending-push : (n m from : ℕ) (ends : List ℕ) → n ≤ m → AreAscendingEnds n from ends → AreAscendingEnds m from (ends ++ m ∷ [])
+ascending-push n m from [] le l = (omega (arith, l, le), refl)
+ascending-push n m from (t ∷ ends) le l = (l.0, ascending-push n m t ends le l.1)
 
--- cut back to where a text begins
-pub laid-take : (n from : ℕ) (ends : List ℕ) (i : ℕ) → i < length ends → AreLaid n from ends → AreLaid (start_of from ends i) from (take i ends)
-laid-take n from [] i h l = absurd (omega (arith, h))
-laid-take n from (t ∷ ends) zero h l = refl
-laid-take n from (t ∷ ends) (suc i) h l = (l.0, laid-take n t ends i (omega (arith, h)) l.1)
+-- texts_from back to where a text begins
+pub ascending-take : (n from : ℕ) (ends : List ℕ) (i : ℕ) → i < length ends → AreAscendingEnds n from ends → AreAscendingEnds (start_of from ends i) from (take i ends)
+ascending-take n from [] i h l = absurd (omega (arith, h))
+ascending-take n from (t ∷ ends) zero h l = refl
+ascending-take n from (t ∷ ends) (suc i) h l = (l.0, ascending-take n t ends i (omega (arith, h)) l.1)
 
-pub cut-take : (xs : List ℕ) (from : ℕ) (ends : List ℕ) (i : ℕ) → i < length ends → AreLaid (length xs) from ends → cut (take (start_of from ends i) xs) from (take i ends) ≡ take i (cut xs from ends)
-cut-take xs from [] i h l = absurd (omega (arith, h))
-cut-take xs from (t ∷ ends) zero h l = refl
-cut-take xs from (t ∷ ends) (suc i) h l =
-    let first = range-take xs (start_of t ends i) from t l.0 (laid-start (length xs) t ends i l.1) (start-within (length xs) t ends i l.1) in
-    let rest = cut-take xs t ends i (omega (arith, h)) l.1 in
+pub texts_from-take : (xs : List ℕ) (from : ℕ) (ends : List ℕ) (i : ℕ) → i < length ends → AreAscendingEnds (length xs) from ends → texts_from (take (start_of from ends i) xs) from (take i ends) ≡ take i (texts_from xs from ends)
+texts_from-take xs from [] i h l = absurd (omega (arith, h))
+texts_from-take xs from (t ∷ ends) zero h l = refl
+texts_from-take xs from (t ∷ ends) (suc i) h l =
+    let first = range-take xs (start_of t ends i) from t l.0 (ascending-start (length xs) t ends i l.1) (start-within (length xs) t ends i l.1) in
+    let rest = texts_from-take xs t ends i (omega (arith, h)) l.1 in
     cc

@@ -1,16 +1,16 @@
 -- The words in which this crate is proved, passed on from one place.
 pub use Rattle.mm_lex.proofs.NameLemmas.{name_same, same_name}
 pub use Rattle.mm_lex.specs.Alphabet.{Name, has_name, name_eq}
-pub use Rattle.names.specs.Codes.{AreDistinct, AreNamed, code_of, name_at, number_in, numbers_in, with_name, with_names}
-pub use Rattle.names.specs.Stored.Keys.{AreBytes, digits, eight, ends, front_and_back, key_of, mixed, mixed_front, picked}
-pub use Rattle.names.specs.Stored.Overflow.{number_of}
-pub use Rattle.names.specs.Stored.Table.{AreFewer, AreFound, AreHeld, AreKept, AreUnused, IsFree, IsHeld, IsKept, IsPassed, IsTable, IsTaken, half_of, place_of, slot_at, slot_of}
-pub use Rattle.names.specs.Stored.Texts.{AreLaid, cut, start_of}
-pub use Rattle.names.specs.declared.kept.Kept.{Kept}
-pub use Rattle.names.specs.declared.keys.TheConstants.{APART, HINTS, LONG}
+pub use Rattle.names.specs.Codes.{AreDistinct, AreNamed, code_of, name_at, code_or_len, codes_or_len, with_name, with_names}
+pub use Rattle.names.specs.Stored.Keys.{AreBytes, digits, eight, first_middle_last, first_four_last_three, key_of, mixed, mixed_front, key_bytes}
+pub use Rattle.names.specs.Stored.Overflow.{code_in_overflow}
+pub use Rattle.names.specs.Stored.Table.{OverflowGrows, AreFound, AreReachable, AreNameKeys, AreUnused, IsFree, IsReachable, IsNameKey, IsPassed, IsTable, IsTaken, half_of, slot_index_of, slot_at, slot_of}
+pub use Rattle.names.specs.Stored.Texts.{AreAscendingEnds, texts_from, start_of}
+pub use Rattle.names.specs.declared.name_keys.NameKeys.{NameKeys}
+pub use Rattle.names.specs.declared.keys.TheConstants.{IN_OVERFLOW, LEAST_HASH, LEAST_HASHED_LEN}
 pub use Rattle.names.specs.declared.overflow.Overflow.{Overflow}
 pub use Rattle.names.specs.declared.table.Slot.{Slot}
-pub use Rattle.names.specs.declared.table.TheConstants.{NO_NAME, REACH}
+pub use Rattle.names.specs.declared.table.TheConstants.{NO_NAME, MAX_PROBES}
 pub use Rattle.std.proofs.Common.{add-one, ap, append_assoc, arith, inl, inr, length-append, rules, slice_set, subst, sym, true≢false, ◌∙◌}
 pub use Rattle.std.proofs.Math.Bool.{or_assoc}
 pub use Rattle.std.proofs.Math.Seq.{drop-append_seam}

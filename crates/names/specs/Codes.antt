@@ -1,4 +1,4 @@
--- Names by number: the code of a name is the index of its first occurrence in a list of names.
+-- Names by code: the code of a name is the index of its first occurrence in a list of names.
 -- Source: this project's form.
 -- The code looks a name up in a table of keys; the model has the list of names.
 use Rattle.std.specs.Prelude.{◌≡◌, ℕ, zero, suc, true, false, IsTrue, nat_lt, List, [], ◌∷◌, ◌++◌, length, map, position, Option, if◌then◌else◌}
@@ -35,11 +35,11 @@ AreDistinct [] = Unit {0}
 AreDistinct (x ∷ names) = (has_name x names ≡ false) × AreDistinct names
 
 -- the code of a name, or the number of names if it has none
-abbrev pub number_in : List Name → Name → ℕ
-number_in names x = position_or_len (name_eq x) names
+abbrev pub code_or_len : List Name → Name → ℕ
+code_or_len names x = position_or_len (name_eq x) names
 
-abbrev pub numbers_in : List Name → List Name → List ℕ
-numbers_in names xs = map (number_in names) xs
+abbrev pub codes_or_len : List Name → List Name → List ℕ
+codes_or_len names xs = map (code_or_len names) xs
 
 -- each of the names has a code
 abbrev pub AreNamed : List Name → List Name → Type 0

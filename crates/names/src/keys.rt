@@ -1,39 +1,39 @@
 //! A 64-bit key for each name: all bytes of a short name, a hash of a longer one.
 ghost use Rattle.std.specs.Prelude.{◌≡◌, ◌≢◌, ◌+◌, ◌*◌, ◌^◌, ◌<◌, ◌≤◌, length};
-ghost use Rattle.names.specs.Stored.Keys.{AreBytes, digits, picked, eight, spread_of, mixed, key_of};
+ghost use Rattle.names.specs.Stored.Keys.{AreBytes, digits, key_bytes, eight, scrambled, mixed, key_of};
 
 /// The least length of a name whose key is a hash, which other names may share. A shorter name shares its key with no other.
-pub(crate) const LONG: usize = 8;
+pub(crate) const LEAST_HASHED_LEN: usize = 8;
 
 /// The least hash. Keys of short names are lower.
-const HINTS: u64 = 0x8000_0000_0000_0000;
+const LEAST_HASH: u64 = 0x8000_0000_0000_0000;
 
 /// 2^64 divided by the golden ratio, rounded to an odd number: its bits are spread evenly.
 const FACTOR: u64 = 0x9e37_79b9_7f4a_7c15;
 
 /// Marks a name in the overflow. No name has this key.
-pub(crate) const APART: u64 = 0x7fff_ffff_ffff_ffff;
+pub(crate) const IN_OVERFLOW: u64 = 0x7fff_ffff_ffff_ffff;
 
 /// Returns the key of a name.
 pub(crate) fn key(name: &[u8]) -> u64
     ensures key { result ≡ key_of name.now }
     ensures bytes { AreBytes name.now }
-    ensures own { result ≢ APART }
+    ensures not_overflow { result ≢ IN_OVERFLOW }
 {
     match name.len() {
         0 => 0,
         1..=7 => short_key(name),
-        _ => hint(name),
+        _ => hash(name),
     }
 }
 
 /// Returns the key of a name of one to seven bytes.
 pub(crate) fn short_key(name: &[u8]) -> u64
     requires some { 1 ≤ length name.now }
-    requires short { length name.now < LONG }
+    requires short { length name.now < LEAST_HASHED_LEN }
     ensures key { result ≡ key_of name.now }
     ensures bytes { AreBytes name.now }
-    ensures own { result ≢ APART }
+    ensures not_overflow { result ≢ IN_OVERFLOW }
 {
     let bytes = if name.len() < 4 {
         few_bytes(name)
@@ -47,7 +47,7 @@ pub(crate) fn short_key(name: &[u8]) -> u64
 fn few_bytes(name: &[u8]) -> u64
     requires some { 1 ≤ length name.now }
     requires few { length name.now < 4 }
-    ensures digits { result ≡ digits (picked name.now) }
+    ensures digits { result ≡ digits (key_bytes name.now) }
     ensures below { result < 2 ^ 56 }
 {
     let len = name.len();
@@ -58,7 +58,7 @@ fn few_bytes(name: &[u8]) -> u64
 fn more_bytes(name: &[u8]) -> u64
     requires some { 4 ≤ length name.now }
     requires few { length name.now < 8 }
-    ensures digits { result ≡ digits (picked name.now) }
+    ensures digits { result ≡ digits (key_bytes name.now) }
     ensures below { result < 2 ^ 56 }
 {
     let len = name.len();
@@ -87,29 +87,29 @@ fn digit(byte: u8, above: u64) -> u64
 
 /// Returns the hash of a name of eight bytes or more: of its length and of its bytes, eight at a time. The last eight may
 /// overlap the ones before.
-pub(crate) fn hint(name: &[u8]) -> u64
-    requires { LONG ≤ length name.now }
+pub(crate) fn hash(name: &[u8]) -> u64
+    requires { LEAST_HASHED_LEN ≤ length name.now }
     ensures key { result ≡ key_of name.now }
-    ensures own { result ≢ APART }
+    ensures not_overflow { result ≢ IN_OVERFLOW }
 {
     let len = name.len();
     let mut front = len as u64;
     for block in 0..(len - 1) / 8 {
         front = mix(front, eight_bytes(name, 8 * block));
     }
-    mix(front, eight_bytes(name, len - 8)) % HINTS + HINTS
+    mix(front, eight_bytes(name, len - 8)) % LEAST_HASH + LEAST_HASH
 }
 
 /// Returns the hash with eight more bytes mixed in.
-fn mix(hint: u64, bytes: u64) -> u64
-    ensures { result ≡ mixed hint bytes }
+fn mix(hash: u64, bytes: u64) -> u64
+    ensures { result ≡ mixed hash bytes }
 {
-    spread(hint.wrapping_add(bytes))
+    scramble(hash.wrapping_add(bytes))
 }
 
 /// Returns a number whose lowest bytes depend on all bits of this one: they are the highest bytes of `FACTOR` times it.
-pub(crate) fn spread(number: u64) -> u64
-    ensures { result ≡ spread_of number }
+pub(crate) fn scramble(number: u64) -> u64
+    ensures { result ≡ scrambled number }
 {
     number.wrapping_mul(FACTOR).swap_bytes()
 }

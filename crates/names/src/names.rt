@@ -3,9 +3,9 @@ ghost use Rattle.std.specs.Prelude.{◌≡◌, ◌<◌, ◌≤◌, ◌^◌, [], 
 ghost use Rattle.mm_lex.specs.Alphabet.{has_name};
 ghost use Rattle.names.specs.Codes.{name_at, code_of, AreDistinct};
 
-use crate::kept::Kept;
-use crate::keys::{APART, key};
-use crate::table::{FIRST_SLOTS, NO_NAME, Slot, free_place, make_slot, search, table};
+use crate::keys::{IN_OVERFLOW, key};
+use crate::name_keys::NameKeys;
+use crate::table::{FIRST_SLOTS, NO_NAME, Slot, free_slot_index, make_slot, search, table};
 use crate::texts::Texts;
 use std::alloc::{AllocError, Global};
 use std::marker::Model;
@@ -17,7 +17,7 @@ use std::marker::Model;
 #[derive(Drop)]
 pub struct NameTable {
     texts: Texts,
-    kept: Kept,
+    name_keys: NameKeys,
     slots: Vec<Slot>,
     /// An upper bound on the slots that are taken, those of removed names included.
     taken: usize,
@@ -32,7 +32,7 @@ impl Model for NameTable {
 
     ghost view = { λ a. a.texts };
 
-    ghost invariant = { λ a. (length a.texts < 2 ^ 32) × (AreDistinct a.texts × IsTable a.slots.items a.kept a.texts) };
+    ghost invariant = { λ a. (length a.texts < 2 ^ 32) × (AreDistinct a.texts × IsTable a.slots.items a.name_keys a.texts) };
 }
 
 impl NameTable {
@@ -42,7 +42,7 @@ impl NameTable {
     {
         NameTable {
             texts: Texts::new(alloc),
-            kept: Kept::new(alloc),
+            name_keys: NameKeys::new(alloc),
             slots: Vec::new(alloc),
             taken: 0,
         }
@@ -55,12 +55,12 @@ impl NameTable {
         ensures { IfOk result (λ names. names ≡ self.now) }
     {
         let texts = self.texts.copy(alloc)?;
-        let mut kept = Kept::of(alloc, &texts)?;
-        let slots = table(alloc, &texts, &mut kept, 0)?;
+        let mut name_keys = NameKeys::of(alloc, &texts)?;
+        let slots = table(alloc, &texts, &mut name_keys, 0)?;
         let taken = texts.len();
         Ok(NameTable {
             texts,
-            kept,
+            name_keys,
             slots,
             taken,
         })
@@ -84,7 +84,7 @@ impl NameTable {
         ensures distinct { AreDistinct self.now }
     {
         let slots = self.slots.as_slice();
-        search(slots, &self.kept, &self.texts, name)
+        search(slots, &self.name_keys, &self.texts, name)
     }
 
     /// Returns the name of a code.
@@ -131,16 +131,16 @@ impl NameTable {
             return Err(AllocError);
         }
         let key = key(name);
-        match free_place(self.slots.as_slice(), key) {
+        match free_slot_index(self.slots.as_slice(), key) {
             Some(at) => {
-                self.kept.push(code, key)?;
+                self.name_keys.push(code, key)?;
                 self.texts.push(name)?;
                 self.slots[at] = make_slot(key, code as u32);
                 self.taken = self.taken.saturating_add(1);
             }
             None => {
-                self.kept.push(code, APART)?;
-                self.kept.overflow.insert(alloc, name, code as u32)?;
+                self.name_keys.push(code, IN_OVERFLOW)?;
+                self.name_keys.overflow.insert(alloc, name, code as u32)?;
                 self.texts.push(name)?;
             }
         }
@@ -152,7 +152,7 @@ impl NameTable {
         ensures { self.new ≡ self.old }
     {
         self.texts.reserve(more);
-        self.kept.reserve(more);
+        self.name_keys.reserve(more);
         let _ = self.make_room(alloc, more);
     }
 
@@ -161,16 +161,16 @@ impl NameTable {
         ensures { self.new ≡ self.old }
     {
         if self.taken.saturating_add(more) > self.slots.len() / 8 * 7 {
-            self.renew(alloc, more)?;
+            self.rebuild(alloc, more)?;
         }
         Ok(())
     }
 
     /// Makes a new table, with room for as many names again, or for `more` if that is greater.
-    fn renew(&mut self, alloc: Global, more: usize) -> Result<(), AllocError>
+    fn rebuild(&mut self, alloc: Global, more: usize) -> Result<(), AllocError>
         ensures { self.new ≡ self.old }
     {
-        self.slots = table(alloc, &self.texts, &mut self.kept, more)?;
+        self.slots = table(alloc, &self.texts, &mut self.name_keys, more)?;
         self.taken = self.texts.len();
         Ok(())
     }
@@ -184,7 +184,7 @@ impl NameTable {
         if len >= self.texts.len() {
             return;
         }
-        self.kept.truncate(&self.texts, len);
+        self.name_keys.truncate(&self.texts, len);
         self.texts.truncate(len);
     }
 
@@ -196,9 +196,9 @@ impl NameTable {
         ensures { self.new ≡ self.old }
     {
         self.texts.shrink();
-        self.kept.shrink(self.texts.len());
+        self.name_keys.shrink(self.texts.len());
         if self.slots.len() / 8 > self.texts.len().max(FIRST_SLOTS) {
-            let _ = self.renew(alloc, 0);
+            let _ = self.rebuild(alloc, 0);
         }
     }
 }

@@ -1,15 +1,15 @@
-//! The hash table in which the codes of names are found. Here they are called numbers.
+//! The hash table in which the codes of names are found.
 ghost use Rattle.std.specs.Prelude.{◌≡◌, ◌≢◌, ◌+◌, ◌⊎◌, ℕ, ◌<◌, ◌≤◌, ◌^◌, [], length, get_or, IfOk, OnOk, IfSome, None, true, false};
 ghost use Rattle.mm_lex.specs.Alphabet.{Name};
 ghost use Rattle.names.specs.Codes.{name_at, code_of, AreDistinct};
 ghost use Rattle.names.specs.Stored.Keys.{key_of};
-ghost use Rattle.names.specs.Stored.Overflow.{number_of};
-ghost use Rattle.names.specs.Stored.Table.{half_of, slot_of, place_of, slot_at, AreFound, AreKept, AreFewer, AreHeld, AreUnused, IsFree};
-ghost use Rattle.names.specs.declared.keys.TheConstants.{APART};
-ghost use Rattle.names.specs.declared.table.TheConstants.{REACH};
+ghost use Rattle.names.specs.Stored.Overflow.{code_in_overflow};
+ghost use Rattle.names.specs.Stored.Table.{half_of, slot_of, slot_index_of, slot_at, AreFound, AreNameKeys, OverflowGrows, AreReachable, AreUnused, IsFree};
+ghost use Rattle.names.specs.declared.keys.TheConstants.{IN_OVERFLOW};
+ghost use Rattle.names.specs.declared.table.TheConstants.{MAX_PROBES};
 
-use crate::kept::Kept;
-use crate::keys::{APART, LONG, hint, key, short_key, spread};
+use crate::keys::{IN_OVERFLOW, LEAST_HASHED_LEN, hash, key, scramble, short_key};
+use crate::name_keys::NameKeys;
 use crate::overflow::Overflow;
 use crate::texts::{Texts, item};
 use std::alloc::{AllocError, Global};
@@ -18,7 +18,7 @@ use std::alloc::{AllocError, Global};
 pub(crate) const NO_NAME: u32 = 4294967295;
 
 /// How many slots are probed for one name. If none of them is free, the name goes into the overflow.
-pub(crate) const REACH: usize = 32;
+pub(crate) const MAX_PROBES: usize = 32;
 
 /// How many slots the first table has.
 pub(crate) const FIRST_SLOTS: usize = 16;
@@ -26,11 +26,11 @@ pub(crate) const FIRST_SLOTS: usize = 16;
 /// How many values the half of a key can have.
 const HALVES: u64 = 0x1_0000_0000;
 
-/// The lower half of the key of a name, and the number of the name, or `NO_NAME`. `Kept` has the whole key.
+/// The lower half of the key of a name, and the code of the name, or `NO_NAME`. `NameKeys` has the whole key.
 #[derive(Clone, Copy, Drop)]
 pub struct Slot {
     pub half: u32,
-    pub number: u32,
+    pub code: u32,
 }
 
 /// Returns the lower half of a key.
@@ -41,164 +41,169 @@ fn half(key: u64) -> u32
 }
 
 /// Returns the slot of a name with this key.
-pub(crate) fn make_slot(key: u64, number: u32) -> Slot
-    ensures { result ≡ slot_of key number }
+pub(crate) fn make_slot(key: u64, code: u32) -> Slot
+    ensures { result ≡ slot_of key code }
 {
     Slot {
         half: half(key),
-        number,
+        code,
     }
 }
 
-/// Returns the index of the slot that a step probes: step 0 by `spread` of the key, and step n at n slots after the one of
+/// Returns the index of the slot that a step probes: step 0 by `scramble` of the key, and step n at n slots after the one of
 /// step n - 1. `len` is a power of two.
-fn place(key: u64, step: usize, len: usize) -> usize
+fn slot_index(key: u64, step: usize, len: usize) -> usize
     requires some { 0 < len }
-    requires near { step < REACH }
-    ensures place { result ≡ place_of key step len }
+    requires near { step < MAX_PROBES }
+    ensures index { result ≡ slot_index_of key step len }
     ensures inside { result < len }
 {
-    (spread(key) as usize).wrapping_add(step * (step + 1) / 2) & (len - 1)
+    (scramble(key) as usize).wrapping_add(step * (step + 1) / 2) & (len - 1)
 }
 
 /// Returns how many steps a search takes at most.
-fn steps(len: usize) -> usize
+fn max_steps(len: usize) -> usize
     ensures within { result ≤ len }
-    ensures near { result ≤ REACH }
-    ensures all { (len ≤ result) ⊎ (REACH ≤ result) }
+    ensures near { result ≤ MAX_PROBES }
+    ensures all { (len ≤ result) ⊎ (MAX_PROBES ≤ result) }
 {
-    if len < REACH { len } else { REACH }
+    if len < MAX_PROBES { len } else { MAX_PROBES }
 }
 
 /// Returns the slot that a step probes.
-fn look(slots: &[Slot], key: u64, step: usize) -> Slot
+fn probe(slots: &[Slot], key: u64, step: usize) -> Slot
     requires within { step < length slots.now }
-    requires near { step < REACH }
+    requires near { step < MAX_PROBES }
     ensures { slot_at slots.now key step result }
 {
-    item(slots, place(key, step, slots.len()))
+    item(slots, slot_index(key, step, slots.len()))
 }
 
-/// Returns the number of a name, or `None` if it has none. Most short names are in the first slot, so that no text is read.
+/// Returns the code of a name, or `None` if it has none. Most short names are in the first slot, so that no text is read.
 #[inline(always)]
-pub(crate) fn search(slots: &[Slot], kept: &Kept, texts: &Texts, name: &[u8]) -> Option<usize>
-    requires found { AreFound slots.now kept.now.overflow texts.now }
-    requires kept { AreKept kept.now texts.now }
+pub(crate) fn search(
+    slots: &[Slot],
+    name_keys: &NameKeys,
+    texts: &Texts,
+    name: &[u8],
+) -> Option<usize>
+    requires found { AreFound slots.now name_keys.now.overflow texts.now }
+    requires name_keys { AreNameKeys name_keys.now texts.now }
     requires distinct { AreDistinct texts.now }
     requires few { length texts.now < 2 ^ 32 }
     ensures { result ≡ code_of texts.now name.now }
 {
-    if slots.is_empty() || name.is_empty() || name.len() >= LONG {
-        return search_long(slots, kept, texts, name);
+    if slots.is_empty() || name.is_empty() || name.len() >= LEAST_HASHED_LEN {
+        return search_long(slots, name_keys, texts, name);
     }
     let key = short_key(name);
-    let slot = look(slots, key, 0);
-    if slot.half == half(key) && kept.has(texts, slot.number, key) {
-        return Some(slot.number as usize);
+    let slot = probe(slots, key, 0);
+    if slot.half == half(key) && name_keys.has(texts, slot.code, key) {
+        return Some(slot.code as usize);
     }
-    if is_end(slot, kept) {
+    if is_absent(slot, name_keys) {
         return None;
     }
-    search_on(slots, kept, texts, name)
+    search_slots(slots, name_keys, texts, name)
 }
 
-/// Returns the number of a name, quickly if it is long and in the first slot.
+/// Returns the code of a name, quickly if it is long and in the first slot.
 #[inline(never)]
-fn search_long(slots: &[Slot], kept: &Kept, texts: &Texts, name: &[u8]) -> Option<usize>
-    requires found { AreFound slots.now kept.now.overflow texts.now }
-    requires kept { AreKept kept.now texts.now }
+fn search_long(slots: &[Slot], name_keys: &NameKeys, texts: &Texts, name: &[u8]) -> Option<usize>
+    requires found { AreFound slots.now name_keys.now.overflow texts.now }
+    requires name_keys { AreNameKeys name_keys.now texts.now }
     requires distinct { AreDistinct texts.now }
     requires few { length texts.now < 2 ^ 32 }
     ensures { result ≡ code_of texts.now name.now }
 {
-    if slots.is_empty() || name.len() < LONG {
-        return search_on(slots, kept, texts, name);
+    if slots.is_empty() || name.len() < LEAST_HASHED_LEN {
+        return search_slots(slots, name_keys, texts, name);
     }
-    let key = hint(name);
-    let slot = look(slots, key, 0);
-    if slot.half == half(key) && is_text(texts, slot.number, name) {
-        return Some(slot.number as usize);
+    let key = hash(name);
+    let slot = probe(slots, key, 0);
+    if slot.half == half(key) && is_text(texts, slot.code, name) {
+        return Some(slot.code as usize);
     }
-    if is_end(slot, kept) {
+    if is_absent(slot, name_keys) {
         return None;
     }
-    search_on(slots, kept, texts, name)
+    search_slots(slots, name_keys, texts, name)
 }
 
-/// Returns the number of a name by a search slot by slot.
+/// Returns the code of a name by a search slot by slot.
 #[inline(never)]
-fn search_on(slots: &[Slot], kept: &Kept, texts: &Texts, name: &[u8]) -> Option<usize>
-    requires found { AreFound slots.now kept.now.overflow texts.now }
-    requires kept { AreKept kept.now texts.now }
+fn search_slots(slots: &[Slot], name_keys: &NameKeys, texts: &Texts, name: &[u8]) -> Option<usize>
+    requires found { AreFound slots.now name_keys.now.overflow texts.now }
+    requires name_keys { AreNameKeys name_keys.now texts.now }
     requires distinct { AreDistinct texts.now }
     requires few { length texts.now < 2 ^ 32 }
     ensures { result ≡ code_of texts.now name.now }
 {
     let key = key(name);
     let half = half(key);
-    for step in 0..steps(slots.len()) {
-        let slot = look(slots, key, step);
-        if slot.number == NO_NAME {
-            return search_apart(&kept.overflow, texts, name);
+    for step in 0..max_steps(slots.len()) {
+        let slot = probe(slots, key, step);
+        if slot.code == NO_NAME {
+            return search_overflow(&name_keys.overflow, texts, name);
         }
-        if slot.half == half && is_name(kept, texts, slot.number, key, name) {
-            return Some(slot.number as usize);
+        if slot.half == half && is_name(name_keys, texts, slot.code, key, name) {
+            return Some(slot.code as usize);
         }
     }
-    search_apart(&kept.overflow, texts, name)
+    search_overflow(&name_keys.overflow, texts, name)
 }
 
-/// Returns whether the slot is free and the overflow empty: a name whose first slot this is then has no number.
-fn is_end(slot: Slot, kept: &Kept) -> bool
-    ensures { result ≡ true → (slot.number ≡ NO_NAME) × ((x : Name) → number_of kept.now.overflow x ≡ None) }
+/// Returns whether the slot is free and the overflow empty: a name whose first slot this is then has no code.
+fn is_absent(slot: Slot, name_keys: &NameKeys) -> bool
+    ensures { result ≡ true → (slot.code ≡ NO_NAME) × ((x : Name) → code_in_overflow name_keys.now.overflow x ≡ None) }
 {
-    slot.number == NO_NAME && kept.overflow.is_empty()
+    slot.code == NO_NAME && name_keys.overflow.is_empty()
 }
 
-/// Returns the number of a name in the overflow, or `None` if it is not there.
-fn search_apart(overflow: &Overflow, texts: &Texts, name: &[u8]) -> Option<usize>
+/// Returns the code of a name in the overflow, or `None` if it is not there.
+fn search_overflow(overflow: &Overflow, texts: &Texts, name: &[u8]) -> Option<usize>
     requires { AreDistinct texts.now }
     ensures some { IfSome result (λ n. code_of texts.now name.now ≡ Some n) }
-    ensures none { result ≡ None → (k : ℕ) → k < length texts.now → name_at texts.now k ≡ name.now → number_of overflow.now name.now ≢ Some k }
+    ensures none { result ≡ None → (k : ℕ) → k < length texts.now → name_at texts.now k ≡ name.now → code_in_overflow overflow.now name.now ≢ Some k }
 {
     if overflow.is_empty() {
         return None;
     }
     match overflow.get(name) {
-        Some(number) if is_text(texts, number, name) => Some(number as usize),
+        Some(code) if is_text(texts, code, name) => Some(code as usize),
         _ => None,
     }
 }
 
-/// Returns whether a number is that of the name with this key. For a short name the key decides.
-fn is_name(kept: &Kept, texts: &Texts, number: u32, key: u64, name: &[u8]) -> bool
-    requires kept { AreKept kept.now texts.now }
+/// Returns whether a code is that of the name with this key. For a short name the key decides.
+fn is_name(name_keys: &NameKeys, texts: &Texts, code: u32, key: u64, name: &[u8]) -> bool
+    requires name_keys { AreNameKeys name_keys.now texts.now }
     requires key { key ≡ key_of name.now }
-    requires own { key ≢ APART }
-    ensures yes { result ≡ true → (number < length texts.now) × (name_at texts.now number ≡ name.now) }
-    ensures no { result ≡ false → number < length texts.now → name_at texts.now number ≡ name.now → ⊥ }
+    requires not_overflow { key ≢ IN_OVERFLOW }
+    ensures yes { result ≡ true → (code < length texts.now) × (name_at texts.now code ≡ name.now) }
+    ensures no { result ≡ false → code < length texts.now → name_at texts.now code ≡ name.now → ⊥ }
 {
-    if name.len() < LONG && kept.has(texts, number, key) {
+    if name.len() < LEAST_HASHED_LEN && name_keys.has(texts, code, key) {
         return true;
     }
-    is_text(texts, number, name)
+    is_text(texts, code, name)
 }
 
-/// Returns whether the text of a number is the name.
-fn is_text(texts: &Texts, number: u32, name: &[u8]) -> bool
-    ensures yes { result ≡ true → (number < length texts.now) × (name_at texts.now number ≡ name.now) }
-    ensures no { result ≡ false → number < length texts.now → name_at texts.now number ≡ name.now → ⊥ }
+/// Returns whether the text of a code is the name.
+fn is_text(texts: &Texts, code: u32, name: &[u8]) -> bool
+    ensures yes { result ≡ true → (code < length texts.now) × (name_at texts.now code ≡ name.now) }
+    ensures no { result ≡ false → code < length texts.now → name_at texts.now code ≡ name.now → ⊥ }
 {
-    (number as usize) < texts.len() && texts.get(number as usize) == name
+    (code as usize) < texts.len() && texts.get(code as usize) == name
 }
 
 /// Returns the index of the first free slot for this key, or `None` if the steps meet none.
-pub(crate) fn free_place(slots: &[Slot], key: u64) -> Option<usize>
+pub(crate) fn free_slot_index(slots: &[Slot], key: u64) -> Option<usize>
     ensures { IfSome result (IsFree slots.now key) }
 {
-    for step in 0..steps(slots.len()) {
-        if look(slots, key, step).number == NO_NAME {
-            return Some(place(key, step, slots.len()));
+    for step in 0..max_steps(slots.len()) {
+        if probe(slots, key, step).code == NO_NAME {
+            return Some(slot_index(key, step, slots.len()));
         }
     }
     None
@@ -209,50 +214,50 @@ pub(crate) fn free_place(slots: &[Slot], key: u64) -> Option<usize>
 pub(crate) fn table(
     alloc: Global,
     texts: &Texts,
-    kept: &mut Kept,
+    name_keys: &mut NameKeys,
     more: usize,
 ) -> Result<Vec<Slot>, AllocError>
     requires few { length texts.now < 2 ^ 32 }
     requires distinct { AreDistinct texts.now }
-    requires kept { AreKept kept.old texts.now }
-    ensures kept { AreKept kept.new texts.now }
-    ensures fewer { AreFewer kept.old kept.new }
-    ensures held { IfOk result (λ slots. AreHeld (length texts.now) slots.items kept.new texts.now) }
+    requires name_keys { AreNameKeys name_keys.old texts.now }
+    ensures name_keys { AreNameKeys name_keys.new texts.now }
+    ensures overflow_grows { OverflowGrows name_keys.old name_keys.new }
+    ensures reachable { IfOk result (λ slots. AreReachable (length texts.now) slots.items name_keys.new texts.now) }
 {
     let mut slots = free_slots(alloc, slots_for(texts.len(), more))?;
-    for number in 0..texts.len() {
-        settle(alloc, &mut slots, texts, kept, number)?;
+    for code in 0..texts.len() {
+        insert_or_overflow(alloc, &mut slots, texts, name_keys, code)?;
     }
     Ok(slots)
 }
 
 /// Finds a slot for a text, or puts it into the overflow.
-fn settle(
+fn insert_or_overflow(
     alloc: Global,
     slots: &mut Vec<Slot>,
     texts: &Texts,
-    kept: &mut Kept,
-    number: usize,
+    name_keys: &mut NameKeys,
+    code: usize,
 ) -> Result<(), AllocError>
-    requires number { number < length texts.now }
+    requires code { code < length texts.now }
     requires few { length texts.now < 2 ^ 32 }
     requires distinct { AreDistinct texts.now }
-    requires kept { AreKept kept.old texts.now }
-    requires held { AreHeld number slots.old.items kept.old texts.now }
-    ensures kept { AreKept kept.new texts.now }
-    ensures fewer { AreFewer kept.old kept.new }
-    ensures held { OnOk result (AreHeld (number + 1) slots.new.items kept.new texts.now) }
+    requires name_keys { AreNameKeys name_keys.old texts.now }
+    requires reachable { AreReachable code slots.old.items name_keys.old texts.now }
+    ensures name_keys { AreNameKeys name_keys.new texts.now }
+    ensures overflow_grows { OverflowGrows name_keys.old name_keys.new }
+    ensures reachable { OnOk result (AreReachable (code + 1) slots.new.items name_keys.new texts.now) }
 {
-    let key = kept.keys[number];
-    if key == APART {
+    let key = name_keys.keys[code];
+    if key == IN_OVERFLOW {
         return Ok(());
     }
-    match free_place(slots.as_slice(), key) {
+    match free_slot_index(slots.as_slice(), key) {
         Some(at) => {
-            slots[at] = make_slot(key, number as u32);
+            slots[at] = make_slot(key, code as u32);
             Ok(())
         }
-        None => kept.put_in_overflow(alloc, number, texts.get(number)),
+        None => name_keys.put_in_overflow(alloc, code, texts.get(code)),
     }
 }
 

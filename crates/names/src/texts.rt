@@ -1,13 +1,13 @@
-//! Texts by number, one after the other in one buffer.
+//! Texts by index, one after the other in one buffer.
 ghost use Rattle.std.specs.Prelude.{◌≡◌, ◌+◌, ◌<◌, ◌≤◌, [], ◌∷◌, ◌++◌, take, length, slice_get, Some, IfOk, OnOk, OnErr};
 ghost use Rattle.names.specs.Codes.{name_at};
-ghost use Rattle.names.specs.Stored.Texts.{cut, start_of, AreLaid};
+ghost use Rattle.names.specs.Stored.Texts.{texts_from, start_of, AreAscendingEnds};
 
 use entries::give_back;
 use std::alloc::{AllocError, Global};
 use std::marker::Model;
 
-/// Texts by number, from 0. Each begins where the one before it ends.
+/// Texts by index, from 0. Each begins where the one before it ends.
 #[derive(Drop)]
 pub struct Texts {
     bytes: Vec<u8>,
@@ -16,13 +16,13 @@ pub struct Texts {
 
 impl Model for Texts {
     ghost use Rattle.std.specs.Prelude.{ℕ, List, length};
-    ghost use Rattle.names.specs.Stored.Texts.{cut, AreLaid};
+    ghost use Rattle.names.specs.Stored.Texts.{texts_from, AreAscendingEnds};
 
     ghost Value = { List (List ℕ) };
 
-    ghost view = { λ a. cut a.bytes.items 0 a.ends.items };
+    ghost view = { λ a. texts_from a.bytes.items 0 a.ends.items };
 
-    ghost invariant = { λ a. AreLaid (length a.bytes.items) 0 a.ends.items };
+    ghost invariant = { λ a. AreAscendingEnds (length a.bytes.items) 0 a.ends.items };
 }
 
 impl Texts {
@@ -52,15 +52,15 @@ impl Texts {
         self.ends.len()
     }
 
-    /// Returns the text of a number.
-    pub(crate) fn get(&self, number: usize) -> &[u8]
-        requires { number < length self.now }
-        ensures { result.now ≡ name_at self.now number }
+    /// Returns the text at an index.
+    pub(crate) fn get(&self, index: usize) -> &[u8]
+        requires { index < length self.now }
+        ensures { result.now ≡ name_at self.now index }
     {
-        part(self.bytes.as_slice(), self.ends.as_slice(), number)
+        part(self.bytes.as_slice(), self.ends.as_slice(), index)
     }
 
-    /// Appends a text, which gets the next number.
+    /// Appends a text, which gets the next index.
     pub(crate) fn push(&mut self, text: &[u8]) -> Result<(), AllocError>
         ensures ok { OnOk result (self.new ≡ self.old ++ text.now ∷ []) }
         ensures err { OnErr result (self.new ≡ self.old) }
@@ -103,27 +103,23 @@ impl Texts {
     }
 }
 
-/// Returns the text of a number.
-fn part<'a>(bytes: &'a [u8], ends: &[usize], number: usize) -> &'a [u8]
-    requires number { number < length ends.now }
-    requires laid { AreLaid (length bytes.now) 0 ends.now }
-    ensures { result.now ≡ name_at (cut bytes.now 0 ends.now) number }
+/// Returns the text at an index.
+fn part<'a>(bytes: &'a [u8], ends: &[usize], index: usize) -> &'a [u8]
+    requires index { index < length ends.now }
+    requires ascending { AreAscendingEnds (length bytes.now) 0 ends.now }
+    ensures { result.now ≡ name_at (texts_from bytes.now 0 ends.now) index }
 {
-    let from = start(ends, number);
-    let to = item(ends, number);
+    let from = start(ends, index);
+    let to = item(ends, index);
     &bytes[from..to]
 }
 
-/// Returns where the text of a number begins.
-fn start(ends: &[usize], number: usize) -> usize
-    requires { number ≤ length ends.now }
-    ensures { result ≡ start_of 0 ends.now number }
+/// Returns where the text at an index begins.
+fn start(ends: &[usize], index: usize) -> usize
+    requires { index ≤ length ends.now }
+    ensures { result ≡ start_of 0 ends.now index }
 {
-    if number == 0 {
-        0
-    } else {
-        item(ends, number - 1)
-    }
+    if index == 0 { 0 } else { item(ends, index - 1) }
 }
 
 /// Returns the item at an index.

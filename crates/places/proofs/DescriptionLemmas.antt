@@ -1,5 +1,5 @@
 -- The walk over the runs of a text finds the description of each statement.
-use Rattle.places.proofs.Words.{◌≡◌, ℕ, suc, ◌<◌, ◌≤◌, Bool, true, false, not, ◌&&◌, ◌||◌, cond, List, [], ◌∷◌, ◌++◌, length, drop, flat_map, Option, Some, None, codes, refl, sym, ◌∙◌, ap, arith, append_assoc, length-append, list_all, and_parts, and_from, both_ways, append-nil, map-append, length-map, length-drop, list_all-append, Span, Name, name_eq, runs, word, is_symbol, is_label, opener, closer, is_plain, AllPlain, Part, part_spans, IsPart, AreParts, Cuts, words, runs_after, name_same, Stmt, Open, Close, Const, Var, Disj, Float, Ess, Axiom, Prove, Database, is_shaped, AreShaped, are_symbols, has_two, stmt_tokens, tokens_of, Reads, symbols_of, Walk, Inside, Outside, ends_statement, contents, comments_before, comments_in, comments_of, first_of, statement_comments, AreDescriptions, at_start, after_run, begun_description, walk_over}
+use Rattle.places.proofs.Words.{◌≡◌, ℕ, suc, ◌<◌, ◌≤◌, Bool, true, false, not, ◌&&◌, ◌||◌, cond, List, [], ◌∷◌, ◌++◌, length, drop, flat_map, Option, Some, None, codes, refl, sym, ◌∙◌, ap, arith, append_assoc, length-append, list_all, and_parts, and_from, both_ways, append-nil, map-append, length-map, length-drop, list_all-append, Span, Name, name_eq, runs, word, is_symbol, is_label, opener, closer, is_plain, AllPlain, Part, part_spans, IsPart, AreParts, SplitsInto, words, runs_after, name_same, Stmt, Open, Close, Const, Var, Disj, Float, Ess, Axiom, Prove, Database, is_shaped, AreShaped, are_symbols, has_two, stmt_tokens, tokens_of, Reads, symbols_of, Walk, Inside, Outside, ends_statement, contents, comments_before, comments_in, comments_of, first_of, statement_comments, AreDescriptions, at_start, after_run, begun_description, walk_over}
 use Rattle.places.proofs.TokenSpanLemmas.{symbol_goes_on, label_goes_on}
 
 -- ---- the loop
@@ -101,12 +101,12 @@ module _ (text : List ℕ) where
       ∙ (pass ∙ (walk_after ∙ ap (λ ws. picked begins ws (flat_map comments_in (p ∷ ps))) (sym joined))))
 
   -- the whole text
-  text_walk : (tokens : List Span) (cut : Cuts text (runs text) tokens)
-      → walk_over text at_start (runs text) ≡ picked true (words text tokens) (comments_of cut.first cut.parts)
-  text_walk tokens cut =
-      let all = plain_walk cut.first (flat_map part_spans cut.parts) (words text (outer cut.parts)) (flat_map comments_in cut.parts) cut.plain (parts_walk cut.parts cut.comments) None true in
-      let joined : words text tokens ≡ words text cut.first ++ words text (outer cut.parts) = ap (words text) cut.outside ∙ map-append (word text) cut.first (outer cut.parts) in
-      ap (walk_over text at_start) cut.whole ∙ (all ∙ ap (λ ws. picked true ws (comments_of cut.first cut.parts)) (sym joined))
+  text_walk : (tokens : List Span) (split : SplitsInto text (runs text) tokens)
+      → walk_over text at_start (runs text) ≡ picked true (words text tokens) (comments_of split.first split.parts)
+  text_walk tokens split =
+      let all = plain_walk split.first (flat_map part_spans split.parts) (words text (outer split.parts)) (flat_map comments_in split.parts) split.plain (parts_walk split.parts split.comments) None true in
+      let joined : words text tokens ≡ words text split.first ++ words text (outer split.parts) = ap (words text) split.outside ∙ map-append (word text) split.first (outer split.parts) in
+      ap (walk_over text at_start) split.whole ∙ (all ∙ ap (λ ws. picked true ws (comments_of split.first split.parts)) (sym joined))
 
 -- ---- as many comments as tokens
 
@@ -220,21 +220,21 @@ statements_picked (s ∷ S) comments h room =
     let total = length-append (stmt_tokens s) (tokens_of S) in
     let whole : stmt_tokens s ++ tokens_of S ≡ one.front ++ (one.last ∷ tokens_of S) = ap (λ r. r ++ tokens_of S) one.whole ∙ append_assoc one.front (one.last ∷ []) (tokens_of S) in
     let here = pick_one one.last (tokens_of S) one.end one.front comments one.on (omega (arith, count, total, room)) in
-    let cut : drop (suc (length one.front)) comments ≡ drop (length (stmt_tokens s)) comments = ap (λ n. drop n comments) (sym count) in
+    let split : drop (suc (length one.front)) comments ≡ drop (length (stmt_tokens s)) comments = ap (λ n. drop n comments) (sym count) in
     let left = length-drop (length (stmt_tokens s)) comments in
     let more = statements_picked S (drop (length (stmt_tokens s)) comments) both.1 (omega (arith, left, total, room)) in
     ap (λ ws. picked true ws comments) whole
-    ∙ (here ∙ (ap (λ l. first_of comments ∷ picked true (tokens_of S) l) cut ∙ ap (λ l. first_of comments ∷ l) more))
+    ∙ (here ∙ (ap (λ l. first_of comments ∷ picked true (tokens_of S) l) split ∙ ap (λ l. first_of comments ∷ l) more))
 
 -- what the walk lists is the descriptions
 pub walk_describes : (text : List ℕ) (S : Database) (list : List (Option Span)) → Reads text S → list ≡ walk_over text at_start (runs text) → AreDescriptions text S list
 walk_describes text S list reads e =
     let tokens : List Span = reads.tokens.0 in
-    let cut : Cuts text (runs text) tokens = reads.tokens.1.1 in
-    let count : length (comments_of cut.first cut.parts) ≡ length tokens = count_of cut.first cut.parts ∙ ap length (sym cut.outside) in
+    let split : SplitsInto text (runs text) tokens = reads.tokens.1.1 in
+    let count : length (comments_of split.first split.parts) ≡ length tokens = count_of split.first split.parts ∙ ap length (sym split.outside) in
     let words_are : words text tokens ≡ tokens_of S = reads.tokens.2 in
     let as_many : length (tokens_of S) ≡ length tokens = ap length (sym words_are) ∙ length-map tokens (word text) in
-    let picks = text_walk text tokens cut in
-    let named = ap (λ ws. picked true ws (comments_of cut.first cut.parts)) words_are in
-    let found = statements_picked S (comments_of cut.first cut.parts) reads.shaped (omega (arith, count, as_many)) in
-    (tokens, cut, e ∙ (picks ∙ (named ∙ found)))
+    let picks = text_walk text tokens split in
+    let named = ap (λ ws. picked true ws (comments_of split.first split.parts)) words_are in
+    let found = statements_picked S (comments_of split.first split.parts) reads.shaped (omega (arith, count, as_many)) in
+    (tokens, split, e ∙ (picks ∙ (named ∙ found)))

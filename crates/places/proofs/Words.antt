@@ -5,7 +5,7 @@ pub use Rattle.mm_lex.proofs.NameLemmas.{name_same}
 pub use Rattle.mm_lex.proofs.TokensLemmas.{AreTokens-unique}
 pub use Rattle.mm_lex.specs.Alphabet.{Name, has_byte, is_label, is_symbol, is_white, name_eq, runs, runs_from, starts_white, with_byte, word}
 pub use Rattle.mm_lex.specs.Comments.{runs_after}
-pub use Rattle.mm_lex.specs.Tokens.{AllPlain, AreParts, AreTokens, Cuts, IsPart, Part, closer, is_plain, opener, part_spans, words}
+pub use Rattle.mm_lex.specs.Tokens.{AllPlain, AreParts, AreTokens, SplitsInto, IsPart, Part, closer, is_plain, opener, part_spans, words}
 pub use Rattle.mm_lex.specs.declared.span.Span.{Span}
 pub use Rattle.mm_read.proofs.StatementsLemmas.{label_plain, plain_is_no_key, symbol_plain, symbols_of}
 pub use Rattle.mm_read.specs.Reads.{Reads}

@@ -1,10 +1,10 @@
 -- The descriptions of the statements of a text: the last comment between the previous statement and the first token of each.
 -- Source: Metamath, 4.4 (a description is the comment right before the label).
--- The code goes once over the runs; here the text is cut at its comments, and each token is paired with the comment right before it.
+-- The code goes once over the runs; here the text is split at its comments, and each token is paired with the comment right before it.
 use Rattle.std.specs.Prelude.{◌≡◌, ℕ, List, [], ◌∷◌, ◌++◌, length, drop, flat_map, Option, Some, None}
 use Rattle.mm_lex.specs.declared.span.Span.{Span}
 use Rattle.mm_lex.specs.Alphabet.{runs}
-use Rattle.mm_lex.specs.Tokens.{Part, Cuts}
+use Rattle.mm_lex.specs.Tokens.{Part, SplitsInto}
 use Rattle.mm_read.specs.Statements.{Database, stmt_tokens}
 
 -- the span of the contents of a comment, between its delimiters
@@ -36,4 +36,4 @@ statement_comments (s ∷ S) comments = first_of comments ∷ statement_comments
 
 -- the descriptions of the statements that the text writes
 abbrev pub AreDescriptions : List ℕ → Database → List (Option Span) → Type 0
-AreDescriptions text S list = (tokens : List Span) × (cut : Cuts text (runs text) tokens) × (list ≡ statement_comments S (comments_of cut.first cut.parts))
+AreDescriptions text S list = (tokens : List Span) × (split : SplitsInto text (runs text) tokens) × (list ≡ statement_comments S (comments_of split.first split.parts))

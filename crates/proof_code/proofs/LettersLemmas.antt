@@ -58,9 +58,9 @@ is_first-true c low high = grind (arith, nat_tests)
 -- words of one size after some letters in a row, where they count a row of `size` numbers wherever they stand
 numbers_of_first : (words : List Name) (size below d e a k : ℕ) → e ≡ 5 * d + (a - 84) → 85 ≤ a → a + k ≤ 90 → ((e : ℕ) → map (number_from e) words ≡ row (suc (e * size + below)) size)
     → map (number_from d) (flat_map (λ letter. after_letter letter words) (range_with_len a k)) ≡ row (suc (e * size + below)) (k * size)
-numbers_of_first words size below d e a zero is low high counted = let none : 0 ≡ 0 * size = omega arith in ap (row (suc (e * size + below))) none
-numbers_of_first words size below d e a (suc k) is low high counted =
-    rw (map-append, numbers_after d e a words (is_first-true a low (omega arith)) (sym is), counted e, numbers_of_first words size below d (e + 1) (a + 1) k (omega arith) (omega arith) (omega arith) counted)
+numbers_of_first words size below d e a zero is low high listed_count = let none : 0 ≡ 0 * size = omega arith in ap (row (suc (e * size + below))) none
+numbers_of_first words size below d e a (suc k) is low high listed_count =
+    rw (map-append, numbers_after d e a words (is_first-true a low (omega arith)) (sym is), listed_count e, numbers_of_first words size below d (e + 1) (a + 1) k (omega arith) (omega arith) (omega arith) listed_count)
     (row-append (suc (e * size + below)) size (k * size) (suc ((e + 1) * size + below)) (suc k * size) (omega arith) (omega arith))
 
 -- the numbers of the words of one size, in order

@@ -57,8 +57,8 @@ module _ (text : List ℕ) (room : 16 ≤ length text) where
       ∙ (ap (λ ts. mask_l ts % 2 ^ 64) (sym (compared_is 16 text room bytes)) ∙ none))
 
   -- the bits of the mask of the spaces are as many as they
-  pub spaces-counted : count_ones (mask_l (map (top 7) (zip2 same (take 16 text) (replicate 16 32))) % 2 ^ 64) ≡ count_by (λ b. b == 32) (take 16 text)
-  spaces-counted = ap count_ones (bitmask_splat w8 eqb (take 16 text) 16 32 (length-take-le 16 text room) (omega arith)) ∙ ones-mask_l (λ b. b == 32) (take 16 text)
+  pub spaces-listed_count : count_ones (mask_l (map (top 7) (zip2 same (take 16 text) (replicate 16 32))) % 2 ^ 64) ≡ count_by (λ b. b == 32) (take 16 text)
+  spaces-listed_count = ap count_ones (bitmask_splat w8 eqb (take 16 text) 16 32 (length-take-le 16 text room) (omega arith)) ∙ ones-mask_l (λ b. b == 32) (take 16 text)
 
   pub spaces-few : (spaces : ℕ) → spaces ≡ count_by (λ b. b == 32) (take 16 text) → spaces ≤ 16
   spaces-few spaces are = omega (arith, are, count_by-le-length (λ b. b == 32) (take 16 text), length-take-le 16 text room)

@@ -1,5 +1,5 @@
 -- The labels counted are those that the header lists, whether byte by byte or sixteen bytes at a time.
-use Rattle.proof_code.proofs.Words.{◌≡◌, ℕ, zero, suc, ◌+◌, ◌-◌, ◌<◌, ◌≤◌, Bool, true, false, cond, ◌==◌, List, [], ◌∷◌, ◌++◌, length, drop, slice_index_or, Option, Some, None, refl, list_all, option_map, sym, ◌∙◌, ap, arith, true≢false, inl, inr, append-nil, drop_more, same_Some, bytes_eq-Decides, and_parts, cases_Bool, eqb-true, false_from_ne_true, and-false, Name, name_eq, is_visible, is_label, is_label_byte, spaced, is_word, class_of, is_listed, are_listed, count_by, take, take-append-drop, drop-drop, get_or-drop, letters_from, more_labels, after_none, counted, Header, with_label, header_of, finish, get_or, length-drop, is_count_by}
+use Rattle.proof_code.proofs.Words.{◌≡◌, ℕ, zero, suc, ◌+◌, ◌-◌, ◌<◌, ◌≤◌, Bool, true, false, cond, ◌==◌, List, [], ◌∷◌, ◌++◌, length, drop, slice_index_or, Option, Some, None, refl, list_all, option_map, sym, ◌∙◌, ap, arith, true≢false, inl, inr, append-nil, drop_more, same_Some, bytes_eq-Decides, and_parts, cases_Bool, eqb-true, false_from_ne_true, and-false, Name, name_eq, is_visible, is_label, is_label_byte, spaced, is_word, class_of, is_listed, are_listed, count_by, take, take-append-drop, drop-drop, get_or-drop, letters_from, more_labels, after_none, listed_count, Header, with_label, header_of, finish, get_or, length-drop, is_count_by}
 use Rattle.proof_code.proofs.TextLemmas.{not_space}
 
 -- ---- the classes of bytes
@@ -17,9 +17,9 @@ label-no_space : (b : ℕ) → is_label_byte b ≡ true → (b == 32) ≡ false
 label-no_space b h = false_from_ne_true (b == 32) (λ e. true≢false (sym (rw (eqb-true b 32 e) at h)))
 
 -- the effect of a byte of a class
-counted-at : (fresh : Bool) (b : ℕ) (text : List ℕ) (class : ℕ) → class_of b ≡ class
-    → counted fresh (b ∷ text) ≡ cond (class == 0) (counted false text) (cond (class == 1) (more_labels 1 (counted true text)) (after_none fresh (letters_from (b ∷ text))))
-counted-at fresh b text class h = ap (λ c. cond (c == 0) (counted false text) (cond (c == 1) (more_labels 1 (counted true text)) (after_none fresh (letters_from (b ∷ text))))) h
+listed_count-at : (fresh : Bool) (b : ℕ) (text : List ℕ) (class : ℕ) → class_of b ≡ class
+    → listed_count fresh (b ∷ text) ≡ cond (class == 0) (listed_count false text) (cond (class == 1) (more_labels 1 (listed_count true text)) (after_none fresh (letters_from (b ∷ text))))
+listed_count-at fresh b text class h = ap (λ c. cond (c == 0) (listed_count false text) (cond (c == 1) (more_labels 1 (listed_count true text)) (after_none fresh (letters_from (b ∷ text))))) h
 
 -- ---- a word, and what stands after it
 
@@ -31,21 +31,21 @@ spaced-first : (word : Name) (words : List Name) → spaced (word ∷ words) ≡
 spaced-first word [] = sym (append-nil word)
 spaced-first word (next ∷ words) = refl
 
-counted-bytes : (word : Name) (text : List ℕ) → list_all is_label_byte word ≡ true → counted false (word ++ text) ≡ counted false text
-counted-bytes [] text h = refl
-counted-bytes (b ∷ word) text h =
+listed_count-bytes : (word : Name) (text : List ℕ) → list_all is_label_byte word ≡ true → listed_count false (word ++ text) ≡ listed_count false text
+listed_count-bytes [] text h = refl
+listed_count-bytes (b ∷ word) text h =
     let parts : (is_label_byte b ≡ true) × (list_all is_label_byte word ≡ true) = and_parts (is_label_byte b) (list_all is_label_byte word) h in
-    counted-at false b (word ++ text) 0 (class-label b parts.0) ∙ counted-bytes word text parts.1
+    listed_count-at false b (word ++ text) 0 (class-label b parts.0) ∙ listed_count-bytes word text parts.1
 
-counted-word : (word : Name) (text : List ℕ) → is_label word ≡ true → counted true (word ++ text) ≡ counted false text
-counted-word [] text h = cc
-counted-word (b ∷ word) text h =
+listed_count-word : (word : Name) (text : List ℕ) → is_label word ≡ true → listed_count true (word ++ text) ≡ listed_count false text
+listed_count-word [] text h = cc
+listed_count-word (b ∷ word) text h =
     let parts : (is_label_byte b ≡ true) × (list_all is_label_byte word ≡ true) = and_parts (is_label_byte b) (list_all is_label_byte word) h in
-    counted-at true b (word ++ text) 0 (class-label b parts.0) ∙ counted-bytes word text parts.1
+    listed_count-at true b (word ++ text) 0 (class-label b parts.0) ∙ listed_count-bytes word text parts.1
 
-counted-after : (words : List Name) → counted false (after_word words) ≡ more_labels 1 (counted true (spaced words))
-counted-after [] = refl
-counted-after (word ∷ words) = refl
+listed_count-after : (words : List Name) → listed_count false (after_word words) ≡ more_labels 1 (listed_count true (spaced words))
+listed_count-after [] = refl
+listed_count-after (word ∷ words) = refl
 
 -- a byte alone that is not `)`
 not_finish : (b : ℕ) → name_eq (b ∷ []) finish ≡ false → (b == 41) ≡ false
@@ -59,27 +59,27 @@ letters-none b (c ∷ word) words seen other =
     let parts : (is_visible c ≡ true) × (list_all is_visible word ≡ true) = and_parts (is_visible c) (list_all is_visible word) seen in
     rw (not_space c parts.0, and-false (b == 41)) refl
 
-counted-inside : (word : Name) (words : List Name) → list_all is_visible word ≡ true → list_all is_label_byte word ≡ false → counted false (word ++ after_word words) ≡ None
-counted-inside [] words seen h = absurd (true≢false h)
-counted-inside (b ∷ word) words seen h =
+listed_count-inside : (word : Name) (words : List Name) → list_all is_visible word ≡ true → list_all is_label_byte word ≡ false → listed_count false (word ++ after_word words) ≡ None
+listed_count-inside [] words seen h = absurd (true≢false h)
+listed_count-inside (b ∷ word) words seen h =
     let parts : (is_visible b ≡ true) × (list_all is_visible word ≡ true) = and_parts (is_visible b) (list_all is_visible word) seen in
     elim (cases_Bool (is_label_byte b)) [
-      | inl e ↦ counted-at false b (word ++ after_word words) 0 (class-label b e) ∙ counted-inside word words parts.1 (rw e at h)
-      | inr e ↦ counted-at false b (word ++ after_word words) 2 (class-other b e (not_space b parts.0))
+      | inl e ↦ listed_count-at false b (word ++ after_word words) 0 (class-label b e) ∙ listed_count-inside word words parts.1 (rw e at h)
+      | inr e ↦ listed_count-at false b (word ++ after_word words) 2 (class-other b e (not_space b parts.0))
     ]
 
-counted-none : (word : Name) (words : List Name) → is_word word ≡ true → is_label word ≡ false → name_eq word finish ≡ false → counted true (word ++ after_word words) ≡ None
-counted-none [] words seen h other = absurd (true≢false (sym seen))
-counted-none (b ∷ word) words seen h other =
+listed_count-none : (word : Name) (words : List Name) → is_word word ≡ true → is_label word ≡ false → name_eq word finish ≡ false → listed_count true (word ++ after_word words) ≡ None
+listed_count-none [] words seen h other = absurd (true≢false (sym seen))
+listed_count-none (b ∷ word) words seen h other =
     let parts : (is_visible b ≡ true) × (list_all is_visible word ≡ true) = and_parts (is_visible b) (list_all is_visible word) seen in
     elim (cases_Bool (is_label_byte b)) [
-      | inl e ↦ counted-at true b (word ++ after_word words) 0 (class-label b e) ∙ counted-inside word words parts.1 (rw e at h)
-      | inr e ↦ counted-at true b (word ++ after_word words) 2 (class-other b e (not_space b parts.0)) ∙ ap (after_none true) (letters-none b word words parts.1 other)
+      | inl e ↦ listed_count-at true b (word ++ after_word words) 0 (class-label b e) ∙ listed_count-inside word words parts.1 (rw e at h)
+      | inr e ↦ listed_count-at true b (word ++ after_word words) 2 (class-other b e (not_space b parts.0)) ∙ ap (after_none true) (letters-none b word words parts.1 other)
     ]
 
-counted-finish : (words : List Name) → counted true (finish ++ after_word words) ≡ Some (0, spaced words)
-counted-finish [] = refl
-counted-finish (word ∷ words) = refl
+listed_count-finish : (words : List Name) → listed_count true (finish ++ after_word words) ≡ Some (0, spaced words)
+listed_count-finish [] = refl
+listed_count-finish (word ∷ words) = refl
 
 -- ---- the whole header
 
@@ -90,15 +90,15 @@ told-more : (word : Name) (o : Option Header) → more_labels 1 (told o) ≡ tol
 told-more word None = refl
 told-more word (Some header) = ap (λ n. Some (n, spaced header.rest)) (let e : 1 + length header.listed ≡ length (word ∷ header.listed) = omega arith in e)
 
-counted-header : (words : List Name) → list_all is_word words ≡ true → counted true (spaced words) ≡ told (header_of words)
-counted-header [] h = refl
-counted-header (word ∷ words) h =
+listed_count-header : (words : List Name) → list_all is_word words ≡ true → listed_count true (spaced words) ≡ told (header_of words)
+listed_count-header [] h = refl
+listed_count-header (word ∷ words) h =
     let parts : (is_word word ≡ true) × (list_all is_word words ≡ true) = and_parts (is_word word) (list_all is_word words) h in
     rw (spaced-first word words) (elim (cases_Bool (name_eq word finish)) [
-      | inl e ↦ rw ((bytes_eq-Decides word finish).0 e) (counted-finish words)
+      | inl e ↦ rw ((bytes_eq-Decides word finish).0 e) (listed_count-finish words)
       | inr e ↦ elim (cases_Bool (is_label word)) [
-        | inl f ↦ rw (e, f) (counted-word word (after_word words) f ∙ (counted-after words ∙ (ap (more_labels 1) (counted-header words parts.1) ∙ told-more word (header_of words))))
-        | inr f ↦ rw (e, f) (counted-none word words parts.0 f e)
+        | inl f ↦ rw (e, f) (listed_count-word word (after_word words) f ∙ (listed_count-after words ∙ (ap (more_labels 1) (listed_count-header words parts.1) ∙ told-more word (header_of words))))
+        | inr f ↦ rw (e, f) (listed_count-none word words parts.0 f e)
       ]
     ])
 
@@ -112,24 +112,24 @@ more-none : (o : Option (ℕ × List ℕ)) → o ≡ more_labels 0 o
 more-none None = refl
 more-none (Some f) = ap (λ n. Some (n, f.1)) (let e : f.0 ≡ 0 + f.0 = omega arith in e)
 
-module _ (start : Bool) (text : List ℕ) (at count last : ℕ) (same : counted start text ≡ more_labels count (counted (last == 32) (drop at text))) (within : at < length text) where
+module _ (start : Bool) (text : List ℕ) (at count last : ℕ) (same : listed_count start text ≡ more_labels count (listed_count (last == 32) (drop at text))) (within : at < length text) where
   abbrev byte : ℕ
   byte = slice_index_or text at 0
 
   -- the next byte is the first of what is left to count
-  at_drop : counted start text ≡ more_labels count (counted (last == 32) (byte ∷ drop (at + 1) text))
-  at_drop = same ∙ ap (λ r. more_labels count (counted (last == 32) r)) (drop_more text at 0 within)
+  at_drop : listed_count start text ≡ more_labels count (listed_count (last == 32) (byte ∷ drop (at + 1) text))
+  at_drop = same ∙ ap (λ r. more_labels count (listed_count (last == 32) r)) (drop_more text at 0 within)
 
-  pub counted-more : (class : ℕ) → class ≡ class_of byte → (class ≡ 2 → ⊥) → counted start text ≡ more_labels (count + class) (counted (byte == 32) (drop (at + 1) text))
-  counted-more class is other =
+  pub listed_count-more : (class : ℕ) → class ≡ class_of byte → (class ≡ 2 → ⊥) → listed_count start text ≡ more_labels (count + class) (listed_count (byte == 32) (drop (at + 1) text))
+  listed_count-more class is other =
       elim (cases_Bool (is_label_byte byte)) [
         | inl e ↦
             let none : class ≡ 0 = is ∙ class-label byte e in
-            rw (none, label-no_space byte e) (at_drop ∙ (ap (more_labels count) (counted-at (last == 32) byte (drop (at + 1) text) 0 (class-label byte e)) ∙ ap (λ n. more_labels n (counted false (drop (at + 1) text))) (omega arith)))
+            rw (none, label-no_space byte e) (at_drop ∙ (ap (more_labels count) (listed_count-at (last == 32) byte (drop (at + 1) text) 0 (class-label byte e)) ∙ ap (λ n. more_labels n (listed_count false (drop (at + 1) text))) (omega arith)))
         | inr e ↦ elim (cases_Bool (byte == 32)) [
           | inl f ↦
               let one : class ≡ 1 = is ∙ class-space byte f in
-              rw (one, f) (at_drop ∙ (ap (more_labels count) (counted-at (last == 32) byte (drop (at + 1) text) 1 (class-space byte f)) ∙ more-both count 1 (counted true (drop (at + 1) text))))
+              rw (one, f) (at_drop ∙ (ap (more_labels count) (listed_count-at (last == 32) byte (drop (at + 1) text) 1 (class-space byte f)) ∙ more-both count 1 (listed_count true (drop (at + 1) text))))
           | inr f ↦ absurd (other (is ∙ class-other byte e f))
         ]
       ]
@@ -148,26 +148,26 @@ abbrev begins : Bool → List ℕ → Bool
 begins fresh [] = fresh
 begins fresh (b ∷ bytes) = begins (b == 32) bytes
 
-counted-listed : (fresh : Bool) (bytes text : List ℕ) → are_listed bytes ≡ true → counted fresh (bytes ++ text) ≡ more_labels (spaces_in bytes) (counted (begins fresh bytes) text)
-counted-listed fresh [] text h = more-none (counted fresh text)
-counted-listed fresh (b ∷ bytes) text h =
+listed_count-listed : (fresh : Bool) (bytes text : List ℕ) → are_listed bytes ≡ true → listed_count fresh (bytes ++ text) ≡ more_labels (spaces_in bytes) (listed_count (begins fresh bytes) text)
+listed_count-listed fresh [] text h = more-none (listed_count fresh text)
+listed_count-listed fresh (b ∷ bytes) text h =
     let parts : (is_listed b ≡ true) × (are_listed bytes ≡ true) = and_parts (is_listed b) (are_listed bytes) h in
     elim (cases_Bool (is_label_byte b)) [
-      | inl e ↦ counted-at fresh b (bytes ++ text) 0 (class-label b e) ∙ (counted-listed false bytes text parts.1 ∙ ap found (sym (label-no_space b e)))
+      | inl e ↦ listed_count-at fresh b (bytes ++ text) 0 (class-label b e) ∙ (listed_count-listed false bytes text parts.1 ∙ ap found (sym (label-no_space b e)))
       | inr e ↦
           let space : (b == 32) ≡ true = rw e at parts.0 in
-          counted-at fresh b (bytes ++ text) 1 (class-space b space) ∙ (ap (more_labels 1) (counted-listed true bytes text parts.1) ∙ (more-both 1 (spaces_in bytes) (counted (begins true bytes) text) ∙ ap found (sym space)))
+          listed_count-at fresh b (bytes ++ text) 1 (class-space b space) ∙ (ap (more_labels 1) (listed_count-listed true bytes text parts.1) ∙ (more-both 1 (spaces_in bytes) (listed_count (begins true bytes) text) ∙ ap found (sym space)))
     ]
   where
     found : Bool → Option (ℕ × List ℕ)
-    found space = more_labels (cond space (1 + spaces_in bytes) (spaces_in bytes)) (counted (begins space bytes) text)
+    found space = more_labels (cond space (1 + spaces_in bytes) (spaces_in bytes)) (listed_count (begins space bytes) text)
 
 begins-last : (fresh : Bool) (n : ℕ) (text : List ℕ) → n < length text → begins fresh (take (suc n) text) ≡ (slice_index_or text n 0 == 32)
 begins-last fresh n [] h = absurd (omega (arith, h))
 begins-last fresh zero (b ∷ text) h = refl
 begins-last fresh (suc n) (b ∷ text) h = begins-last (b == 32) n text (omega (arith, h))
 
-module _ (text : List ℕ) (at count last : ℕ) (same : counted true text ≡ more_labels count (counted (last == 32) (drop at text))) (room : at + 16 ≤ length text) where
+module _ (text : List ℕ) (at count last : ℕ) (same : listed_count true text ≡ more_labels count (listed_count (last == 32) (drop at text))) (room : at + 16 ≤ length text) where
   abbrev next : List ℕ
   next = take 16 (drop at text)
 
@@ -177,15 +177,15 @@ module _ (text : List ℕ) (at count last : ℕ) (same : counted true text ≡ m
       begins-last (last == 32) 15 (drop at text) (omega (arith, room, length-drop at text))
       ∙ ap (λ b. b == 32) (get_or-drop at text 15 0 ∙ ap (λ n. get_or text n 0) (let e : at + 15 ≡ at + 16 - 1 = omega arith in e))
 
-  pub counted-lanes : (spaces : ℕ) → are_listed next ≡ true → spaces ≡ count_by is_space next
-      → counted true text ≡ more_labels (count + spaces) (counted (slice_index_or text (at + 16 - 1) 0 == 32) (drop (at + 16) text))
-  counted-lanes spaces listed are =
-      same ∙ (ap (λ r. more_labels count (counted (last == 32) r)) (sym (take-append-drop 16 (drop at text)))
-      ∙ (ap (more_labels count) (counted-listed (last == 32) next (drop 16 (drop at text)) listed)
-      ∙ (more-both count (spaces_in next) (counted (begins (last == 32) next) (drop 16 (drop at text)))
-      ∙ (ap (λ n. more_labels (count + n) (counted (begins (last == 32) next) (drop 16 (drop at text)))) (is_count_by spaces_in is_space refl (λ b bytes. refl) next ∙ sym are)
-      ∙ (ap (λ fresh. more_labels (count + spaces) (counted fresh (drop 16 (drop at text)))) last_is
-      ∙ ap (λ r. more_labels (count + spaces) (counted (slice_index_or text (at + 16 - 1) 0 == 32) r)) (drop-drop 16 at text))))))
+  pub listed_count-lanes : (spaces : ℕ) → are_listed next ≡ true → spaces ≡ count_by is_space next
+      → listed_count true text ≡ more_labels (count + spaces) (listed_count (slice_index_or text (at + 16 - 1) 0 == 32) (drop (at + 16) text))
+  listed_count-lanes spaces listed are =
+      same ∙ (ap (λ r. more_labels count (listed_count (last == 32) r)) (sym (take-append-drop 16 (drop at text)))
+      ∙ (ap (more_labels count) (listed_count-listed (last == 32) next (drop 16 (drop at text)) listed)
+      ∙ (more-both count (spaces_in next) (listed_count (begins (last == 32) next) (drop 16 (drop at text)))
+      ∙ (ap (λ n. more_labels (count + n) (listed_count (begins (last == 32) next) (drop 16 (drop at text)))) (is_count_by spaces_in is_space refl (λ b bytes. refl) next ∙ sym are)
+      ∙ (ap (λ fresh. more_labels (count + spaces) (listed_count fresh (drop 16 (drop at text)))) last_is
+      ∙ ap (λ r. more_labels (count + spaces) (listed_count (slice_index_or text (at + 16 - 1) 0 == 32) r)) (drop-drop 16 at text))))))
 
 -- ---- the answer
 
@@ -203,9 +203,9 @@ told-some (Some header) count letters e =
     let pair : (length header.listed, spaced header.rest) ≡ (count, letters) = same_Some (length header.listed, spaced header.rest) (count, letters) e in
     (header, refl, ap (λ p. p.1) pair, ap (λ p. p.0) pair)
 
-pub listing-none : (words : List Name) (text : List ℕ) → list_all is_word words ≡ true → text ≡ spaced words → counted true text ≡ None → header_of words ≡ None
-listing-none words text visible is none = told-none (header_of words) (sym (counted-header words visible) ∙ (ap (counted true) (sym is) ∙ none))
+pub listing-none : (words : List Name) (text : List ℕ) → list_all is_word words ≡ true → text ≡ spaced words → listed_count true text ≡ None → header_of words ≡ None
+listing-none words text visible is none = told-none (header_of words) (sym (listed_count-header words visible) ∙ (ap (listed_count true) (sym is) ∙ none))
 
-pub listing-some : (words : List Name) (text : List ℕ) (count : ℕ) (letters : List ℕ) → list_all is_word words ≡ true → text ≡ spaced words → counted true text ≡ Some (count, letters)
+pub listing-some : (words : List Name) (text : List ℕ) (count : ℕ) (letters : List ℕ) → list_all is_word words ≡ true → text ≡ spaced words → listed_count true text ≡ Some (count, letters)
     → Counted (header_of words) letters count
-listing-some words text count letters visible is some = told-some (header_of words) count letters (sym (counted-header words visible) ∙ (ap (counted true) (sym is) ∙ some))
+listing-some words text count letters visible is some = told-some (header_of words) count letters (sym (listed_count-header words visible) ∙ (ap (listed_count true) (sym is) ∙ some))

@@ -108,5 +108,5 @@ one_answer tokens mandatory = record {
   ];
   finished = λ items w u. true≢false (sym u ∙ finished tokens mandatory items w);
   formed = λ items w m. m.1 items w;
-  apart = λ u m. true≢false (sym u ∙ m.0);
+  not_both = λ u m. true≢false (sym u ∙ m.0);
 }

@@ -1,5 +1,5 @@
 -- A compressed proof that is read with no mandatory label at hand.
-use Rattle.proof_code.proofs.Words.{◌≡◌, ℕ, ◌+◌, ◌-◌, ◌*◌, ◌<◌, suc, ◌≤◌, Bool, true, false, cond, ◌==◌, nat_le, List, [], ◌∷◌, ◌++◌, length, take, drop, slice_index_or, Option, Some, None, refl, list_all, sym, ◌∙◌, ap, arith, true≢false, length-append, append_assoc, nat_tests, drop_more, list_all-append, none-some, and_parts, Name, is_word, AreWords, Item, items_of, before_rest, TakesByte, IsLetter, share_label, IsHeading, Header, header_of, letters_of, starts_with_mark, numbers_from, begin, finish, WritesCompressed, take-append_seam}
+use Rattle.proof_code.proofs.Words.{◌≡◌, ℕ, ◌+◌, ◌-◌, ◌*◌, ◌<◌, suc, ◌≤◌, Bool, true, false, cond, ◌==◌, nat_le, List, [], ◌∷◌, ◌++◌, length, take, drop, slice_index_or, Option, Some, None, refl, list_all, sym, ◌∙◌, ap, arith, true≢false, length-append, append_assoc, nat_tests, drop_more, list_all-append, none-some, and_parts, Name, is_word, AreWords, Item, items_of, before_rest, IsByteEffect, IsLetterEffect, share_label, IsHeading, Header, header_of, letters_of, starts_with_mark, numbers_from, begin, finish, WritesCompressed, take-append_seam}
 use Rattle.proof_code.proofs.LettersLemmas.{first_bounds, last_bounds}
 use Rattle.proof_code.proofs.LetterItemLemmas.{numbers_from-over, RowIsRead, WritesRow-read, read-WritesRow}
 use Rattle.proof_code.proofs.ListingLemmas.{Counted}
@@ -27,14 +27,14 @@ read-none labels text = before-none (numbers_from labels 0 (letters_of text))
 
 module _ (labels : ℕ) (text : List ℕ) (limit digits : ℕ) (numbers : List ℕ) (index : ℕ) (read : IsRead labels text limit digits numbers index) where
   -- one byte more is read
-  pub read-more : (limit' digits' : ℕ) (more : List ℕ) → index < length text → TakesByte limit digits (slice_index_or text index 0) more limit' digits' → IsRead labels text limit' digits' (numbers ++ more) (index + 1)
+  pub read-more : (limit' digits' : ℕ) (more : List ℕ) → index < length text → IsByteEffect limit digits (slice_index_or text index 0) more limit' digits' → IsRead labels text limit' digits' (numbers ++ more) (index + 1)
   read-more limit' digits' more within goes =
       let rest : List ℕ = drop (index + 1) text in
       read ∙ (ap (λ rest. before_rest numbers (numbers_from limit digits (letters_of rest))) (drop_more text index 0 within)
       ∙ (ap (before_rest numbers) (goes rest) ∙ before-more numbers more (numbers_from limit' digits' (letters_of rest))))
 
 -- a letter A to Z with which the word comes to more than the limit however it ends: a mark does after digits
-pub over_limit : (limit most digits letter value : ℕ) (ends : Bool) → IsLetter letter digits value ends → 65 ≤ letter → letter ≤ 90 → limit < 20 * most + 20 → cond ends limit most < value
+pub over_limit : (limit most digits letter value : ℕ) (ends : Bool) → IsLetterEffect letter digits value ends → 65 ≤ letter → letter ≤ 90 → limit < 20 * most + 20 → cond ends limit most < value
     → (text : List ℕ) → numbers_from limit digits (letters_of (letter ∷ text)) ≡ None
 over_limit limit most digits letter value ends is low high room over text =
     let visible : (letter == 32) ≡ false = grind (arith, nat_tests) in

@@ -1,5 +1,5 @@
 -- The table of the letters, and what a letter makes by it of the digits before it.
-use Rattle.proof_code.proofs.Words.{◌≡◌, ℕ, zero, suc, ◌+◌, ◌-◌, ◌*◌, ◌<◌, ◌≤◌, cond, ◌==◌, nat_le, List, [], ◌∷◌, refl, sym, ◌∙◌, ap, arith, map, get_or, range_with_len, get_or-map-range_with_len, cond_both, nat_tests, IsLetter, ◌%◌, ◌^◌, bit_and, and_le_r, and_mask, STEPS}
+use Rattle.proof_code.proofs.Words.{◌≡◌, ℕ, zero, suc, ◌+◌, ◌-◌, ◌*◌, ◌<◌, ◌≤◌, cond, ◌==◌, nat_le, List, [], ◌∷◌, refl, sym, ◌∙◌, ap, arith, map, get_or, range_with_len, get_or-map-range_with_len, cond_both, nat_tests, IsLetterEffect, ◌%◌, ◌^◌, bit_and, and_le_r, and_mask, STEPS}
 
 -- the four numbers of a letter, where `A` is 0
 abbrev step : ℕ → List ℕ
@@ -24,7 +24,7 @@ value digits factor digit = (digits * factor) % 2 ^ 64 + digit
 -- the effect of a letter on the digits by four numbers, and how many numbers it ends
 abbrev Makes : ℕ → ℕ → ℕ → ℕ → ℕ → ℕ → Type 0
 Makes letter digits factor digit kept ends =
-    (value digits factor digit < 2 ^ 64) × IsLetter letter digits (value digits factor digit) (ends == 1)
+    (value digits factor digit < 2 ^ 64) × IsLetterEffect letter digits (value digits factor digit) (ends == 1)
     × (bit_and (value digits factor digit) kept ≡ cond (ends == 1) 0 (value digits factor digit)) × (ends ≤ 1)
 
 module _ (letter digits : ℕ) (low : 65 ≤ letter) (high : letter ≤ 90) (small : 20 * digits + 26 < 2 ^ 64) where

@@ -20,7 +20,7 @@ pub record OneAnswer (tokens mandatory : List Name) : Type 0 where
   pub some : ((items : List Item) × Writes tokens mandatory items) ⊎ IsTrue (is_unfinished tokens) ⊎ IsMalformed tokens (Writes tokens mandatory)
   pub finished : (items : List Item) → Writes tokens mandatory items → ¬ IsTrue (is_unfinished tokens)
   pub formed : (items : List Item) → Writes tokens mandatory items → ¬ IsMalformed tokens (Writes tokens mandatory)
-  pub apart : IsTrue (is_unfinished tokens) → ¬ IsMalformed tokens (Writes tokens mandatory)
+  pub not_both : IsTrue (is_unfinished tokens) → ¬ IsMalformed tokens (Writes tokens mandatory)
 
 abbrev pub OneAnswerEach : Type 0
 OneAnswerEach = (tokens mandatory : List Name) → OneAnswer tokens mandatory

@@ -28,11 +28,11 @@ more_labels n found = option_map (λ f. (n + f.0, f.1)) found
 
 -- no more labels before the letters, if a word begins here
 abbrev pub after_none : Bool → Option (List ℕ) → Option (ℕ × List ℕ)
-after_none fresh letters = if fresh then option_map (λ l. (0, l)) letters else None
+after_none word_begins letters = if word_begins then option_map (λ l. (0, l)) letters else None
 
--- how many labels there are, and the letters after them; `fresh`: whether a word begins here
-abbrev pub counted : Bool → List ℕ → Option (ℕ × List ℕ)
-counted fresh [] = None
-counted fresh (b ∷ text) =
-    if class_of b == 0 then counted false text
-    else (if class_of b == 1 then more_labels 1 (counted true text) else after_none fresh (letters_from (b ∷ text)))
+-- how many labels there are, and the letters after them; `word_begins`: whether a word begins here
+abbrev pub listed_count : Bool → List ℕ → Option (ℕ × List ℕ)
+listed_count word_begins [] = None
+listed_count word_begins (b ∷ text) =
+    if class_of b == 0 then listed_count false text
+    else (if class_of b == 1 then more_labels 1 (listed_count true text) else after_none word_begins (letters_from (b ∷ text)))

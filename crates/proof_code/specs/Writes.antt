@@ -32,10 +32,10 @@ is_compressed [] = false
 is_compressed (token ∷ tokens) = name_eq token begin
 
 -- a number cites a label, counted from 1, or, if greater than their count, recalls one of the results marked so far
-abbrev pub Means : List Name → ℕ → ℕ → Item → Type 0
-Means labels marks number (Cite label) = (k : ℕ) × (number ≡ k + 1) × (slice_get labels k ≡ Some label)
-Means labels marks number (Recall k) = (number ≡ length labels + k) × (1 ≤ k) × (k ≤ marks)
-Means labels marks number Mark = ⊥
+abbrev pub Denotes : List Name → ℕ → ℕ → Item → Type 0
+Denotes labels marks number (Cite label) = (k : ℕ) × (number ≡ k + 1) × (slice_get labels k ≡ Some label)
+Denotes labels marks number (Recall k) = (number ≡ length labels + k) × (1 ≤ k) × (k ≤ marks)
+Denotes labels marks number Mark = ⊥
 
 -- the row of words and marks gives the items, if `marks` marks precede it
 abbrev pub AreItems : List Name → ℕ → List Name → List Item → Type 0
@@ -44,7 +44,7 @@ AreItems labels marks [] (item ∷ items) = ⊥
 AreItems labels marks (word ∷ row) [] = ⊥
 AreItems labels marks (word ∷ row) (Mark ∷ items) = (word ≡ mark) × AreItems labels (marks + 1) row items
 AreItems labels marks (word ∷ row) (item ∷ items) =
-    (number : ℕ) × IsNumber word number × Means labels marks number item × AreItems labels marks row items
+    (number : ℕ) × IsNumber word number × Denotes labels marks number item × AreItems labels marks row items
 
 -- the items do not begin with a mark
 abbrev pub starts_with_result : List Item → Bool

@@ -35,14 +35,14 @@ pub fn packed(alloc: Global, tokens: &Words, mandatory: &Words) -> Result<Items,
         return Err(CodeFault::Unfinished);
     }
     let mut reader = Reader::new(alloc);
-    let Some((heading, kept)) = reader.find(tokens, count_labels(mandatory)) else {
+    let Some((heading, kept)) = reader.read_or_check(tokens, count_labels(mandatory)) else {
         return Err(CodeFault::Malformed);
     };
     let Heading { words, count } = heading;
     if shares_label(alloc, mandatory, words, count) {
         return Err(CodeFault::Malformed);
     }
-    match (table_of(alloc, tokens, mandatory, count), kept) {
+    match (all_labels(alloc, tokens, mandatory, count), kept) {
         (Ok(labels), Ok(())) => Ok(Items::from_parts(labels, reader.into_numbers())),
         _ => Err(CodeFault::Memory),
     }
@@ -95,7 +95,7 @@ pub fn names_of<'a>(alloc: Global, labels: &'a Words) -> Option<BTreeSet<&'a [u8
 }
 
 /// Returns the mandatory labels, followed by the `count` labels that the tokens list.
-fn table_of(
+fn all_labels(
     alloc: Global,
     tokens: &Words,
     mandatory: &Words,

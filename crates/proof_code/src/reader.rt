@@ -6,7 +6,7 @@ ghost use Rattle.proof_code.specs.Text.{letters_of, numbers_from};
 ghost use Rattle.proof_code.specs.Writes.{begin, is_compressed, WritesCompressed};
 ghost use Rattle.proof_code.specs.Reading.{IsHeading};
 
-use crate::letter_numbers::{pass_letters, starts_with_mark, write_numbers};
+use crate::letter_numbers::{check_letters, starts_with_mark, write_numbers};
 use crate::listing::count_listed;
 use mm_lex::{WordIter, Words};
 use std::alloc::{AllocError, Global};
@@ -81,7 +81,7 @@ impl Reader {
         if mandatory > MOST_LETTERS {
             return Err(AllocError);
         }
-        let Some((heading, kept)) = self.find(tokens, mandatory) else {
+        let Some((heading, kept)) = self.read_or_check(tokens, mandatory) else {
             return Ok(None);
         };
         kept?;
@@ -90,7 +90,7 @@ impl Reader {
 
     /// Reads a proof as `read` does, and returns, beside the labels, `Ok` if the numbers were kept. Returns `None` for a proof
     /// that writes no items even if every allocation fails.
-    pub(crate) fn find<'a>(
+    pub(crate) fn read_or_check<'a>(
         &mut self,
         tokens: &'a Words,
         mandatory: usize,
@@ -111,7 +111,7 @@ impl Reader {
         let labels = mandatory + count;
         let heading = Heading { words, count };
         if make_room(&mut self.buffer, labels, letters.len()).is_err() {
-            pass_letters(letters, labels)?;
+            check_letters(letters, labels)?;
             return Some((heading, Err(AllocError)));
         }
         self.count = 0;

@@ -8,16 +8,16 @@ use Rattle.mm_lex.specs.Alphabet.{is_white, starts_white}
 use Rattle.mm_read.specs.declared.stmt.Stmt.{Stmt}
 use Rattle.mm_read.specs.Statements.{Database}
 use Rattle.mm_read.specs.Reads.{Reads}
-use Rattle.mm_read.specs.Laws.{is_apart}
+use Rattle.mm_read.specs.Laws.{joins_no_words}
 use Rattle.mm_read.proofs.JoinedReads.{joined_reads}
 use Rattle.read_pool.specs.Cut.{IsCut}
-use Rattle.read_pool.specs.Both.{AreBoth}
+use Rattle.read_pool.specs.Concatenation.{IsConcatenation}
 
 -- no word goes on into a text that starts white
-white_apart : (text other : List ℕ) → starts_white other ≡ true → is_apart text other ≡ true
-white_apart [] other white = refl
-white_apart (b ∷ []) other white = ap (λ t. is_white b || t) white ∙ or-true (is_white b)
-white_apart (b ∷ c ∷ text) other white = white_apart (c ∷ text) other white
+white_joins : (text other : List ℕ) → starts_white other ≡ true → joins_no_words text other ≡ true
+white_joins [] other white = refl
+white_joins (b ∷ []) other white = ap (λ t. is_white b || t) white ∙ or-true (is_white b)
+white_joins (b ∷ c ∷ text) other white = white_joins (c ∷ text) other white
 
 module _ (text front back : List ℕ) (at : ℕ) (cut : IsCut text at) (begins : front ≡ take at text) (ends : back ≡ drop at text) where
   -- the two parts are the text
@@ -25,20 +25,20 @@ module _ (text front back : List ℕ) (at : ℕ) (cut : IsCut text at) (begins :
   whole = ap (λ r. r ++ back) begins ∙ (ap (λ r. take at text ++ r) ends ∙ take-append-drop at text)
 
   -- no word goes on from the one into the other
-  apart : is_apart front back ≡ true
-  apart = white_apart front back (ap starts_white ends ∙ cut.1)
+  no_word_joined : joins_no_words front back ≡ true
+  no_word_joined = white_joins front back (ap starts_white ends ∙ cut.1)
 
   module _ (first second : Option (Vec Stmt Global)) (one : IfSome first (λ S. Reads front S.items)) (other : IfSome second (λ S. Reads back S.items)) where
     -- where both parts read, the text reads as the statements of both
-    both_read : (S : Database) → AreBoth first second S → Reads text S
+    both_read : (S : Database) → IsConcatenation first second S → Reads text S
     both_read S are = by first second one other are
       where
-        by : (first second : Option (Vec Stmt Global)) → IfSome first (λ S. Reads front S.items) → IfSome second (λ S. Reads back S.items) → AreBoth first second S → Reads text S
-        by (Some v) (Some w) one other are = subst (Reads text) (sym are) (subst (λ t. Reads t (v.items ++ w.items)) whole (joined_reads front back v.items w.items one other apart))
+        by : (first second : Option (Vec Stmt Global)) → IfSome first (λ S. Reads front S.items) → IfSome second (λ S. Reads back S.items) → IsConcatenation first second S → Reads text S
+        by (Some v) (Some w) one other are = subst (Reads text) (sym are) (subst (λ t. Reads t (v.items ++ w.items)) whole (joined_reads front back v.items w.items one other no_word_joined))
         by (Some v) None one other are = absurd are
         by None second one other are = absurd are
 
     -- .. and so does what is answered, where there is an answer
-    pub parts_read : (r : Option (Vec Stmt Global)) → IfSome r (λ S. AreBoth first second S.items) → IfSome r (λ S. Reads text S.items)
+    pub parts_read : (r : Option (Vec Stmt Global)) → IfSome r (λ S. IsConcatenation first second S.items) → IfSome r (λ S. Reads text S.items)
     parts_read (Some v) are = both_read v.items are
     parts_read None are = tt

@@ -3,8 +3,8 @@ ghost use Rattle.std.specs.Prelude.{◌+◌, ◌<◌, ◌≤◌, drop, length, I
 ghost use Rattle.mm_lex.specs.Alphabet.{starts_white};
 ghost use Rattle.read_pool.specs.Cut.{IsCut};
 
-/// How many bytes are searched for a cut, and the least that make a part.
-pub(crate) const STRETCH: usize = 1 << 20;
+/// The least number of bytes that make a part, and how many bytes are searched for a cut.
+pub(crate) const MIN_PART_BYTES: usize = 1 << 20;
 
 /// Returns a cut at or after `near`, a place that no word crosses: the end of a `$.` that seems to stand outside of
 /// comments, since no `$)` follows it before a `$(`. If none is found, it is the end of the text.
@@ -14,7 +14,7 @@ pub(crate) fn cut_near(text: &[u8], near: usize) -> usize
     let end = text
         .len()
         .saturating_sub(2)
-        .min(near.saturating_add(STRETCH));
+        .min(near.saturating_add(MIN_PART_BYTES));
     let mut found = None;
     for at in near..end {
         match &text[at..at + 2] {

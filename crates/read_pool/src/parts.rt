@@ -4,9 +4,9 @@ ghost use Rattle.std.specs.Thread.{IsSync};
 ghost use Rattle.mm_lex.specs.TextFaults.{IsFirstBadByte, IsCommentFault};
 ghost use Rattle.mm_read.specs.Statements.{Database};
 ghost use Rattle.mm_read.specs.Reads.{Reads, HasShapeFault, IsReadFault};
-ghost use Rattle.read_pool.specs.Both.{AreBoth};
+ghost use Rattle.read_pool.specs.Concatenation.{IsConcatenation};
 
-use crate::cut::{STRETCH, cut_near};
+use crate::cut::{MIN_PART_BYTES, cut_near};
 use mm_lex::LexFault;
 use mm_read::{ReadFault, Stmt, read};
 use std::alloc::Global;
@@ -40,7 +40,7 @@ pub fn read_in_parts<R: Threads + Sync>(
     ensures shape { (token : ℕ) → HasShapeFault text.now token
         → IsErrAnd result (λ fault. (fault ≡ ReadFault.Shape token) ⊎ (fault ≡ ReadFault.Memory)) }
 {
-    let parts = workers.min(text.len() / STRETCH);
+    let parts = workers.min(text.len() / MIN_PART_BYTES);
     if parts > 1 {
         if let Some(statements) = read_parts(rt, alloc, text, parts) {
             return Ok(statements);
@@ -74,12 +74,12 @@ fn read_parts<R: Threads + Sync>(
         ensures { IfSome result (λ statements. Reads back.entry.now statements.items) }
     { read_parts(rt, alloc, back, others) };
     let (first, second) = join(rt, first, second);
-    both(first, second)
+    concatenate(first, second)
 }
 
 /// Returns the statements of the first list and then those of the second; none if a list is missing or the allocation failed.
-fn both(first: Option<Vec<Stmt>>, second: Option<Vec<Stmt>>) -> Option<Vec<Stmt>>
-    ensures { IfSome result (λ statements. AreBoth first second statements.items) }
+fn concatenate(first: Option<Vec<Stmt>>, second: Option<Vec<Stmt>>) -> Option<Vec<Stmt>>
+    ensures { IfSome result (λ statements. IsConcatenation first second statements.items) }
 {
     let mut statements = first?;
     let mut more = second?;

@@ -32,7 +32,7 @@ marked-absent w v (x ∷ names) (m ∷ marks) h =
     let parts : (name_eq w x ≡ false) × (has_name w names ≡ false) = or_parts (name_eq w x) (has_name w names) h in
     ap (λ b. cond b v m ∷ marked (λ x. name_eq x w) v names marks) (name_eq-comm x w ∙ parts.0) ∙ ap (λ l. m ∷ l) (marked-absent w v names marks parts.1)
 
--- the mark of one name is set at the place where the name stands
+-- the mark of one name is set at the place where the name is
 at_place : (w : Name) (v : Bool) (names : List Name) (marks : List Bool) (n : ℕ) → AreDistinct names → n < length names → name_at names n ≡ w → length marks ≡ length names
     → marked (λ x. name_eq x w) v names marks ≡ slice_set marks n v
 at_place w v [] marks n d h e l = absurd (omega (arith, h))
@@ -120,7 +120,7 @@ coded_first old new rest x w n at same more h = by (has_name x rest) refl
     by true e = or_right (has_name x new) (has_name x rest) e
     by false e = ap (λ b. b || has_name x rest) (coded old new x w n at same more (ap (λ b. has_name x old || b) (sym (ap (λ c. name_eq x w || c) e ∙ or-false (name_eq x w))) ∙ h))
 
--- ---- the first that stands twice
+-- ---- the first that occurs twice
 
 -- an element of the first of two lists, by its place
 got_before : (X ys : List Name) (n : ℕ) → n < length X → slice_get (X ++ ys) n ≡ Some (name_at X n)
@@ -133,13 +133,13 @@ got_after : (X rest : List Name) (w : Name) → slice_get (X ++ w ∷ rest) (len
 got_after [] rest w = refl
 got_after (x ∷ X) rest w = got_after X rest w
 
--- a name that is met again, at a place of those before it, stands twice
+-- a name that is met again, at a place of those before it, occurs twice
 pub again : (X rest words : List Name) (w : Name) (first second : ℕ) → X ++ (w ∷ rest) ≡ words → second ≡ length X → first < second → name_at X first ≡ w → IsTwice words first second
 again X rest words w first second split count low is = (
   low,
   record {
     name = w;
-    stands = ap (λ n. slice_get words n) count ∙ (ap (λ ws. slice_get ws (length X)) (sym split) ∙ got_after X rest w);
+    is_there = ap (λ n. slice_get words n) count ∙ (ap (λ ws. slice_get ws (length X)) (sym split) ∙ got_after X rest w);
     is = ap (λ ws. slice_get ws first) (sym split) ∙ (got_before X (w ∷ rest) first (omega (arith, low, count)) ∙ ap Some is);
   },
 )

@@ -1,5 +1,5 @@
 -- Active statements, searched from the end back, and the places of names in a list.
-use Rattle.rule_violation.proofs.Words.{◌≡◌, ℕ, zero, suc, ◌+◌, ◌-◌, ◌<◌, ◌≤◌, Bool, true, false, not, ◌&&◌, ◌||◌, cond, List, [], ◌∷◌, length, drop, get_or, refl, sym, ◌∙◌, ap, arith, Some, slice_get, add-one, nat_le, Option, None, MatchOption, is_some, or-true, list_any, drop-cons, Stmt, Open, Close, Const, Var, Disj, Float, Ess, Axiom, Prove, Database, stays_open, active_from, ◌==◌, and_parts, slice_get_read, any_passes_from_place, stmt_at, closed_by, closed_in, IsAt, IsActiveAt}
+use Rattle.rule_violation.proofs.Words.{◌≡◌, ℕ, zero, suc, ◌+◌, ◌-◌, ◌<◌, ◌≤◌, Bool, true, false, not, ◌&&◌, ◌||◌, cond, List, [], ◌∷◌, length, drop, get_or, refl, sym, ◌∙◌, ap, arith, Some, slice_get, add-one, nat_le, Option, None, MatchOption, is_some, or-true, list_any, drop-cons, Stmt, Open, Close, Const, Var, Disj, Float, Ess, Axiom, Prove, Database, stays_open, active_from, ◌==◌, and_parts, slice_get_read, any_passes_from_place, stmt_at, closed_from, closed_in, IsAt, IsActiveAt}
 
 -- no block of depth d is closed where no more than d are
 pub stays_open-closed : (d : ℕ) (S : Database) → stays_open d S ≡ nat_le (closed_in S) d
@@ -39,7 +39,7 @@ zero_closed : (n : ℕ) → nat_le n 0 ≡ (n == 0)
 zero_closed n = grind arith
 
 -- one statement back closes at most one block more
-step : (n : ℕ) (s : Stmt) → closed_by s n ≤ suc n
+step : (n : ℕ) (s : Stmt) → closed_from s n ≤ suc n
 step n Open = omega arith
 step n Close = omega arith
 step n (Const x) = omega arith
@@ -51,7 +51,7 @@ step n (Axiom l e) = omega arith
 step n (Prove l e p) = omega arith
 
 -- one statement back, the closed blocks and the places still ahead stay within their bound
-pub closed_few : (n i h k : ℕ) (s : Stmt) → h ≡ i + 1 → n + h ≤ k → closed_by s n + i ≤ k
+pub closed_few : (n i h k : ℕ) (s : Stmt) → h ≡ i + 1 → n + h ≤ k → closed_from s n + i ≤ k
 closed_few n i h k s e few = omega (arith, step n s, e, few)
 
 module _ (S : Database) (i h : ℕ) (s : Stmt) (closed : ℕ) (t : Stmt → Bool) (inside : i < length S) (here : s ≡ get_or S i s) (next : h ≡ i + 1)
@@ -69,8 +69,8 @@ module _ (S : Database) (i h : ℕ) (s : Stmt) (closed : ℕ) (t : Stmt → Bool
   stays = stays_open-closed 0 (drop h S) ∙ (zero_closed (closed_in (drop h S)) ∙ ap (λ n. n == 0) (sym counts))
 
   -- the count of closed blocks with this statement
-  pub closed_on : closed_by s closed ≡ closed_in (drop i S)
-  closed_on = ap (closed_by s) counts ∙ ap closed_in (sym opened)
+  pub closed_on : closed_from s closed ≡ closed_in (drop i S)
+  closed_on = ap (closed_from s) counts ∙ ap closed_in (sym opened)
 
   -- a statement that has it, where no block is closed later, is active and has it
   pub found_active : (closed == 0 && t s) ≡ true → IsActiveAt S (i + 1) t
@@ -79,7 +79,7 @@ module _ (S : Database) (i h : ℕ) (s : Stmt) (closed : ℕ) (t : Stmt → Bool
       record {
         at = record {
           stmt = s;
-          stands = ap (stmt_at S) (add-one i) ∙ slice_get_read S (length S) i s refl inside here;
+          is_there = ap (stmt_at S) (add-one i) ∙ slice_get_read S (length S) i s refl inside here;
           passes = parts.1;
         };
         stays = ap (λ k. stays_open 0 (drop k S)) (sym next) ∙ (stays ∙ parts.0);
@@ -116,7 +116,7 @@ none_closed S = ap closed_in (all_gone S)
 
 -- the first that is found
 pub found_at : (S : Database) (i : ℕ) (s : Stmt) (t : Stmt → Bool) → slice_get S i ≡ Some s → t s ≡ true → IsAt S (i + 1) t
-found_at S i s t e passes = record { stmt = s; stands = ap (stmt_at S) (add-one i) ∙ e; passes = passes }
+found_at S i s t e passes = record { stmt = s; is_there = ap (stmt_at S) (add-one i) ∙ e; passes = passes }
 
 -- the first of the rest decides, or what is after it
 pub rest_is : {A : Type 0} (t : A → Bool) (xs : List A) (i : ℕ) (x : A) → i < length xs → x ≡ get_or xs i x → list_any t (drop i xs) ≡ (t x || list_any t (drop (i + 1) xs))
@@ -174,11 +174,11 @@ stmt_index S zero s e = cc
 stmt_index S (suc n) s e = (n, refl, e)
 
 pub IsAt-any : (S : Database) (i : ℕ) (t : Stmt → Bool) → IsAt S i t → list_any t S ≡ true
-IsAt-any S i t is = let at = stmt_index S i is.stmt is.stands in any_passes_from_place t S at.0 is.stmt at.2 is.passes
+IsAt-any S i t is = let at = stmt_index S i is.stmt is.is_there in any_passes_from_place t S at.0 is.stmt at.2 is.passes
 
 pub IsActiveAt-any : (S : Database) (i : ℕ) (t : Stmt → Bool) → IsActiveAt S i t → list_any (λ p. t p.1) (active_from 1 S) ≡ true
 IsActiveAt-any S i t is =
-    let at = stmt_index S i is.at.stmt is.at.stands in
+    let at = stmt_index S i is.at.stmt is.at.is_there in
     any_active t 1 S at.0 is.at.stmt at.2 is.at.passes (ap (λ k. stays_open 0 (drop k S)) (sym at.1) ∙ is.stays)
 
 -- a search that finds one, or tells that there is none, answers the test

@@ -1,7 +1,7 @@
 -- From what the searches tell to a violation of each rule.
-use Rattle.rule_violation.proofs.Words.{◌≡◌, ℕ, Bool, true, false, not, ◌&&◌, ◌||◌, List, [], ◌∷◌, refl, sym, ◌∙◌, ap, Option, Some, None, IsSomeAnd, MatchOption, IsTrue, true≢false, slice_get, IfOk, Result, IfOk-weaker, Rule, Test, list_any, list_all, and_from, and_parts, or_parts, not-true, or_assoc, or_comm, not-not, or_swap, Name, has_name, Stmt, Open, Close, Const, Var, Disj, Float, Ess, Axiom, Prove, Database, Expr, G2, G3, G4, G5, G8, G9, constants, variables, label_of, has_label, expr_of, is_constant, is_variable, has_float, was_symbol, was_label, keeps, all_different, is_fresh_label, are_typed, RuleViolation, Statement, Symbol, Twice, Earlier, Label, meets, fails, Violates, Among, IsTwice, IsRepeated, IsSymbolOf, IsLabelOf, typed_expr}
+use Rattle.rule_violation.proofs.Words.{◌≡◌, ℕ, Bool, true, false, not, ◌&&◌, ◌||◌, List, [], ◌∷◌, refl, sym, ◌∙◌, ap, Option, Some, None, IsSomeAnd, MatchOption, IsTrue, true≢false, slice_get, IfOk, Result, IfOk-weaker, Rule, SymbolFault, list_any, list_all, and_from, and_parts, or_parts, not-true, or_assoc, or_comm, not-not, or_swap, Name, has_name, Stmt, Open, Close, Const, Var, Disj, Float, Ess, Axiom, Prove, Database, Expr, G2, G3, G4, G5, G8, G9, constants, variables, label_of, has_label, expr_of, is_constant, is_variable, has_float, was_symbol, was_label, keeps, all_different, is_fresh_label, are_typed, RuleViolation, Statement, Symbol, Twice, Earlier, Label, has_name_in, has_fault, Violates, Among, IsTwice, IsRepeated, IsSymbolOf, IsLabelOf, typed_expr}
 use Rattle.rule_violation.specs.declared.search.Part.TheVariants as part
-use Rattle.rule_violation.specs.declared.symbol_search.Test.TheVariants as test
+use Rattle.rule_violation.specs.declared.symbol_search.SymbolFault.TheVariants as fault
 
 -- ---- lists and tests
 
@@ -20,13 +20,13 @@ any_or : {A : Type 0} (p q r : A → Bool) → ((x : A) → r x ≡ (p x || q x)
 any_or p q r same [] = refl
 any_or p q r same (x ∷ xs) = or_swap (p x) (list_any p xs) (q x) (list_any q xs) ∙ (ap (λ b. b || (list_any p xs || list_any q xs)) (sym (same x)) ∙ ap (λ b. r x || b) (any_or p q r same xs))
 
--- a statement carries or declares the name where it was a symbol or a label before
-named_is : (S : Database) (x : Name) → (was_symbol S x || was_label S x) ≡ list_any (meets part.Named x) S
-named_is S x = any_or (λ s. has_name x (constants s) || has_name x (variables s)) (λ s. has_label x (label_of s)) (meets part.Named x) (λ s. or_comm (has_label x (label_of s)) (has_name x (constants s) || has_name x (variables s))) S
+-- a statement has the name as its label or declares it where it was a symbol or a label before
+named_is : (S : Database) (x : Name) → (was_symbol S x || was_label S x) ≡ list_any (has_name_in part.LabelOrSymbol x) S
+named_is S x = any_or (λ s. has_name x (constants s) || has_name x (variables s)) (λ s. has_label x (label_of s)) (has_name_in part.LabelOrSymbol x) (λ s. or_comm (has_label x (label_of s)) (has_name x (constants s) || has_name x (variables s))) S
 
 -- .. and as label or constant where it is a constant or was a label before
-fixed_is : (S : Database) (x : Name) → (is_constant S x || was_label S x) ≡ list_any (meets part.Fixed x) S
-fixed_is S x = any_or (λ s. has_name x (constants s)) (λ s. has_label x (label_of s)) (meets part.Fixed x) (λ s. or_comm (has_label x (label_of s)) (has_name x (constants s))) S
+fixed_is : (S : Database) (x : Name) → (is_constant S x || was_label S x) ≡ list_any (has_name_in part.LabelOrConstant x) S
+fixed_is S x = any_or (λ s. has_name x (constants s)) (λ s. has_label x (label_of s)) (has_name_in part.LabelOrConstant x) (λ s. or_comm (has_label x (label_of s)) (has_name x (constants s))) S
 
 -- ---- violations
 
@@ -39,7 +39,7 @@ some_violation Q R P not on (Some w) told = on w told
 contradict : {b : Bool} → b ≡ true → b ≡ false → ⊥
 contradict t f = true≢false (sym t ∙ f)
 
--- for a symbol that stands twice
+-- for a symbol that occurs twice
 by_twice : {E : Type 0} (names : List Name) (r : Result (Option RuleViolation) E) (P : RuleViolation → Type 0) → (all_different names ≡ true → ⊥) → ((j k : ℕ) → IsTwice names j k → P (Twice j k))
     → IfOk r (λ found. MatchOption found (all_different names ≡ true) (IsRepeated names)) → IfOk r (λ found. IsSomeAnd found P)
 by_twice names r P not is = IfOk-weaker r _ _ (some_violation (all_different names ≡ true) (IsRepeated names) P not on)
@@ -52,49 +52,49 @@ by_twice names r P not is = IfOk-weaker r _ _ (some_violation (all_different nam
     on (Label i) h = absurd h
 
 -- for a symbol of a list that fails a test, which all would pass where the rule is kept
-by_symbol : {E : Type 0} (S : Database) (s : Stmt) (rule : Rule) (t : Test) (pass : Name → Bool) (expr : Expr) (r : Result (Option RuleViolation) E)
-    → keeps S s rule ≡ list_all pass expr → ((x : Name) → pass x ≡ not (fails S t x)) → ((k : ℕ) → Among expr k (λ x. IsTrue (fails S t x)) → Violates S s rule (Symbol k))
-    → IfOk r (λ found. MatchOption found (list_any (fails S t) expr ≡ false) (IsSymbolOf expr (fails S t)))
+by_symbol : {E : Type 0} (S : Database) (s : Stmt) (rule : Rule) (t : SymbolFault) (pass : Name → Bool) (expr : Expr) (r : Result (Option RuleViolation) E)
+    → keeps S s rule ≡ list_all pass expr → ((x : Name) → pass x ≡ not (has_fault S t x)) → ((k : ℕ) → Among expr k (λ x. IsTrue (has_fault S t x)) → Violates S s rule (Symbol k))
+    → IfOk r (λ found. MatchOption found (list_any (has_fault S t) expr ≡ false) (IsSymbolOf expr (has_fault S t)))
     → keeps S s rule ≡ false → IfOk r (λ found. IsSomeAnd found (Violates S s rule))
 by_symbol S s rule t pass expr r keeps_is same is told broken =
-    IfOk-weaker r _ _ (some_violation (list_any (fails S t) expr ≡ false) (IsSymbolOf expr (fails S t)) (Violates S s rule) none on) told
+    IfOk-weaker r _ _ (some_violation (list_any (has_fault S t) expr ≡ false) (IsSymbolOf expr (has_fault S t)) (Violates S s rule) none on) told
   where
-    none : list_any (fails S t) expr ≡ false → ⊥
-    none h = contradict (keeps_is ∙ none_all (fails S t) pass same expr h) broken
+    none : list_any (has_fault S t) expr ≡ false → ⊥
+    none h = contradict (keeps_is ∙ none_all (has_fault S t) pass same expr h) broken
 
-    on : (w : RuleViolation) → IsSymbolOf expr (fails S t) w → Violates S s rule w
+    on : (w : RuleViolation) → IsSymbolOf expr (has_fault S t) w → Violates S s rule w
     on Statement h = absurd h
     on (Symbol k) h = is k h
     on (Twice j k) h = absurd h
     on (Earlier k i) h = absurd h
     on (Label i) h = absurd h
 
--- for G2, where no constant is an earlier name: one stands twice
-pub G2_twice : {E : Type 0} (S : Database) (names : List Name) (r : Result (Option RuleViolation) E) → list_any (fails S test.Named) names ≡ false
+-- for G2, where no constant is an earlier name: one occurs twice
+pub G2_twice : {E : Type 0} (S : Database) (names : List Name) (r : Result (Option RuleViolation) E) → list_any (has_fault S fault.Declared) names ≡ false
     → IfOk r (λ found. MatchOption found (all_different names ≡ true) (IsRepeated names))
     → keeps S (Const names) G2 ≡ false → IfOk r (λ found. IsSomeAnd found (Violates S (Const names) G2))
 G2_twice S names r none told broken =
     by_twice names r (Violates S (Const names) G2)
-    (λ differ. contradict (and_from _ _ (none_all (fails S test.Named) (λ x. not (was_symbol S x || was_label S x)) (λ x. ap not (named_is S x)) names none) differ) broken) (λ j k h. h) told
+    (λ differ. contradict (and_from _ _ (none_all (has_fault S fault.Declared) (λ x. not (was_symbol S x || was_label S x)) (λ x. ap not (named_is S x)) names none) differ) broken) (λ j k h. h) told
 
--- for G3, where no variable is an earlier constant or label or an active variable: one stands twice
-pub G3_twice : {E : Type 0} (S : Database) (names : List Name) (r : Result (Option RuleViolation) E) → list_any (fails S test.Taken) names ≡ false
+-- for G3, where no variable is an earlier constant or label or an active variable: one occurs twice
+pub G3_twice : {E : Type 0} (S : Database) (names : List Name) (r : Result (Option RuleViolation) E) → list_any (has_fault S fault.Taken) names ≡ false
     → IfOk r (λ found. MatchOption found (all_different names ≡ true) (IsRepeated names))
     → keeps S (Var names) G3 ≡ false → IfOk r (λ found. IsSomeAnd found (Violates S (Var names) G3))
 G3_twice S names r none told broken =
     by_twice names r (Violates S (Var names) G3)
-    (λ differ. contradict (and_from _ _ (none_all (fails S test.Taken) (λ x. not (is_variable S x || is_constant S x || was_label S x)) same names none) differ) broken) (λ j k h. h) told
+    (λ differ. contradict (and_from _ _ (none_all (has_fault S fault.Taken) (λ x. not (is_variable S x || is_constant S x || was_label S x)) same names none) differ) broken) (λ j k h. h) told
   where
-    same : (x : Name) → not (is_variable S x || is_constant S x || was_label S x) ≡ not (fails S test.Taken x)
+    same : (x : Name) → not (is_variable S x || is_constant S x || was_label S x) ≡ not (has_fault S fault.Taken x)
     same x = ap not (or_assoc (is_variable S x) (is_constant S x) (was_label S x) ∙ ap (λ b. is_variable S x || b) (fixed_is S x))
 
--- for G8, where each is an active variable: one stands twice
-pub G8_twice : {E : Type 0} (S : Database) (names : List Name) (r : Result (Option RuleViolation) E) → list_any (fails S test.Inactive) names ≡ false
+-- for G8, where each is an active variable: one occurs twice
+pub G8_twice : {E : Type 0} (S : Database) (names : List Name) (r : Result (Option RuleViolation) E) → list_any (has_fault S fault.Inactive) names ≡ false
     → IfOk r (λ found. MatchOption found (all_different names ≡ true) (IsRepeated names))
     → keeps S (Disj names) G8 ≡ false → IfOk r (λ found. IsSomeAnd found (Violates S (Disj names) G8))
 G8_twice S names r none told broken =
     by_twice names r (Violates S (Disj names) G8)
-    (λ differ. contradict (and_from _ _ differ (none_all (fails S test.Inactive) (is_variable S) (λ x. sym (not-not (is_variable S x))) names none)) broken) (λ j k h. h) told
+    (λ differ. contradict (and_from _ _ differ (none_all (has_fault S fault.Inactive) (is_variable S) (λ x. sym (not-not (is_variable S x))) names none)) broken) (λ j k h. h) told
 
 -- G4 looks at the label alone
 keeps_label : (S : Database) (s : Stmt) → keeps S s G4 ≡ is_fresh_label S (label_of s)
@@ -109,10 +109,10 @@ keeps_label S (Axiom l e) = refl
 keeps_label S (Prove l e p) = refl
 
 -- the violation of G4 is the statement that has the label
-pub G4_is : (S : Database) (s : Stmt) (x : Name) (r : Option RuleViolation) → label_of s ≡ Some x → MatchOption r (list_any (meets part.Named x) S ≡ false) (IsLabelOf S x)
+pub G4_is : (S : Database) (s : Stmt) (x : Name) (r : Option RuleViolation) → label_of s ≡ Some x → MatchOption r (list_any (has_name_in part.LabelOrSymbol x) S ≡ false) (IsLabelOf S x)
     → keeps S s G4 ≡ false → IsSomeAnd r (Violates S s G4)
 G4_is S s x r is told broken =
-    some_violation (list_any (meets part.Named x) S ≡ false) (IsLabelOf S x) (Violates S s G4)
+    some_violation (list_any (has_name_in part.LabelOrSymbol x) S ≡ false) (IsLabelOf S x) (Violates S s G4)
     (λ none. contradict (keeps_label S s ∙ (ap (is_fresh_label S) is ∙ ap not (or_comm (was_label S x) (was_symbol S x) ∙ (named_is S x ∙ none)))) broken) on r told
   where
     on : (w : RuleViolation) → IsLabelOf S x w → Violates S s G4 w
@@ -136,12 +136,12 @@ keeps_expr S (Prove l e p) = refl
 
 -- the violation of G5 is the symbol that is neither constant nor active variable
 pub G5_is : {E : Type 0} (S : Database) (s : Stmt) (expr : Expr) (r : Result (Option RuleViolation) E) → expr_of s ≡ expr
-    → IfOk r (λ found. MatchOption found (list_any (fails S test.Unknown) expr ≡ false) (IsSymbolOf expr (fails S test.Unknown)))
+    → IfOk r (λ found. MatchOption found (list_any (has_fault S fault.Unknown) expr ≡ false) (IsSymbolOf expr (has_fault S fault.Unknown)))
     → keeps S s G5 ≡ false → IfOk r (λ found. IsSomeAnd found (Violates S s G5))
 G5_is S s expr r is =
-    by_symbol S s G5 test.Unknown (λ x. is_constant S x || is_variable S x) expr r (keeps_expr S s ∙ ap (list_all (λ x. is_constant S x || is_variable S x)) is)
+    by_symbol S s G5 fault.Unknown (λ x. is_constant S x || is_variable S x) expr r (keeps_expr S s ∙ ap (list_all (λ x. is_constant S x || is_variable S x)) is)
     (λ x. sym (not-not (is_constant S x || is_variable S x)))
-    (λ k h. record { name = h.name; stands = ap (λ e. slice_get e k) is ∙ h.stands; is = or_parts (is_constant S h.name) (is_variable S h.name) (not-true (is_constant S h.name || is_variable S h.name) h.is) })
+    (λ k h. record { name = h.name; is_there = ap (λ e. slice_get e k) is ∙ h.is_there; is = or_parts (is_constant S h.name) (is_variable S h.name) (not-true (is_constant S h.name || is_variable S h.name) h.is) })
 
 -- G9 looks at the expression of a `$e`, `$a` or `$p` alone
 keeps_typed : (S : Database) (s : Stmt) → keeps S s G9 ≡ are_typed S (typed_expr s)
@@ -157,12 +157,12 @@ keeps_typed S (Prove l e p) = refl
 
 -- the violation of G9 is the variable that has no active `$f`
 pub G9_is : {E : Type 0} (S : Database) (s : Stmt) (expr : Expr) (r : Result (Option RuleViolation) E) → typed_expr s ≡ expr
-    → IfOk r (λ found. MatchOption found (list_any (fails S test.Untyped) expr ≡ false) (IsSymbolOf expr (fails S test.Untyped)))
+    → IfOk r (λ found. MatchOption found (list_any (has_fault S fault.Untyped) expr ≡ false) (IsSymbolOf expr (has_fault S fault.Untyped)))
     → keeps S s G9 ≡ false → IfOk r (λ found. IsSomeAnd found (Violates S s G9))
 G9_is S s expr r is =
-    by_symbol S s G9 test.Untyped (λ x. not (is_variable S x) || has_float S x) expr r (keeps_typed S s ∙ ap (are_typed S) is)
+    by_symbol S s G9 fault.Untyped (λ x. not (is_variable S x) || has_float S x) expr r (keeps_typed S s ∙ ap (are_typed S) is)
     (λ x. not_and (is_variable S x) (has_float S x))
-    (λ k h. record { name = h.name; stands = ap (λ e. slice_get e k) is ∙ h.stands; is = let t = and_parts (is_variable S h.name) (not (has_float S h.name)) h.is in (t.0, not-true (has_float S h.name) t.1) })
+    (λ k h. record { name = h.name; is_there = ap (λ e. slice_get e k) is ∙ h.is_there; is = let t = and_parts (is_variable S h.name) (not (has_float S h.name)) h.is in (t.0, not-true (has_float S h.name) t.1) })
   where
     not_and : (a b : Bool) → (not a || b) ≡ not (a && not b)
     not_and true true = refl

@@ -7,10 +7,10 @@ pub use Rattle.mm_read.specs.declared.stmt.Stmt.TheVariants.{Axiom, Close, Const
 pub use Rattle.names.proofs.AddedNames.{has_name-append}
 pub use Rattle.names.proofs.CodesLemmas.{code-name, first-named, has-at, name_eq-comm, rest-named, unknown-number}
 pub use Rattle.names.specs.Codes.{AreDistinct, AreNamed, code_of, name_at}
-pub use Rattle.rule_violation.specs.Marks.{is_wrong_unseen, marked}
-pub use Rattle.rule_violation.specs.Search.{IsActiveAt, IsAt, closed_in, closed_by, fails, meets}
+pub use Rattle.rule_violation.specs.Marks.{is_fault_if_absent, marked}
+pub use Rattle.rule_violation.specs.Search.{IsActiveAt, IsAt, closed_in, closed_from, has_fault, has_name_in}
 pub use Rattle.rule_violation.specs.Violates.{Among, IsLabelOf, IsRepeated, IsSymbolOf, IsTwice, Violates, typed_expr}
-pub use Rattle.rule_violation.specs.declared.symbol_search.Test.{Test}
+pub use Rattle.rule_violation.specs.declared.symbol_search.SymbolFault.{SymbolFault}
 pub use Rattle.rule_violation.specs.declared.violation.RuleViolation.{RuleViolation}
 pub use Rattle.rule_violation.specs.declared.violation.RuleViolation.TheVariants.{Earlier, Label, Statement, Symbol, Twice}
 pub use Rattle.scope.proofs.SortsLemmas.{or_swap}

@@ -8,24 +8,24 @@ use Rattle.mm_read.specs.declared.stmt.Stmt.{Stmt}
 use Rattle.mm_read.specs.declared.stmt.Stmt.TheVariants.{Open, Close}
 use Rattle.mm_read.specs.Statements.{Database}
 use Rattle.scope.specs.Active.{stmt_at, stays_open, constants, variables, label_of, has_label, is_float_of, is_constant, is_variable, has_float}
-use Rattle.rule_violation.specs.declared.symbol_search.Test.{Test}
-use Rattle.rule_violation.specs.declared.symbol_search.Test.TheVariants.{Named as Again, Taken, Unknown, Inactive, Untyped}
+use Rattle.rule_violation.specs.declared.symbol_search.SymbolFault.{SymbolFault}
+use Rattle.rule_violation.specs.declared.symbol_search.SymbolFault.TheVariants.{Declared, Taken, Unknown, Inactive, Untyped}
 use Rattle.rule_violation.specs.declared.search.Part.{Part}
-use Rattle.rule_violation.specs.declared.search.Part.TheVariants.{Named, Fixed, Constant, Variable, Float}
+use Rattle.rule_violation.specs.declared.search.Part.TheVariants.{LabelOrSymbol, LabelOrConstant, Constant, Variable, Float}
 
 -- whether the statement has the name in that part: as its label or among the symbols that it declares; as its label or a
 -- constant; as a constant; as a variable; as the variable of a `$f`
-abbrev pub meets : Part → Name → Stmt → Bool
-meets Named x s = has_label x (label_of s) || (has_name x (constants s) || has_name x (variables s))
-meets Fixed x s = has_label x (label_of s) || has_name x (constants s)
-meets Constant x s = has_name x (constants s)
-meets Variable x s = has_name x (variables s)
-meets Float x s = is_float_of x s
+abbrev pub has_name_in : Part → Name → Stmt → Bool
+has_name_in LabelOrSymbol x s = has_label x (label_of s) || (has_name x (constants s) || has_name x (variables s))
+has_name_in LabelOrConstant x s = has_label x (label_of s) || has_name x (constants s)
+has_name_in Constant x s = has_name x (constants s)
+has_name_in Variable x s = has_name x (variables s)
+has_name_in Float x s = is_float_of x s
 
 -- the statement at i passes the test
 pub record IsAt (S : Database) (i : ℕ) (test : Stmt → Bool) : Type 0 where
   pub stmt : Stmt
-  pub stands : stmt_at S i ≡ Some stmt
+  pub is_there : stmt_at S i ≡ Some stmt
   pub passes : IsTrue (test stmt)
 
 -- the statement at i passes the test and is active after S
@@ -34,25 +34,25 @@ pub record IsActiveAt (S : Database) (i : ℕ) (test : Stmt → Bool) : Type 0 w
   pub stays : IsTrue (stays_open 0 (drop i S))
 
 -- how many blocks that were open before the statement are closed by it or later, if n of those open after it are
-abbrev pub closed_by : Stmt → ℕ → ℕ
-closed_by Open n = n - 1
-closed_by Close n = suc n
-closed_by s n = n
+abbrev pub closed_from : Stmt → ℕ → ℕ
+closed_from Open n = n - 1
+closed_from Close n = suc n
+closed_from s n = n
 
 -- how many blocks that were open before these statements they close
 abbrev pub closed_in : Database → ℕ
 closed_in [] = 0
-closed_in (s ∷ S) = closed_by s (closed_in S)
+closed_in (s ∷ S) = closed_from s (closed_in S)
 
 -- the faults of a symbol after S
-abbrev pub fails : Database → Test → Name → Bool
-fails S Again x = list_any (meets Named x) S
-fails S Taken x = is_variable S x || list_any (meets Fixed x) S
-fails S Unknown x = not (is_constant S x || is_variable S x)
-fails S Inactive x = not (is_variable S x)
-fails S Untyped x = is_variable S x && not (has_float S x)
+abbrev pub has_fault : Database → SymbolFault → Name → Bool
+has_fault S Declared x = list_any (has_name_in LabelOrSymbol x) S
+has_fault S Taken x = is_variable S x || list_any (has_name_in LabelOrConstant x) S
+has_fault S Unknown x = not (is_constant S x || is_variable S x)
+has_fault S Inactive x = not (is_variable S x)
+has_fault S Untyped x = is_variable S x && not (has_float S x)
 
 -- the name at an index is this one, and passes the test
 pub record IsSymbolAt (names : List Name) (test : Name → Bool) (index : ℕ) (name : Name) : Type 0 where
-  pub stands : slice_get names index ≡ Some name
+  pub is_there : slice_get names index ≡ Some name
   pub passes : IsTrue (test name)

@@ -4,12 +4,12 @@ ghost use Rattle.std.specs.List.{list_any};
 ghost use Rattle.scope.specs.Active.{is_open};
 ghost use Rattle.scope.specs.Legal.{keeps};
 ghost use Rattle.scope.specs.declared.rule.Rule.TheVariants as rule;
-ghost use Rattle.rule_violation.specs.Search.{meets, fails, IsActiveAt};
+ghost use Rattle.rule_violation.specs.Search.{has_name_in, has_fault, IsActiveAt};
 ghost use Rattle.rule_violation.specs.declared.search.Part.TheVariants as part;
 ghost use Rattle.rule_violation.specs.Violates.{IsLabelOf, IsSymbolOf, Violates};
 
-use crate::search::{Part, closed_by, find, find_active};
-use crate::symbol_search::{Test, first, is_symbol, twice};
+use crate::search::{Part, closed_from, find, find_active};
+use crate::symbol_search::{SymbolFault, first_repeated, first_with_fault, is_symbol};
 use crate::violation::RuleViolation;
 use mm_lex::{Word, Words};
 use mm_read::Stmt;
@@ -38,7 +38,7 @@ pub fn violation_of(
         Rule::G6 => Ok(Some(RuleViolation::Symbol { symbol: 0 })),
         Rule::G7 => Ok(of_float(earlier, stmt)),
         Rule::G8 => of_disjoint(alloc, earlier, stmt),
-        Rule::G9 => of_typed(alloc, earlier, stmt),
+        Rule::G9 => of_untyped(alloc, earlier, stmt),
         Rule::G10 => Ok(Some(RuleViolation::Statement)),
         Rule::Memory => Ok(None),
     }
@@ -54,10 +54,11 @@ fn of_constants(
     let Stmt::Const(names) = stmt else {
         return Ok(None);
     };
-    let Some((symbol, name)) = first(alloc, earlier, names, Test::Named)? else {
-        return twice(alloc, names);
+    let Some((symbol, name)) = first_with_fault(alloc, earlier, names, SymbolFault::Declared)?
+    else {
+        return first_repeated(alloc, names);
     };
-    match find(earlier, Part::Named, name) {
+    match find(earlier, Part::LabelOrSymbol, name) {
         Some(statement) => Ok(Some(RuleViolation::Earlier { symbol, statement })),
         None => Ok(None),
     }
@@ -73,13 +74,13 @@ fn of_variables(
     let Stmt::Var(names) = stmt else {
         return Ok(None);
     };
-    let Some((symbol, name)) = first(alloc, earlier, names, Test::Taken)? else {
-        return twice(alloc, names);
+    let Some((symbol, name)) = first_with_fault(alloc, earlier, names, SymbolFault::Taken)? else {
+        return first_repeated(alloc, names);
     };
     if let Some(statement) = find_active(earlier, Part::Variable, name) {
         return Ok(Some(RuleViolation::Earlier { symbol, statement }));
     }
-    match find(earlier, Part::Fixed, name) {
+    match find(earlier, Part::LabelOrConstant, name) {
         Some(statement) => Ok(Some(RuleViolation::Earlier { symbol, statement })),
         None => Ok(None),
     }
@@ -89,19 +90,19 @@ fn of_label(earlier: &[Stmt], stmt: &Stmt) -> Option<RuleViolation>
     ensures { keeps earlier.now stmt.now rule.G4 ≡ false → IsSomeAnd result (Violates earlier.now stmt.now rule.G4) }
 {
     match stmt {
-        Stmt::Float { label, .. } => carried(earlier, label),
-        Stmt::Ess { label, .. } => carried(earlier, label),
-        Stmt::Axiom { label, .. } => carried(earlier, label),
-        Stmt::Prove { label, .. } => carried(earlier, label),
+        Stmt::Float { label, .. } => label_conflict(earlier, label),
+        Stmt::Ess { label, .. } => label_conflict(earlier, label),
+        Stmt::Axiom { label, .. } => label_conflict(earlier, label),
+        Stmt::Prove { label, .. } => label_conflict(earlier, label),
         _ => None,
     }
 }
 
 /// Returns the first statement that has the label or declares it as a symbol, as a violation of G4, or `None`.
-fn carried(earlier: &[Stmt], label: &Word) -> Option<RuleViolation>
-    ensures { MatchOption result (list_any (meets part.Named label.now) earlier.now ≡ false) (IsLabelOf earlier.now label.now) }
+fn label_conflict(earlier: &[Stmt], label: &Word) -> Option<RuleViolation>
+    ensures { MatchOption result (list_any (has_name_in part.LabelOrSymbol label.now) earlier.now ≡ false) (IsLabelOf earlier.now label.now) }
 {
-    match find(earlier, Part::Named, label.as_bytes()) {
+    match find(earlier, Part::LabelOrSymbol, label.as_bytes()) {
         Some(statement) => Some(RuleViolation::Label { statement }),
         None => None,
     }
@@ -119,9 +120,9 @@ fn of_expression(
             let symbol = usize::from(is_symbol(earlier, constant.as_bytes()));
             Ok(Some(RuleViolation::Symbol { symbol }))
         }
-        Stmt::Ess { expr, .. } => symbol_of(alloc, earlier, expr, Test::Unknown),
-        Stmt::Axiom { expr, .. } => symbol_of(alloc, earlier, expr, Test::Unknown),
-        Stmt::Prove { expr, .. } => symbol_of(alloc, earlier, expr, Test::Unknown),
+        Stmt::Ess { expr, .. } => symbol_of(alloc, earlier, expr, SymbolFault::Unknown),
+        Stmt::Axiom { expr, .. } => symbol_of(alloc, earlier, expr, SymbolFault::Unknown),
+        Stmt::Prove { expr, .. } => symbol_of(alloc, earlier, expr, SymbolFault::Unknown),
         _ => Ok(None),
     }
 }
@@ -131,11 +132,11 @@ fn symbol_of(
     alloc: Global,
     earlier: &[Stmt],
     names: &Words,
-    test: Test,
+    fault: SymbolFault,
 ) -> Result<Option<RuleViolation>, AllocError>
-    ensures { IfOk result (λ found. MatchOption found (list_any (fails earlier.now test) names.now ≡ false) (IsSymbolOf names.now (fails earlier.now test))) }
+    ensures { IfOk result (λ found. MatchOption found (list_any (has_fault earlier.now fault) names.now ≡ false) (IsSymbolOf names.now (has_fault earlier.now fault))) }
 {
-    match first(alloc, earlier, names, test)? {
+    match first_with_fault(alloc, earlier, names, fault)? {
         Some((symbol, _)) => Ok(Some(RuleViolation::Symbol { symbol })),
         None => Ok(None),
     }
@@ -166,13 +167,13 @@ fn of_disjoint(
     let Stmt::Disj(names) = stmt else {
         return Ok(None);
     };
-    match symbol_of(alloc, earlier, names, Test::Inactive)? {
+    match symbol_of(alloc, earlier, names, SymbolFault::Inactive)? {
         Some(violation) => Ok(Some(violation)),
-        None => twice(alloc, names),
+        None => first_repeated(alloc, names),
     }
 }
 
-fn of_typed(
+fn of_untyped(
     alloc: Global,
     earlier: &[Stmt],
     stmt: &Stmt,
@@ -180,9 +181,9 @@ fn of_typed(
     ensures { keeps earlier.now stmt.now rule.G9 ≡ false → IfOk result (λ violation. IsSomeAnd violation (Violates earlier.now stmt.now rule.G9)) }
 {
     match stmt {
-        Stmt::Ess { expr, .. } => symbol_of(alloc, earlier, expr, Test::Untyped),
-        Stmt::Axiom { expr, .. } => symbol_of(alloc, earlier, expr, Test::Untyped),
-        Stmt::Prove { expr, .. } => symbol_of(alloc, earlier, expr, Test::Untyped),
+        Stmt::Ess { expr, .. } => symbol_of(alloc, earlier, expr, SymbolFault::Untyped),
+        Stmt::Axiom { expr, .. } => symbol_of(alloc, earlier, expr, SymbolFault::Untyped),
+        Stmt::Prove { expr, .. } => symbol_of(alloc, earlier, expr, SymbolFault::Untyped),
         _ => Ok(None),
     }
 }
@@ -199,7 +200,7 @@ pub fn never_closed(statements: &[Stmt]) -> Option<usize>
         if is_active_open(closed, stmt) {
             return Some(i + 1);
         }
-        closed = closed_by(stmt, closed);
+        closed = closed_from(stmt, closed);
     }
     None
 }

@@ -5,16 +5,16 @@ ghost use Rattle.mm_lex.specs.Alphabet.{Name, has_name, name_eq};
 ghost use Rattle.names.specs.Codes.{AreNamed};
 ghost use Rattle.scope.specs.Active.{active, label_of, has_label, constants, variables, is_float_of};
 ghost use Rattle.rule_violation.specs.Marks.{marked};
-ghost use Rattle.rule_violation.specs.Search.{meets};
+ghost use Rattle.rule_violation.specs.Search.{has_name_in};
 
-use crate::search::{Part, closed_by};
+use crate::search::{Part, closed_from};
 use mm_lex::Words;
 use mm_read::Stmt;
 use names::NameTable;
 use std::alloc::{AllocError, Global};
 
 /// Returns a table of the distinct words.
-pub(crate) fn names_of(alloc: Global, words: &Words) -> Result<NameTable, AllocError>
+pub(crate) fn name_table(alloc: Global, words: &Words) -> Result<NameTable, AllocError>
     ensures { IfOk result (λ names. AreNamed names words.now) }
 {
     let mut names = NameTable::new(alloc);
@@ -33,7 +33,7 @@ pub(crate) fn mark_any(
     marks: &mut [bool],
 )
     requires { length marks.old ≡ length names.now }
-    ensures { marks.new ≡ marked (λ x. list_any (meets part x) earlier.now) mark names.now marks.old }
+    ensures { marks.new ≡ marked (λ x. list_any (has_name_in part x) earlier.now) mark names.now marks.old }
 {
     for i in 0..earlier.len() {
         let stmt = &earlier[i];
@@ -50,13 +50,13 @@ pub(crate) fn mark_active(
     marks: &mut [bool],
 )
     requires { length marks.old ≡ length names.now }
-    ensures { marks.new ≡ marked (λ x. list_any (λ p. meets part x p.1) (active earlier.now)) mark names.now marks.old }
+    ensures { marks.new ≡ marked (λ x. list_any (λ p. has_name_in part x p.1) (active earlier.now)) mark names.now marks.old }
 {
     let mut closed = 0usize;
     for i in (0..earlier.len()).rev() {
         let stmt = &earlier[i];
         mark_where_active(closed, names, stmt, part, mark, marks);
-        closed = closed_by(stmt, closed);
+        closed = closed_from(stmt, closed);
     }
 }
 
@@ -71,7 +71,7 @@ fn mark_where_active(
     marks: &mut [bool],
 )
     requires { length marks.old ≡ length names.now }
-    ensures { marks.new ≡ marked (λ x. closed == 0 && meets part x stmt.now) mark names.now marks.old }
+    ensures { marks.new ≡ marked (λ x. closed == 0 && has_name_in part x stmt.now) mark names.now marks.old }
 {
     if closed == 0 {
         mark_stmt(names, stmt, part, mark, marks);
@@ -81,15 +81,15 @@ fn mark_where_active(
 /// Sets the mark of each name that the statement has in that part to `mark`.
 fn mark_stmt(names: &NameTable, stmt: &Stmt, part: Part, mark: bool, marks: &mut [bool])
     requires { length marks.old ≡ length names.now }
-    ensures { marks.new ≡ marked (λ x. meets part x stmt.now) mark names.now marks.old }
+    ensures { marks.new ≡ marked (λ x. has_name_in part x stmt.now) mark names.now marks.old }
 {
     match part {
-        Part::Named => {
+        Part::LabelOrSymbol => {
             mark_label(names, stmt, mark, marks);
             mark_constants(names, stmt, mark, marks);
             mark_variables(names, stmt, mark, marks);
         }
-        Part::Fixed => {
+        Part::LabelOrConstant => {
             mark_label(names, stmt, mark, marks);
             mark_constants(names, stmt, mark, marks);
         }

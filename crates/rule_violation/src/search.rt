@@ -3,7 +3,7 @@ ghost use Rattle.std.specs.Prelude.{◌≡◌, ◌+◌, ◌<◌, ◌^◌, ◌==�
 ghost use Rattle.std.specs.List.{list_any};
 ghost use Rattle.mm_lex.specs.Alphabet.{has_name, name_eq};
 ghost use Rattle.scope.specs.Active.{active, label_of, has_label, constants, variables, is_float_of};
-ghost use Rattle.rule_violation.specs.Search.{meets, closed_by, IsAt, IsActiveAt};
+ghost use Rattle.rule_violation.specs.Search.{has_name_in, closed_from, IsAt, IsActiveAt};
 
 use mm_lex::{Word, Words};
 use mm_read::Stmt;
@@ -12,9 +12,9 @@ use mm_read::Stmt;
 #[derive(Clone, Copy, Drop)]
 pub(crate) enum Part {
     /// Its label, or a symbol that it declares.
-    Named,
+    LabelOrSymbol,
     /// Its label, or a constant that it declares.
-    Fixed,
+    LabelOrConstant,
     /// A constant that it declares.
     Constant,
     /// A variable that it declares.
@@ -25,12 +25,12 @@ pub(crate) enum Part {
 
 /// Returns the position, from 1, of the first statement that has the name in that part, or `None`.
 pub(crate) fn find(earlier: &[Stmt], part: Part, name: &[u8]) -> Option<usize>
-    ensures { MatchOption result (list_any (meets part name.now) earlier.now ≡ false)
-        (λ i. IsAt earlier.now i (meets part name.now)) }
+    ensures { MatchOption result (list_any (has_name_in part name.now) earlier.now ≡ false)
+        (λ i. IsAt earlier.now i (has_name_in part name.now)) }
 {
     for i in 0..earlier.len() {
         let stmt = &earlier[i];
-        if meets(stmt, part, name) {
+        if has_name_in(stmt, part, name) {
             return Some(i + 1);
         }
     }
@@ -39,8 +39,8 @@ pub(crate) fn find(earlier: &[Stmt], part: Part, name: &[u8]) -> Option<usize>
 
 /// Returns the position, from 1, of the last active statement that has the name in that part, or `None`.
 pub(crate) fn find_active(earlier: &[Stmt], part: Part, name: &[u8]) -> Option<usize>
-    ensures { MatchOption result (list_any (λ p. meets part name.now p.1) (active earlier.now) ≡ false)
-        (λ i. IsActiveAt earlier.now i (meets part name.now)) }
+    ensures { MatchOption result (list_any (λ p. has_name_in part name.now p.1) (active earlier.now) ≡ false)
+        (λ i. IsActiveAt earlier.now i (has_name_in part name.now)) }
 {
     let mut closed = 0usize;
     for i in (0..earlier.len()).rev() {
@@ -48,7 +48,7 @@ pub(crate) fn find_active(earlier: &[Stmt], part: Part, name: &[u8]) -> Option<u
         if is_active_match(closed, stmt, part, name) {
             return Some(i + 1);
         }
-        closed = closed_by(stmt, closed);
+        closed = closed_from(stmt, closed);
     }
     None
 }
@@ -56,16 +56,16 @@ pub(crate) fn find_active(earlier: &[Stmt], part: Part, name: &[u8]) -> Option<u
 /// Returns whether the statement has the name in that part and is active. `closed` is the number of blocks open after it that
 /// are closed later.
 fn is_active_match(closed: usize, stmt: &Stmt, part: Part, name: &[u8]) -> bool
-    ensures { result ≡ (closed == 0 && meets part name.now stmt.now) }
+    ensures { result ≡ (closed == 0 && has_name_in part name.now stmt.now) }
 {
-    closed == 0 && meets(stmt, part, name)
+    closed == 0 && has_name_in(stmt, part, name)
 }
 
 /// Returns how many blocks that were open before the statement are closed by it or later, if `closed` of those open after it
 /// are.
-pub(crate) fn closed_by(stmt: &Stmt, closed: usize) -> usize
+pub(crate) fn closed_from(stmt: &Stmt, closed: usize) -> usize
     requires { closed + 1 < 2 ^ 64 }
-    ensures { result ≡ closed_by stmt.now closed }
+    ensures { result ≡ closed_from stmt.now closed }
 {
     match stmt {
         Stmt::Open => closed.saturating_sub(1),
@@ -75,21 +75,21 @@ pub(crate) fn closed_by(stmt: &Stmt, closed: usize) -> usize
 }
 
 /// Returns whether the statement has the name in that part.
-fn meets(stmt: &Stmt, part: Part, name: &[u8]) -> bool
-    ensures { result ≡ meets part name.now stmt.now }
+fn has_name_in(stmt: &Stmt, part: Part, name: &[u8]) -> bool
+    ensures { result ≡ has_name_in part name.now stmt.now }
 {
     match part {
-        Part::Named => {
-            carries(stmt, name) || has_constant(stmt, name) || has_variable(stmt, name)
+        Part::LabelOrSymbol => {
+            has_label(stmt, name) || has_constant(stmt, name) || has_variable(stmt, name)
         }
-        Part::Fixed => carries(stmt, name) || has_constant(stmt, name),
+        Part::LabelOrConstant => has_label(stmt, name) || has_constant(stmt, name),
         Part::Constant => has_constant(stmt, name),
         Part::Variable => has_variable(stmt, name),
         Part::Float => is_float_of(stmt, name),
     }
 }
 
-fn carries(stmt: &Stmt, name: &[u8]) -> bool
+fn has_label(stmt: &Stmt, name: &[u8]) -> bool
     ensures { result ≡ has_label name.now (label_of stmt.now) }
 {
     match stmt {

@@ -5,11 +5,11 @@ ghost use Rattle.mm_lex.specs.Alphabet.{Name};
 ghost use Rattle.names.specs.Codes.{AreNamed};
 ghost use Rattle.scope.specs.Active.{is_constant, is_variable};
 ghost use Rattle.scope.specs.Legal.{all_different};
-ghost use Rattle.rule_violation.specs.Marks.{is_wrong_unseen};
-ghost use Rattle.rule_violation.specs.Search.{fails, IsSymbolAt};
+ghost use Rattle.rule_violation.specs.Marks.{is_fault_if_absent};
+ghost use Rattle.rule_violation.specs.Search.{has_fault, IsSymbolAt};
 ghost use Rattle.rule_violation.specs.Violates.{IsRepeated};
 
-use crate::marks::{mark_active, mark_any, mark_of, names_of};
+use crate::marks::{mark_active, mark_any, mark_of, name_table};
 use crate::search::{Part, find, find_active};
 use crate::violation::RuleViolation;
 use mm_lex::Words;
@@ -19,9 +19,9 @@ use std::alloc::{AllocError, Global};
 
 /// A fault of a symbol.
 #[derive(Clone, Copy, Drop)]
-pub(crate) enum Test {
+pub(crate) enum SymbolFault {
     /// It is an earlier label or was declared as a symbol.
-    Named,
+    Declared,
     /// It is an active variable or an earlier label, or was declared as a constant.
     Taken,
     /// It is neither a constant nor an active variable.
@@ -35,45 +35,45 @@ pub(crate) enum Test {
 /// Returns the index of the first of the words with this fault, and the word, or `None` if none has it.
 ///
 /// Cost: one or two passes over the statements, with a look-up of each name that they have.
-pub(crate) fn first<'a>(
+pub(crate) fn first_with_fault<'a>(
     alloc: Global,
     earlier: &[Stmt],
     words: &'a Words,
-    test: Test,
+    fault: SymbolFault,
 ) -> Result<Option<(usize, &'a [u8])>, AllocError>
-    ensures { IfOk result (λ found. MatchOption found (list_any (fails earlier.now test) words.entry.now ≡ false)
-        (λ r. IsSymbolAt words.entry.now (fails earlier.now test) r.0 r.1.now)) }
+    ensures { IfOk result (λ found. MatchOption found (list_any (has_fault earlier.now fault) words.entry.now ≡ false)
+        (λ r. IsSymbolAt words.entry.now (has_fault earlier.now fault) r.0 r.1.now)) }
 {
-    let names = names_of(alloc, words)?;
-    let mut marks = vec![in alloc; is_wrong_unseen(test); names.len()]?;
-    mark_wrong(&names, earlier, test, &mut marks);
+    let names = name_table(alloc, words)?;
+    let mut marks = vec![in alloc; is_fault_if_absent(fault); names.len()]?;
+    mark_faulty(&names, earlier, fault, &mut marks);
     Ok(first_marked(&names, &marks, words))
 }
 
 /// Returns whether this is a fault of a name that occurs in no statement.
-fn is_wrong_unseen(test: Test) -> bool
-    ensures { result ≡ is_wrong_unseen test }
+fn is_fault_if_absent(fault: SymbolFault) -> bool
+    ensures { result ≡ is_fault_if_absent fault }
 {
-    matches!(test, Test::Unknown | Test::Inactive)
+    matches!(fault, SymbolFault::Unknown | SymbolFault::Inactive)
 }
 
 /// Marks the names with this fault.
-fn mark_wrong(names: &NameTable, earlier: &[Stmt], test: Test, marks: &mut [bool])
-    requires { marks.old ≡ replicate (length names.now) (is_wrong_unseen test) }
-    ensures { marks.new ≡ map (fails earlier.now test) names.now }
+fn mark_faulty(names: &NameTable, earlier: &[Stmt], fault: SymbolFault, marks: &mut [bool])
+    requires { marks.old ≡ replicate (length names.now) (is_fault_if_absent fault) }
+    ensures { marks.new ≡ map (has_fault earlier.now fault) names.now }
 {
-    match test {
-        Test::Named => mark_any(names, earlier, Part::Named, true, marks),
-        Test::Taken => {
-            mark_any(names, earlier, Part::Fixed, true, marks);
+    match fault {
+        SymbolFault::Declared => mark_any(names, earlier, Part::LabelOrSymbol, true, marks),
+        SymbolFault::Taken => {
+            mark_any(names, earlier, Part::LabelOrConstant, true, marks);
             mark_active(names, earlier, Part::Variable, true, marks);
         }
-        Test::Unknown => {
+        SymbolFault::Unknown => {
             mark_any(names, earlier, Part::Constant, false, marks);
             mark_active(names, earlier, Part::Variable, false, marks);
         }
-        Test::Inactive => mark_active(names, earlier, Part::Variable, false, marks),
-        Test::Untyped => {
+        SymbolFault::Inactive => mark_active(names, earlier, Part::Variable, false, marks),
+        SymbolFault::Untyped => {
             mark_active(names, earlier, Part::Variable, true, marks);
             mark_active(names, earlier, Part::Float, false, marks);
         }
@@ -123,7 +123,10 @@ fn is_variable(earlier: &[Stmt], name: &[u8]) -> bool
 }
 
 /// Returns the first word that repeats an earlier one, by both indexes, or `None` if the words are distinct.
-pub(crate) fn twice(alloc: Global, words: &Words) -> Result<Option<RuleViolation>, AllocError>
+pub(crate) fn first_repeated(
+    alloc: Global,
+    words: &Words,
+) -> Result<Option<RuleViolation>, AllocError>
     ensures { IfOk result (λ found. MatchOption found (all_different words.now ≡ true) (IsRepeated words.now)) }
 {
     let mut names = NameTable::new(alloc);

@@ -1,15 +1,15 @@
 -- The open blocks, and how high the stacks stood before them.
-use Rattle.scope.proofs.Words.{◌≡◌, ℕ, suc, ◌+◌, ◌==◌, Bool, true, false, not, cond, ◌||◌, nat_lt, List, [], ◌∷◌, ◌++◌, length, refl, ◌∙◌, ap, sym, arith, append_assoc, append-nil, nat_tests, Stmt, Open, Database, count, stays_open, active_from, is_open, is_close, is_closed, sizes_of, blocks_from, StackHeights, has_open, before_open}
+use Rattle.scope.proofs.Words.{◌≡◌, ℕ, suc, ◌+◌, ◌==◌, Bool, true, false, not, cond, ◌||◌, nat_lt, List, [], ◌∷◌, ◌++◌, length, refl, ◌∙◌, ap, sym, arith, append_assoc, append-nil, nat_tests, Stmt, Open, Database, count, stays_open, active_from, is_open, is_close, is_closed, heights_of, blocks_from, StackHeights, has_open, before_open}
 use Rattle.scope.proofs.ActiveLemmas.{left_open, count-left_open, no_deficit}
 
 pub blocks_from-append : (pre es fs : List (ℕ × Stmt)) → blocks_from pre (es ++ fs) ≡ blocks_from pre es ++ blocks_from (pre ++ es) fs
 blocks_from-append pre [] fs = ap (λ p. blocks_from p fs) (sym (append-nil pre))
 blocks_from-append pre (p ∷ es) fs =
-    ap (λ r. cond (is_open p.1) (sizes_of pre ∷ r) r) (blocks_from-append (pre ++ p ∷ []) es fs)
+    ap (λ r. cond (is_open p.1) (heights_of pre ∷ r) r) (blocks_from-append (pre ++ p ∷ []) es fs)
     ∙ (by (is_open p.1) (blocks_from (pre ++ p ∷ []) es) (blocks_from (pre ++ p ∷ [] ++ es) fs)
     ∙ ap (λ q. blocks_from pre (p ∷ es) ++ blocks_from q fs) (append_assoc pre (p ∷ []) es))
   where
-    by : (b : Bool) (xs ys : List StackHeights) → cond b (sizes_of pre ∷ (xs ++ ys)) (xs ++ ys) ≡ cond b (sizes_of pre ∷ xs) xs ++ ys
+    by : (b : Bool) (xs ys : List StackHeights) → cond b (heights_of pre ∷ (xs ++ ys)) (xs ++ ys) ≡ cond b (heights_of pre ∷ xs) xs ++ ys
     by true xs ys = refl
     by false xs ys = refl
 
@@ -46,29 +46,29 @@ no_blocks pre [] h = refl
 no_blocks pre (p ∷ es) h = by (is_open p.1) h (no_blocks (pre ++ p ∷ []) es)
   where
     by : (b : Bool) → (b || has_open es) ≡ false → (has_open es ≡ false → blocks_from (pre ++ p ∷ []) es ≡ [])
-        → cond b (sizes_of pre ∷ blocks_from (pre ++ p ∷ []) es) (blocks_from (pre ++ p ∷ []) es) ≡ []
+        → cond b (heights_of pre ∷ blocks_from (pre ++ p ∷ []) es) (blocks_from (pre ++ p ∷ []) es) ≡ []
     by true h rest = cc
     by false h rest = rest h
 
 -- the last of the open blocks starts where what stands before it ends
-pub blocks-close : (pre es : List (ℕ × Stmt)) → has_open es ≡ true → blocks_from pre es ≡ blocks_from pre (before_open es) ++ sizes_of (pre ++ before_open es) ∷ []
+pub blocks-close : (pre es : List (ℕ × Stmt)) → has_open es ≡ true → blocks_from pre es ≡ blocks_from pre (before_open es) ++ heights_of (pre ++ before_open es) ∷ []
 blocks-close pre [] h = cc
 blocks-close pre (p ∷ es) h = by (has_open es) refl (is_open p.1) refl h (blocks-close (pre ++ p ∷ []) es)
   where
-    move : (b : Bool) (xs : List StackHeights) (z z' : StackHeights) → z ≡ z' → cond b (sizes_of pre ∷ (xs ++ z ∷ [])) (xs ++ z ∷ []) ≡ cond b (sizes_of pre ∷ xs) xs ++ z' ∷ []
-    move true xs z z' e = ap (λ y. sizes_of pre ∷ (xs ++ y ∷ [])) e
+    move : (b : Bool) (xs : List StackHeights) (z z' : StackHeights) → z ≡ z' → cond b (heights_of pre ∷ (xs ++ z ∷ [])) (xs ++ z ∷ []) ≡ cond b (heights_of pre ∷ xs) xs ++ z' ∷ []
+    move true xs z z' e = ap (λ y. heights_of pre ∷ (xs ++ y ∷ [])) e
     move false xs z z' e = ap (λ y. xs ++ y ∷ []) e
 
     by : (o : Bool) → has_open es ≡ o → (b : Bool) → is_open p.1 ≡ b → (b || has_open es) ≡ true
-        → (has_open es ≡ true → blocks_from (pre ++ p ∷ []) es ≡ blocks_from (pre ++ p ∷ []) (before_open es) ++ sizes_of (pre ++ p ∷ [] ++ before_open es) ∷ [])
-        → cond (is_open p.1) (sizes_of pre ∷ blocks_from (pre ++ p ∷ []) es) (blocks_from (pre ++ p ∷ []) es)
-        ≡ blocks_from pre (cond o (p ∷ before_open es) []) ++ sizes_of (pre ++ cond o (p ∷ before_open es) []) ∷ []
+        → (has_open es ≡ true → blocks_from (pre ++ p ∷ []) es ≡ blocks_from (pre ++ p ∷ []) (before_open es) ++ heights_of (pre ++ p ∷ [] ++ before_open es) ∷ [])
+        → cond (is_open p.1) (heights_of pre ∷ blocks_from (pre ++ p ∷ []) es) (blocks_from (pre ++ p ∷ []) es)
+        ≡ blocks_from pre (cond o (p ∷ before_open es) []) ++ heights_of (pre ++ cond o (p ∷ before_open es) []) ∷ []
     by true o b i h rest =
-        ap (λ r. cond (is_open p.1) (sizes_of pre ∷ r) r) (rest o)
-        ∙ move (is_open p.1) (blocks_from (pre ++ p ∷ []) (before_open es)) _ _ (ap sizes_of (append_assoc pre (p ∷ []) (before_open es)))
+        ap (λ r. cond (is_open p.1) (heights_of pre ∷ r) r) (rest o)
+        ∙ move (is_open p.1) (blocks_from (pre ++ p ∷ []) (before_open es)) _ _ (ap heights_of (append_assoc pre (p ∷ []) (before_open es)))
     by false o true i h rest =
-        ap (λ c. cond c (sizes_of pre ∷ blocks_from (pre ++ p ∷ []) es) (blocks_from (pre ++ p ∷ []) es)) i
-        ∙ (ap (λ r. sizes_of pre ∷ r) (no_blocks (pre ++ p ∷ []) es o) ∙ ap (λ q. sizes_of q ∷ []) (sym (append-nil pre)))
+        ap (λ c. cond c (heights_of pre ∷ blocks_from (pre ++ p ∷ []) es) (blocks_from (pre ++ p ∷ []) es)) i
+        ∙ (ap (λ r. heights_of pre ∷ r) (no_blocks (pre ++ p ∷ []) es o) ∙ ap (λ q. heights_of q ∷ []) (sym (append-nil pre)))
     by false o false i h rest = absurd (no h o)
       where
         no : has_open es ≡ true → has_open es ≡ false → ⊥

@@ -1,35 +1,35 @@
 -- The entry of a name tells its kind and its number.
-use Rattle.scope.proofs.Words.{◌≡◌, ℕ, ◌-◌, ◌<◌, ◌≤◌, Bool, true, cond, List, [], ◌∷◌, ◌++◌, length, take, Some, slice_get, option_map, refl, ◌∙◌, ap, sym, subst, arith, length-take-le, get_or, slice_get-map, slice_get_read, Name, name_at, code_of, code-name, code-first, added-name, Declared, declared_names, declared_symbols, declared_labels, names_that, names_as, kind_in, zip_kinds, is_symbol_kind, is_labelling, IsNumberOf, kinds_of, AreCounted, places_that, NameKind, Label, Constant, Variable, CountedKind}
+use Rattle.scope.proofs.Words.{◌≡◌, ℕ, ◌-◌, ◌<◌, ◌≤◌, Bool, true, cond, List, [], ◌∷◌, ◌++◌, length, take, Some, slice_get, option_map, refl, ◌∙◌, ap, sym, subst, arith, length-take-le, get_or, slice_get-map, slice_get_read, Name, name_at, code_of, code-name, code-first, added-name, Declared, declared_names, declared_symbols, declared_labels, names_that, names_of_kind, kind_in, zip_kinds, is_symbol_kind, is_label, IsNumberOf, kinds_of, AreCounted, indexes_that, NameKind, Label, Constant, Variable, CountedKind}
 use Rattle.scope.proofs.KindsLemmas.{names-seen, kind-at, length-seen}
-use Rattle.scope.proofs.KindCountLemmas.{kinds-length, count-at, both-counts, places-length, place-at}
+use Rattle.scope.proofs.KindCountLemmas.{kinds-length, count-at, both-counts, indexes-length, index-at}
 use Rattle.scope.proofs.SymbolNameLemmas.{names_that-append, number-at}
 
 module _ (names : List Name) (entries : List CountedKind) (same : length entries ≡ length names) (counted : AreCounted 0 entries) (e : CountedKind) where
-  -- the symbols before a place
-  pub symbols-before : (n : ℕ) → slice_get entries n ≡ Some e → e.before ≡ length (declared_symbols (take n (zip_kinds names (kinds_of entries))))
-  symbols-before n at = let is = count-at names entries 0 n e same counted at in omega (arith, is)
+  -- the symbols before a index
+  pub symbols-earlier_symbols : (n : ℕ) → slice_get entries n ≡ Some e → e.earlier_symbols ≡ length (declared_symbols (take n (zip_kinds names (kinds_of entries))))
+  symbols-earlier_symbols n at = let is = count-at names entries 0 n e same counted at in omega (arith, is)
 
-  all-before : (n : ℕ) → n ≤ length names → length (take n (zip_kinds names (kinds_of entries))) ≡ n
-  all-before n below =
+  all-earlier_symbols : (n : ℕ) → n ≤ length names → length (take n (zip_kinds names (kinds_of entries))) ≡ n
+  all-earlier_symbols n below =
       let size = length-seen names (kinds_of entries) (kinds-length names entries same) in
       length-take-le n (zip_kinds names (kinds_of entries)) (omega (arith, size, below))
 
   -- there are no more than names, and the others are labels
-  pub before-within : (n : ℕ) → n ≤ length names → slice_get entries n ≡ Some e → e.before ≤ n
-  before-within n below at =
-      let is = symbols-before n at in
-      let all = all-before n below in
+  pub earlier_symbols-within : (n : ℕ) → n ≤ length names → slice_get entries n ≡ Some e → e.earlier_symbols ≤ n
+  earlier_symbols-within n below at =
+      let is = symbols-earlier_symbols n at in
+      let all = all-earlier_symbols n below in
       let both = both-counts (take n (zip_kinds names (kinds_of entries))) in
       omega (arith, is, all, both)
 
-  pub labels-before : (n : ℕ) → n ≤ length names → slice_get entries n ≡ Some e → n - e.before ≡ length (declared_labels (take n (zip_kinds names (kinds_of entries))))
-  labels-before n below at =
-      let is = symbols-before n at in
-      let all = all-before n below in
+  pub labels-earlier_symbols : (n : ℕ) → n ≤ length names → slice_get entries n ≡ Some e → n - e.earlier_symbols ≡ length (declared_labels (take n (zip_kinds names (kinds_of entries))))
+  labels-earlier_symbols n below at =
+      let is = symbols-earlier_symbols n at in
+      let all = all-earlier_symbols n below in
       let both = both-counts (take n (zip_kinds names (kinds_of entries))) in
       omega (arith, is, all, both)
 
-  -- the kind of the name at a place
+  -- the kind of the name at a index
   pub kind-of-entry : (x : Name) (n : ℕ) → code_of names x ≡ Some n → slice_get entries n ≡ Some e → kind_in (zip_kinds names (kinds_of entries)) x ≡ Some e.kind
   kind-of-entry x n code at =
       let p = code-name names x n code in
@@ -50,41 +50,41 @@ module _ (names : List Name) (entries : List CountedKind) (same : length entries
 
   -- and its number
   pub number-of-entry : (x : Name) (n : ℕ) → code_of names x ≡ Some n → slice_get entries n ≡ Some e
-      → IsNumberOf (names_as e.kind (zip_kinds names (kinds_of entries))) x (cond (is_symbol_kind e.kind) e.before (n - e.before))
+      → IsNumberOf (names_of_kind e.kind (zip_kinds names (kinds_of entries))) x (cond (is_symbol_kind e.kind) e.earlier_symbols (n - e.earlier_symbols))
   number-of-entry x n code at = by e.kind refl (code-name names x n code).0
     where
       within : n < length names → n ≤ length names
       within lt = omega (arith, lt)
 
-      by : (k : NameKind) → e.kind ≡ k → n < length names → IsNumberOf (names_as k (zip_kinds names (kinds_of entries))) x (cond (is_symbol_kind k) e.before (n - e.before))
-      by Label q lt = subst (λ (i : ℕ). IsNumberOf (names_that is_labelling (zip_kinds names (kinds_of entries))) x i) (sym (labels-before n (within lt) at)) (numbered is_labelling x n code at (ap is_labelling q))
-      by Constant q lt = subst (λ (i : ℕ). IsNumberOf (names_that is_symbol_kind (zip_kinds names (kinds_of entries))) x i) (sym (symbols-before n at)) (numbered is_symbol_kind x n code at (ap is_symbol_kind q))
-      by Variable q lt = subst (λ (i : ℕ). IsNumberOf (names_that is_symbol_kind (zip_kinds names (kinds_of entries))) x i) (sym (symbols-before n at)) (numbered is_symbol_kind x n code at (ap is_symbol_kind q))
+      by : (k : NameKind) → e.kind ≡ k → n < length names → IsNumberOf (names_of_kind k (zip_kinds names (kinds_of entries))) x (cond (is_symbol_kind k) e.earlier_symbols (n - e.earlier_symbols))
+      by Label q lt = subst (λ (i : ℕ). IsNumberOf (names_that is_label (zip_kinds names (kinds_of entries))) x i) (sym (labels-earlier_symbols n (within lt) at)) (numbered is_label x n code at (ap is_label q))
+      by Constant q lt = subst (λ (i : ℕ). IsNumberOf (names_that is_symbol_kind (zip_kinds names (kinds_of entries))) x i) (sym (symbols-earlier_symbols n at)) (numbered is_symbol_kind x n code at (ap is_symbol_kind q))
+      by Variable q lt = subst (λ (i : ℕ). IsNumberOf (names_that is_symbol_kind (zip_kinds names (kinds_of entries))) x i) (sym (symbols-earlier_symbols n at)) (numbered is_symbol_kind x n code at (ap is_symbol_kind q))
 
--- there are as many places as names of some kinds
-pub places-count : (own : NameKind → Bool) (names : List Name) (entries : List CountedKind) (places : List ℕ) (seen : Declared) → length entries ≡ length names → places ≡ places_that own 0 entries → zip_kinds names (kinds_of entries) ≡ seen
-    → length places ≡ length (names_that own seen)
-places-count own names entries places seen same are view = ap length are ∙ (places-length own 0 names entries same ∙ ap (λ N. length (names_that own N)) view)
+-- there are as many indexes as names of some kinds
+pub indexes-count : (own : NameKind → Bool) (names : List Name) (entries : List CountedKind) (indexes : List ℕ) (seen : Declared) → length entries ≡ length names → indexes ≡ indexes_that own 0 entries → zip_kinds names (kinds_of entries) ≡ seen
+    → length indexes ≡ length (names_that own seen)
+indexes-count own names entries indexes seen same are view = ap length are ∙ (indexes-length own 0 names entries same ∙ ap (λ N. length (names_that own N)) view)
 
--- the name of a number stands at its place
-pub name-of-number : (own : NameKind → Bool) (names : List Name) (entries : List CountedKind) (places : List ℕ) (seen : Declared) (n p : ℕ) → length entries ≡ length names → places ≡ places_that own 0 entries → zip_kinds names (kinds_of entries) ≡ seen
-    → n < length (names_that own seen) → p ≡ get_or places n p → (p < length names) × (name_at names p ≡ name_at (names_that own seen) n)
-name-of-number own names entries places seen n p same are view below at =
-    let count = places-count own names entries places seen same are view in
-    let is = place-at own 0 names entries n p same (ap (λ ps. slice_get ps n) (sym are) ∙ slice_get_read places (length places) n p refl (omega (arith, below, count)) at) in
+-- the name of a number stands at its index
+pub name-of-number : (own : NameKind → Bool) (names : List Name) (entries : List CountedKind) (indexes : List ℕ) (seen : Declared) (n p : ℕ) → length entries ≡ length names → indexes ≡ indexes_that own 0 entries → zip_kinds names (kinds_of entries) ≡ seen
+    → n < length (names_that own seen) → p ≡ get_or indexes n p → (p < length names) × (name_at names p ≡ name_at (names_that own seen) n)
+name-of-number own names entries indexes seen n p same are view below at =
+    let count = indexes-count own names entries indexes seen same are view in
+    let is = index-at own 0 names entries n p same (ap (λ ps. slice_get ps n) (sym are) ∙ slice_get_read indexes (length indexes) n p refl (omega (arith, below, count)) at) in
     let here = is.1 in let lt = is.2 in
     let plain : p ≡ is.0 = omega (arith, here) in
     (omega (arith, here, lt), ap (name_at names) plain ∙ (is.3 ∙ ap (λ N. name_at (names_that own N) n) view))
 
 -- the number of a name that is declared last
-pub new-number : (names : Declared) (x : Name) (k : NameKind) (place before : ℕ) → before ≡ length (declared_symbols names) → place ≡ length names
-    → IsNumberOf (names_as k (names ++ (x, k) ∷ [])) x (cond (is_symbol_kind k) before (place - before))
-new-number names x k place before symbols all = by k
+pub new-number : (names : Declared) (x : Name) (k : NameKind) (index earlier_symbols : ℕ) → earlier_symbols ≡ length (declared_symbols names) → index ≡ length names
+    → IsNumberOf (names_of_kind k (names ++ (x, k) ∷ [])) x (cond (is_symbol_kind k) earlier_symbols (index - earlier_symbols))
+new-number names x k index earlier_symbols symbols all = by k
   where
-    labels : place - before ≡ length (declared_labels names)
+    labels : index - earlier_symbols ≡ length (declared_labels names)
     labels = let both = both-counts names in omega (arith, symbols, all, both)
 
-    by : (k : NameKind) → IsNumberOf (names_as k (names ++ (x, k) ∷ [])) x (cond (is_symbol_kind k) before (place - before))
-    by Label = added-name (declared_labels names) (declared_labels (names ++ (x, Label) ∷ [])) x (place - before) labels (names_that-append is_labelling names ((x, Label) ∷ []))
-    by Constant = added-name (declared_symbols names) (declared_symbols (names ++ (x, Constant) ∷ [])) x before symbols (names_that-append is_symbol_kind names ((x, Constant) ∷ []))
-    by Variable = added-name (declared_symbols names) (declared_symbols (names ++ (x, Variable) ∷ [])) x before symbols (names_that-append is_symbol_kind names ((x, Variable) ∷ []))
+    by : (k : NameKind) → IsNumberOf (names_of_kind k (names ++ (x, k) ∷ [])) x (cond (is_symbol_kind k) earlier_symbols (index - earlier_symbols))
+    by Label = added-name (declared_labels names) (declared_labels (names ++ (x, Label) ∷ [])) x (index - earlier_symbols) labels (names_that-append is_label names ((x, Label) ∷ []))
+    by Constant = added-name (declared_symbols names) (declared_symbols (names ++ (x, Constant) ∷ [])) x earlier_symbols symbols (names_that-append is_symbol_kind names ((x, Constant) ∷ []))
+    by Variable = added-name (declared_symbols names) (declared_symbols (names ++ (x, Variable) ∷ [])) x earlier_symbols symbols (names_that-append is_symbol_kind names ((x, Variable) ∷ []))

@@ -1,5 +1,5 @@
 -- Marking, and going back to the mark; what the rules say of the names to be declared.
-use Rattle.scope.proofs.Words.{◌≡◌, ℕ, ◌+◌, ◌==◌, Bool, true, false, not, ◌||◌, ◌&&◌, List, [], ◌∷◌, ◌++◌, length, take, Option, Some, None, is_some, refl, list_any, list_all, flat_map, ◌∙◌, ap, sym, arith, true≢false, or-false, append-nil, map-append, take-map, take_at, nil_from_length, flat_map-append, nat_tests, and_parts, or_parts, not-true, Name, name_eq, has_name, Stmt, Database, stays_open, active_from, active, is_closed, variables, typed_by, was_label, was_symbol, is_constant, is_variable, all_different, numbers_in, number_in, AreNamed, symbols_of, stands_at, standing_of, Standing, Declared, kind_in, MatchesKinds, is_label_kind, is_constant_kind, sizes_of, blocks_of, can_push, IsKept, StackHeights, NameKind, numbers_in-more, has_name-append, name_same, same_name}
+use Rattle.scope.proofs.Words.{◌≡◌, ℕ, ◌+◌, ◌==◌, Bool, true, false, not, ◌||◌, ◌&&◌, List, [], ◌∷◌, ◌++◌, length, take, Option, Some, None, is_some, refl, list_any, list_all, flat_map, ◌∙◌, ap, sym, arith, true≢false, or-false, append-nil, map-append, take-map, take_at, nil_from_length, flat_map-append, nat_tests, and_parts, or_parts, not-true, Name, name_eq, has_name, Stmt, Database, stays_open, active_from, active, is_closed, variables, typed_by, was_label, was_symbol, is_constant, is_variable, all_different, codes_or_len, code_or_len, AreNamed, symbols_of, stands_at, standing_of, Standing, Declared, kind_in, MatchesKinds, is_label_kind, is_constant_kind, heights_of, blocks_of, can_push, IsRulesState, StackHeights, NameKind, codes_or_len-more, has_name-append, name_same, same_name}
 use Rattle.scope.proofs.ActiveLemmas.{active_from-later, below-deficit, no_deficit, deficit, deficit-append, left_open}
 use Rattle.scope.proofs.BlocksLemmas.{length-blocks, closed-left}
 use Rattle.scope.proofs.NamesLemmas.{symbols_of-later, active-named}
@@ -7,38 +7,38 @@ use Rattle.scope.proofs.SortsLemmas.{numbers-has, fresh-kind}
 
 -- ---- marking, and going back to the mark
 
-pub kept-mark : (S M : Database) (vs ts : List ℕ) (n : ℕ) (blocks : List StackHeights) (mark sizes : StackHeights) → is_closed S ≡ true → sizes ≡ sizes_of (active S)
-    → IsKept S M vs ts n blocks mark → IsKept S S vs ts n blocks sizes
-kept-mark S M vs ts n blocks mark sizes closed height k = record {
+pub kept-mark : (S M : Database) (vs ts : List ℕ) (n : ℕ) (blocks : List StackHeights) (mark heights : StackHeights) → is_closed S ≡ true → heights ≡ heights_of (active S)
+    → IsRulesState S M vs ts n blocks mark → IsRulesState S S vs ts n blocks heights
+kept-mark S M vs ts n blocks mark heights closed height k = record {
   variables_are = k.variables_are;
   typed_are = k.typed_are;
   typed_known = k.typed_known;
   standing_is = k.standing_is;
   blocks_are = k.blocks_are;
-  never_below = k.never_below;
+  never_closes_unopened = k.never_closes_unopened;
   marked = record {
     later = ([], sym (append-nil S), refl);
     closed = closed;
-    sizes = height;
+    heights = height;
     typed_known = k.typed_known;
   };
 }
 
 stack-back : (f : ℕ × Stmt → List Name) (S M T : Database) (stack : List ℕ) → S ≡ M ++ T → stays_open 0 T ≡ true → AreNamed (symbols_of M) (flat_map f (active M))
-    → stack ≡ numbers_in (symbols_of S) (flat_map f (active S)) → take (length (flat_map f (active M))) stack ≡ numbers_in (symbols_of M) (flat_map f (active M))
+    → stack ≡ codes_or_len (symbols_of S) (flat_map f (active S)) → take (length (flat_map f (active M))) stack ≡ codes_or_len (symbols_of M) (flat_map f (active M))
 stack-back f S M T stack e below known is =
     let more = symbols_of-later M T in
     let A : List Name = flat_map f (active M) in
     let split : flat_map f (active S) ≡ A ++ flat_map f (active_from (1 + length M) T) =
     ap (λ D. flat_map f (active D)) e ∙ (ap (flat_map f) (active_from-later 1 M T below) ∙ flat_map-append f (active M) (active_from (1 + length M) T)) in
     ap (take (length A)) is
-    ∙ (take-map (number_in (symbols_of S)) (length A) (flat_map f (active S))
-    ∙ (ap (λ r. numbers_in (symbols_of S) (take (length A) r)) split
-    ∙ (ap (numbers_in (symbols_of S)) (take_at A (flat_map f (active_from (1 + length M) T)) (length A) refl)
-    ∙ (ap (λ ns. numbers_in ns A) (ap symbols_of e ∙ more.1) ∙ numbers_in-more (symbols_of M) more.0 A known))))
+    ∙ (take-map (code_or_len (symbols_of S)) (length A) (flat_map f (active S))
+    ∙ (ap (λ r. codes_or_len (symbols_of S) (take (length A) r)) split
+    ∙ (ap (codes_or_len (symbols_of S)) (take_at A (flat_map f (active_from (1 + length M) T)) (length A) refl)
+    ∙ (ap (λ ns. codes_or_len ns A) (ap symbols_of e ∙ more.1) ∙ codes_or_len-more (symbols_of M) more.0 A known))))
 
 -- the statements that stand at the mark are the first of those that stood
-pub standing-back : (S M : Database) (vs ts : List ℕ) (n : ℕ) (blocks : List StackHeights) (mark : StackHeights) → IsKept S M vs ts n blocks mark → take (length (standing_of M)) (standing_of S) ≡ standing_of M
+pub standing-back : (S M : Database) (vs ts : List ℕ) (n : ℕ) (blocks : List StackHeights) (mark : StackHeights) → IsRulesState S M vs ts n blocks mark → take (length (standing_of M)) (standing_of S) ≡ standing_of M
 standing-back S M vs ts n blocks mark k =
     let f : ℕ × Stmt → List Standing = λ p. stands_at p.0 p.1 in
     let T = k.marked.later.0 in
@@ -46,26 +46,26 @@ standing-back S M vs ts n blocks mark k =
     ∙ (ap (take (length (standing_of M))) (ap (flat_map f) (active_from-later 1 M T k.marked.later.2) ∙ flat_map-append f (active M) (active_from (1 + length M) T))
     ∙ take_at (standing_of M) (flat_map f (active_from (1 + length M) T)) (length (standing_of M)) refl)
 
-pub kept-back : (S M : Database) (vs ts : List ℕ) (n : ℕ) (blocks : List StackHeights) (mark : StackHeights) → IsKept S M vs ts n blocks mark
-    → IsKept M M (take mark.variables vs) (take mark.typed ts) mark.standing [] mark
+pub kept-back : (S M : Database) (vs ts : List ℕ) (n : ℕ) (blocks : List StackHeights) (mark : StackHeights) → IsRulesState S M vs ts n blocks mark
+    → IsRulesState M M (take mark.variables vs) (take mark.typed ts) mark.standing [] mark
 kept-back S M vs ts n blocks mark k =
     let km = k.marked in
     let T = km.later.0 in
     let e : S ≡ M ++ T = km.later.1 in
     let below : stays_open 0 T ≡ true = km.later.2 in
-    let never : stays_open 0 M ≡ true = below-deficit 0 M (omega (arith, deficit-append M T (no_deficit T below), ap deficit e, no_deficit S k.never_below)) in
+    let never : stays_open 0 M ≡ true = below-deficit 0 M (omega (arith, deficit-append M T (no_deficit T below), ap deficit e, no_deficit S k.never_closes_unopened)) in
     let none : left_open M ≡ 0 = closed_none M never km.closed in
     record {
-      variables_are = ap (λ z. take z.variables vs) km.sizes ∙ stack-back (λ p. variables p.1) S M T vs e below (active-named M) k.variables_are;
-      typed_are = ap (λ z. take z.typed ts) km.sizes ∙ stack-back (λ p. typed_by p.1) S M T ts e below km.typed_known k.typed_are;
+      variables_are = ap (λ z. take z.variables vs) km.heights ∙ stack-back (λ p. variables p.1) S M T vs e below (active-named M) k.variables_are;
+      typed_are = ap (λ z. take z.typed ts) km.heights ∙ stack-back (λ p. typed_by p.1) S M T ts e below km.typed_known k.typed_are;
       typed_known = km.typed_known;
-      standing_is = ap (λ z. z.standing) km.sizes;
+      standing_is = ap (λ z. z.standing) km.heights;
       blocks_are = sym (nil_from_length (blocks_of M) (length-blocks [] 1 M ∙ none));
-      never_below = never;
+      never_closes_unopened = never;
       marked = record {
         later = ([], sym (append-nil M), refl);
         closed = km.closed;
-        sizes = km.sizes;
+        heights = km.heights;
         typed_known = km.typed_known;
       };
     }
@@ -117,14 +117,14 @@ apart_from w x ws h n = by (name_eq x w) refl
 
 -- names that differ from one another and from those on the stack can be put there
 pub can_push-names : (names active ws : List Name) → AreNamed names ws → all_different ws ≡ true → ((x : Name) → has_name x ws ≡ true → has_name x active ≡ false)
-    → can_push (numbers_in names active) (numbers_in names ws) ≡ true
+    → can_push (codes_or_len names active) (codes_or_len names ws) ≡ true
 can_push-names names active [] known differ apart = refl
 can_push-names names active (w ∷ ws) known differ apart =
     let d = and_parts (not (has_name w ws)) (all_different ws) differ in
     let own : has_name w (w ∷ ws) ≡ true = ap (λ b. b || has_name w ws) (name_same w) in
-    let first : list_any (λ m. m == number_in names w) (numbers_in names active) ≡ false = numbers-has names w active (known w own) ∙ apart w own in
-    ap (λ b. not b && can_push (numbers_in names active ++ number_in names w ∷ []) (numbers_in names ws)) first
-    ∙ (ap (λ s. can_push s (numbers_in names ws)) (sym (map-append (number_in names) active (w ∷ [])))
+    let first : list_any (λ m. m == code_or_len names w) (codes_or_len names active) ≡ false = numbers-has names w active (known w own) ∙ apart w own in
+    ap (λ b. not b && can_push (codes_or_len names active ++ code_or_len names w ∷ []) (codes_or_len names ws)) first
+    ∙ (ap (λ s. can_push s (codes_or_len names ws)) (sym (map-append (code_or_len names) active (w ∷ [])))
     ∙ can_push-names names (active ++ w ∷ []) ws (λ x h. known x (later x h)) d.1 (λ x h. has_name-append x active (w ∷ []) ∙ (ap (λ b. b || (name_eq x w || false)) (apart x (later x h)) ∙ or-false (name_eq x w) ∙ apart_from w x ws h d.0)))
   where
     later : (x : Name) → has_name x ws ≡ true → (name_eq x w || has_name x ws) ≡ true

@@ -1,5 +1,5 @@
 -- Properties of a legal statement.
-use Rattle.scope.proofs.Words.{◌≡◌, Bool, true, false, not, cond, ◌||◌, ◌&&◌, nat_lt, List, [], ◌∷◌, Option, Some, None, refl, list_all, ◌∙◌, ap, sym, and_parts, or_comm, and-true, not-not, same_Some, Name, Stmt, Open, Close, Const, Var, Disj, Float, Ess, Axiom, Prove, Database, is_variable, is_constant, was_symbol, was_label, has_float, label_of, count, is_open, is_close, all_different, broken_rule, IsSort, is_symbol_sort, is_constant_sort, is_untyped_sort, sorts_rule, Sort, Rule, G4, G5, G6, G7}
+use Rattle.scope.proofs.Words.{◌≡◌, Bool, true, false, not, cond, ◌||◌, ◌&&◌, nat_lt, List, [], ◌∷◌, Option, Some, None, refl, list_all, ◌∙◌, ap, sym, and_parts, or_comm, and-true, not-not, same_Some, Name, Stmt, Open, Close, Const, Var, Disj, Float, Ess, Axiom, Prove, Database, is_variable, is_constant, was_symbol, was_label, has_float, label_of, count, is_open, is_close, all_different, broken_rule, IsSort, is_symbol_sort, is_constant_sort, is_untyped_sort, broken_by_sorts, Sort, Rule, G4, G5, G6, G7}
 
 -- where no rule is broken, the first is kept and so are the rest
 first_rule : (b : Bool) (r : Rule) (rest : Option Rule) → cond (not b) (Some r) rest ≡ None → (b ≡ true) × (rest ≡ None)
@@ -45,7 +45,7 @@ legal-float S label constant variable h =
     by false b c false h = cc
 
 -- a `$f` with a fresh label breaks what its symbols break, by what they are
-pub float-sorts : (S : Database) (l c v : Name) (p q : Sort) → not (was_symbol S l || was_label S l) ≡ true → IsSort S c p → IsSort S v q → broken_rule S (Float l c v) ≡ sorts_rule p q
+pub float-sorts : (S : Database) (l c v : Name) (p q : Sort) → not (was_symbol S l || was_label S l) ≡ true → IsSort S c p → IsSort S v q → broken_rule S (Float l c v) ≡ broken_by_sorts p q
 float-sorts S l c v p q new first second =
     (λ j. cond (not (unused j)) (Some G4)
     (cond (not ((first.constant j || first.variable j) && ((second.constant j || second.variable j) && true))) (Some G5)

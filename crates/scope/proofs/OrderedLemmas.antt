@@ -1,5 +1,5 @@
 -- Words in order: one that stands twice is next to itself, so that they all differ where each two neighbours do.
-use Rattle.scope.proofs.Words.{◌≡◌, ◌∙◌, refl, sym, ap, subst, arith, Bool, ℕ, ◌+◌, ◌-◌, ◌<◌, ◌≤◌, true, false, not, ◌&&◌, ◌||◌, true≢false, List, [], ◌∷◌, length, get_or, map, Bor, IsPermutation, IsSorted, Ordering, Less, Equal, Greater, is_lt, is_eq, nat_cmp, slice_cmp, on_texts, AllByRecursion, eq_by_cmp, ordering_reverse, IsPermutation-sym, IsDistinct-IsPermutation, IsDistinct-from_sorted, apart_from_distinct, sorted_from_all_adjacent, is_eq-slice_cmp, Name, name_eq, has_name, name_eq-comm, all_different, DifferNext, IsTwice}
+use Rattle.scope.proofs.Words.{◌≡◌, ◌∙◌, refl, sym, ap, subst, arith, Bool, ℕ, ◌+◌, ◌-◌, ◌<◌, ◌≤◌, true, false, not, ◌&&◌, ◌||◌, true≢false, List, [], ◌∷◌, length, get_or, map, Bor, IsPermutation, IsSorted, Ordering, Less, Equal, Greater, is_lt, is_eq, nat_cmp, slice_cmp, on_texts, AllByRecursion, eq_by_cmp, ordering_reverse, IsPermutation-sym, IsDistinct-IsPermutation, IsDistinct-from_sorted, apart_from_distinct, sorted_from_all_adjacent, is_eq-slice_cmp, Name, name_eq, has_name, name_eq-comm, all_different, DifferFromNext, HasEqualNeighbours}
 use Rattle.std.specs.List.{IsDistinct}
 use Rattle.std.specs.List.Sorted.{IsStrictlySortedBy}
 
@@ -53,7 +53,7 @@ rises Equal s e l d = absurd (true≢false (sym (ap is_eq e) ∙ d))
 rises Greater s e l d = e
 
 -- words in order all differ where no one is the one before it
-differ-in_order : (ws os : List (Bor Name)) → IsPermutation ws os → IsSorted order os → DifferNext os (length os) → all_different (names_of ws) ≡ true
+differ-in_order : (ws os : List (Bor Name)) → IsPermutation ws os → IsSorted order os → DifferFromNext os (length os) → all_different (names_of ws) ≡ true
 unfolding IsStrictlySortedBy
 differ-in_order ws [] moved sorted differ = different-from_distinct ws (IsDistinct-IsPermutation (eq_by_cmp order) flips [] ws (IsPermutation-sym ws [] moved) (IsDistinct-from_sorted order [] tt))
 differ-in_order ws (o ∷ os) moved sorted differ =
@@ -65,7 +65,7 @@ differ-in_order ws (o ∷ os) moved sorted differ =
     different-from_distinct ws (IsDistinct-IsPermutation (eq_by_cmp order) flips (o ∷ os) ws (IsPermutation-sym ws (o ∷ os) moved) (IsDistinct-from_sorted order (o ∷ os) up))
 
 -- a word that is the one before it stands twice
-same-in_order : (ws os : List (Bor Name)) → IsPermutation ws os → IsTwice os → all_different (names_of ws) ≡ false
+same-in_order : (ws os : List (Bor Name)) → IsPermutation ws os → HasEqualNeighbours os → all_different (names_of ws) ≡ false
 same-in_order ws os moved twice = by (all_different (names_of ws)) refl
   where
     by : (b : Bool) → all_different (names_of ws) ≡ b → b ≡ false
@@ -76,13 +76,13 @@ same-in_order ws os moved twice = by (all_different (names_of ws)) refl
     by false e = refl
 
 -- the neighbours of the words in order tell whether a word stands twice
-pub differ-told : (words : List Name) (ws os : List (Bor Name)) (told : Bool) → names_of ws ≡ words → IsPermutation ws os → IsSorted order os → (told ≡ true → DifferNext os (length os)) → (told ≡ false → IsTwice os)
+pub differ-told : (words : List Name) (ws os : List (Bor Name)) (told : Bool) → names_of ws ≡ words → IsPermutation ws os → IsSorted order os → (told ≡ true → DifferFromNext os (length os)) → (told ≡ false → HasEqualNeighbours os)
     → told ≡ all_different words
 differ-told words ws os true is moved sorted differ twice = sym (ap all_different (sym is) ∙ differ-in_order ws os moved sorted (differ refl))
 differ-told words ws os false is moved sorted differ twice = sym (ap all_different (sym is) ∙ same-in_order ws os moved (twice refl))
 
 -- a word that is the one before it, by its own place
-pub twice-at : (ws : List (Bor Name)) (i : ℕ) (d : Bor Name) → 1 ≤ i → i < length ws → true ≡ name_eq (get_or ws (i - 1) d).now (get_or ws i d).now → IsTwice ws
+pub twice-at : (ws : List (Bor Name)) (i : ℕ) (d : Bor Name) → 1 ≤ i → i < length ws → true ≡ name_eq (get_or ws (i - 1) d).now (get_or ws i d).now → HasEqualNeighbours ws
 twice-at ws i d one within e = record {
   place = i - 1;
   other = d;

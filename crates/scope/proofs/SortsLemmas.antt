@@ -1,5 +1,5 @@
 -- The result of a look-up of a symbol.
-use Rattle.scope.proofs.Words.{◌≡◌, ℕ, ◌+◌, ◌==◌, Bool, true, false, not, ◌||◌, ◌&&◌, List, [], ◌∷◌, ◌++◌, length, Option, Some, None, is_some, refl, option_map, list_any, flat_map, sym, ◌∙◌, ap, arith, true≢false, take, ◌<◌, append_assoc, length-append, take_at, length_push, eqb-true, eq-eqb, false_from_ne_true, or-false, and-false, Name, name_eq, has_name, Stmt, Open, Close, Const, Var, Disj, Float, Ess, Axiom, Prove, Database, variables, constants, active, is_float_of, typed_by, is_variable, is_constant, has_float, was_symbol, was_label, was_variable, active_variables, typed_variables, all_different, number_in, numbers_in, MatchesKind, IsSort, sort_by, NameKind, Label, Constant, Variable, has_name-append, number_in-same, same_name, name_eq-comm}
+use Rattle.scope.proofs.Words.{◌≡◌, ℕ, ◌+◌, ◌==◌, Bool, true, false, not, ◌||◌, ◌&&◌, List, [], ◌∷◌, ◌++◌, length, Option, Some, None, is_some, refl, option_map, list_any, flat_map, sym, ◌∙◌, ap, arith, true≢false, take, ◌<◌, append_assoc, length-append, take_at, length_push, eqb-true, eq-eqb, false_from_ne_true, or-false, and-false, Name, name_eq, has_name, Stmt, Open, Close, Const, Var, Disj, Float, Ess, Axiom, Prove, Database, variables, constants, active, is_float_of, typed_by, is_variable, is_constant, has_float, was_symbol, was_label, was_variable, active_variables, typed_variables, all_different, code_or_len, codes_or_len, MatchesKind, IsSort, sort_by, NameKind, Label, Constant, Variable, has_name-append, code_or_len-same, same_name, name_eq-comm}
 use Rattle.scope.specs.declared.legal.Sort.TheVariants as sort
 use Rattle.scope.proofs.NamesLemmas.{active-was}
 
@@ -54,13 +54,13 @@ numbers_apart m n true e differ = absurd (differ (eqb-true m n e))
 numbers_apart m n false e differ = refl
 
 -- the number of a name is among the numbers of names exactly where the name is among them
-pub numbers-has : (names : List Name) (x : Name) (xs : List Name) → has_name x names ≡ true → list_any (λ n. n == number_in names x) (numbers_in names xs) ≡ has_name x xs
+pub numbers-has : (names : List Name) (x : Name) (xs : List Name) → has_name x names ≡ true → list_any (λ n. n == code_or_len names x) (codes_or_len names xs) ≡ has_name x xs
 numbers-has names x [] h = refl
-numbers-has names x (y ∷ xs) h = ap (λ b. b || list_any (λ n. n == number_in names x) (numbers_in names xs)) (one (name_eq x y) refl) ∙ ap (λ r. name_eq x y || r) (numbers-has names x xs h)
+numbers-has names x (y ∷ xs) h = ap (λ b. b || list_any (λ n. n == code_or_len names x) (codes_or_len names xs)) (one (name_eq x y) refl) ∙ ap (λ r. name_eq x y || r) (numbers-has names x xs h)
   where
-    one : (b : Bool) → name_eq x y ≡ b → (number_in names y == number_in names x) ≡ b
-    one true e = eq-eqb (number_in names y) (number_in names x) (ap (number_in names) (sym (same_name x y e)))
-    one false e = numbers_apart (number_in names y) (number_in names x) _ refl (λ k. true≢false (sym (number_in-same x y names h (sym k)) ∙ (name_eq-comm y x ∙ e)))
+    one : (b : Bool) → name_eq x y ≡ b → (code_or_len names y == code_or_len names x) ≡ b
+    one true e = eq-eqb (code_or_len names y) (code_or_len names x) (ap (code_or_len names) (sym (same_name x y e)))
+    one false e = numbers_apart (code_or_len names y) (code_or_len names x) _ refl (λ k. true≢false (sym (code_or_len-same x y names h (sym k)) ∙ (name_eq-comm y x ∙ e)))
 
 -- ---- sorts
 
@@ -78,7 +78,7 @@ label-sort S x t =
     let no = not_active S x t.variable in
     record { constant = t.constant; variable = no; label = t.label; untyped = ap (λ b. not b || has_float S x) no }
 
-pub no-sort : (S : Database) (x : Name) → MatchesKind S x None → IsSort S x sort.Inactive
+pub no-sort : (S : Database) (x : Name) → MatchesKind S x None → IsSort S x sort.Other
 no-sort S x t =
     let no = not_active S x t.variable in
     record { constant = t.constant; variable = no; label = t.label; untyped = ap (λ b. not b || has_float S x) no }

@@ -1,5 +1,5 @@
 -- The names that are no labels are the declared symbols.
-use Rattle.scope.proofs.Words.{◌≡◌, ℕ, zero, suc, ◌<◌, Bool, true, false, cond, ◌||◌, ◌&&◌, nat_lt, List, [], ◌∷◌, ◌++◌, length, take, Option, Some, None, is_some, refl, list_all, ◌∙◌, ap, sym, arith, true≢false, length-append, append-nil, map-append, list_all-append, or_right, lt-ltb, ltb-true, and_parts, same_Some, Name, name_eq, has_name, Expr, name_at, decode, with_name, with_names, AreCodes, Declared, declared_names, names_that, declared_symbols, declared_labels, kind_in, with_kind, with_kinds, is_label_kind, is_symbol_kind, is_labelling, IsNumberOf, AreRecorded, IsAppended, NameKind, Label, Constant, Variable, name_same, same_name, name_at-more}
+use Rattle.scope.proofs.Words.{◌≡◌, ℕ, zero, suc, ◌<◌, Bool, true, false, cond, ◌||◌, ◌&&◌, nat_lt, List, [], ◌∷◌, ◌++◌, length, take, Option, Some, None, is_some, refl, list_all, ◌∙◌, ap, sym, arith, true≢false, length-append, append-nil, map-append, list_all-append, or_right, lt-ltb, ltb-true, and_parts, same_Some, Name, name_eq, has_name, Expr, name_at, decode, with_name, with_names, AreCodes, Declared, declared_names, names_that, declared_symbols, declared_labels, kind_in, with_kind, with_kinds, is_label_kind, is_symbol_kind, is_label, IsNumberOf, AreRecorded, IsAppended, NameKind, Label, Constant, Variable, name_same, same_name, name_at-more}
 use Rattle.scope.proofs.NamesLemmas.{or_kind, kind_in-with_kinds}
 
 -- ---- the names that are no labels, and the labels
@@ -22,7 +22,7 @@ declared_symbols-label names l = by (is_some (kind_in names l))
     by false = names_that-append is_symbol_kind names ((l, Label) ∷ []) ∙ append-nil (declared_symbols names)
 
 -- a symbol is no label
-no_label : (kind : NameKind) → is_symbol_kind kind ≡ true → is_labelling kind ≡ false
+no_label : (kind : NameKind) → is_symbol_kind kind ≡ true → is_label kind ≡ false
 no_label Label e = cc
 no_label Constant e = refl
 no_label Variable e = refl
@@ -32,7 +32,7 @@ declared_labels-symbol names kind x own = by (is_some (kind_in names x))
   where
     by : (b : Bool) → declared_labels (cond b names (names ++ (x, kind) ∷ [])) ≡ declared_labels names
     by true = refl
-    by false = names_that-append is_labelling names ((x, kind) ∷ []) ∙ (ap (λ b. declared_labels names ++ cond b (x ∷ []) []) (no_label kind own) ∙ append-nil (declared_labels names))
+    by false = names_that-append is_label names ((x, kind) ∷ []) ∙ (ap (λ b. declared_labels names ++ cond b (x ∷ []) []) (no_label kind own) ∙ append-nil (declared_labels names))
 
 pub declared_labels-with_kinds : (names : Declared) (kind : NameKind) (xs : List Name) → is_symbol_kind kind ≡ true → declared_labels (with_kinds names kind xs) ≡ declared_labels names
 declared_labels-with_kinds names kind [] own = refl
@@ -40,7 +40,7 @@ declared_labels-with_kinds names kind (x ∷ xs) own = declared_labels-with_kind
 
 -- a new label is the last one
 pub declared_labels-label : (names : Declared) (l : Name) → kind_in names l ≡ None → declared_labels (with_kind names Label l) ≡ declared_labels names ++ l ∷ []
-declared_labels-label names l new = ap (λ k. declared_labels (cond (is_some k) names (names ++ (l, Label) ∷ []))) new ∙ names_that-append is_labelling names ((l, Label) ∷ [])
+declared_labels-label names l new = ap (λ k. declared_labels (cond (is_some k) names (names ++ (l, Label) ∷ []))) new ∙ names_that-append is_label names ((l, Label) ∷ [])
 
 -- a name of a symbol's kind is among the symbols, and one of no kind is not
 has-symbol : (names : Declared) (x : Name) (k : Option NameKind) → kind_in names x ≡ k → is_label_kind k ≡ false → has_name x (declared_symbols names) ≡ is_some k

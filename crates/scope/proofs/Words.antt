@@ -4,21 +4,21 @@ pub use Rattle.mm_lex.specs.Words.{words_of}
 pub use Rattle.mm_read.specs.Statements.{AreShaped, Database, Expr, tokens_of}
 pub use Rattle.mm_read.specs.declared.stmt.Stmt.{Stmt}
 pub use Rattle.mm_read.specs.declared.stmt.Stmt.TheVariants.{Axiom, Close, Const, Disj, Ess, Float, Open, Prove, Var}
-pub use Rattle.names.proofs.AddedNames.{has-more, has-with_names, has_name-append, number_in-same, numbers_in-more, or_cases, with_names-more}
+pub use Rattle.names.proofs.AddedNames.{has-more, has-with_names, has_name-append, code_or_len-same, codes_or_len-more, or_cases, with_names-more}
 pub use Rattle.names.proofs.CodesLemmas.{added-name, code-at, code-first, code-name, found-number, name_eq-comm, name_same, same_name, unknown-number}
 pub use Rattle.names.proofs.DistinctLemmas.{distinct-with_names, name_at-more}
-pub use Rattle.names.specs.Codes.{AreCodes, AreDistinct, AreNamed, code_of, decode, name_at, number_in, numbers_in, with_name, with_names}
+pub use Rattle.names.specs.Codes.{AreCodes, AreDistinct, AreNamed, code_of, decode, name_at, code_or_len, codes_or_len, with_name, with_names}
 pub use Rattle.scope.specs.Accepted.{Accepted}
 pub use Rattle.scope.specs.Active.{active, active_from, active_variables, bare, bares, constants, count, has_float, has_label, is_active, is_close, is_closed, is_constant, is_float_of, is_open, is_variable, label_of, stays_open, stmt_at, typed_by, typed_variables, variables, was_label, was_symbol, was_variable}
 pub use Rattle.scope.specs.Declares.{IsRecordedBy, MayDeclare, declared_with}
-pub use Rattle.scope.specs.Kinds.{Declared, IsNumberOf, IsNumberingOf, MatchesKind, MatchesKinds, declared_labels, declared_names, declared_symbols, is_constant_kind, is_label_kind, is_labelling, is_symbol_kind, is_variable_kind, kind_in, names_as, names_that, symbols_before, with_kind, with_kinds, zip_kinds}
+pub use Rattle.scope.specs.Kinds.{Declared, IsNumberOf, IsNumberingOf, MatchesKind, MatchesKinds, declared_labels, declared_names, declared_symbols, is_constant_kind, is_label_kind, is_label, is_symbol_kind, is_variable_kind, kind_in, names_of_kind, names_that, symbols_before, with_kind, with_kinds, zip_kinds}
 pub use Rattle.scope.specs.Laws.{NeverCloses, before_open, between, has_open}
 pub use Rattle.scope.specs.Legal.{AllLegal, IsLegal, all_different, are_typed, broken_rule, end_rule, first_broken, starts_with_constant}
-pub use Rattle.scope.specs.Sorts.{IsSort, is_constant_sort, is_symbol_sort, is_untyped_sort, sort_by, sorts_rule}
+pub use Rattle.scope.specs.Sorts.{IsSort, is_constant_sort, is_symbol_sort, is_untyped_sort, sort_by, broken_by_sorts}
 pub use Rattle.scope.specs.Standing.{standing_of, stands_at}
-pub use Rattle.scope.specs.Stored.KindCounts.{AreCounted, count_after, kinds_of, places_that}
-pub use Rattle.scope.specs.Stored.Ordered.{DifferNext, IsTwice}
-pub use Rattle.scope.specs.Stored.Stacks.{IsKept, IsMarked, IsPlain, IsScope, blocks_from, blocks_of, can_push, sizes_of}
+pub use Rattle.scope.specs.Stored.KindCounts.{AreCounted, count_after, kinds_of, indexes_that}
+pub use Rattle.scope.specs.Stored.Ordered.{DifferFromNext, HasEqualNeighbours}
+pub use Rattle.scope.specs.Stored.Stacks.{IsRulesState, IsMarked, IsPlain, IsScope, blocks_from, blocks_of, can_push, heights_of}
 pub use Rattle.scope.specs.Stored.SymbolNumbers.{AreRecorded, IsAppended, are_numbers_distinct}
 pub use Rattle.scope.specs.Symbols.{AreNumbers, AreVariableNumbers, labels_of, option_list, symbols_after, symbols_by, symbols_from, symbols_in, symbols_of}
 pub use Rattle.scope.specs.contracts.history.History.{the_row, the_type}

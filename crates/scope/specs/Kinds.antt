@@ -42,15 +42,15 @@ abbrev pub is_symbol_kind : NameKind → Bool
 is_symbol_kind Label = false
 is_symbol_kind kind = true
 
-abbrev pub is_labelling : NameKind → Bool
-is_labelling Label = true
-is_labelling kind = false
+abbrev pub is_label : NameKind → Bool
+is_label Label = true
+is_label kind = false
 
 -- the names whose kind passes the test, in order
 abbrev pub names_that : (NameKind → Bool) → Declared → List Name
-names_that own [] = []
-names_that own (p ∷ names) =
-    if own p.1 then p.0 ∷ names_that own names else names_that own names
+names_that test [] = []
+names_that test (p ∷ names) =
+    if test p.1 then p.0 ∷ names_that test names else names_that test names
 
 -- the names that are not labels, in order
 abbrev pub declared_symbols : Declared → List Name
@@ -58,12 +58,12 @@ declared_symbols names = names_that is_symbol_kind names
 
 -- the labels, in order
 abbrev pub declared_labels : Declared → List Name
-declared_labels names = names_that is_labelling names
+declared_labels names = names_that is_label names
 
 -- the list in which a name of this kind has its number
-abbrev pub names_as : NameKind → Declared → List Name
-names_as Label names = declared_labels names
-names_as kind names = declared_symbols names
+abbrev pub names_of_kind : NameKind → Declared → List Name
+names_of_kind Label names = declared_labels names
+names_of_kind kind names = declared_symbols names
 
 -- the number is that of the name
 abbrev pub IsNumberOf : List Name → Name → ℕ → Type 0

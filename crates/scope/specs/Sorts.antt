@@ -8,7 +8,7 @@ use Rattle.scope.specs.Active.{is_constant, is_variable, was_label, has_float}
 use Rattle.scope.specs.declared.rule.Rule.{Rule}
 use Rattle.scope.specs.declared.rule.Rule.TheVariants.{G5, G6, G7}
 use Rattle.scope.specs.declared.legal.Sort.{Sort}
-use Rattle.scope.specs.declared.legal.Sort.TheVariants.{Constant, Typed, Untyped, Label, Inactive}
+use Rattle.scope.specs.declared.legal.Sort.TheVariants.{Constant, Typed, Untyped, Label, Other}
 
 abbrev pub is_constant_sort : Sort → Bool
 is_constant_sort Constant = true
@@ -29,7 +29,7 @@ is_label_sort sort = false
 
 -- the sort of a variable, by whether it is active, and whether it has an active `$f`
 abbrev pub sort_by : Bool → Bool → Sort
-sort_by false typed = Inactive
+sort_by false typed = Other
 sort_by true true = Typed
 sort_by true false = Untyped
 
@@ -43,7 +43,7 @@ abbrev pub is_symbol_sort : Sort → Bool
 is_symbol_sort sort = is_constant_sort sort || is_variable_sort sort
 
 -- the least of the rules G5 to G7 that a `$f` with symbols of these sorts breaks
-abbrev pub sorts_rule : Sort → Sort → Option Rule
-sorts_rule constant variable =
+abbrev pub broken_by_sorts : Sort → Sort → Option Rule
+broken_by_sorts constant variable =
     if not (is_symbol_sort constant && is_symbol_sort variable) then Some G5
     else (if not (is_constant_sort constant) then Some G6 else (if not (is_untyped_sort variable) then Some G7 else None))

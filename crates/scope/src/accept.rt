@@ -47,8 +47,8 @@ impl Rules {
         ensures err { OnErr result (self.new.statements ≡ self.old.statements) }
         ensures marked { self.new.marked ≡ self.old.marked }
     {
-        let sizes = self.sizes();
-        self.blocks.push(sizes)?;
+        let heights = self.heights();
+        self.blocks.push(heights)?;
         self.accepted = History::after(&self.accepted, stmt);
         Ok(())
     }
@@ -60,10 +60,10 @@ impl Rules {
         ensures marked { self.new.marked ≡ self.old.marked }
     {
         match self.blocks.pop() {
-            Some(sizes) => {
-                self.variables.truncate(sizes.variables);
-                self.typed.truncate(sizes.typed);
-                self.standing = sizes.standing;
+            Some(heights) => {
+                self.variables.truncate(heights.variables);
+                self.typed.truncate(heights.typed);
+                self.standing = heights.standing;
                 self.accepted = History::after(&self.accepted, stmt);
             }
             None => unreachable!(),

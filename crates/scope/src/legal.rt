@@ -7,9 +7,9 @@ ghost use Rattle.mm_read.specs.declared.stmt.Stmt.TheVariants as stmt;
 ghost use Rattle.scope.specs.Active.{is_constant, is_variable, was_label, was_symbol};
 ghost use Rattle.scope.specs.Legal.{all_different, are_typed, starts_with_constant, broken_rule};
 ghost use Rattle.scope.specs.Stored.SymbolNumbers.{AreRecorded, are_numbers_distinct};
-ghost use Rattle.scope.specs.Stored.Ordered.{DifferNext, IsTwice};
+ghost use Rattle.scope.specs.Stored.Ordered.{DifferFromNext, HasEqualNeighbours};
 ghost use Rattle.scope.specs.Kinds.{IsNumberOf};
-ghost use Rattle.scope.specs.Sorts.{IsSort, is_symbol_sort, sorts_rule};
+ghost use Rattle.scope.specs.Sorts.{IsSort, is_symbol_sort, broken_by_sorts};
 ghost use Rattle.scope.specs.Symbols.{symbols_of, symbols_after, symbols_in};
 
 use crate::numbering::{NameKind, Numbering};
@@ -32,19 +32,19 @@ pub(crate) enum Sort {
     Typed,
     Untyped,
     Label,
-    Inactive,
+    Other,
 }
 
-/// The judge of the next statement: the state of the rules, and the numbering of the names. Contracts see the statements
-/// accepted so far.
+/// Checks the rules for the next statement: the state of the rules, and the numbering of the names. Contracts see the
+/// statements accepted so far.
 #[derive(Drop)]
-pub(crate) struct Judge<'a> {
+pub(crate) struct RuleChecker<'a> {
     pub(crate) rules: &'a Rules,
     pub(crate) names: &'a Numbering,
     pub(crate) alloc: Global,
 }
 
-impl<'a> Model for Judge<'a> {
+impl<'a> Model for RuleChecker<'a> {
     ghost use Rattle.scope.specs.Accepted.{Accepted};
     ghost use Rattle.scope.specs.Kinds.{IsNumberingOf};
 
@@ -55,7 +55,7 @@ impl<'a> Model for Judge<'a> {
     ghost invariant = { λ a. IsNumberingOf a.rules.now.statements a.names.now };
 }
 
-impl<'a> Judge<'a> {
+impl<'a> RuleChecker<'a> {
     /// Returns the least rule that the statement would break as the next one, or `None`.
     ///
     /// If it breaks none and recording has begun, the recorded numbers are those of its symbols, or are discarded if an
@@ -72,9 +72,9 @@ impl<'a> Judge<'a> {
                 constant,
                 variable,
             } => self.broken_by_float(label, constant, variable, recorded),
-            Stmt::Ess { label, expr } => self.broken_by_labelled(label, expr, recorded),
-            Stmt::Axiom { label, expr } => self.broken_by_labelled(label, expr, recorded),
-            Stmt::Prove { label, expr, .. } => self.broken_by_labelled(label, expr, recorded),
+            Stmt::Ess { label, expr } => self.broken_by_expression(label, expr, recorded),
+            Stmt::Axiom { label, expr } => self.broken_by_expression(label, expr, recorded),
+            Stmt::Prove { label, expr, .. } => self.broken_by_expression(label, expr, recorded),
             Stmt::Open => None,
             Stmt::Close => self.broken_by_close(),
             Stmt::Const(symbols) => {
@@ -103,7 +103,7 @@ impl<'a> Judge<'a> {
         if !self.rules.is_closed() {
             return Some(Rule::G1);
         }
-        if !self.are_fresh(symbols) {
+        if !self.are_undeclared(symbols) {
             return Some(Rule::G2);
         }
         if !are_words_distinct(self.alloc, symbols) {
@@ -115,7 +115,7 @@ impl<'a> Judge<'a> {
     fn broken_by_variables(&self, symbols: &Words) -> Option<Rule>
         ensures { result ≡ broken_rule self.now.statements (stmt.Var symbols.now) }
     {
-        if !self.are_inactive(symbols) {
+        if !self.may_be_variables(symbols) {
             return Some(Rule::G3);
         }
         if !are_words_distinct(self.alloc, symbols) {
@@ -149,7 +149,7 @@ impl<'a> Judge<'a> {
         ensures rule { result ≡ broken_rule self.now.statements (stmt.Float label.now constant.now variable.now) }
         ensures recorded { result ≡ None → AreRecorded (symbols_of self.now.statements) (constant.now ∷ variable.now ∷ []) recorded.new }
     {
-        if !self.is_fresh(label.as_bytes()) {
+        if !self.is_undeclared(label.as_bytes()) {
             return Some(Rule::G4);
         }
         let first = self.sort_and_record(constant.as_bytes(), recorded);
@@ -157,7 +157,7 @@ impl<'a> Judge<'a> {
         broken_by_sorts(first, second)
     }
 
-    fn broken_by_labelled(
+    fn broken_by_expression(
         &self,
         label: &Word,
         expr: &Words,
@@ -167,13 +167,13 @@ impl<'a> Judge<'a> {
         ensures rule { result ≡ broken_rule self.now.statements (stmt.Axiom label.now expr.now) }
         ensures recorded { result ≡ None → AreRecorded (symbols_of self.now.statements) expr.now recorded.new }
     {
-        if !self.is_fresh(label.as_bytes()) {
+        if !self.is_undeclared(label.as_bytes()) {
             return Some(Rule::G4);
         }
-        let Some((leads, typed)) = self.are_symbols(expr, recorded) else {
+        let Some((constant_first, typed)) = self.are_symbols(expr, recorded) else {
             return Some(Rule::G5);
         };
-        if !leads {
+        if !constant_first {
             return Some(Rule::G6);
         }
         if !typed {
@@ -193,31 +193,31 @@ impl<'a> Judge<'a> {
         let Some(first) = symbols.next() else {
             return Some((true, true));
         };
-        let leader = self.sort_and_record(first, recorded);
-        if matches!(leader, Sort::Label | Sort::Inactive) {
+        let first_sort = self.sort_and_record(first, recorded);
+        if matches!(first_sort, Sort::Label | Sort::Other) {
             return None;
         }
-        let mut typed = !matches!(leader, Sort::Untyped);
+        let mut typed = !matches!(first_sort, Sort::Untyped);
         for symbol in symbols {
             match self.sort_and_record(symbol, recorded) {
                 Sort::Constant | Sort::Typed => {}
                 Sort::Untyped => typed = false,
-                Sort::Label | Sort::Inactive => return None,
+                Sort::Label | Sort::Other => return None,
             }
         }
-        Some((matches!(leader, Sort::Constant), typed))
+        Some((matches!(first_sort, Sort::Constant), typed))
     }
 
-    fn are_fresh(&self, symbols: &Words) -> bool
+    fn are_undeclared(&self, symbols: &Words) -> bool
         ensures { result ≡ list_all (λ x. not (was_symbol self.now.statements x || was_label self.now.statements x)) symbols.now }
     {
-        symbols.iter().all(|symbol| self.is_fresh(symbol))
+        symbols.iter().all(|symbol| self.is_undeclared(symbol))
     }
 
-    fn are_inactive(&self, symbols: &Words) -> bool
+    fn may_be_variables(&self, symbols: &Words) -> bool
         ensures { result ≡ list_all (λ x. not (is_variable self.now.statements x || is_constant self.now.statements x || was_label self.now.statements x)) symbols.now }
     {
-        symbols.iter().all(|symbol| self.is_inactive(symbol))
+        symbols.iter().all(|symbol| self.may_be_variable(symbol))
     }
 
     fn are_active(&self, symbols: &Words, recorded: &mut SymbolNumbers) -> bool
@@ -275,33 +275,33 @@ impl<'a> Judge<'a> {
             Some((number, NameKind::Constant)) => (Sort::Constant, number),
             Some((number, NameKind::Variable)) => (self.rules.sort_of_variable(number), number),
             Some((_, NameKind::Label)) => (Sort::Label, 0),
-            None => (Sort::Inactive, 0),
+            None => (Sort::Other, 0),
         }
     }
 
     /// Returns whether a name was never declared, as a label or as a symbol.
-    fn is_fresh(&self, name: &[u8]) -> bool
+    fn is_undeclared(&self, name: &[u8]) -> bool
         ensures { result ≡ not (was_symbol self.now.statements name.now || was_label self.now.statements name.now) }
     {
         self.names.find(name).is_none()
     }
 
     /// Returns whether a name may be declared as a variable.
-    fn is_inactive(&self, name: &[u8]) -> bool
+    fn may_be_variable(&self, name: &[u8]) -> bool
         ensures { result ≡ not (is_variable self.now.statements name.now || is_constant self.now.statements name.now || was_label self.now.statements name.now) }
     {
-        matches!(self.sort(name), Sort::Inactive)
+        matches!(self.sort(name), Sort::Other)
     }
 }
 
 /// Returns the least of the rules G5 to G7 that the two symbols of a `$f` break, by their sorts.
 fn broken_by_sorts(constant: Sort, variable: Sort) -> Option<Rule>
-    ensures { result ≡ sorts_rule constant variable }
+    ensures { result ≡ broken_by_sorts constant variable }
 {
-    if matches!(constant, Sort::Label | Sort::Inactive) {
+    if matches!(constant, Sort::Label | Sort::Other) {
         return Some(Rule::G5);
     }
-    if matches!(variable, Sort::Label | Sort::Inactive) {
+    if matches!(variable, Sort::Label | Sort::Other) {
         return Some(Rule::G5);
     }
     if !matches!(constant, Sort::Constant) {
@@ -355,8 +355,8 @@ fn differ_by_order(alloc: Global, words: &Words) -> Result<bool, AllocError>
 
 /// Returns whether no word equals the one before it.
 fn are_neighbours_distinct(words: &[&[u8]]) -> bool
-    ensures yes { result ≡ true → DifferNext words.now (length words.now) }
-    ensures no { result ≡ false → IsTwice words.now }
+    ensures yes { result ≡ true → DifferFromNext words.now (length words.now) }
+    ensures no { result ≡ false → HasEqualNeighbours words.now }
 {
     for i in 1..words.len() {
         if words[i - 1] == words[i] {
@@ -374,7 +374,7 @@ fn differ_pair_by_pair(words: &Words) -> bool
         return true;
     }
     for (i, word) in words.iter().enumerate() {
-        if stands_before(words, i, word) {
+        if is_among_first(words, i, word) {
             return false;
         }
     }
@@ -382,7 +382,7 @@ fn differ_pair_by_pair(words: &Words) -> bool
 }
 
 /// Returns whether a word is among the first `end` ones.
-fn stands_before(words: &Words, end: usize, word: &[u8]) -> bool
+fn is_among_first(words: &Words, end: usize, word: &[u8]) -> bool
     ensures { result ≡ has_name word.now (take end words.now) }
 {
     words.iter().take(end).any(|other| word == other)

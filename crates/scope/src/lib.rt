@@ -2,7 +2,7 @@
 //!
 //! The crates above use two contracts: `Scope::add` appends the next statement only if it is legal, and else returns the least
 //! rule that it breaks; `Rules` does the same with a numbering that its callers pass, so that one table of names serves rules
-//! and frames. Read `rule`, `standing` and `steps`, then `scope`, `reading` (its queries) and `rules`; `legal` decides the
+//! and frames. Read `rule`, `standing` and `steps`, then `scope`, `queries` and `rules`; `legal` decides the
 //! rules, `accept` updates their state by a legal statement, and `declare` the numbering; `numbering`, `stack`,
 //! `stack_heights`, `history` and `symbol_numbers` are the parts, `laws` states which statements are active.
 #![tactic(auto)]
@@ -13,7 +13,7 @@ mod history;
 mod laws;
 mod legal;
 mod numbering;
-mod reading;
+mod queries;
 mod rule;
 mod rules;
 mod scope;

@@ -1,7 +1,7 @@
 //! Labels and symbols as numbers, in the order of their first declaration.
 ghost use Rattle.std.specs.Prelude.{◌≡◌, ℕ, ◌+◌, ◌-◌, ◌<◌, ◌≤◌, ◌^◌, [], ◌∷◌, ◌++◌, take, length, option_map, slice_get, IfOk, IfSome, OnOk, OnErr, None, Some, if◌then◌else◌};
 ghost use Rattle.names.specs.Codes.{name_at};
-ghost use Rattle.scope.specs.Kinds.{declared_symbols, declared_labels, names_as, kind_in, is_symbol_kind, is_labelling, IsNumberOf};
+ghost use Rattle.scope.specs.Kinds.{declared_symbols, declared_labels, names_of_kind, kind_in, is_symbol_kind, is_label, IsNumberOf};
 
 use entries::give_back;
 use names::NameTable;
@@ -20,7 +20,7 @@ pub enum NameKind {
 #[derive(Clone, Copy, Debug, Drop, PartialEq, Eq)]
 pub struct CountedKind {
     pub kind: NameKind,
-    pub before: u32,
+    pub earlier_symbols: u32,
 }
 
 /// The labels and the declared symbols, in the order of their first declaration. Contracts see the list of the names,
@@ -109,12 +109,12 @@ impl Numbering {
     #[inline(always)]
     pub fn find(&self, name: &[u8]) -> Option<(u32, NameKind)>
         ensures kind { option_map (λ p. p.1) result ≡ kind_in self.now name.now }
-        ensures number { IfSome result (λ p. IsNumberOf (names_as p.1 self.now) name.now p.0) }
+        ensures number { IfSome result (λ p. IsNumberOf (names_of_kind p.1 self.now) name.now p.0) }
     {
         match self.names.find(name) {
-            Some(place) => {
-                let entry = entry_at(self.entries.as_slice(), place);
-                Some((number_at(entry, place as u32), entry.kind))
+            Some(index) => {
+                let entry = entry_at(self.entries.as_slice(), index);
+                Some((number_of_entry(entry, index as u32), entry.kind))
             }
             None => None,
         }
@@ -142,24 +142,27 @@ impl Numbering {
     pub fn declare(&mut self, alloc: Global, name: &[u8], kind: NameKind) -> Result<u32, AllocError>
         requires { kind_in self.old name.now ≡ None }
         ensures ok { OnOk result (self.new ≡ self.old ++ (name.now, kind) ∷ []) }
-        ensures number { IfOk result (λ n. IsNumberOf (names_as kind self.new) name.now n) }
+        ensures number { IfOk result (λ n. IsNumberOf (names_of_kind kind self.new) name.now n) }
         ensures err { OnErr result (self.new ≡ self.old) }
     {
-        let place = self.names.add(alloc, name)?;
-        let before = self.symbols.len() as u32;
-        let entry = CountedKind { kind, before };
+        let index = self.names.add(alloc, name)?;
+        let earlier_symbols = self.symbols.len() as u32;
+        let entry = CountedKind {
+            kind,
+            earlier_symbols,
+        };
         let added = push_entry(
             &mut self.entries,
             &mut self.symbols,
             &mut self.labels,
             entry,
-            place as u32,
+            index as u32,
         );
         if added.is_err() {
-            self.names.truncate(place);
+            self.names.truncate(index);
             return Err(AllocError);
         }
-        Ok(number_at(entry, place as u32))
+        Ok(number_of_entry(entry, index as u32))
     }
 
     /// Reserves room for `labels` more labels, if allocation succeeds.
@@ -178,11 +181,11 @@ impl Numbering {
         if len >= self.names.len() {
             return;
         }
-        let before = entry_at(self.entries.as_slice(), len).before as usize;
+        let earlier_symbols = entry_at(self.entries.as_slice(), len).earlier_symbols as usize;
         self.names.truncate(len);
         self.entries.truncate(len);
-        self.symbols.truncate(before);
-        self.labels.truncate(len - before);
+        self.symbols.truncate(earlier_symbols);
+        self.labels.truncate(len - earlier_symbols);
     }
 
     /// Gives back unused room, as `entries::give_back` does.
@@ -200,14 +203,14 @@ impl Numbering {
 
 /// Returns the number of a name among the symbols or among the labels, by its entry and its index in the table.
 #[inline(always)]
-fn number_at(entry: CountedKind, place: u32) -> u32
-    requires { entry.before ≤ place }
-    ensures { result ≡ (if is_symbol_kind entry.kind then entry.before else place - entry.before) }
+fn number_of_entry(entry: CountedKind, index: u32) -> u32
+    requires { entry.earlier_symbols ≤ index }
+    ensures { result ≡ (if is_symbol_kind entry.kind then entry.earlier_symbols else index - entry.earlier_symbols) }
 {
     match entry.kind {
-        NameKind::Label => place - entry.before,
-        NameKind::Constant => entry.before,
-        NameKind::Variable => entry.before,
+        NameKind::Label => index - entry.earlier_symbols,
+        NameKind::Constant => entry.earlier_symbols,
+        NameKind::Variable => entry.earlier_symbols,
     }
 }
 
@@ -219,45 +222,45 @@ fn entry_at(entries: &[CountedKind], index: usize) -> CountedKind
     entries[index]
 }
 
-/// Appends an entry, and its place to `symbols` or to `labels`, by its kind.
+/// Appends an entry, and its index to `symbols` or to `labels`, by its kind.
 fn push_entry(
     entries: &mut Vec<CountedKind>,
     symbols: &mut Vec<u32>,
     labels: &mut Vec<u32>,
     entry: CountedKind,
-    place: u32,
+    index: u32,
 ) -> Result<(), AllocError>
     ensures entries { OnOk result (entries.new.items ≡ entries.old.items ++ entry ∷ []) }
-    ensures symbols { OnOk result (symbols.new.items ≡ symbols.old.items ++ (if is_symbol_kind entry.kind then place ∷ [] else [])) }
-    ensures labels { OnOk result (labels.new.items ≡ labels.old.items ++ (if is_labelling entry.kind then place ∷ [] else [])) }
+    ensures symbols { OnOk result (symbols.new.items ≡ symbols.old.items ++ (if is_symbol_kind entry.kind then index ∷ [] else [])) }
+    ensures labels { OnOk result (labels.new.items ≡ labels.old.items ++ (if is_label entry.kind then index ∷ [] else [])) }
     ensures same_entries { OnErr result (entries.new.items ≡ entries.old.items) }
     ensures same_symbols { OnErr result (symbols.new.items ≡ symbols.old.items) }
     ensures same_labels { OnErr result (labels.new.items ≡ labels.old.items) }
 {
     match entry.kind {
-        NameKind::Label => push_both(entries, labels, entry, place),
-        NameKind::Constant => push_both(entries, symbols, entry, place),
-        NameKind::Variable => push_both(entries, symbols, entry, place),
+        NameKind::Label => push_both(entries, labels, entry, index),
+        NameKind::Constant => push_both(entries, symbols, entry, index),
+        NameKind::Variable => push_both(entries, symbols, entry, index),
     }
 }
 
-/// Appends an entry and its place.
+/// Appends an entry and its index.
 fn push_both(
     entries: &mut Vec<CountedKind>,
-    places: &mut Vec<u32>,
+    indexes: &mut Vec<u32>,
     entry: CountedKind,
-    place: u32,
+    index: u32,
 ) -> Result<(), AllocError>
     ensures entries { OnOk result (entries.new.items ≡ entries.old.items ++ entry ∷ []) }
-    ensures places { OnOk result (places.new.items ≡ places.old.items ++ place ∷ []) }
+    ensures indexes { OnOk result (indexes.new.items ≡ indexes.old.items ++ index ∷ []) }
     ensures same_entries { OnErr result (entries.new.items ≡ entries.old.items) }
-    ensures same_places { OnErr result (places.new.items ≡ places.old.items) }
+    ensures same_indexes { OnErr result (indexes.new.items ≡ indexes.old.items) }
 {
-    let count = places.len();
-    places.push(place)?;
+    let count = indexes.len();
+    indexes.push(index)?;
     let added = entries.push(entry);
     if added.is_err() {
-        places.truncate(count);
+        indexes.truncate(count);
         return Err(AllocError);
     }
     Ok(())

@@ -1,18 +1,18 @@
 //! The state of the rules: which variables are active, and how many were when each open block began.
 ghost use Rattle.std.specs.Prelude.{◌≡◌, ◌==◌, ◌++◌, ◌∷◌, [], length, not, nat_lt, take, None, IfOk, IfSome, OnOk, IsTrue};
 ghost use Rattle.std.specs.List.{list_any};
-ghost use Rattle.names.specs.Codes.{numbers_in};
+ghost use Rattle.names.specs.Codes.{codes_or_len};
 ghost use Rattle.scope.specs.Active.{active, active_variables, typed_variables, is_closed, count, is_open, is_close};
 ghost use Rattle.scope.specs.Kinds.{IsNumberingOf};
 ghost use Rattle.scope.specs.Legal.{broken_rule, end_rule};
 ghost use Rattle.scope.specs.Sorts.{sort_by};
 ghost use Rattle.scope.specs.Standing.{standing_of};
 ghost use Rattle.scope.specs.Stored.SymbolNumbers.{AreRecorded};
-ghost use Rattle.scope.specs.Stored.Stacks.{sizes_of};
+ghost use Rattle.scope.specs.Stored.Stacks.{heights_of};
 ghost use Rattle.scope.specs.Symbols.{symbols_of, symbols_after, symbols_in};
 
 use crate::history::History;
-use crate::legal::{Judge, Sort};
+use crate::legal::{RuleChecker, Sort};
 use crate::numbering::Numbering;
 use crate::rule::Rule;
 use crate::stack::Stack;
@@ -38,13 +38,13 @@ pub struct Rules {
 
 impl Model for Rules {
     ghost use Rattle.scope.specs.Accepted.{Accepted};
-    ghost use Rattle.scope.specs.Stored.Stacks.{IsKept};
+    ghost use Rattle.scope.specs.Stored.Stacks.{IsRulesState};
 
     ghost Value = { Accepted };
 
     ghost view = { λ a. record { statements = a.accepted.statements; marked = a.marked.statements } };
 
-    ghost invariant = { λ a. IsKept a.accepted.statements a.marked.statements a.variables a.typed a.standing a.blocks.items a.mark };
+    ghost invariant = { λ a. IsRulesState a.accepted.statements a.marked.statements a.variables a.typed a.standing a.blocks.items a.mark };
 }
 
 impl Rules {
@@ -74,7 +74,7 @@ impl Rules {
         ensures statements { self.new.statements ≡ self.old.statements }
         ensures marked { self.new.marked ≡ self.old.statements }
     {
-        self.mark = self.sizes();
+        self.mark = self.heights();
         self.marked = History::same(&self.accepted);
     }
 
@@ -161,12 +161,12 @@ impl Rules {
         ensures rule { result ≡ broken_rule self.now.statements stmt.now }
         ensures recorded { result ≡ None → AreRecorded (symbols_after self.now.statements stmt.now) (symbols_in stmt.now) recorded.new }
     {
-        let judge = Judge {
+        let checker = RuleChecker {
             rules: self,
             names,
             alloc,
         };
-        judge.broken_rule(stmt, recorded)
+        checker.broken_rule(stmt, recorded)
     }
 
     /// Returns how many `$f`, `$e` and `$d` are active.
@@ -179,10 +179,10 @@ impl Rules {
     /// Returns the sort of a symbol that was declared as a variable, by its number.
     #[inline(always)]
     pub(crate) fn sort_of_variable(&self, number: u32) -> Sort
-        ensures { result ≡ sort_by (list_any (λ n. n == number) (numbers_in (symbols_of self.now.statements) (active_variables self.now.statements))) (list_any (λ n. n == number) (numbers_in (symbols_of self.now.statements) (typed_variables self.now.statements))) }
+        ensures { result ≡ sort_by (list_any (λ n. n == number) (codes_or_len (symbols_of self.now.statements) (active_variables self.now.statements))) (list_any (λ n. n == number) (codes_or_len (symbols_of self.now.statements) (typed_variables self.now.statements))) }
     {
         if self.variables.place(number).is_none() {
-            Sort::Inactive
+            Sort::Other
         } else if self.typed.place(number).is_some() {
             Sort::Typed
         } else {
@@ -191,8 +191,8 @@ impl Rules {
     }
 
     /// Returns the heights of the stacks.
-    pub(crate) fn sizes(&self) -> StackHeights
-        ensures { result ≡ sizes_of (active self.now.statements) }
+    pub(crate) fn heights(&self) -> StackHeights
+        ensures { result ≡ heights_of (active self.now.statements) }
     {
         StackHeights {
             variables: self.variables.len(),

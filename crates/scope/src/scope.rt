@@ -10,7 +10,7 @@ ghost use Rattle.scope.specs.declared.standing.Standing.{Standing as Standings};
 ghost use Rattle.scope.specs.Symbols.{symbols_after, symbols_in};
 
 use crate::declare::declare_names;
-use crate::legal::Judge;
+use crate::legal::RuleChecker;
 use crate::numbering::Numbering;
 use crate::rule::Rule;
 use crate::rules::Rules;
@@ -94,7 +94,7 @@ impl Scope {
         }
         let names = self.names.len();
         let standing = self.standing.len();
-        let taken = take_in(
+        let taken = append_legal(
             self.alloc,
             &mut self.rules,
             &mut self.names,
@@ -112,11 +112,11 @@ impl Scope {
         Ok(())
     }
 
-    /// Returns the judge of the next statement.
-    pub(crate) fn judge(&self) -> Judge<'_>
+    /// Returns the checker of the rules for the next statement.
+    pub(crate) fn rule_checker(&self) -> RuleChecker<'_>
         ensures { result ≡ self.now }
     {
-        Judge {
+        RuleChecker {
             rules: &self.rules,
             names: &self.names,
             alloc: self.alloc,
@@ -191,7 +191,7 @@ impl Scope {
 /// Appends a legal statement; the recorded numbers are those of its symbols.
 ///
 /// Errors: an allocation fails; the rules are then unchanged, and `names` and `standing` may have items appended.
-fn take_in(
+fn append_legal(
     alloc: Global,
     rules: &mut Rules,
     names: &mut Numbering,

@@ -11,7 +11,7 @@ use std::marker::Model;
 #[derive(Drop)]
 pub struct SymbolNumbers {
     numbers: Vec<u32>,
-    whole: bool,
+    is_recorded: bool,
 }
 
 impl Model for SymbolNumbers {
@@ -19,7 +19,7 @@ impl Model for SymbolNumbers {
 
     ghost Value = { Option (List ℕ) };
 
-    ghost view = { λ a. if a.whole then Some a.numbers.items else None };
+    ghost view = { λ a. if a.is_recorded then Some a.numbers.items else None };
 }
 
 impl SymbolNumbers {
@@ -29,7 +29,7 @@ impl SymbolNumbers {
     {
         SymbolNumbers {
             numbers: Vec::new(alloc),
-            whole: false,
+            is_recorded: false,
         }
     }
 
@@ -38,14 +38,14 @@ impl SymbolNumbers {
         ensures { self.new ≡ Some [] }
     {
         self.numbers.clear();
-        self.whole = true;
+        self.is_recorded = true;
     }
 
     /// Discards the recorded numbers.
     pub fn forget(&mut self)
         ensures { self.new ≡ None }
     {
-        self.whole = false;
+        self.is_recorded = false;
     }
 
     /// Records one more number, if recording has begun. If an allocation fails, the recorded numbers are discarded.
@@ -53,8 +53,8 @@ impl SymbolNumbers {
     pub fn record_number(&mut self, number: u32)
         ensures { IsAppended number self.old self.new }
     {
-        if self.whole && self.numbers.push(number).is_err() {
-            self.whole = false;
+        if self.is_recorded && self.numbers.push(number).is_err() {
+            self.is_recorded = false;
         }
     }
 
@@ -63,7 +63,7 @@ impl SymbolNumbers {
         ensures some { is_some result ≡ is_some self.now }
         ensures numbers { IfSome result (λ numbers. self.now ≡ Some numbers.now) }
     {
-        if self.whole {
+        if self.is_recorded {
             Some(self.numbers.as_slice())
         } else {
             None

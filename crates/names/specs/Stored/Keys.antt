@@ -3,7 +3,7 @@
 use Rattle.std.specs.Prelude.{ℕ, zero, suc, ◌+◌, ◌-◌, ◌*◌, ◌/◌, ◌%◌, ◌^◌, ◌<◌, List, [], ◌∷◌, length, get_or, nat_lt, if◌then◌else◌}
 use Rattle.std.specs.Int.{w64, swap_bytes}
 use Rattle.mm_lex.specs.Alphabet.{Name}
-use Rattle.names.specs.declared.keys.TheConstants.{LONG, HINTS, FACTOR}
+use Rattle.names.specs.declared.keys.TheConstants.{LEAST_HASHED_LEN, LEAST_HASH, FACTOR}
 
 abbrev pub AreBytes : List ℕ → Type 0
 AreBytes bytes = (i : ℕ) → get_or bytes i 0 < 256
@@ -14,17 +14,17 @@ digits [] = 0
 digits (byte ∷ bytes) = byte + 256 * digits bytes
 
 -- the bytes of a name of at most three bytes, some of them repeated
-abbrev pub ends : Name → List ℕ
-ends x = get_or x 0 0 ∷ get_or x (length x / 2) 0 ∷ get_or x (length x - 1) 0 ∷ []
+abbrev pub first_middle_last : Name → List ℕ
+first_middle_last x = get_or x 0 0 ∷ get_or x (length x / 2) 0 ∷ get_or x (length x - 1) 0 ∷ []
 
 -- the bytes of a name of four to seven bytes, some of them twice
-abbrev pub front_and_back : Name → List ℕ
-front_and_back x =
+abbrev pub first_four_last_three : Name → List ℕ
+first_four_last_three x =
     get_or x 0 0 ∷ get_or x 1 0 ∷ get_or x 2 0 ∷ get_or x 3 0
     ∷ get_or x (length x - 3) 0 ∷ get_or x (length x - 2) 0 ∷ get_or x (length x - 1) 0 ∷ []
 
-abbrev pub picked : Name → List ℕ
-picked x = if nat_lt (length x) 4 then ends x else front_and_back x
+abbrev pub key_bytes : Name → List ℕ
+key_bytes x = if nat_lt (length x) 4 then first_middle_last x else first_four_last_three x
 
 -- the eight bytes from an index on
 abbrev pub eight : Name → ℕ → List ℕ
@@ -33,11 +33,11 @@ eight x at =
     ∷ get_or x (at + 4) 0 ∷ get_or x (at + 5) 0 ∷ get_or x (at + 6) 0 ∷ get_or x (at + 7) 0 ∷ []
 
 -- a number whose lowest bytes depend on all bits of this one
-abbrev pub spread_of : ℕ → ℕ
-spread_of n = swap_bytes w64 (n * FACTOR % 2 ^ 64)
+abbrev pub scrambled : ℕ → ℕ
+scrambled n = swap_bytes w64 (n * FACTOR % 2 ^ 64)
 
 abbrev pub mixed : ℕ → ℕ → ℕ
-mixed hint bytes = spread_of ((hint + bytes) % 2 ^ 64)
+mixed hash bytes = scrambled ((hash + bytes) % 2 ^ 64)
 
 -- the length of a name, mixed with its first n blocks of eight bytes
 abbrev pub mixed_front : Name → ℕ → ℕ
@@ -45,8 +45,8 @@ mixed_front x zero = length x
 mixed_front x (suc n) = mixed (mixed_front x n) (digits (eight x (8 * n)))
 
 -- the length of a name, mixed with all its blocks but the last, and with its last eight bytes
-unfoldable pub hint_of : Name → ℕ
-hint_of x = mixed (mixed_front x ((length x - 1) / 8)) (digits (eight x (length x - 8))) % HINTS + HINTS
+unfoldable pub hash_of : Name → ℕ
+hash_of x = mixed (mixed_front x ((length x - 1) / 8)) (digits (eight x (length x - 8))) % LEAST_HASH + LEAST_HASH
 
 abbrev pub key_of : Name → ℕ
-key_of x = if nat_lt (length x) LONG then digits (picked x) * 8 + length x else hint_of x
+key_of x = if nat_lt (length x) LEAST_HASHED_LEN then digits (key_bytes x) * 8 + length x else hash_of x

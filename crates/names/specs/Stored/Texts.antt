@@ -5,17 +5,17 @@ use Rattle.std.specs.Prelude.{◌≡◌, ℕ, zero, suc, ◌≤◌, List, [], �
 use Rattle.mm_lex.specs.Alphabet.{Name}
 
 -- the parts of a buffer from an index on, one after the other, each up to its end
-abbrev pub cut : List ℕ → ℕ → List ℕ → List Name
-cut xs from [] = []
-cut xs from (to ∷ ends) = slice_range xs from to ∷ cut xs to ends
+abbrev pub texts_from : List ℕ → ℕ → List ℕ → List Name
+texts_from xs from [] = []
+texts_from xs from (to ∷ ends) = slice_range xs from to ∷ texts_from xs to ends
 
--- where the part with a number begins
+-- where the part at an index begins
 abbrev pub start_of : ℕ → List ℕ → ℕ → ℕ
 start_of from [] n = from
 start_of from (to ∷ ends) zero = from
 start_of from (to ∷ ends) (suc n) = start_of to ends n
 
 -- the ends ascend from an index on, and the last one is n
-abbrev pub AreLaid : ℕ → ℕ → List ℕ → Type 0
-AreLaid n from [] = n ≡ from
-AreLaid n from (to ∷ ends) = (from ≤ to) × AreLaid n to ends
+abbrev pub AreAscendingEnds : ℕ → ℕ → List ℕ → Type 0
+AreAscendingEnds n from [] = n ≡ from
+AreAscendingEnds n from (to ∷ ends) = (from ≤ to) × AreAscendingEnds n to ends

@@ -3,11 +3,11 @@ use Rattle.std.specs.Prelude.{◌≡◌, ℕ, ◌+◌, ◌<◌, true, false, Lis
 use Rattle.scope.specs.Words.{Bor, Name, name_eq}
 
 -- none of the first n words equals the one before it
-abbrev pub DifferNext : List (Bor Name) → ℕ → Type 0
-DifferNext words n = (k : ℕ) (d : Bor Name) → k + 1 < n → name_eq (get_or words k d).now (get_or words (k + 1) d).now ≡ false
+abbrev pub DifferFromNext : List (Bor Name) → ℕ → Type 0
+DifferFromNext words n = (k : ℕ) (d : Bor Name) → k + 1 < n → name_eq (get_or words k d).now (get_or words (k + 1) d).now ≡ false
 
 -- a word equals the one before it
-pub record IsTwice (words : List (Bor Name)) : Type 0 where
+pub record HasEqualNeighbours (words : List (Bor Name)) : Type 0 where
   pub place : ℕ
   pub other : Bor Name
   pub within : place + 1 < length words

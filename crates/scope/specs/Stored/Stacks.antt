@@ -2,7 +2,7 @@
 -- Source: this project's form.
 -- The model has positions and bracket counts; here each field of the code is defined as a function of the statements.
 use Rattle.std.specs.Prelude.{◌≡◌, ℕ, ◌≤◌, Bool, true, false, not, ◌&&◌, ◌==◌, List, [], ◌∷◌, ◌++◌, length, take, if◌then◌else◌}
-use Rattle.scope.specs.Words.{flat_map, list_any, Stmt, Database, numbers_in, AreNamed}
+use Rattle.scope.specs.Words.{flat_map, list_any, Stmt, Database, codes_or_len, AreNamed}
 use Rattle.scope.specs.Active.{active, stays_open, is_open, is_close, is_closed, variables, typed_by, active_variables, typed_variables}
 use Rattle.scope.specs.Kinds.{Declared, IsNumberingOf}
 use Rattle.scope.specs.Standing.{stands_at, standing_of}
@@ -11,14 +11,14 @@ use Rattle.scope.specs.declared.stack_heights.StackHeights.{StackHeights}
 use Rattle.scope.specs.declared.standing.Standing.{Standing}
 
 -- the heights of the stacks after these active statements
-abbrev pub sizes_of : List (ℕ × Stmt) → StackHeights
-sizes_of es = record { variables = length (flat_map (λ p. variables p.1) es); typed = length (flat_map (λ p. typed_by p.1) es); standing = length (flat_map (λ p. stands_at p.0 p.1) es) }
+abbrev pub heights_of : List (ℕ × Stmt) → StackHeights
+heights_of es = record { variables = length (flat_map (λ p. variables p.1) es); typed = length (flat_map (λ p. typed_by p.1) es); standing = length (flat_map (λ p. stands_at p.0 p.1) es) }
 
 -- their heights before each of the open blocks
 abbrev pub blocks_from : List (ℕ × Stmt) → List (ℕ × Stmt) → List StackHeights
 blocks_from before [] = []
 blocks_from before (p ∷ es) =
-    if is_open p.1 then sizes_of before ∷ blocks_from (before ++ p ∷ []) es else blocks_from (before ++ p ∷ []) es
+    if is_open p.1 then heights_of before ∷ blocks_from (before ++ p ∷ []) es else blocks_from (before ++ p ∷ []) es
 
 abbrev pub blocks_of : Database → List StackHeights
 blocks_of S = blocks_from [] (active S)
@@ -41,16 +41,16 @@ pub record IsPlain (s : Stmt) (n : ℕ) : Type 0 where
 pub record IsMarked (S M : Database) (mark : StackHeights) : Type 0 where
   pub later : (T : Database) × (S ≡ M ++ T) × (stays_open 0 T ≡ true)
   pub closed : is_closed M ≡ true
-  pub sizes : mark ≡ sizes_of (active M)
+  pub heights : mark ≡ heights_of (active M)
   pub typed_known : AreNamed (symbols_of M) (typed_variables M)
 
-pub record IsKept (S M : Database) (variable_stack typed_stack : List ℕ) (standing : ℕ) (blocks : List StackHeights) (mark : StackHeights) : Type 0 where
-  pub variables_are : variable_stack ≡ numbers_in (symbols_of S) (active_variables S)
-  pub typed_are : typed_stack ≡ numbers_in (symbols_of S) (typed_variables S)
+pub record IsRulesState (S M : Database) (variable_stack typed_stack : List ℕ) (standing : ℕ) (blocks : List StackHeights) (mark : StackHeights) : Type 0 where
+  pub variables_are : variable_stack ≡ codes_or_len (symbols_of S) (active_variables S)
+  pub typed_are : typed_stack ≡ codes_or_len (symbols_of S) (typed_variables S)
   pub typed_known : AreNamed (symbols_of S) (typed_variables S)
   pub standing_is : standing ≡ length (standing_of S)
   pub blocks_are : blocks ≡ blocks_of S
-  pub never_below : stays_open 0 S ≡ true
+  pub never_closes_unopened : stays_open 0 S ≡ true
   pub marked : IsMarked S M mark
 
 -- the other parts of a scope: the numbering and its marked part, the active `$f`, `$e` and `$d`, and the counts of statements

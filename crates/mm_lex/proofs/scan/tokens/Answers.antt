@@ -15,8 +15,8 @@ returns-in-Some-clause-comment_fault c = λ offset is.
 pub returns-in-Some-clause-fault : goal.returns-in-Some-clause-fault
 returns-in-Some-clause-fault c = IsFirstBadByte-found c.args.text.now c.in-Some.offset c.in-Some.ensures
 
-pub cut-requires : goal.cut-requires
-cut-requires c = IsClean-none c.args.text.now c.in_default.ensures
+pub split_tokens-requires : goal.split_tokens-requires
+split_tokens-requires c = IsClean-none c.args.text.now c.in_default.ensures
 
 pub returns-clause-text_fault : goal.returns-clause-text_fault
 returns-clause-text_fault c = λ offset is.

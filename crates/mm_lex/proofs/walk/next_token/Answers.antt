@@ -1,5 +1,5 @@
 use Rattle.mm_lex.proofs.Prelude.{sym, bytes_eq-Decides}
-use Rattle.mm_lex.proofs.CuttingMeans.{plain}
+use Rattle.mm_lex.proofs.ScanResults.{plain}
 use Rattle.mm_lex.proofs.BetweenLemmas.{between_none, between_on, between_comment, after_on, none_after}
 use Rattle.mm_lex.proofs.NextRunLemmas.{next_is, stops_stray, stops_nested, stops_unclosed}
 use Rattle.mm_lex.proofs.walk.next_token.Goals as goal

@@ -1,7 +1,7 @@
 use Rattle.mm_read.proofs.Words.{◌∙◌, ap, sym, refl, subst, arith, codes, ◌∷◌, [], err_from_is_err_and, HasBetween, AreAfter, IsTokenAfter, IsNextToken, between_on, between_as}
 use Rattle.mm_read.proofs.StatementsLemmas.{are_symbols_of}
-use Rattle.mm_read.proofs.Places.{labelled, step}
-use Rattle.mm_read.proofs.FrontFaults.{key_after_label}
+use Rattle.mm_read.proofs.ReaderStates.{labelled, step}
+use Rattle.mm_read.proofs.PartFaults.{key_after_label}
 use Rattle.mm_read.proofs.AfterFaults.{fault_back, labelled_list, label_alone, label_before}
 use Rattle.mm_read.proofs.NextLemmas.{essential_next, axiom_next, on_ok, on_err}
 use Rattle.mm_read.proofs.statement.labelled.Goals as goal

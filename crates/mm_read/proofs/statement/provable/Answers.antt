@@ -1,4 +1,4 @@
-use Rattle.mm_read.proofs.Words.{◌≤◌, ◌+◌, ◌∷◌, ◌++◌, [], length, codes, subst, arith, length-append, err_from_is_err_and, between_few, StopsAfter, stops_after, IsListFault, HasBrokenList}
+use Rattle.mm_read.proofs.Words.{◌≤◌, ◌+◌, ◌∷◌, ◌++◌, [], length, codes, subst, arith, length-append, err_from_is_err_and, between_few, IsCommentFaultAfter, stops_after, IsListFault, HasBrokenList}
 use Rattle.mm_read.proofs.StatementsLemmas.{are_symbols_of}
 use Rattle.mm_read.proofs.AfterFaults.{expr_fault, proof_fault}
 use Rattle.mm_read.proofs.NextLemmas.{provable_next}
@@ -46,6 +46,6 @@ pub returns-in-Err-Text-clause-fault : goal.returns-in-Err-Text-clause-fault
 returns-in-Err-Text-clause-fault c =
     let text = c.args.text.now in
     let expr = c.in_ok-expr.ensures in
-    let is : StopsAfter text c.in_ok-expr.after c.in-Err-Text.fault =
+    let is : IsCommentFaultAfter text c.in_ok-expr.after c.in-Err-Text.fault =
     subst (λ f. IsListFault text c.in_ok-expr.after 1 0 (codes "$.") f) c.in-Err-Text.field-0-is c.in-Err-Text.ensures.fault in
     rw c.in-Err-Text.field-0-is (stops_after expr.between c.in-Err-Text.fault is)

@@ -1,7 +1,7 @@
 use Rattle.mm_read.proofs.Words.{◌∙◌, ap, sym, refl, arith, codes, ◌∷◌, [], err_from_is_err_and, and_from, between_as, Const, Var, Disj}
 use Rattle.mm_read.proofs.StatementsLemmas.{are_symbols_of, has_two_of}
-use Rattle.mm_read.proofs.Places.{between, step}
-use Rattle.mm_read.proofs.FrontFaults.{key_in_front, other_in_front}
+use Rattle.mm_read.proofs.ReaderStates.{between, step}
+use Rattle.mm_read.proofs.PartFaults.{key_in_front, other_in_front}
 use Rattle.mm_read.proofs.AfterFaults.{keyed_list, first_misfit}
 use Rattle.mm_read.proofs.NextLemmas.{keyed_next, on_ok}
 use Rattle.mm_read.proofs.statement.statement.Goals as goal

@@ -1,15 +1,15 @@
 use Rattle.names.proofs.Words.{◌∙◌, ap, arith, slice_range}
-use Rattle.names.proofs.TextsLemmas.{laid-in, text-at}
+use Rattle.names.proofs.TextsLemmas.{ascending-in, text-at}
 use Rattle.names.proofs.texts.part.Goals as goal
 
 pub slice_bounds-result-count : goal.slice_bounds-result-count
-slice_bounds-result-count c = let h = laid-in _ 0 c.args.ends.now c.args.number c.item-to.result c.requires.laid c.item-to.ensures in let s = c.start-from.ensures in omega (arith, h.0, s)
+slice_bounds-result-count c = let h = ascending-in _ 0 c.args.ends.now c.args.index c.item-to.result c.requires.ascending c.item-to.ensures in let s = c.start-from.ensures in omega (arith, h.0, s)
 
 pub slice_bounds-result-end : goal.slice_bounds-result-end
-slice_bounds-result-end c = let h = laid-in _ 0 c.args.ends.now c.args.number c.item-to.result c.requires.laid c.item-to.ensures in let s = c.start-from.ensures in omega (arith, h.0, h.1, s)
+slice_bounds-result-end c = let h = ascending-in _ 0 c.args.ends.now c.args.index c.item-to.result c.requires.ascending c.item-to.ensures in let s = c.start-from.ensures in omega (arith, h.0, h.1, s)
 
 pub slice_bounds-result-start : goal.slice_bounds-result-start
-slice_bounds-result-start c = let h = laid-in _ 0 c.args.ends.now c.args.number c.item-to.result c.requires.laid c.item-to.ensures in let s = c.start-from.ensures in omega (arith, h.0, h.1, s)
+slice_bounds-result-start c = let h = ascending-in _ 0 c.args.ends.now c.args.index c.item-to.result c.requires.ascending c.item-to.ensures in let s = c.start-from.ensures in omega (arith, h.0, h.1, s)
 
 pub returns : goal.returns
-returns c = ap (λ from. slice_range c.args.bytes.now from c.item-to.result) c.start-from.ensures ∙ text-at c.args.bytes.now 0 c.args.ends.now c.args.number c.item-to.result c.item-to.ensures
+returns c = ap (λ from. slice_range c.args.bytes.now from c.item-to.result) c.start-from.ensures ∙ text-at c.args.bytes.now 0 c.args.ends.now c.args.index c.item-to.result c.item-to.ensures

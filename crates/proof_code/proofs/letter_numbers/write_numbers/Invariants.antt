@@ -4,8 +4,8 @@ use Rattle.proof_code.proofs.letter_numbers.write_numbers.Given as goal
 
 abbrev pub invariant-loop-byte : goal.invariant-loop-byte
 invariant-loop-byte l = record {
-  read : IsRead l.labels l.text l.word.limit l.word.digits (take l.count l.numbers) l.byte-index;
+  read : IsRead l.labels l.text l.state.limit l.state.digits (take l.count l.numbers) l.byte-index;
   kept : l.count ≤ l.byte-index;
-  room : l.word.limit ≤ l.labels + l.byte-index;
-  begun : l.word.digits ≤ l.word.limit;
+  room : l.state.limit ≤ l.labels + l.byte-index;
+  begun : l.state.digits ≤ l.state.limit;
 }

@@ -1,5 +1,5 @@
 use Rattle.proof_code.proofs.Words.{arith, ◌+◌, ◌≤◌, ◌∙◌, ap, sym, length, take, are_listed, count_by, take_rest}
-use Rattle.proof_code.proofs.ListingLemmas.{counted-lanes, is_space}
+use Rattle.proof_code.proofs.ListingLemmas.{listed_count-lanes, is_space}
 use Rattle.proof_code.proofs.listing.count_listed.Goals as goal
 
 pub loop-at-preserved : goal.loop-at-preserved
@@ -10,7 +10,7 @@ loop-at-preserved c =
     let listed = ap (λ r. are_listed (take 16 r)) (sym (take_rest text l.at)) ∙ c.in-Some.ensures.listed in
     let spaces = c.in-Some.ensures.spaces ∙ ap (λ r. count_by is_space (take 16 r)) (take_rest text l.at) in
     record {
-      same = counted-lanes text l.at l.count l.last l.invariant.same room c.in-Some.spaces listed spaces;
+      same = listed_count-lanes text l.at l.count l.last l.invariant.same room c.in-Some.spaces listed spaces;
       few = omega (arith, l.invariant.few, c.in-Some.ensures.few);
       within = room;
     }

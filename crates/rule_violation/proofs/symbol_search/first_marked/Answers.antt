@@ -8,7 +8,7 @@ mark_of-requires-clause-named c = first-named c.args.names.now c.loop-index.left
 pub returns-then-mark_of : goal.returns-then-mark_of
 returns-then-mark_of c = λ t e.
     let split : c.in-Some.name.now ∷ c.next.new.self ≡ drop c.loop-index.index c.args.words.now = sym c.in-Some.ensures.steps ∙ c.loop-index.invariant.rest in
-    record { stands = first_is c.args.words.now c.next.new.self c.loop-index.index c.in-Some.name.now split; passes = sym (c.mark_of.ensures t e) ∙ c.if-mark_of.true }
+    record { is_there = first_is c.args.words.now c.next.new.self c.loop-index.index c.in-Some.name.now split; passes = sym (c.mark_of.ensures t e) ∙ c.if-mark_of.true }
 
 pub loop-index-preserved : goal.loop-index-preserved
 loop-index-preserved c =

@@ -5,12 +5,12 @@ use Rattle.scope.proofs.legal.differ_pair_by_pair.Goals as goal
 pub returns-then-len-lt2 : goal.returns-then-len-lt2
 returns-then-len-lt2 c = sym (short_differ c.args.words.now (omega arith))
 
-pub returns-then-stands_before : goal.returns-then-stands_before
-returns-then-stands_before c =
+pub returns-then-is_among_first : goal.returns-then-is_among_first
+returns-then-is_among_first c =
     let X = take c.loop-i.i c.args.words.now in let w = c.in-Some.word.now in let rest = c.next.new.self in
     let split : X ++ (w ∷ rest) ≡ c.args.words.now = ap (λ r. X ++ r) (sym c.in-Some.ensures.steps) ∙ c.loop-i.invariant.split in
     let again : all_different (X ++ w ∷ []) ≡ false =
-    all_different-append X w ∙ (ap (λ b. b && not (has_name w X)) c.loop-i.invariant.differ ∙ ap not (sym c.if-stands_before.ensures)) in
+    all_different-append X w ∙ (ap (λ b. b && not (has_name w X)) c.loop-i.invariant.differ ∙ ap not (sym c.if-is_among_first.ensures)) in
     sym (ap all_different (sym split ∙ sym (append_assoc X (w ∷ []) rest)) ∙ all_different-front (X ++ w ∷ []) rest again)
 
 pub loop-i-preserved : goal.loop-i-preserved
@@ -23,5 +23,5 @@ loop-i-preserved c =
       split = ap (λ r. r ++ rest) more ∙ (append_assoc X (w ∷ []) rest ∙ split);
       size = omega (arith, long);
       fits = c.loop-i.invariant.fits;
-      differ = ap all_different more ∙ (all_different-append X w ∙ (ap (λ b. b && not (has_name w X)) c.loop-i.invariant.differ ∙ ap not (sym c.if-stands_before.ensures)));
+      differ = ap all_different more ∙ (all_different-append X w ∙ (ap (λ b. b && not (has_name w X)) c.loop-i.invariant.differ ∙ ap not (sym c.if-is_among_first.ensures)));
     }

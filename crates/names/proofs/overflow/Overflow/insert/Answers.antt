@@ -2,8 +2,8 @@ use Rattle.std.proofs.Common.{refl, ◌∙◌}
 use Rattle.names.proofs.OverflowLemmas.{others-short, others-long}
 use Rattle.names.proofs.overflow.Overflow.insert.Goals as goal
 
-pub returns-then-name-lt-LONG-clause-others : goal.returns-then-name-lt-LONG-clause-others
-returns-then-name-lt-LONG-clause-others c =
+pub returns-then-name-lt-LEAST_HASHED_LEN-clause-others : goal.returns-then-name-lt-LEAST_HASHED_LEN-clause-others
+returns-then-name-lt-LEAST_HASHED_LEN-clause-others c =
     others-short c.args.self.now (record { short = c.insert.new.self; long = c.args.self.now.long }) c.args.name.now c.key.result _ c.key.ensures.bytes c.key.ensures.key refl c.in_ok-insert.ensures.updates
 
 pub returns-clause-others : goal.returns-clause-others

@@ -1,6 +1,6 @@
-use Rattle.names.proofs.Words.{◌≡◌, ◌∙◌, ap, sym, subst, arith, length, rules, ◌++◌, ◌∷◌, [], ◌+◌, cut, AreLaid}
+use Rattle.names.proofs.Words.{◌≡◌, ◌∙◌, ap, sym, subst, arith, length, rules, ◌++◌, ◌∷◌, [], ◌+◌, texts_from, AreAscendingEnds}
 use Rattle.std.proofs.lemmas.List.{length-append}
-use Rattle.names.proofs.TextsLemmas.{push-text, laid-push}
+use Rattle.names.proofs.TextsLemmas.{push-text, ascending-push}
 use Rattle.names.proofs.texts.Texts.push.Goals as goal
 use Rattle.names.proofs.texts.Texts.push.Goals.{Else-is_err}
 
@@ -15,13 +15,13 @@ ends-are c = search rules
 
 pub returns-clause-ok : goal.returns-clause-ok
 returns-clause-ok c =
-    ap (λ xs. cut xs 0 c.push-pushed.new.self.items) c.in_ok-extend_from_slice.ensures.items
-    ∙ (ap (cut (c.self.inside.bytes.items ++ c.args.text.now) 0) (ends-are c)
+    ap (λ xs. texts_from xs 0 c.push-pushed.new.self.items) c.in_ok-extend_from_slice.ensures.items
+    ∙ (ap (texts_from (c.self.inside.bytes.items ++ c.args.text.now) 0) (ends-are c)
     ∙ (push-text c.self.inside.bytes.items c.args.text.now 0 c.self.inside.ends.items (length c.as_slice-to.result.now) c.self.invariant (to-is c ∙ size c)
     ∙ ap (λ r. r ++ c.args.text.now ∷ []) c.self.view_is))
 
 pub invariant_of-self-else-is_err : goal.invariant_of-self-else-is_err
 invariant_of-self-else-is_err c =
     let more = size c in
-    subst (AreLaid (length c.extend_from_slice.new.self.items) 0) (sym (ends-are c ∙ ap (λ n. c.self.inside.ends.items ++ n ∷ []) (to-is c)))
-    (laid-push (length c.self.inside.bytes.items) (length c.extend_from_slice.new.self.items) 0 c.self.inside.ends.items (omega (arith, more)) c.self.invariant)
+    subst (AreAscendingEnds (length c.extend_from_slice.new.self.items) 0) (sym (ends-are c ∙ ap (λ n. c.self.inside.ends.items ++ n ∷ []) (to-is c)))
+    (ascending-push (length c.self.inside.bytes.items) (length c.extend_from_slice.new.self.items) 0 c.self.inside.ends.items (omega (arith, more)) c.self.invariant)

@@ -1,5 +1,5 @@
-use Rattle.names.proofs.Words.{◌≡◌, ◌∙◌, ap, sym, subst, arith, length, take, length-take-le, take_all, ◌<◌, cut, start_of, AreLaid}
-use Rattle.names.proofs.TextsLemmas.{cut-length, start-within, cut-take, laid-take}
+use Rattle.names.proofs.Words.{◌≡◌, ◌∙◌, ap, sym, subst, arith, length, take, length-take-le, take_all, ◌<◌, texts_from, start_of, AreAscendingEnds}
+use Rattle.names.proofs.TextsLemmas.{texts_from-length, start-within, texts_from-take, ascending-take}
 use Rattle.names.proofs.texts.Texts.truncate.Goals as goal
 use Rattle.names.proofs.texts.Texts.truncate.Goals.{After-truncate-then-len}
 
@@ -11,10 +11,10 @@ within c = let h = c.if-len.true in let l = c.len.ensures in omega (arith, h, l)
 
 pub returns-then-len : goal.returns-then-len
 returns-then-len c =
-    ap (λ xs. cut xs 0 c.truncate-then-len.new.self.items) c.truncate.ensures.items
-    ∙ (ap (cut (take c.start-from.result c.self.inside.bytes.items) 0) c.truncate-then-len.ensures.items
-    ∙ (ap (λ n. cut (take n c.self.inside.bytes.items) 0 (take c.args.len c.self.inside.ends.items)) (from-is c)
-    ∙ (cut-take c.self.inside.bytes.items 0 c.self.inside.ends.items c.args.len (within c) c.self.invariant
+    ap (λ xs. texts_from xs 0 c.truncate-then-len.new.self.items) c.truncate.ensures.items
+    ∙ (ap (texts_from (take c.start-from.result c.self.inside.bytes.items) 0) c.truncate-then-len.ensures.items
+    ∙ (ap (λ n. texts_from (take n c.self.inside.bytes.items) 0 (take c.args.len c.self.inside.ends.items)) (from-is c)
+    ∙ (texts_from-take c.self.inside.bytes.items 0 c.self.inside.ends.items c.args.len (within c) c.self.invariant
     ∙ ap (take c.args.len) c.self.view_is)))
 
 pub invariant_of-self : goal.invariant_of-self
@@ -22,12 +22,12 @@ invariant_of-self c =
     let from = start_of 0 c.self.inside.ends.items c.args.len in
     let inside = start-within (length c.self.inside.bytes.items) 0 c.self.inside.ends.items c.args.len c.self.invariant in
     let size : length c.truncate.new.self.items ≡ from = ap length (c.truncate.ensures.items ∙ ap (λ n. take n c.self.inside.bytes.items) (from-is c)) ∙ length-take-le from c.self.inside.bytes.items inside in
-    subst (λ n. AreLaid n 0 c.truncate-then-len.new.self.items) (sym size)
-    (subst (AreLaid from 0) (sym c.truncate-then-len.ensures.items)
-    (laid-take (length c.self.inside.bytes.items) 0 c.self.inside.ends.items c.args.len (within c) c.self.invariant))
+    subst (λ n. AreAscendingEnds n 0 c.truncate-then-len.new.self.items) (sym size)
+    (subst (AreAscendingEnds from 0) (sym c.truncate-then-len.ensures.items)
+    (ascending-take (length c.self.inside.bytes.items) 0 c.self.inside.ends.items c.args.len (within c) c.self.invariant))
 
 pub returns-else-len : goal.returns-else-len
 returns-else-len c =
-    let l = cut-length c.self.inside.bytes.items 0 c.self.inside.ends.items in
+    let l = texts_from-length c.self.inside.bytes.items 0 c.self.inside.ends.items in
     let h = c.if-len.false in
     sym (take_all c.args.len c.args.self.now (omega (arith, h, l, c.len.ensures, ap length c.self.view_is)))

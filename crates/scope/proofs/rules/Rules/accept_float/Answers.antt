@@ -1,11 +1,11 @@
-use Rattle.scope.proofs.Words.{◌≡◌, ◌∙◌, ap, sym, subst, arith, length, get_or, ◌++◌, ◌∷◌, [], ◌==◌, None, refl, List, ℕ, list_any, Name, Database, Stmt, Accepted, bare, broken_rule, number_in, AreVariableNumbers, symbols_of, symbols_after}
+use Rattle.scope.proofs.Words.{◌≡◌, ◌∙◌, ap, sym, subst, arith, length, get_or, ◌++◌, ◌∷◌, [], ◌==◌, None, refl, List, ℕ, list_any, Name, Database, Stmt, Accepted, bare, broken_rule, code_or_len, AreVariableNumbers, symbols_of, symbols_after}
 use Rattle.mm_read.specs.declared.stmt.Stmt.TheVariants as shape
 use Rattle.scope.proofs.StandingLemmas.{standing-fewer}
 use Rattle.scope.proofs.AcceptLemmas.{same-kept, accept-float, float-apart, float-number}
 use Rattle.scope.proofs.rules.Rules.accept_float.Goals as goal
 
 -- the numbers, by the parts of the `$f`
-numbers_are : (S : Database) (s : Stmt) (l k v : Name) (numbers : List ℕ) → s ≡ shape.Float l k v → AreVariableNumbers (symbols_after S s) s numbers → (a : ℕ) × (b : ℕ) × (numbers ≡ a ∷ b ∷ []) × (number_in (symbols_of S) v ≡ b)
+numbers_are : (S : Database) (s : Stmt) (l k v : Name) (numbers : List ℕ) → s ≡ shape.Float l k v → AreVariableNumbers (symbols_after S s) s numbers → (a : ℕ) × (b : ℕ) × (numbers ≡ a ∷ b ∷ []) × (code_or_len (symbols_of S) v ≡ b)
 numbers_are S s l k v numbers is are = float-number S l k v numbers (subst (λ (s : Stmt). AreVariableNumbers (symbols_after S s) s numbers) is are)
 
 pub second-number-requires : goal.second-number-requires

@@ -1,4 +1,4 @@
-use Rattle.scope.proofs.Words.{◌≡◌, ◌∙◌, sym, subst, refl, Database, IsKept}
+use Rattle.scope.proofs.Words.{◌≡◌, ◌∙◌, sym, subst, refl, Database, IsRulesState}
 use Rattle.scope.proofs.AcceptLemmas.{same-kept}
 use Rattle.scope.proofs.rules.Rules.copy.Goals as goal
 
@@ -10,4 +10,4 @@ invariant_of-result c =
     let typed : a.typed ≡ c.in_ok-copy-2.field-0 = sym c.in_ok-copy-2.ensures in
     let blocks : a.blocks.items ≡ c.in_ok-from_slice.field-0.items = sym (c.in_ok-from_slice.ensures.items ∙ c.as_slice.ensures.value) in
     same-kept same variables typed refl blocks
-    (subst (λ (M : Database). IsKept S M a.variables a.typed a.standing a.blocks.items a.mark) (sym c.same-2.ensures) c.self.invariant)
+    (subst (λ (M : Database). IsRulesState S M a.variables a.typed a.standing a.blocks.items a.mark) (sym c.same-2.ensures) c.self.invariant)

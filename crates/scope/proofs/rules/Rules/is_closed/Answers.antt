@@ -11,9 +11,9 @@ blocks_left c =
 
 pub returns-clause-closed : goal.returns-clause-closed
 returns-clause-closed c =
-    blocks_left c ∙ (sym (closed-left c.self.inside.accepted.statements c.self.invariant.never_below) ∙ ap (λ v. is_closed v.statements) c.self.view_is)
+    blocks_left c ∙ (sym (closed-left c.self.inside.accepted.statements c.self.invariant.never_closes_unopened) ∙ ap (λ v. is_closed v.statements) c.self.view_is)
 
 pub returns-clause-open : goal.returns-clause-open
 returns-clause-open c =
     ap (λ v. nat_lt (count is_close v.statements) (count is_open v.statements)) (sym c.self.view_is)
-    ∙ (open-left_open c.self.inside.accepted.statements c.self.invariant.never_below ∙ ap not (sym (blocks_left c)))
+    ∙ (open-left_open c.self.inside.accepted.statements c.self.invariant.never_closes_unopened ∙ ap not (sym (blocks_left c)))

@@ -1,0 +1,69 @@
+//! Measures the longest start of a text that is symbols separated by single spaces, many bytes at a time.
+ghost use Rattle.std.specs.Prelude.{◌≡◌, ◌+◌, ◌-◌, ◌<◌, ◌≤◌, not, length, take, drop};
+ghost use Rattle.std.specs.List.{prefix_len};
+ghost use Rattle.mm_lex.specs.Stored.SpacedPrefix.{spaced_prefix_len, ends_here, lanes_end};
+
+use crate::lanes::LANES;
+use std::simd::prelude::*;
+
+/// Returns the number of bytes at the start of a text that are symbols separated by single spaces.
+pub(crate) fn count_spaced_prefix(text: &[u8]) -> usize
+    ensures count { result ≡ spaced_prefix_len text.now }
+    ensures within { result ≤ length text.now }
+{
+    let mut at = 0;
+    while text.len() - at > LANES {
+        let count = count_in_lanes(&text[at..]);
+        if count < LANES {
+            return at + count;
+        }
+        at += LANES;
+    }
+    at + count_one_by_one(&text[at..])
+}
+
+/// Returns how many of the first 16 bytes precede the one at which these symbols end.
+fn count_in_lanes(text: &[u8]) -> usize
+    requires room { 16 < length text.now }
+    ensures count { result ≡ prefix_len not (lanes_end (take 16 text.now) (take 16 (drop 1 text.now))) }
+    ensures within { result ≤ 16 }
+{
+    let bytes = u8x16::from_slice(text);
+    let next = u8x16::from_slice(&text[1..]);
+    let spaces = bytes.simd_le(u8x16::splat(b' ')) & next.simd_le(u8x16::splat(b'$'));
+    let others = bytes.simd_lt(u8x16::splat(b' ')) | bytes.simd_eq(u8x16::splat(b'$'));
+    let mask = (others | spaces).to_bitmask();
+    if mask == 0 {
+        LANES
+    } else {
+        mask.trailing_zeros() as usize
+    }
+}
+
+fn count_one_by_one(text: &[u8]) -> usize
+    ensures count { result ≡ spaced_prefix_len text.now }
+    ensures within { result ≤ length text.now }
+{
+    let mut at = 0;
+    while at < text.len() {
+        if is_end(text, at) {
+            return at;
+        }
+        at += 1;
+    }
+    at
+}
+
+/// Returns whether these symbols end at this byte.
+fn is_end(text: &[u8], at: usize) -> bool
+    requires { at < length text.now }
+    ensures { result ≡ ends_here (drop at text.now) }
+{
+    let byte = text[at];
+    let next = if at + 1 < text.len() {
+        text[at + 1]
+    } else {
+        b' '
+    };
+    byte < b' ' || byte == b'$' || (byte <= b' ' && next <= b'$')
+}

@@ -1,0 +1,5 @@
+use Rattle.names.proofs.Words.{ℕ, ◌<◌, IsPassed}
+use Rattle.names.proofs.table.search_slots.Given as goal
+
+abbrev pub invariant-loop-step : goal.invariant-loop-step
+invariant-loop-step l = (i : ℕ) → i < l.step → IsPassed l.slots l.texts l.name l.key i
