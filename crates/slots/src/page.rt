@@ -51,13 +51,13 @@ impl<T: Drop> Page<T> {
         ensures put { self.new ≡ slice_set self.old slot (Some entry) }
         ensures before { result ≡ entry_at self.old slot }
     {
-        fill(&mut self.slots, slot + 1);
+        pad_to(&mut self.slots, slot + 1);
         self.slots[slot].replace(entry)
     }
 }
 
 /// Appends empty slots until there are `count`. It does not allocate.
-fn fill<T: Drop>(slots: &mut Vec<Option<T>>, count: usize)
+fn pad_to<T: Drop>(slots: &mut Vec<Option<T>>, count: usize)
     requires { count ≤ vec_capacity slots.old }
     ensures items { slots.new.items ≡ slots.old.items ++ replicate (count - length slots.old.items) None }
     ensures capacity { vec_capacity slots.new ≡ vec_capacity slots.old }

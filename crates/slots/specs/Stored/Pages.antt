@@ -20,9 +20,9 @@ joined [] = []
 joined (page ∷ pages) = page ++ joined pages
 
 -- each page has 256 slots
-abbrev pub AreWhole : {T : Type 0} → List (List T) → Type 0
-AreWhole [] = Unit {0}
-AreWhole (page ∷ pages) = (length page ≡ PAGE_SLOTS) × AreWhole pages
+abbrev pub AreFullSize : {T : Type 0} → List (List T) → Type 0
+AreFullSize [] = Unit {0}
+AreFullSize (page ∷ pages) = (length page ≡ PAGE_SLOTS) × AreFullSize pages
 
 -- the invariant of `Slots`: at most SLOTS slots, and the stored front and top are those of the map
 pub record AreSlots {T : Type 0} (slots : List (Option T)) (front top : ℕ) : Type 0 where

@@ -1,6 +1,6 @@
 use Rattle.slots.proofs.Words.{◌≡◌, ◌∙◌, ◌+◌, ℕ, suc, sym, ap, arith, add-one, drop, true, false, List, Option, Some, None, MatchOption, Bor, is_some, entry_at, front_of}
 use Rattle.slots.proofs.FiniteMapLemmas.{front_of-drop-Some, front_of-drop-None}
-use Rattle.slots.proofs.slots.gap_from.Goals as goal
+use Rattle.slots.proofs.slots.first_empty_from.Goals as goal
 
 one_on : {T : Type 0} (xs : List (Option T)) (s : ℕ) (x : Option (Bor T)) → MatchOption x (entry_at xs s ≡ None) (λ y. entry_at xs s ≡ Some y.now) → is_some x ≡ true → (s + 1) + front_of (drop (s + 1) xs) ≡ s + front_of (drop s xs)
 one_on xs s None at is = cc

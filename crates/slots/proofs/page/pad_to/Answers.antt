@@ -1,6 +1,6 @@
 use Rattle.std.proofs.Common.{◌∙◌, arith}
 use Rattle.slots.proofs.PageLemmas.{one_more, none_more}
-use Rattle.slots.proofs.page.fill.Goals as goal
+use Rattle.slots.proofs.page.pad_to.Goals as goal
 
 pub returns-clause-items : goal.returns-clause-items
 returns-clause-items g c = none_more c.loop-slots.slots.items c.args.count (omega (arith, c.loop-slots-test.false, c.len.ensures, c.loop-slots.slots.ok.0)) ∙ c.loop-slots.invariant.items

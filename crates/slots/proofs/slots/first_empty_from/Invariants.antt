@@ -1,5 +1,5 @@
 use Rattle.slots.proofs.Words.{◌≡◌, ◌≤◌, ◌-◌, ◌+◌, drop, length, front_of}
-use Rattle.slots.proofs.slots.gap_from.Given as goal
+use Rattle.slots.proofs.slots.first_empty_from.Given as goal
 
 abbrev pub invariant-loop-slot : goal.invariant-loop-slot
 invariant-loop-slot g l = record {

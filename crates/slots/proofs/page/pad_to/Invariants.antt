@@ -1,5 +1,5 @@
 use Rattle.std.proofs.Common.{◌≡◌, ◌-◌, ◌++◌, None, length, replicate, vec_capacity, vec_len}
-use Rattle.slots.proofs.page.fill.Given as goal
+use Rattle.slots.proofs.page.pad_to.Given as goal
 
 abbrev pub invariant-loop-slots : goal.invariant-loop-slots
 invariant-loop-slots g l = record {
