@@ -3,7 +3,7 @@ pub use Rattle.cluster.specs.Belongs.{Belongs, EachBelongs, IsAhead}
 pub use Rattle.cluster.specs.Cell.{AddsEntry, Cell, IsCell, TakesOver, new_cell, next_entry}
 pub use Rattle.cluster.specs.Cells.{new_cells}
 pub use Rattle.cluster.specs.LongerRecord.{with_entry}
-pub use Rattle.cluster.specs.Outcome.{first_under}
+pub use Rattle.cluster.specs.Outcome.{first_with_key}
 pub use Rattle.library.specs.LibraryOf.{Replica}
 pub use Rattle.library.specs.declared.entry.Entry.{Entry}
 pub use Rattle.library.specs.declared.verdict.Verdict.{Verdict}

@@ -2,7 +2,7 @@
 ghost use Rattle.std.specs.Prelude.{◌≡◌, ◌↔◌, Err, IfOk, IsOk, IsTrue, Some};
 ghost use Rattle.std.specs.Fn.{FnOnceReturnsAt};
 ghost use Rattle.net.specs.declared.fault.StepFault.TheVariants.{Apart};
-ghost use Rattle.cluster.specs.Outcome.{IsOutcomeOf, first_under, is_under};
+ghost use Rattle.cluster.specs.Outcome.{IsOutcomeOf, first_with_key, has_key_of};
 
 use crate::cell::NodeCell;
 use crate::log::is_same;
@@ -47,10 +47,10 @@ pub fn outcome_on(cell: &NodeCell, entry: &Entry) -> Option<Verdict>
 
 /// Returns whether the entry is the first under its author and serial number.
 fn is_first(entries: &[Option<Carried>], entry: &Entry) -> bool
-    ensures { IsTrue result ↔ (first_under entry.now entries.now ≡ Some (record { 0 = entry.now })) }
+    ensures { IsTrue result ↔ (first_with_key entry.now entries.now ≡ Some (record { 0 = entry.now })) }
 {
     for found in entries {
-        if is_under(found, entry) {
+        if has_key_of(found, entry) {
             return is_found(found, entry);
         }
     }
@@ -58,8 +58,8 @@ fn is_first(entries: &[Option<Carried>], entry: &Entry) -> bool
 }
 
 /// Returns whether `found` is an entry with the author and serial number of `entry`.
-fn is_under(found: &Option<Carried>, entry: &Entry) -> bool
-    ensures { result ≡ is_under entry.now found.now }
+fn has_key_of(found: &Option<Carried>, entry: &Entry) -> bool
+    ensures { result ≡ has_key_of entry.now found.now }
 {
     match found {
         Some(Carried(found)) => {

@@ -1,5 +1,5 @@
 -- What an event comes to at its node, and what is ready while nodes stand.
-use Rattle.net.proofs.Words.{◌≡◌, ℕ, zero, suc, List, [], ◌∷◌, length, get_or, set, slice_get, Option, Some, None, Ok, refl, ap, sym, ◌∙◌, subst, arith, AllByRecursion, option_map, Packet, Ask, IsPost, to_others, Node, kept_of, Core, HasAtLeast, offered, begun, on_packet, restarted, same_room, Offer, Begin, Deliver, Restart, answered, at_node, delivered, change_at, change_delivered, Taken, nodes_of, StagedWork, steps, restarts, StagedEvent, posts_of, step_of, IsReadyAt, ComesTo, NetView, AreStill, IsStill, IsStaged}
+use Rattle.net.proofs.Words.{◌≡◌, ℕ, zero, suc, List, [], ◌∷◌, length, get_or, set, slice_get, Option, Some, None, Ok, refl, ap, sym, ◌∙◌, subst, arith, AllByRecursion, option_map, Packet, Ask, IsPost, to_others, Node, kept_of, Core, HasNoLessRoom, offered, begun, on_packet, restarted, same_room, Offer, Begin, Deliver, Restart, answered, at_node, delivered, change_at, change_delivered, Taken, nodes_of, StagedWork, steps, restarts, StagedEvent, posts_of, step_of, IsReadyAt, ComesTo, NetView, AreStill, IsStill, IsStaged}
 use Rattle.net.proofs.GrowingLists.{at_front}
 
 -- What an event comes to at its node.
@@ -54,7 +54,7 @@ mapped (Some p) k is = (p, refl, let same : p.to ≡ k = cc in same)
 -- Nodes that stand, with room at least as much.
 
 -- room at least as much, twice, is room at least as much
-pub more_room : {V : Type 0} (a b c : Core V) → HasAtLeast a b → HasAtLeast b c → HasAtLeast a c
+pub more_room : {V : Type 0} (a b c : Core V) → HasNoLessRoom a b → HasNoLessRoom b c → HasNoLessRoom a c
 more_room a b c one two = record {
   accepted = let x = one.accepted in let y = two.accepted in omega (arith, x, y);
   pages = λ k. (let x = one.pages k in let y = two.pages k in omega (arith, x, y));
@@ -71,9 +71,9 @@ still_same [] = tt
 still_same (c ∷ cs) = (refl, same_room c, still_same cs)
 
 -- to set a core of the same node, with at least the room, leaves each as it was
-pub still_set : {V : Type 0} (cs : List (Core V)) (k : ℕ) (c d : Core V) → c ≡ get_or cs k c → d.node ≡ c.node → HasAtLeast c d → AreStill cs (set cs k d)
+pub still_set : {V : Type 0} (cs : List (Core V)) (k : ℕ) (c d : Core V) → c ≡ get_or cs k c → d.node ≡ c.node → HasNoLessRoom c d → AreStill cs (set cs k d)
 still_set [] k c d is node room = tt
-still_set {V} (x ∷ cs) zero c d is node room = (node ∙ ap (λ (y : Core V). y.node) is, subst (λ (y : Core V). HasAtLeast y d) is room, still_same cs)
+still_set {V} (x ∷ cs) zero c d is node room = (node ∙ ap (λ (y : Core V). y.node) is, subst (λ (y : Core V). HasNoLessRoom y d) is room, still_same cs)
 still_set (x ∷ cs) (suc k) c d is node room = (refl, same_room x, still_set cs k c d is node room)
 
 -- cores that are as they were, but for their room, have the same nodes
@@ -90,9 +90,9 @@ nodes_found {V} (x ∷ cs) zero c at = let same : x ≡ c = cc in ap (λ (y : Co
 nodes_found (x ∷ cs) (suc k) c at = nodes_found cs k c at
 
 -- the one at a place
-pub still_at : {V : Type 0} (cs ds : List (Core V)) → AreStill cs ds → (k : ℕ) (c : Core V) → slice_get cs k ≡ Some c → (d : Core V) × (slice_get ds k ≡ Some d) × (d.node ≡ c.node) × HasAtLeast c d
+pub still_at : {V : Type 0} (cs ds : List (Core V)) → AreStill cs ds → (k : ℕ) (c : Core V) → slice_get cs k ≡ Some c → (d : Core V) × (slice_get ds k ≡ Some d) × (d.node ≡ c.node) × HasNoLessRoom c d
 still_at [] [] h k c at = cc
-still_at {V} (x ∷ cs) (d ∷ ds) h zero c at = let same : x ≡ c = cc in (d, refl, h.0 ∙ ap (λ (y : Core V). y.node) same, subst (λ (y : Core V). HasAtLeast y d) same h.1)
+still_at {V} (x ∷ cs) (d ∷ ds) h zero c at = let same : x ≡ c = cc in (d, refl, h.0 ∙ ap (λ (y : Core V). y.node) same, subst (λ (y : Core V). HasNoLessRoom y d) same h.1)
 still_at (x ∷ cs) (d ∷ ds) h (suc k) c at = still_at cs ds h.2 k c at
 still_at [] (d ∷ ds) h k c at = elim h [ ]
 still_at (x ∷ cs) [] h k c at = elim h [ ]
@@ -100,7 +100,7 @@ still_at (x ∷ cs) [] h k c at = elim h [ ]
 -- What is ready stays so.
 
 -- what a node can do it can do with more room
-pub ready_still : {V : Type 0} (c d : Core V) (w : StagedWork V) → d.node ≡ c.node → HasAtLeast c d → IsReadyAt c w → IsReadyAt d w
+pub ready_still : {V : Type 0} (c d : Core V) (w : StagedWork V) → d.node ≡ c.node → HasNoLessRoom c d → IsReadyAt c w → IsReadyAt d w
 ready_still c d (steps made) same room h = (same ∙ h.0, more_room made.before c d h.1 room)
 ready_still {V} c d (restarts posts None) same room h = h ∙ ap (λ (n : Node V). to_others n.me n.weights (Ask 0)) (sym same)
 ready_still {V} c d (restarts posts (Some kept)) same room h = (h.0 ∙ ap (λ (n : Node V). to_others n.me n.weights (Ask 0)) (sym same), h.1 ∙ ap (λ (n : Node V). kept_of n) (sym same))

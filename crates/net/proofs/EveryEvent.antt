@@ -1,5 +1,5 @@
 -- The invariant holds at the start and each event that is taken keeps it, so it holds of the world after any events.
-use Rattle.net.proofs.Words.{◌≡◌, ℕ, zero, suc, ◌+◌, ◌<◌, Bool, true, false, ◌==◌, List, [], ◌∷◌, Option, Some, None, Result, Ok, Err, inl, inr, refl, ap, sym, ◌∙◌, subst, arith, if◌then◌else◌, slice_get, set, AllByRecursion, In, Packet, Body, Prepare, Promise, Accept, Accepted, Nack, Ask, Told, Refusal, Node, Stepped, offered, begun, on_body, on_packet, restarted, MOST_EVENTS, Event, Offer, Begin, Deliver, Restart, StepFault, EventsSpent, Vote, World, start, nodes_from, stepped, answered, votes_after, at_node, delivered, happens_at, happens, all_happen, after, offers_of, IsAfter, all_append}
+use Rattle.net.proofs.Words.{◌≡◌, ℕ, zero, suc, ◌+◌, ◌<◌, Bool, true, false, ◌==◌, List, [], ◌∷◌, Option, Some, None, Result, Ok, Err, inl, inr, refl, ap, sym, ◌∙◌, subst, arith, if◌then◌else◌, slice_get, set, AllByRecursion, In, Packet, Body, Prepare, Promise, Accept, Accepted, Nack, Ask, Told, Refusal, Node, StepResult, offered, begun, on_body, on_packet, restarted, MOST_EVENTS, Event, Offer, Begin, Deliver, Restart, StepFault, EventsSpent, Vote, World, start, nodes_from, stepped, answered, votes_after, at_node, delivered, happens_at, happens, all_happen, after, offers_of, IsAfter, all_append}
 use Rattle.net.proofs.GrowingLists.{all_more, all_in, in_slice_get}
 use Rattle.net.proofs.Ledger.{Ledger, IsSound}
 use Rattle.net.proofs.LedgerGrows.{Grows}
@@ -68,7 +68,7 @@ IfTaken (Err fault) P = Unit {0}
 
 module _ {V : Type 0} (offers : List V) (w : World V) (h : WorldHolds offers w) where
   -- the invariant holds of the world after a step that continues the story
-  world_after : (k : ℕ) (step : Stepped V) → Continues w.weights offers k h.ledger step → WorldHolds offers (stepped w k step)
+  world_after : (k : ℕ) (step : StepResult V) → Continues w.weights offers k h.ledger step → WorldHolds offers (stepped w k step)
   world_after k step next = record {
     ledger = next.ledger;
     sound = next.sound;
@@ -92,12 +92,12 @@ module _ {V : Type 0} (offers : List V) (w : World V) (h : WorldHolds offers w) 
     own_holds = subst (λ (ws : List ℕ). NodeHolds ws offers h.ledger n.me n) (sym there.weights) (subst (λ (j : ℕ). NodeHolds w.weights offers h.ledger j n) (sym there.me) there)
 
     -- where each step of the node continues the story, the invariant holds after its answer
-    answered_holds : (r : Result (Stepped V) Refusal) → IfStep r (λ step. Continues n.weights offers n.me h.ledger step) → IfTaken (answered w k r) (WorldHolds offers)
+    answered_holds : (r : Result (StepResult V) Refusal) → IfStep r (λ step. Continues n.weights offers n.me h.ledger step) → IfTaken (answered w k r) (WorldHolds offers)
     answered_holds (Ok step) next = world_after k step (subst (λ (j : ℕ). Continues w.weights offers j h.ledger step) there.me (subst (λ (ws : List ℕ). Continues ws offers n.me h.ledger step) there.weights next))
     answered_holds (Err refusal) next = tt
 
   -- what every node with its number and weights makes of itself continues the story
-  at_node_holds : (k : ℕ) (make : Node V → Result (Stepped V) Refusal)
+  at_node_holds : (k : ℕ) (make : Node V → Result (StepResult V) Refusal)
       → ((n : Node V) → NodeHolds w.weights offers h.ledger k n → IsSound n.weights offers h.ledger → NodeHolds n.weights offers h.ledger n.me n → IfStep (make n) (λ step. Continues n.weights offers n.me h.ledger step))
       → (o : Option (Node V)) → slice_get w.nodes k ≡ o → IfTaken (at_node w k make o) (WorldHolds offers)
   at_node_holds k make continues None e = tt

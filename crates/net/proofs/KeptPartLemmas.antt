@@ -1,5 +1,5 @@
 -- The law of the kept part: each step makes its one change of the kept part of its node and of no other node's, and a restart makes none.
-use Rattle.net.proofs.Words.{◌≡◌, ◌≢◌, ℕ, ◌==◌, List, [], ◌∷◌, ◌++◌, Option, Some, None, Result, Ok, Err, refl, ap, sym, ◌∙◌, subst, slice_get, option_map, Packet, Change, Refusal, Kept, changed_by, Node, Stepped, kept_of, offered, begun, on_packet, restarted, ChangesKeptOnOk, offered_kept, begun_kept, body_kept, restarted_kept, MOST_EVENTS, Event, Offer, Begin, Deliver, Restart, StepFault, World, stepped, answered, at_node, delivered, happens_at, happens, all_happen, kept_part, node_of, change_answered, change_at, change_delivered, change_of, AreOfOthers, KeptPartSurvives}
+use Rattle.net.proofs.Words.{◌≡◌, ◌≢◌, ℕ, ◌==◌, List, [], ◌∷◌, ◌++◌, Option, Some, None, Result, Ok, Err, refl, ap, sym, ◌∙◌, subst, slice_get, option_map, Packet, Change, Refusal, Kept, changed_by, Node, StepResult, kept_of, offered, begun, on_packet, restarted, ChangesKeptOnOk, offered_kept, begun_kept, body_kept, restarted_kept, MOST_EVENTS, Event, Offer, Begin, Deliver, Restart, StepFault, World, stepped, answered, at_node, delivered, happens_at, happens, all_happen, kept_part, node_of, change_answered, change_at, change_delivered, change_of, AreOfOthers, KeptPartSurvives}
 use Rattle.net.proofs.EveryEvent.{IfTaken, if_taken, spent_or}
 use Rattle.net.proofs.TwoMoments.{all_happen-append, later_events}
 use Rattle.net.proofs.GrowingLists.{at_set, at_set_other}
@@ -14,14 +14,14 @@ pub record Moves {V : Type 0} (w : World V) (j k : ℕ) (change : Option (Change
 
 module _ {V : Type 0} (w : World V) (j k : ℕ) where
   -- a step that makes its change of its node's kept part does so in the world
-  own_part : (n : Node V) (step : Stepped V) → slice_get w.nodes j ≡ Some n → kept_of step.node ≡ changed_by (kept_of n) step.change → kept_part (stepped w j step) j ≡ changed_part step.change (kept_part w j)
+  own_part : (n : Node V) (step : StepResult V) → slice_get w.nodes j ≡ Some n → kept_of step.node ≡ changed_by (kept_of n) step.change → kept_part (stepped w j step) j ≡ changed_part step.change (kept_part w j)
   own_part n step is_node changes =
       ap (λ (o : Option (Node V)). option_map kept_of o) (at_set w.nodes j step.node n is_node)
       ∙ ap (λ (kept : Kept V). let o : Option (Kept V) = Some kept in o) changes
       ∙ ap (λ (o : Option (Node V)). changed_part step.change (option_map kept_of o)) (sym is_node)
 
   -- a node's answer makes its change of that node's kept part and of no other
-  moves_answered : (n : Node V) → slice_get w.nodes j ≡ Some n → (r : Result (Stepped V) Refusal) → ChangesKeptOnOk n r → IfTaken (answered w j r) (Moves w j k (change_answered r))
+  moves_answered : (n : Node V) → slice_get w.nodes j ≡ Some n → (r : Result (StepResult V) Refusal) → ChangesKeptOnOk n r → IfTaken (answered w j r) (Moves w j k (change_answered r))
   moves_answered n is_node (Ok step) changes = record {
     own = λ e. subst (λ (k : ℕ). kept_part (stepped w j step) k ≡ changed_part step.change (kept_part w k)) e (own_part n step is_node changes);
     other = λ other. ap (λ (o : Option (Node V)). option_map kept_of o) (at_set_other w.nodes j k step.node other);
@@ -29,7 +29,7 @@ module _ {V : Type 0} (w : World V) (j k : ℕ) where
   moves_answered n is_node (Err refusal) changes = tt
 
   -- what a node makes of itself makes its change of that node's kept part and of no other
-  moves_at : (make : Node V → Result (Stepped V) Refusal) → ((n : Node V) → ChangesKeptOnOk n (make n)) → (o : Option (Node V)) → slice_get w.nodes j ≡ o → IfTaken (at_node w j make o) (Moves w j k (change_at make o))
+  moves_at : (make : Node V → Result (StepResult V) Refusal) → ((n : Node V) → ChangesKeptOnOk n (make n)) → (o : Option (Node V)) → slice_get w.nodes j ≡ o → IfTaken (at_node w j make o) (Moves w j k (change_at make o))
   moves_at make changes None e = tt
   moves_at make changes (Some n) e = moves_answered n e (make n) (changes n)
 

@@ -1,5 +1,5 @@
 -- A due event is taken, and the clauses of an answer.
-use Rattle.net.proofs.Words.{◌≡◌, ℕ, ◌<◌, ◌≤◌, List, [], ◌∷◌, ◌++◌, length, get_or, set, slice_get, Some, None, Result, Ok, Err, true, false, if◌then◌else◌, refl, ap, sym, ◌∙◌, subst, arith, append-nil, IfOk, IfErr, IsOk, OnOk, is_ok, AllocError, slice_get_within, slice_get_read, AllByRecursion, Packet, IsPost, Node, Stepped, Core, MOST_EVENTS, Event, StepFault, Memory, World, stepped, happens_at, Taken, AreOfWorld, StagedWork, steps, restarts, StagedEvent, posts_of, step_of, IsReadyAt, NetView, IsStaged, IsTaken, Gives, all_append}
+use Rattle.net.proofs.Words.{◌≡◌, ℕ, ◌<◌, ◌≤◌, List, [], ◌∷◌, ◌++◌, length, get_or, set, slice_get, Some, None, Result, Ok, Err, true, false, if◌then◌else◌, refl, ap, sym, ◌∙◌, subst, arith, append-nil, IfOk, IfErr, IsOk, OnOk, is_ok, AllocError, slice_get_within, slice_get_read, AllByRecursion, Packet, IsPost, Node, StepResult, Core, MOST_EVENTS, Event, StepFault, Memory, World, stepped, happens_at, Taken, AreOfWorld, StagedWork, steps, restarts, StagedEvent, posts_of, step_of, IsReadyAt, NetView, IsStaged, IsTaken, IsStagedInNet, all_append}
 use Rattle.net.proofs.TakenLemmas.{makes}
 use Rattle.net.proofs.EventsStaged.{nodes_found}
 
@@ -30,7 +30,7 @@ module _ {V : Type 0} (size : V → ℕ) (view now : NetView V) (seen : view ≡
   same_core : due_view.core ≡ core
   same_core = let both : Some due_view.core ≡ Some core = sym due_view.at ∙ core_is in cc
 
-  abbrev step : Stepped V
+  abbrev step : StepResult V
   step = step_of due.work due_view.core.node
 
   -- the node left is the one that the due step leaves
@@ -86,27 +86,27 @@ module _ {V : Type 0} (size : V → ℕ) (view now : NetView V) (seen : view ≡
 
 module _ {V : Type 0} (size : V → ℕ) (net : NetView V) (e : Event V) where
   -- what is given out is due
-  pub gives_due : (r : Result (World V) StepFault) (result : Result (StagedEvent V) StepFault) → Gives size net e r result → IfOk result (IsStaged size net)
+  pub gives_due : (r : Result (World V) StepFault) (result : Result (StagedEvent V) StepFault) → IsStagedInNet size net e r result → IfOk result (IsStaged size net)
   gives_due (Ok w) (Ok due) h = h.0
   gives_due (Err met) (Ok due) h = elim h [ ]
   gives_due r (Err fault) h = tt
 
   -- what is given out is of the event asked for
-  pub gives_event : (r : Result (World V) StepFault) (due : StagedEvent V) → Gives size net e r (Ok due) → due.event ≡ e
+  pub gives_event : (r : Result (World V) StepFault) (due : StagedEvent V) → IsStagedInNet size net e r (Ok due) → due.event ≡ e
   gives_event (Ok w) due h = h.1
   gives_event (Err met) due h = elim h [ ]
 
   -- where something is given out, the event meets no fault
-  pub gives_none : (r : Result (World V) StepFault) (due : StagedEvent V) (P : StepFault → Type 0) → Gives size net e r (Ok due) → IfErr r P
+  pub gives_none : (r : Result (World V) StepFault) (due : StagedEvent V) (P : StepFault → Type 0) → IsStagedInNet size net e r (Ok due) → IfErr r P
   gives_none (Ok w) due P h = tt
   gives_none (Err met) due P h = elim h [ ]
 
   -- the fault answered is the one met, where one is
-  pub gives_met : (r : Result (World V) StepFault) (fault : StepFault) → Gives size net e r (Err fault) → IfErr r (λ met. fault ≡ met)
+  pub gives_met : (r : Result (World V) StepFault) (fault : StepFault) → IsStagedInNet size net e r (Err fault) → IfErr r (λ met. fault ≡ met)
   gives_met (Ok w) fault h = tt
   gives_met (Err met) fault h = h
 
   -- the fault answered is Memory, where none is met
-  pub gives_memory : (r : Result (World V) StepFault) (fault : StepFault) → Gives size net e r (Err fault) → OnOk r (fault ≡ Memory)
+  pub gives_memory : (r : Result (World V) StepFault) (fault : StepFault) → IsStagedInNet size net e r (Err fault) → OnOk r (fault ≡ Memory)
   gives_memory (Ok w) fault h = h
   gives_memory (Err met) fault h = tt

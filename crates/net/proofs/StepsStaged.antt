@@ -1,6 +1,6 @@
 -- A step that a node made ready, seen of the whole net.
-use Rattle.net.proofs.Words.{◌≡◌, ℕ, ◌<◌, ◌≤◌, List, [], ◌∷◌, length, get_or, set, slice_get, Option, Some, None, Result, Ok, Err, refl, ap, sym, ◌∙◌, subst, arith, append-nil, slice_get_within, slice_get_read, AllByRecursion, Packet, Refusal, IsPost, Node, Stepped, Core, HasAtLeast, Made, offered, begun, on_packet, restarted, same_room, MOST_EVENTS, Event, Offer, Begin, Deliver, Restart, StepFault, NoNode, NoPacket, World, answered, at_node, delivered, happens_at, addressed, Taken, AreOfWorld, world_of, with_event, steps, StagedEvent, posts_of, step_of, IsOfEvent, ComesTo, IsStagedAt, Readies, ReadiesEvent, NetView, AreStill, IsStill, IsStaged, Gives}
-use Rattle.synod.specs.Ready.{Readies as ReadiesStep}
+use Rattle.net.proofs.Words.{◌≡◌, ℕ, ◌<◌, ◌≤◌, List, [], ◌∷◌, length, get_or, set, slice_get, Option, Some, None, Result, Ok, Err, refl, ap, sym, ◌∙◌, subst, arith, append-nil, slice_get_within, slice_get_read, AllByRecursion, Packet, Refusal, IsPost, Node, StepResult, Core, HasNoLessRoom, ReadyView, offered, begun, on_packet, restarted, same_room, MOST_EVENTS, Event, Offer, Begin, Deliver, Restart, StepFault, NoNode, NoPacket, World, answered, at_node, delivered, happens_at, addressed, Taken, AreOfWorld, world_of, with_event, steps, StagedEvent, posts_of, step_of, IsOfEvent, ComesTo, IsStagedAt, IsStagedAtNode, IsEventStagedAtNode, NetView, AreStill, IsStill, IsStaged, IsStagedInNet}
+use Rattle.synod.specs.Ready.{IsStagedAtNode as ReadiesStep}
 use Rattle.net.proofs.GrowingLists.{at_set}
 use Rattle.net.proofs.TakenLemmas.{next_is, node_shown, no_node_shown, own_weights, rooms_stay}
 use Rattle.net.proofs.EventsStaged.{comes_offer, comes_begin, comes_restart, comes_packet, not_mapped, mapped, more_room, still_same, still_set, nodes_still}
@@ -8,12 +8,12 @@ use Rattle.net.proofs.EventsStaged.{comes_offer, comes_begin, comes_restart, com
 -- A step that a node made ready.
 
 -- the step that a node made ready is ready as the work of its event
-pub made_due : {V : Type 0} (old new : Core V) (k : ℕ) (e f : Event V) (r : Result (Stepped V) Refusal) (made : Made V) → ReadiesStep new r (Ok made) → f ≡ e → IsOfEvent e (steps made) → AllByRecursion (IsPost (length old.node.weights)) made.step.posts
-    → Readies old new k e r (Ok (record { at = k; event = f; work = steps made }))
+pub made_due : {V : Type 0} (old new : Core V) (k : ℕ) (e f : Event V) (r : Result (StepResult V) Refusal) (made : ReadyView V) → ReadiesStep new r (Ok made) → f ≡ e → IsOfEvent e (steps made) → AllByRecursion (IsPost (length old.node.weights)) made.step.posts
+    → IsStagedAtNode old new k e r (Ok (record { at = k; event = f; work = steps made }))
 made_due {V} old new k e f (Ok step) made h same kind posts = record {
   at = refl;
   event = same;
-  ready = (ap (λ (c : Core V). c.node) (sym h.0), subst (λ (c : Core V). HasAtLeast c new) (sym h.0) (same_room new));
+  ready = (ap (λ (c : Core V). c.node) (sym h.0), subst (λ (c : Core V). HasNoLessRoom c new) (sym h.0) (same_room new));
   is_step = h.1;
   kind = kind;
   posts = posts;
@@ -36,11 +36,11 @@ module _ {V : Type 0} (size : V → ℕ) (view now : NetView V) (seen : view ≡
   met_is e r is = ap (λ (n : NetView V). world_of size (with_event n.taken e)) (sym seen) ∙ next_is size view.taken view.cores view.packets h still_low e ∙ is
 
   -- the fault that an event meets in the world is a right answer
-  gives_fault : (e : Event V) (fault : StepFault) → happens_at size h.world e ≡ Err fault → (net : NetView V) → Gives size net e (world_of size (with_event now.taken e)) (Err fault)
-  gives_fault e fault meets net = subst (λ (r : Result (World V) StepFault). Gives size net e r (Err fault)) (sym (met_is e (Err fault) meets)) refl
+  gives_fault : (e : Event V) (fault : StepFault) → happens_at size h.world e ≡ Err fault → (net : NetView V) → IsStagedInNet size net e (world_of size (with_event now.taken e)) (Err fault)
+  gives_fault e fault meets net = subst (λ (r : Result (World V) StepFault). IsStagedInNet size net e r (Err fault)) (sym (met_is e (Err fault) meets)) refl
 
   -- no such packet
-  pub gives_no_packet : (e : Event V) → addressed view.packets e ≡ None → (net : NetView V) → Gives size net e (world_of size (with_event now.taken e)) (Err NoPacket)
+  pub gives_no_packet : (e : Event V) → addressed view.packets e ≡ None → (net : NetView V) → IsStagedInNet size net e (world_of size (with_event now.taken e)) (Err NoPacket)
   gives_no_packet (Deliver number) none net =
       gives_fault (Deliver number) NoPacket (ap (λ (o : Option (Packet V)). delivered h.world o) (ap (λ (ps : List (Packet V)). slice_get ps number) h.posted ∙ not_mapped (slice_get view.packets number) none)) net
   gives_no_packet (Offer k v) none net = let no : Some k ≡ None = none in cc
@@ -52,12 +52,12 @@ module _ {V : Type 0} (size : V → ℕ) (view now : NetView V) (seen : view ≡
   delivered_at number p is = ap (λ (o : Option (Packet V)). delivered h.world o) (ap (λ (ps : List (Packet V)). slice_get ps number) h.posted ∙ is)
 
   -- no such node
-  gives_nowhere : (k : ℕ) (e : Event V) (make : Node V → Result (Stepped V) Refusal) → happens_at size h.world e ≡ at_node h.world k make (slice_get h.world.nodes k) → length view.cores ≤ k
-      → (net : NetView V) → Gives size net e (world_of size (with_event now.taken e)) (Err NoNode)
+  gives_nowhere : (k : ℕ) (e : Event V) (make : Node V → Result (StepResult V) Refusal) → happens_at size h.world e ≡ at_node h.world k make (slice_get h.world.nodes k) → length view.cores ≤ k
+      → (net : NetView V) → IsStagedInNet size net e (world_of size (with_event now.taken e)) (Err NoNode)
   gives_nowhere k e make at past = gives_fault e NoNode (at ∙ ap (λ (o : Option (Node V)). at_node h.world k make o) (no_node_shown size view.taken view.cores view.packets h k past))
 
   -- for an event of a node past the cores NoNode is a right answer
-  pub gives_no_node : (k : ℕ) (e : Event V) → addressed view.packets e ≡ Some k → length view.cores ≤ k → (net : NetView V) → Gives size net e (world_of size (with_event now.taken e)) (Err NoNode)
+  pub gives_no_node : (k : ℕ) (e : Event V) → addressed view.packets e ≡ Some k → length view.cores ≤ k → (net : NetView V) → IsStagedInNet size net e (world_of size (with_event now.taken e)) (Err NoNode)
   gives_no_node k (Offer j v) at past = gives_nowhere j (Offer j v) (λ n. offered size n v) refl (let same : j ≡ k = cc in omega (arith, past, same))
   gives_no_node k (Begin j) at past = gives_nowhere j (Begin j) begun refl (let same : j ≡ k = cc in omega (arith, past, same))
   gives_no_node k (Deliver number) at past =
@@ -75,7 +75,7 @@ module _ {V : Type 0} (size : V → ℕ) (view now : NetView V) (seen : view ≡
     left = record view { cores = set view.cores k new }
 
     -- what is due at node k is due in the net
-    due_here : (e : Event V) (step : Stepped V) → ComesTo size view.packets k core.node e (Ok step) → (due : StagedEvent V) → IsStagedAt core new k e step due → IsStaged size left due
+    due_here : (e : Event V) (step : StepResult V) → ComesTo size view.packets k core.node e (Ok step) → (due : StagedEvent V) → IsStagedAt core new k e step due → IsStaged size left due
     due_here e step comes due d = record {
       core = new;
       at = ap (λ (i : ℕ). slice_get (set view.cores k new) i) d.at ∙ at_set view.cores k new core (slice_get_read view.cores (length view.cores) k core refl in_cores is);
@@ -83,27 +83,27 @@ module _ {V : Type 0} (size : V → ℕ) (view now : NetView V) (seen : view ≡
       comes = subst (λ (i : ℕ). ComesTo size view.packets i new.node due.event (Ok (step_of due.work new.node))) (sym d.at)
           (subst (λ (f : Event V). ComesTo size view.packets k new.node f (Ok (step_of due.work new.node))) (sym d.event)
           (subst (λ (n : Node V). ComesTo size view.packets k n e (Ok (step_of due.work n))) (sym same)
-          (subst (λ (s : Stepped V). ComesTo size view.packets k core.node e (Ok s)) (sym d.is_step) comes)));
+          (subst (λ (s : StepResult V). ComesTo size view.packets k core.node e (Ok s)) (sym d.is_step) comes)));
       posts = subst (λ (ws : List ℕ). AllByRecursion (IsPost (length ws)) (posts_of due.work)) (own_weights size view.taken view.cores view.packets h k core in_cores is) d.posts;
     }
 
     -- an answer that is right by the node's step or refusal is right by the world's
-    by_answer : (e : Event V) (r : Result (Stepped V) Refusal) → ComesTo size view.packets k core.node e r → (result : Result (StagedEvent V) StepFault) → Readies core new k e r result
-        → (met : Result (World V) StepFault) → met ≡ answered h.world k r → Gives size left e met result
-    by_answer e (Ok step) comes (Ok due) d met is = subst (λ (x : Result (World V) StepFault). Gives size left e x (Ok due)) (sym is) (due_here e step comes due d, d.event, d.kind)
-    by_answer e (Ok step) comes (Err fault) d met is = subst (λ (x : Result (World V) StepFault). Gives size left e x (Err fault)) (sym is) d
+    by_answer : (e : Event V) (r : Result (StepResult V) Refusal) → ComesTo size view.packets k core.node e r → (result : Result (StagedEvent V) StepFault) → IsStagedAtNode core new k e r result
+        → (met : Result (World V) StepFault) → met ≡ answered h.world k r → IsStagedInNet size left e met result
+    by_answer e (Ok step) comes (Ok due) d met is = subst (λ (x : Result (World V) StepFault). IsStagedInNet size left e x (Ok due)) (sym is) (due_here e step comes due d, d.event, d.kind)
+    by_answer e (Ok step) comes (Err fault) d met is = subst (λ (x : Result (World V) StepFault). IsStagedInNet size left e x (Err fault)) (sym is) d
     by_answer e (Err refusal) comes (Ok due) d met is = elim d [ ]
-    by_answer e (Err refusal) comes (Err fault) d met is = subst (λ (x : Result (World V) StepFault). Gives size left e x (Err fault)) (sym is) d
+    by_answer e (Err refusal) comes (Err fault) d met is = subst (λ (x : Result (World V) StepFault). IsStagedInNet size left e x (Err fault)) (sym is) d
 
     -- an answer that is right by what an event comes to at the node is right by the history
-    gives_node : (e : Event V) (r : Result (Stepped V) Refusal) → ComesTo size view.packets k core.node e r → (result : Result (StagedEvent V) StepFault) → Readies core new k e r result
-        → Gives size left e (world_of size (with_event now.taken e)) result
+    gives_node : (e : Event V) (r : Result (StepResult V) Refusal) → ComesTo size view.packets k core.node e r → (result : Result (StagedEvent V) StepFault) → IsStagedAtNode core new k e r result
+        → IsStagedInNet size left e (world_of size (with_event now.taken e)) result
     gives_node e r comes result readies =
         by_answer e r comes result readies (world_of size (with_event now.taken e))
         (met_is e (answered h.world k r) (comes h.world [] (h.posted ∙ sym (append-nil view.packets)) (node_shown size view.taken view.cores view.packets h k core in_cores is)).happens)
 
     -- for each event of node k, an answer that is right by its state is right by the history
-    pub gives_event_here : (e : Event V) → addressed view.packets e ≡ Some k → (result : Result (StagedEvent V) StepFault) → ReadiesEvent size view.packets core new k e result → Gives size left e (world_of size (with_event now.taken e)) result
+    pub gives_event_here : (e : Event V) → addressed view.packets e ≡ Some k → (result : Result (StagedEvent V) StepFault) → IsEventStagedAtNode size view.packets core new k e result → IsStagedInNet size left e (world_of size (with_event now.taken e)) result
     gives_event_here (Offer j v) at result readies =
         let same : j ≡ k = cc in
         gives_node (Offer j v) (offered size core.node v) (subst (λ (i : ℕ). ComesTo size view.packets k core.node (Offer i v) (offered size core.node v)) (sym same) (comes_offer size view.packets k core.node v)) result readies
@@ -118,7 +118,7 @@ module _ {V : Type 0} (size : V → ℕ) (view now : NetView V) (seen : view ≡
         gives_node (Restart j) (Ok (restarted core.node)) (subst (λ (i : ℕ). ComesTo size view.packets k core.node (Restart i) (Ok (restarted core.node))) (sym same) (comes_restart size view.packets k core.node)) result readies
 
     -- nothing has changed but that node k may have more room
-    pub still_here : HasAtLeast core new → IsStill now left
+    pub still_here : HasNoLessRoom core new → IsStill now left
     still_here room = subst (λ (n : NetView V). IsStill n left) seen record {
       taken = refl;
       cores = still_set view.cores k core new is same room;
@@ -128,7 +128,7 @@ module _ {V : Type 0} (size : V → ℕ) (view now : NetView V) (seen : view ≡
     }
 
     -- with more room for node k, nodes and packets are still those of the world
-    pub of_world_here : HasAtLeast core new → AreOfWorld size view.taken (set view.cores k new) view.packets
+    pub of_world_here : HasNoLessRoom core new → AreOfWorld size view.taken (set view.cores k new) view.packets
     of_world_here room = rooms_stay size view.taken view.cores view.packets h (set view.cores k new) (nodes_still view.cores (set view.cores k new) (still_set view.cores k core new is same room))
 
 -- more room for packets and events

@@ -1,5 +1,5 @@
 -- What a world keeps of its events, after one more.
-use Rattle.net.proofs.Words.{◌≡◌, ℕ, zero, suc, ◌+◌, ◌<◌, ◌≤◌, Bool, true, false, ◌==◌, if◌then◌else◌, List, [], ◌∷◌, ◌++◌, length, take, get_or, set, slice_get, Option, Some, None, Result, Ok, Err, refl, ap, sym, ◌∙◌, subst, arith, le_of_suc-le-suc, add-one, AllByRecursion, Packet, IsWeights, IsPost, nat_tests, Refusal, Node, Stepped, new_node, offered, begun, on_packet, restarted, log_of, Core, Event, Offer, Begin, Deliver, Restart, MOST_EVENTS, StepFault, EventsSpent, World, nodes_from, start, stepped, answered, at_node, delivered, happens_at, happens, all_happen, after, log_at, log_after, packets_after, offers_of, IsAfter, Taken, nodes_of, AreOfWorld, world_of, with_event}
+use Rattle.net.proofs.Words.{◌≡◌, ℕ, zero, suc, ◌+◌, ◌<◌, ◌≤◌, Bool, true, false, ◌==◌, if◌then◌else◌, List, [], ◌∷◌, ◌++◌, length, take, get_or, set, slice_get, Option, Some, None, Result, Ok, Err, refl, ap, sym, ◌∙◌, subst, arith, le_of_suc-le-suc, add-one, AllByRecursion, Packet, IsWeights, IsPost, nat_tests, Refusal, Node, StepResult, new_node, offered, begun, on_packet, restarted, log_of, Core, Event, Offer, Begin, Deliver, Restart, MOST_EVENTS, StepFault, EventsSpent, World, nodes_from, start, stepped, answered, at_node, delivered, happens_at, happens, all_happen, after, log_at, log_after, packets_after, offers_of, IsAfter, Taken, nodes_of, AreOfWorld, world_of, with_event}
 use Rattle.net.proofs.EveryEvent.{IfTaken, if_taken, spent_or, node_at, holds_after}
 use Rattle.net.proofs.TwoMoments.{all_happen-append, world_lasts}
 
@@ -73,10 +73,10 @@ module _ {V : Type 0} (count : ℕ) (w : World V) (counted : w.taken ≡ count) 
   Counts r = IfTaken r (λ x. x.taken ≡ count + 1)
 
   -- what a node makes of itself counts one event more
-  counts_at : (k : ℕ) (make : Node V → Result (Stepped V) Refusal) (o : Option (Node V)) → Counts (at_node w k make o)
+  counts_at : (k : ℕ) (make : Node V → Result (StepResult V) Refusal) (o : Option (Node V)) → Counts (at_node w k make o)
   counts_at k make None = tt
   counts_at k make (Some n) = counts_answered (make n) where
-    counts_answered : (r : Result (Stepped V) Refusal) → Counts (answered w k r)
+    counts_answered : (r : Result (StepResult V) Refusal) → Counts (answered w k r)
     counts_answered (Ok step) = ap (λ (i : ℕ). i + 1) counted
     counts_answered (Err refusal) = tt
 
@@ -156,7 +156,7 @@ module _ {V : Type 0} (size : V → ℕ) (old : Taken V) (cores : List (Core V))
     next_is e = after-push size old.weights old.events h.world e h.is_after ∙ happens-not_spent size h.world e (let count = taken_count size old.weights old.events h.world h.is_after in omega (arith, count, low))
 
     -- the step is made
-    pub makes : (e : Event V) (k : ℕ) (new : Core V) (step : Stepped V) → happens_at size h.world e ≡ Ok (stepped h.world k step) → (more : List (Packet V)) → new.node ≡ step.node → more ≡ packets ++ step.posts
+    pub makes : (e : Event V) (k : ℕ) (new : Core V) (step : StepResult V) → happens_at size h.world e ≡ Ok (stepped h.world k step) → (more : List (Packet V)) → new.node ≡ step.node → more ≡ packets ++ step.posts
         → AllByRecursion (IsPost (length old.weights)) more → AreOfWorld size (with_event old e) (set cores k new) more
     makes e k new step at more node added posts = record {
       world = stepped h.world k step;

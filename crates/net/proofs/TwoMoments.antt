@@ -1,5 +1,5 @@
 -- From one moment of a run to a later one the weights stay, and what was voted stays voted; so what is chosen stays chosen.
-use Rattle.net.proofs.Words.{◌≡◌, ℕ, List, [], ◌∷◌, ◌++◌, Option, Some, None, Result, Ok, Err, inr, refl, ap, sym, ◌∙◌, subst, length, slice_get, length-set, AllByRecursion, In, Change, Round, Entry, Packet, Refusal, Node, Stepped, offered, begun, on_packet, restarted, Event, Offer, Begin, Deliver, Restart, StepFault, Vote, IsChosen, World, start, votes_after, answered, at_node, delivered, happens_at, happens, all_happen, after, IsAfter}
+use Rattle.net.proofs.Words.{◌≡◌, ℕ, List, [], ◌∷◌, ◌++◌, Option, Some, None, Result, Ok, Err, inr, refl, ap, sym, ◌∙◌, subst, length, slice_get, length-set, AllByRecursion, In, Change, Round, Entry, Packet, Refusal, Node, StepResult, offered, begun, on_packet, restarted, Event, Offer, Begin, Deliver, Restart, StepFault, Vote, IsChosen, World, start, votes_after, answered, at_node, delivered, happens_at, happens, all_happen, after, IsAfter}
 use Rattle.synod.specs.declared.change.Change.TheVariants.{Promise}
 use Rattle.net.proofs.LedgerGrows.{chosen_with_more}
 use Rattle.net.proofs.EveryEvent.{IfTaken, if_taken, all_keep}
@@ -18,12 +18,12 @@ votes_stay k (Some (Entry s h)) votes v i = inr i
 
 module _ {V : Type 0} (first w : World V) (h : Lasts first w) where
   -- weights, the count of nodes and votes last over a node's answer
-  lasts_answered : (k : ℕ) (r : Result (Stepped V) Refusal) → IfTaken (answered w k r) (Lasts first)
+  lasts_answered : (k : ℕ) (r : Result (StepResult V) Refusal) → IfTaken (answered w k r) (Lasts first)
   lasts_answered k (Ok step) = record { weights = h.weights; count = length-set w.nodes k step.node ∙ h.count; votes = λ v i. votes_stay k step.change w.votes_cast v (h.votes v i) }
   lasts_answered k (Err refusal) = tt
 
   -- weights, the count of nodes and votes last over what a node makes of itself
-  lasts_at : (k : ℕ) (make : Node V → Result (Stepped V) Refusal) (o : Option (Node V)) → IfTaken (at_node w k make o) (Lasts first)
+  lasts_at : (k : ℕ) (make : Node V → Result (StepResult V) Refusal) (o : Option (Node V)) → IfTaken (at_node w k make o) (Lasts first)
   lasts_at k make None = tt
   lasts_at k make (Some n) = lasts_answered k (make n)
 

@@ -2,7 +2,7 @@
 -- Source: Lamport, Paxos Made Simple, section 2.5: an acceptor must remember in stable storage what it promised and accepted.
 -- The code stores the change before it posts anything; here both are in one step.
 use Rattle.std.specs.Prelude.{◌≢◌, ℕ, List, [], ◌∷◌, Option, Some, None, Result, Ok, Err, slice_get}
-use Rattle.net.specs.Words.{option_map, Packet, Change, Refusal, Kept, Node, Stepped, kept_of, offered, begun, on_packet, restarted, Event, Offer, Begin, Deliver, Restart, StepFault}
+use Rattle.net.specs.Words.{option_map, Packet, Change, Refusal, Kept, Node, StepResult, kept_of, offered, begun, on_packet, restarted, Event, Offer, Begin, Deliver, Restart, StepFault}
 use Rattle.net.specs.World.{World, happens}
 
 -- promise, round and accepted entries of node k
@@ -20,11 +20,11 @@ abbrev pub node_of : {V : Type 0} → World V → Event V → Option ℕ
 node_of w e = addressed w.packets e
 
 -- the change of a step; None if the step is refused
-abbrev pub change_answered : {V : Type 0} → Result (Stepped V) Refusal → Option (Change V)
+abbrev pub change_answered : {V : Type 0} → Result (StepResult V) Refusal → Option (Change V)
 change_answered (Ok step) = step.change
 change_answered (Err refusal) = None
 
-abbrev pub change_at : {V : Type 0} → (Node V → Result (Stepped V) Refusal) → Option (Node V) → Option (Change V)
+abbrev pub change_at : {V : Type 0} → (Node V → Result (StepResult V) Refusal) → Option (Node V) → Option (Change V)
 change_at make None = None
 change_at make (Some n) = change_answered (make n)
 

@@ -2,7 +2,7 @@
 -- Source: Lamport, Paxos Made Simple, sections 2.1 and 3 (messages may be lost, repeated and delayed, agents restart).
 -- The code stores the present nodes, the packets and the events that led there; the world here also has every vote.
 use Rattle.std.specs.Prelude.{ℕ, suc, ◌+◌, ◌==◌, List, [], ◌∷◌, ◌++◌, Option, Some, None, Result, Ok, Err, slice_get, slice_set, if◌then◌else◌}
-use Rattle.net.specs.Words.{Packet, Change, Round, Promise, Entry, Refusal, Node, Stepped, new_node, log_of, offered, begun, on_packet, restarted, MOST_EVENTS, Event, Offer, Begin, Deliver, Restart, StepFault, Busy, LogFull, RoundsSpent, TooLong, Memory, NoNode, NoPacket, EventsSpent}
+use Rattle.net.specs.Words.{Packet, Change, Round, Promise, Entry, Refusal, Node, StepResult, new_node, log_of, offered, begun, on_packet, restarted, MOST_EVENTS, Event, Offer, Begin, Deliver, Restart, StepFault, Busy, LogFull, RoundsSpent, TooLong, Memory, NoNode, NoPacket, EventsSpent}
 use Rattle.synod.specs.declared.refusal.Refusal.TheVariants.{Busy as NodeBusy, LogFull as NodeLogFull, RoundsSpent as NodeRoundsSpent, TooLong as NodeTooLong, Memory as NodeMemory}
 use Rattle.net.specs.Chosen.{Vote, vote}
 
@@ -38,7 +38,7 @@ votes_after k (Some (Promise b)) votes = votes
 votes_after k (Some (Entry s h)) votes = vote k h.ballot s h.value ∷ votes
 
 -- the world once node k has made the step, whose posts are appended to the packets
-abbrev pub stepped : {V : Type 0} → World V → ℕ → Stepped V → World V
+abbrev pub stepped : {V : Type 0} → World V → ℕ → StepResult V → World V
 stepped w k step = record {
   weights = w.weights;
   nodes = slice_set w.nodes k step.node;
@@ -48,12 +48,12 @@ stepped w k step = record {
 }
 
 -- the world after a step of node k, or the refusal as a fault
-abbrev pub answered : {V : Type 0} → World V → ℕ → Result (Stepped V) Refusal → Result (World V) StepFault
+abbrev pub answered : {V : Type 0} → World V → ℕ → Result (StepResult V) Refusal → Result (World V) StepFault
 answered w k (Ok step) = Ok (stepped w k step)
 answered w k (Err refusal) = Err (fault_of refusal)
 
 -- the world after the step that node k makes, or a fault if there is no node k or it refuses
-abbrev pub at_node : {V : Type 0} → World V → ℕ → (Node V → Result (Stepped V) Refusal) → Option (Node V) → Result (World V) StepFault
+abbrev pub at_node : {V : Type 0} → World V → ℕ → (Node V → Result (StepResult V) Refusal) → Option (Node V) → Result (World V) StepFault
 at_node w k make None = Err NoNode
 at_node w k make (Some n) = answered w k (make n)
 

@@ -47,7 +47,7 @@ impl<V: Value> Net<V> {
     ghost use Rattle.net.specs.World.{log_after, packets_after};
     ghost use Rattle.net.specs.Taken.{AreOfWorld, world_of, with_event};
     ghost use Rattle.net.specs.KeptPart.{addressed};
-    ghost use Rattle.net.specs.Staged.{Gives, HasRoom, IsStaged, IsOfEvent, IsStill, IsTaken, posts_of};
+    ghost use Rattle.net.specs.Staged.{IsStagedInNet, HasRoom, IsStaged, IsOfEvent, IsStill, IsTaken, posts_of};
     ghost use Rattle.net.specs.History.{Agreement};
     ghost use Rattle.net.specs.declared.fault.StepFault.TheVariants.{NoNode, NoPacket, Memory};
 
@@ -109,7 +109,7 @@ impl<V: Value> Net<V> {
     /// Stages an event at its node, without room for its posts in the world.
     fn ready_at_node(&mut self, event: Event<V>) -> Result<StagedEvent<V>, StepFault>
         requires { length self.old.taken.events < MOST_EVENTS }
-        ensures gives { Gives V.bytes self.new event (world_of V.bytes (with_event self.old.taken event)) result }
+        ensures staged { IsStagedInNet V.bytes self.new event (world_of V.bytes (with_event self.old.taken event)) result }
         ensures still { IsStill self.old self.new }
     {
         let Some(k) = self.node_of(&event) else {

@@ -2,9 +2,9 @@
 ghost use Rattle.std.specs.Prelude.{◌≡◌, Some, None, MatchOption, length};
 ghost use Rattle.std.specs.List.{AllByRecursion};
 ghost use Rattle.synod.specs.Packets.{IsPost};
-ghost use Rattle.synod.specs.Rooms.{HasAtLeast};
+ghost use Rattle.synod.specs.Rooms.{HasNoLessRoom};
 ghost use Rattle.net.specs.KeptPart.{addressed};
-ghost use Rattle.net.specs.Staged.{IsReadyAt, ReadiesEvent, posts_of, step_of, work_of};
+ghost use Rattle.net.specs.Staged.{IsReadyAt, IsEventStagedAtNode, posts_of, step_of, work_of};
 
 use crate::event::Event;
 use crate::fault::StepFault;
@@ -95,9 +95,9 @@ pub(crate) fn ready_event<V: Value>(
 ) -> Result<StagedEvent<V>, StepFault>
     requires posts { AllByRecursion (IsPost (length node.old.node.weights)) packets.now }
     requires at { addressed packets.now event ≡ Some k }
-    ensures ready { ReadiesEvent V.bytes packets.now node.old node.new k event result }
+    ensures ready { IsEventStagedAtNode V.bytes packets.now node.old node.new k event result }
     ensures node { node.new.node ≡ node.old.node }
-    ensures room { HasAtLeast node.old node.new }
+    ensures room { HasNoLessRoom node.old node.new }
 {
     let (event, work) = match event {
         Event::Offer(at, value) => {

@@ -1,5 +1,5 @@
 -- A prefix of a node's log stays one, whatever event comes, but for a restart of that node.
-use Rattle.switch.proofs.Words.{◌≡◌, ◌≢◌, ℕ, ◌<◌, ◌==◌, Bool, true, false, List, [], ◌∷◌, ◌++◌, length, slice_get, inl, inr, Option, Some, None, Result, Ok, Err, refl, ap, sym, ◌∙◌, subst, arith, nat_lt, ◌+◌, IsSome, OnErr, option_map, nat_tests, length-set, Packet, Change, Refusal, Node, Stepped, offered, begun, on_packet, restarted, MOST_EVENTS, Event, Offer, Begin, Deliver, Restart, StepFault, World, at_node, delivered, happens_at, happens, log, log_after, all_happen, start, IsAfter, IsPrefixOf, node_of, change_of, IfTaken, if_taken, spent_or, all_happen-append, after-push, log_grows, then_begins, Standing, up, down, StoreView, SwitchView, world_of, with_store, IsViewOf, AreStores, is_down, is_down_view, is_down_at, due, change_due, events_due, FailsAt, TakesAt, ActsUp, RevivesAt, Revives, ActsDown, Acts, BeginsLog, StaysBelonging, KeepsLogs, append-nil}
+use Rattle.switch.proofs.Words.{◌≡◌, ◌≢◌, ℕ, ◌<◌, ◌==◌, Bool, true, false, List, [], ◌∷◌, ◌++◌, length, slice_get, inl, inr, Option, Some, None, Result, Ok, Err, refl, ap, sym, ◌∙◌, subst, arith, nat_lt, ◌+◌, IsSome, OnErr, option_map, nat_tests, length-set, Packet, Change, Refusal, Node, StepResult, offered, begun, on_packet, restarted, MOST_EVENTS, Event, Offer, Begin, Deliver, Restart, StepFault, World, at_node, delivered, happens_at, happens, log, log_after, all_happen, start, IsAfter, IsPrefixOf, node_of, change_of, IfTaken, if_taken, spent_or, all_happen-append, after-push, log_grows, then_begins, Standing, up, down, StoreView, SwitchView, world_of, with_store, IsViewOf, AreStores, is_down, is_down_view, is_down_at, due, change_due, events_due, FailsAt, TakesAt, ActsUp, RevivesAt, Revives, ActsDown, Acts, BeginsLog, StaysBelonging, KeepsLogs, append-nil}
 use Rattle.switch.specs.Switch.{with_event}
 
 -- The node of an event that is taken is there.
@@ -11,7 +11,7 @@ pub record IsOfNode {V : Type 0} (w : World V) (e : Event V) : Type 0 where
 
 module _ {V : Type 0} (size : V → ℕ) (w : World V) where
   -- where an event of node k is taken, node k is there
-  there_at : (e : Event V) (k : ℕ) → node_of w e ≡ Some k → (make : Node V → Result (Stepped V) Refusal) (o : Option (Node V)) → slice_get w.nodes k ≡ o → IfTaken (at_node w k make o) (λ x. IsOfNode w e)
+  there_at : (e : Event V) (k : ℕ) → node_of w e ≡ Some k → (make : Node V → Result (StepResult V) Refusal) (o : Option (Node V)) → slice_get w.nodes k ≡ o → IfTaken (at_node w k make o) (λ x. IsOfNode w e)
   there_at e k is make None none = tt
   there_at e k is make (Some n) some = anyway (at_node w k make (Some n)) where
     anyway : (r : Result (World V) StepFault) → IfTaken r (λ x. IsOfNode w e)

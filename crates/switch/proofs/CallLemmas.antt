@@ -1,5 +1,5 @@
 -- The answer of a call on one node: contracts see the fields, and the world is the one after the history.
-use Rattle.switch.proofs.Words.{◌≡◌, ℕ, ◌+◌, ◌<◌, false, List, [], ◌∷◌, ◌++◌, length, set, slice_get, inl, inr, Option, Some, None, Result, Ok, Err, refl, ap, sym, ◌∙◌, subst, arith, IfErr, OnOk, IsOkUnless, ForOk, slice_get_within, Packet, Change, Kept, changed_by, Node, Stepped, kept_of, MOST_EVENTS, Event, StepFault, Memory, Device, World, stepped, happens, packets_after, Taken, world_of_taken, addressed, node_of, change_of, StagedEvent, NetView, IsStaged, IsEventAt, IsStill, IsTaken, change_in, step_of, after-push, length-nodes_of, Standing, up, down, StoreState, IsRecordOf, IsWithOrWithout, Fails, change_owed, StoreView, SwitchView, event_owed, standing_seen, view_of, views_of, IsOwing, IsSwitch, world_of, IsRecordIn, IsViewOf, AreStores, is_down_at, with_store, due, TakesAt, ActsUp, with_event}
+use Rattle.switch.proofs.Words.{◌≡◌, ℕ, ◌+◌, ◌<◌, false, List, [], ◌∷◌, ◌++◌, length, set, slice_get, inl, inr, Option, Some, None, Result, Ok, Err, refl, ap, sym, ◌∙◌, subst, arith, IfErr, OnOk, IsOkUnless, ForOk, slice_get_within, Packet, Change, Kept, changed_by, Node, StepResult, kept_of, MOST_EVENTS, Event, StepFault, Memory, Device, World, stepped, happens, packets_after, Taken, world_of_taken, addressed, node_of, change_of, StagedEvent, NetView, IsStaged, IsEventAt, IsStill, IsTaken, change_in, step_of, after-push, length-nodes_of, Standing, up, down, StoreState, IsRecordOf, IsWithOrWithout, Fails, change_owed, StoreView, SwitchView, event_owed, standing_seen, view_of, views_of, IsOwing, IsSwitch, world_of, IsRecordIn, IsViewOf, AreStores, is_down_at, with_store, due, TakesAt, ActsUp, with_event}
 use Rattle.switch.proofs.StoresLemmas.{views_of-set, view_at, view_past, item_at, up_at}
 use Rattle.switch.proofs.SwitchLemmas.{switch_view, other_store, committed, node_is, at, happens_is, change_is, change_told, changes}
 
@@ -107,7 +107,7 @@ module _ {V : Type 0} (size : V → ℕ) (net : NetView V) (stores : List (Store
   -- An event that is due, at a node that is up.
 
   module _ (d1 : StagedEvent V) (d : IsStaged size net d1) (low : length net.taken.events < MOST_EVENTS) (e : Event V) (is_e : d1.event ≡ e) (store : StoreState V) (is : slice_get stores d1.at ≡ Some store) where
-    abbrev step : Stepped V
+    abbrev step : StepResult V
     step = step_of d1.work d.core.node
 
     -- what the event comes to at its node is the step

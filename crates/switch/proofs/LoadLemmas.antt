@@ -1,5 +1,5 @@
 -- A restart that starts from a loaded record.
-use Rattle.switch.proofs.Words.{◌≡◌, ℕ, List, length, Some, None, Ok, refl, ap, sym, subst, AllByRecursion, Packet, Kept, Node, Stepped, kept_of, Restart, StagedWork, steps, restarts, StagedEvent, NetView, IsStaged, IsReadyAt, IsOfEvent, ComesTo, change_in, posts_of, step_of, loads, with_record, Core, IsPost, reloaded}
+use Rattle.switch.proofs.Words.{◌≡◌, ℕ, List, length, Some, None, Ok, refl, ap, sym, subst, AllByRecursion, Packet, Kept, Node, StepResult, kept_of, Restart, StagedWork, steps, restarts, StagedEvent, NetView, IsStaged, IsReadyAt, IsOfEvent, ComesTo, change_in, posts_of, step_of, loads, with_record, Core, IsPost, reloaded}
 
 -- a restart makes no change of the kept part
 pub load_change : {V : Type 0} (j : ℕ) (work : StagedWork V) → IsOfEvent (Restart j) work → change_in work ≡ None
@@ -34,6 +34,6 @@ loaded_due {V} size net d1 d j kept kind same = record {
   core = d.core;
   at = d.at;
   ready = load_ready j d.core d1.work kept kind same d.ready;
-  comes = subst (λ (s : Stepped V). ComesTo size net.packets d1.at d.core.node d1.event (Ok s)) (load_step j d.core.node d1.work kept kind same) d.comes;
+  comes = subst (λ (s : StepResult V). ComesTo size net.packets d1.at d.core.node d1.event (Ok s)) (load_step j d.core.node d1.work kept kind same) d.comes;
   posts = subst (λ (ps : List (Packet V)). AllByRecursion (IsPost (length net.taken.weights)) ps) (sym (load_posts d1.work kept)) d.posts;
 }

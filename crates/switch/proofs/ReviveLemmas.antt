@@ -1,5 +1,5 @@
 -- The restart of a node that is down: what is owed is taken first.
-use Rattle.switch.proofs.Words.{◌≡◌, ℕ, ◌+◌, ◌<◌, ◌≤◌, true, List, [], ◌∷◌, ◌++◌, length, get_or, set, slice_get, inl, inr, Option, Some, None, Result, Ok, Err, refl, ap, sym, ◌∙◌, subst, arith, length-append, AllByRecursion, option_map, ForOk, length-set, slice_get_read, Packet, Ask, Change, IsPost, to_others, Kept, changed_by, Node, Stepped, kept_of, Core, reloaded, restarted, MOST_EVENTS, Event, Restart, StepFault, Memory, Device, World, packets_after, IsAfter, Taken, world_of_taken, kept_part, StagedWork, steps, restarts, StagedEvent, NetView, HasRoom, IsStaged, IsReadyAt, IsOfEvent, IsEventAt, ComesTo, IsTaken, posts_of, step_of, loads, with_record, at_set, set_twice, comes_restart, set_same, Standing, up, down, StoreState, owed_in, change_owed, posts_owed, IsRecordOf, IsWithOrWithout, Fails, StoreView, SwitchView, event_owed, standing_seen, view_of, views_of, IsOwing, IsStore, IsSwitch, CanTakeOwed, TakesOwed, world_of, is_down_at, events_due, with_store, RevivesAt, Revives}
+use Rattle.switch.proofs.Words.{◌≡◌, ℕ, ◌+◌, ◌<◌, ◌≤◌, true, List, [], ◌∷◌, ◌++◌, length, get_or, set, slice_get, inl, inr, Option, Some, None, Result, Ok, Err, refl, ap, sym, ◌∙◌, subst, arith, length-append, AllByRecursion, option_map, ForOk, length-set, slice_get_read, Packet, Ask, Change, IsPost, to_others, Kept, changed_by, Node, StepResult, kept_of, Core, reloaded, restarted, MOST_EVENTS, Event, Restart, StepFault, Memory, Device, World, packets_after, IsAfter, Taken, world_of_taken, kept_part, StagedWork, steps, restarts, StagedEvent, NetView, HasRoom, IsStaged, IsReadyAt, IsOfEvent, IsEventAt, ComesTo, IsTaken, posts_of, step_of, loads, with_record, at_set, set_twice, comes_restart, set_same, Standing, up, down, StoreState, owed_in, change_owed, posts_owed, IsRecordOf, IsWithOrWithout, Fails, StoreView, SwitchView, event_owed, standing_seen, view_of, views_of, IsOwing, IsStore, IsSwitch, CanTakeOwed, TakesOwed, world_of, is_down_at, events_due, with_store, RevivesAt, Revives}
 use Rattle.switch.proofs.KeepLemmas.{either_twice}
 use Rattle.switch.proofs.StoresLemmas.{views_of-set, view_at, item_at, down_at, few_due}
 use Rattle.switch.proofs.SwitchLemmas.{switch_view, core_node, own_number, own_weights, other_store, at, node_is, committed}
@@ -202,7 +202,7 @@ module _ {V : Type 0} (size : V → ℕ) (net : NetView V) (stores : List (Store
         ready = ready_then d1.work kept kind (asks d1.work kind d.ready) is_new_kept;
         comes = subst (λ (i : ℕ). ComesTo size m.packets i core_m.0.node d1.event (Ok (step_of (loads d1.work kept) core_m.0.node))) (is_j ∙ is_at)
             (subst (λ (f : Event V). ComesTo size m.packets j core_m.0.node f (Ok (step_of (loads d1.work kept) core_m.0.node))) (sym is_e)
-            (subst (λ (s : Stepped V). ComesTo size m.packets j core_m.0.node (Restart j) (Ok s)) (step_then d1.work kept kind is_new_kept) (comes_restart size m.packets j core_m.0.node)));
+            (subst (λ (s : StepResult V). ComesTo size m.packets j core_m.0.node (Restart j) (Ok s)) (step_then d1.work kept kind is_new_kept) (comes_restart size m.packets j core_m.0.node)));
         posts = subst (λ (ps : List (Packet V)). AllByRecursion (IsPost (length m.taken.weights)) ps) (sym (load_posts d1.work kept)) (subst (λ (us : List ℕ). AllByRecursion (IsPost (length us)) (posts_of d1.work)) (sym mid.1) d.posts);
       }
 

@@ -1,5 +1,5 @@
 -- A switch after its net or one of its stores has changed.
-use Rattle.switch.proofs.Words.{◌≡◌, ◌≢◌, ℕ, zero, suc, ◌<◌, List, [], ◌∷◌, ◌++◌, length, set, slice_get, Option, Some, None, Ok, refl, ap, sym, ◌∙◌, subst, arith, append_assoc, AllByRecursion, option_map, length-set, Packet, Change, IsPost, Kept, changed_by, new_kept, Node, Stepped, kept_of, new_node, Core, MOST_EVENTS, Event, World, start, nodes_from, stepped, happens, happens_at, after, offers_of, IsAfter, Taken, nodes_of, AreOfWorld, change_of, kept_part, StagedWork, steps, restarts, StagedEvent, change_in, posts_of, step_of, IsEventAt, NetView, AreStill, IsStill, IsStaged, IsTaken, at_set, at_set_other, if_taken, node_at, holds_after, world_lasts, Happens, event_moves, taken_count, happens-not_spent, rooms_stay, makes, nodes_of-set, nodes_found, nodes_still, due_still, posts_same, Standing, up, down, StoreState, IsRecordOf, SwitchView, views_of, new_stores, IsOwing, IsStore, IsSwitch, all_append, append-nil, with_event}
+use Rattle.switch.proofs.Words.{◌≡◌, ◌≢◌, ℕ, zero, suc, ◌<◌, List, [], ◌∷◌, ◌++◌, length, set, slice_get, Option, Some, None, Ok, refl, ap, sym, ◌∙◌, subst, arith, append_assoc, AllByRecursion, option_map, length-set, Packet, Change, IsPost, Kept, changed_by, new_kept, Node, StepResult, kept_of, new_node, Core, MOST_EVENTS, Event, World, start, nodes_from, stepped, happens, happens_at, after, offers_of, IsAfter, Taken, nodes_of, AreOfWorld, change_of, kept_part, StagedWork, steps, restarts, StagedEvent, change_in, posts_of, step_of, IsEventAt, NetView, AreStill, IsStill, IsStaged, IsTaken, at_set, at_set_other, if_taken, node_at, holds_after, world_lasts, Happens, event_moves, taken_count, happens-not_spent, rooms_stay, makes, nodes_of-set, nodes_found, nodes_still, due_still, posts_same, Standing, up, down, StoreState, IsRecordOf, SwitchView, views_of, new_stores, IsOwing, IsStore, IsSwitch, all_append, append-nil, with_event}
 use Rattle.switch.proofs.StoresLemmas.{each_after, new_at, count_stores}
 
 abbrev pub switch_view : {V : Type 0} → NetView V → List (StoreState V) → SwitchView V
@@ -111,7 +111,7 @@ module _ {V : Type 0} (size : V → ℕ) (net : NetView V) (stores : List (Store
   -- A due event is taken.
 
   module _ (due : StagedEvent V) (d : IsStaged size net due) where
-    abbrev step : Stepped V
+    abbrev step : StepResult V
     step = step_of due.work d.core.node
 
     -- the world has the node at which it is due

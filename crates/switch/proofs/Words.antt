@@ -33,9 +33,9 @@ pub use Rattle.std.specs.Vec.Iter.{into_iter_items}
 pub use Rattle.switch.specs.Belonging.{BeginsLog, KeepsLogs, StaysBelonging}
 pub use Rattle.switch.specs.NodeStore.{Fails, IsRecordOf, IsWithOrWithout, Standing, StoreState, change_owed, down, owed_in, posts_owed, up}
 pub use Rattle.switch.specs.Switch.{Acts, ActsDown, ActsUp, AreStores, CanTakeOwed, FailsAt, IsOwing, IsRecordIn, IsStore, IsSwitch, IsViewOf, Plays, Revives, RevivesAt, StoreView, SwitchView, TakesAt, TakesOwed, change_due, due, event_owed, events_due, is_down, is_down_at, is_down_view, new_stores, new_views, standing_seen, view_of, views_of, with_store, world_of}
-pub use Rattle.synod.proofs.NodeKeeps.{all_append}
+pub use Rattle.synod.proofs.NodeInvariant.{all_append}
 pub use Rattle.synod.specs.Core.{Core}
-pub use Rattle.synod.specs.Node.{Node, Stepped, kept_of, new_node}
+pub use Rattle.synod.specs.Node.{Node, StepResult, kept_of, new_node}
 pub use Rattle.synod.specs.Packets.{IsPost, to_others}
 pub use Rattle.synod.specs.Proposer.{begun, offered}
 pub use Rattle.synod.specs.Record.{Kept, changed_by, new_kept}

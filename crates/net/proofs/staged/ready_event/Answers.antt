@@ -1,4 +1,4 @@
-use Rattle.net.proofs.Words.{Ok, refl, subst, Packet, on_packet, offered, begun, same_room, Offer, Begin, Deliver, Readies, steps}
+use Rattle.net.proofs.Words.{Ok, refl, subst, Packet, on_packet, offered, begun, same_room, Offer, Begin, Deliver, IsStagedAtNode, steps}
 use Rattle.net.proofs.StepsStaged.{made_due, packet_is}
 use Rattle.net.proofs.staged.ready_event.Goals.{in-Offer+in_ok-ready-in-Offer+in_ok-copy-in-Offer, in-Begin+in_ok-ready_begin-in-Begin, in-Deliver+in_ok-ready-in-Deliver, in-Restart+in_ok-ready_restart-in-Restart}
 use Rattle.net.proofs.staged.ready_event.Goals as goal
@@ -18,7 +18,7 @@ returns-clause-ready g c =
       | in-Deliver+in_ok-ready-in-Deliver w ↦
           let made = w.in_ok-ready-in-Deliver.ready in
           rw (w.in-Deliver.is, w.node-is, w.event-is)
-          (λ p at. subst (λ (q : Packet g.row.V.Denot). Readies old w.ready_packet.new.self c.args.k (Deliver w.in-Deliver.number) (Ok (on_packet old.node q)) (Ok (record { at = c.args.k; event = Deliver w.in-Deliver.number; work = steps made })))
+          (λ p at. subst (λ (q : Packet g.row.V.Denot). IsStagedAtNode old w.ready_packet.new.self c.args.k (Deliver w.in-Deliver.number) (Ok (on_packet old.node q)) (Ok (record { at = c.args.k; event = Deliver w.in-Deliver.number; work = steps made })))
           (packet_is c.args.packets.now w.in-Deliver.number w.index-packets-number.result p w.index-packets-number.is at)
           (made_due old w.ready_packet.new.self c.args.k (Deliver w.in-Deliver.number) (Deliver w.in-Deliver.number) (Ok (on_packet old.node w.index-packets-number.result)) made w.in_ok-ready-in-Deliver.ensures.ready refl tt w.in_ok-ready-in-Deliver.ensures.posts))
       | in-Restart+in_ok-ready_restart-in-Restart w ↦

@@ -1,11 +1,11 @@
-use Rattle.synod.proofs.Words.{◌≡◌, ℕ, suc, ◌+◌, ◌-◌, ◌++◌, List, Option, Some, drop, ap, sym, ◌∙◌, arith, SlotReport, joined_pages, pages_from, pages_with, all_of}
-use Rattle.synod.proofs.HeightsLemmas.{joined-gap, add_next}
+use Rattle.synod.proofs.Words.{◌≡◌, ℕ, suc, ◌+◌, ◌-◌, ◌++◌, List, Option, Some, drop, ap, sym, ◌∙◌, arith, SlotReport, joined_pages, pages_from, pages_after_delivery, all_of}
+use Rattle.synod.proofs.HighestReportsLemmas.{joined-gap, add_next}
 use Rattle.synod.proofs.leading.add_pages.Goals as goal
 use Rattle.synod.proofs.leading.add_pages.Goals.{in-Some+in_ok-push, in_default}
 
 pub loop-page-preserved : goal.loop-page-preserved
 loop-page-preserved g c =
-    let had : List (Option (List (SlotReport g.row.V.Denot))) = pages_from (pages_with c.args.pages.now) c.args.node in
+    let had : List (Option (List (SlotReport g.row.V.Denot))) = pages_from (pages_after_delivery c.args.pages.now) c.args.node in
     let i : ℕ = c.loop-page.page in
     let n : ℕ = c.args.count - (i + 1) in
     let count : c.args.count - i ≡ suc n = omega arith in

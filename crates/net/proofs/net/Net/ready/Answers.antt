@@ -29,7 +29,7 @@ pub returns-in_err-room-clause-still : goal.returns-in_err-room-clause-still
 returns-in_err-room-clause-still g c = still_more _ _ _ c.in_ok-due.ensures.still c.room.ensures.still
 
 pub returns-clause-due : goal.returns-clause-due
-returns-clause-due g c = due_still g.V.Value.bytes _ _ c.in_ok-due.due c.room.ensures.still (gives_due g.V.Value.bytes _ _ _ _ c.in_ok-due.ensures.gives)
+returns-clause-due g c = due_still g.V.Value.bytes _ _ c.in_ok-due.due c.room.ensures.still (gives_due g.V.Value.bytes _ _ _ _ c.in_ok-due.ensures.staged)
 
 pub returns-clause-still : goal.returns-clause-still
 returns-clause-still g c = still_more _ _ _ c.in_ok-due.ensures.still c.room.ensures.still
