@@ -1,9 +1,9 @@
 -- Of the libraries of two cells of one switch one is a prefix of the other.
-use Rattle.cluster.proofs.Words.{◌≡◌, ◌+◌, ◌<◌, ◌≤◌, true, false, List, [], ◌∷◌, ◌++◌, length, inl, inr, Option, Result, Ok, Err, refl, ap, sym, ◌∙◌, subst, arith, append-nil, length-append, IsOk, Database, Carried, StepFault, World, log, log_after, IsPrefixOf, Agree, Taken, IsMoment, carried_size, entries_of, IsOfLog, Headline, entries_begin, headline_holds, of_longer, SwitchView, world_of, Cell, IsCell, Belongs}
+use Rattle.cluster.proofs.Words.{◌≡◌, ◌+◌, ◌<◌, ◌≤◌, true, false, List, [], ◌∷◌, ◌++◌, length, inl, inr, Option, Result, Ok, Err, refl, ap, sym, ◌∙◌, subst, arith, append-nil, length-append, IsOk, Database, Carried, StepFault, World, log, log_after, IsPrefixOf, Agree, History, IsMoment, carried_size, entries_of, IsOfLog, Headline, entries_begin, headline_holds, of_longer, SwitchView, world_of, Cell, IsCell, Belongs}
 
 module _ (s : SwitchView Carried) (w : World Carried) (is : world_of carried_size s ≡ Ok w) where
-  abbrev taken : Taken Carried
-  taken = record { weights = s.weights; events = s.history }
+  abbrev history : History Carried
+  history = record { weights = s.weights; events = s.history }
 
   -- the library is that of the node's log
   of_log : (c : Cell) → Belongs c s → IsCell c → IsOfLog (entries_of (log w c.at)) c.node
@@ -13,8 +13,8 @@ module _ (s : SwitchView Carried) (w : World Carried) (is : world_of carried_siz
   -- the statements of two cells of the switch agree, by the headline in its world
   agree_in : (one other : Cell) → Belongs one s → Belongs other s → IsCell one → IsCell other → Agree one.node.library.statements other.node.library.statements
   agree_in one other b d h k =
-      let line : Headline taken = headline_holds taken (subst (λ (r : Result (World Carried) StepFault). IsOk r) (sym is) refl) in
-      let moment : IsMoment carried_size taken w = record { early = s.history; begins = ([], append-nil s.history); is_after = is } in
+      let line : Headline history = headline_holds history (subst (λ (r : Result (World Carried) StepFault). IsOk r) (sym is) refl) in
+      let moment : IsMoment carried_size history w = record { early = s.history; begins = ([], append-nil s.history); is_after = is } in
       line.libraries_agree one.node.library other.node.library
       record { world = w; moment = moment; node = one.at; applied = one.node.applied; of_log = (of_log one b h).library }
       record { world = w; moment = moment; node = other.at; applied = other.node.applied; of_log = (of_log other d k).library }

@@ -9,8 +9,8 @@ pub use Rattle.library.specs.declared.entry.Entry.{Entry}
 pub use Rattle.library.specs.declared.verdict.Verdict.{Verdict}
 pub use Rattle.mm_read.specs.Statements.{Database}
 pub use Rattle.net.specs.Agree.{Agree, IsPrefixOf}
-pub use Rattle.net.specs.History.{IsMoment}
-pub use Rattle.net.specs.Taken.{Taken}
+pub use Rattle.net.specs.Agreement.{IsMoment}
+pub use Rattle.net.specs.History.{History}
 pub use Rattle.net.specs.World.{World, log, log_after}
 pub use Rattle.net.specs.declared.fault.StepFault.{StepFault}
 pub use Rattle.net.specs.declared.fault.StepFault.TheVariants.{NoNode}

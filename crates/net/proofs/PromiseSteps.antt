@@ -41,8 +41,8 @@ module _ {V : Type 0} {offers : List V} {l : Ledger V} (n : Node V) (sound : IsS
       let top : ℕ = top_or_first first reports in
       let first_top : first ≤ top = first_to_top first reports (reported_from n.weights offers l b first pages heard h) in
       let filled : List (Option V) = proposed_values reports first (top - first) in
-      let taken : List V = take (SLOTS - top) n.waiting in
-      let values : List (Option V) = map (λ v. Some v) taken in
+      let proposed : List V = take (SLOTS - top) n.waiting in
+      let values : List (Option V) = map (λ v. Some v) proposed in
       let begun : IsBegun l b = record { first = first; is_in = preparing.begun } in
       let one = batch n.weights offers b filled first l sound begun (λ p i e. absurd (preparing.fresh p i e)) (fills_grounded n.weights offers l b first pages heard h first (top - first) (omega arith))
       (fills_brought n.weights offers l b first pages heard h first (top - first)) in
@@ -50,16 +50,16 @@ module _ {V : Type 0} {offers : List V} {l : Ledger V} (n : Node V) (sound : IsS
       let filled_to : first + length filled ≡ top = rw (length-proposed_values reports first (top - first)) (let z : first + (top - first) ≡ top = omega arith in z) in
       let free1 : (s : ℕ) → top ≤ s → IsFree n.weights l1 b s = λ s le. free_lasts one.grows (free_above n.weights offers l b first pages heard h s (let z : first ≤ s = omega arith in z) le) in
       let two = batch n.weights offers b values top l1 one.sound (begun_lasts one.grows b begun) (subst (λ (s : ℕ). AllProposedBelow l1 b s) filled_to one.below) (each_free n.weights l1 b top values free1)
-      (all_offered offers taken (all_take (λ v. In v offers) (SLOTS - top) n.waiting holds.proposer.offered)) in
+      (all_offered offers proposed (all_take (λ v. In v offers) (SLOTS - top) n.waiting holds.proposer.offered)) in
       let l2 : Ledger V = with_proposals b top values l1 in
-      let taken_to : top + length values ≡ top + length taken = ap (λ s. top + s) (length-map taken (λ (v : V). let x : Option V = Some v in x)) in
+      let taken_to : top + length values ≡ top + length proposed = ap (λ s. top + s) (length-map proposed (λ (v : V). let x : Option V = Some v in x)) in
       let own : Grows b.node l l2 = grows_both one.grows two.grows in
       let g : Grows n.me l l2 = subst (λ (k : ℕ). Grows k l l2) preparing.mine own in
       record {
         ledger = l2;
         grows = g;
         sound = two.sound;
-        node = after_batch n sound holds b (top + length taken) l2 [] [] (drop (SLOTS - top) n.waiting) (two.begun ∙ one.begun) (two.promises ∙ one.promises) (two.votes ∙ one.votes)
+        node = after_batch n sound holds b (top + length proposed) l2 [] [] (drop (SLOTS - top) n.waiting) (two.begun ∙ one.begun) (two.promises ∙ one.promises) (two.votes ∙ one.votes)
             record {
               mine = preparing.mine;
               begun = begun_lasts own b begun;

@@ -1,12 +1,12 @@
 -- The words in which this crate is proved, passed on from one place.
 pub use Rattle.net.specs.Agree.{Agree, ChosenAgree, IsAfter, IsPrefixOf, IsProposed, LogsAgree}
 pub use Rattle.net.specs.Chosen.{IsChosen, IsChosenAt, Vote, vote}
-pub use Rattle.net.specs.History.{Agreement, IsMetOrMemory, IsMoment, StopsAt}
-pub use Rattle.net.specs.KeptPart.{AreOfOthers, addressed, change_answered, change_at, change_delivered, change_of, kept_part, node_of}
-pub use Rattle.net.specs.Laws.{BallotsHaveOneValue, ChosenValuesAgree, KeptPartSurvives, LaterBallotsKeepChosen, LogEntriesAreChosen, LogEntriesWereOffered, LogsOfNodesAgree, LogsOnlyGrow, RestartEmptiesLog}
-pub use Rattle.net.specs.Staged.{AreStill, ComesTo, IsStagedInNet, IsOfEvent, IsReadyAt, IsStaged, IsStagedAt, IsStill, IsTaken, NetView, IsStagedAtNode, IsEventStagedAtNode, StagedEvent, StagedWork, posts_of, restarts, step_of, steps, work_of}
-pub use Rattle.net.specs.Taken.{AreOfWorld, Taken, nodes_of, with_event, world_of}
-pub use Rattle.net.specs.World.{World, after, all_happen, answered, at_node, delivered, happens, happens_at, log, log_after, log_at, nodes_from, offers_of, packets_after, start, stepped, votes_after}
+pub use Rattle.net.specs.Agreement.{Agreement, IsMetOrMemory, IsMoment, StopsAt}
+pub use Rattle.net.specs.KeptPart.{AreOfOthers, node_of_event, change_of_result, change_at, change_delivered, change_of, kept_part, node_of}
+pub use Rattle.net.specs.Laws.{BallotsHaveOneValue, ChosenValuesAgree, KeptPartSurvives, ChosenValuesPersist, LogEntriesAreChosen, LogEntriesWereOffered, LogsOfNodesAgree, LogsOnlyGrow, RestartEmptiesLog}
+pub use Rattle.net.specs.Staged.{ChangeOnlyRooms, HasResult, IsStagingResultInNet, IsOfEvent, IsReadyAt, IsStaged, IsStagedAt, ChangesOnlyRoom, IsTaken, NetView, IsStagingResultAt, IsStagingResultOfEvent, StagedEvent, StagedWork, posts_of, restarts, step_of, steps, work_of}
+pub use Rattle.net.specs.History.{AreOfWorld, History, nodes_of, with_event, world_of}
+pub use Rattle.net.specs.World.{World, after, events_result, after_step_or_fault, at_node, delivered, event_result, event_result_without_limit, log, log_after, log_at, nodes_from, offers_of, packets_after, start, after_step, votes_after}
 pub use Rattle.net.specs.declared.event.Event.{Event}
 pub use Rattle.net.specs.declared.event.Event.TheVariants.{Begin, Deliver, Offer, Restart}
 pub use Rattle.net.specs.declared.event.TheConstants.{MOST_EVENTS}

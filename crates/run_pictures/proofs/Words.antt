@@ -1,8 +1,8 @@
 -- The words in which this crate is proved, passed on from one place.
 pub use Rattle.library.specs.declared.entry.Entry.{Entry}
 pub use Rattle.library.specs.declared.verdict.Verdict.{Verdict}
-pub use Rattle.net.specs.Taken.{Taken, with_event, world_of}
-pub use Rattle.net.specs.World.{all_happen, packets_after}
+pub use Rattle.net.specs.History.{History, with_event, world_of}
+pub use Rattle.net.specs.World.{events_result, packets_after}
 pub use Rattle.net.specs.declared.event.Event.{Event}
 pub use Rattle.net.specs.declared.event.Event.TheVariants.{Begin, Deliver, Offer, Restart}
 pub use Rattle.net.specs.declared.fault.StepFault.{StepFault}

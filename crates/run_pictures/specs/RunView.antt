@@ -3,7 +3,7 @@
 -- The code also keeps how many packets have been posted.
 use Rattle.std.specs.Prelude.{◌≡◌, ℕ, List, length, filter}
 use Rattle.net.specs.World.{packets_after}
-use Rattle.net.specs.Taken.{world_of}
+use Rattle.net.specs.History.{world_of}
 use Rattle.world.specs.Replicas.{Replicas}
 use Rattle.world.specs.Carried.{carried_size}
 use Rattle.run_pictures.specs.declared.step.Step.{Step}
@@ -16,9 +16,9 @@ pub record RunView : Type 0 where
 
 -- all packets of a world
 abbrev pub packets_of : Replicas → Packets
-packets_of world = packets_after (world_of carried_size world.taken)
+packets_of world = packets_after (world_of carried_size world.history)
 
 -- the steps are those of the history, in order, with applications of entries between them
 pub record IsRecorded (world : Replicas) (steps : List Step) (posted : ℕ) : Type 0 where
-  pub events : filter is_event steps ≡ steps_of world.taken
+  pub events : filter is_event steps ≡ steps_of world.history
   pub count : posted ≡ length (packets_of world)

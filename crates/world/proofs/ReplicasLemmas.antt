@@ -1,5 +1,5 @@
 -- The libraries of a world: each is that of its log, whatever event comes and whichever entry is applied.
-use Rattle.world.proofs.Words.{◌≡◌, ◌≢◌, ℕ, zero, suc, ◌+◌, ◌==◌, Bool, true, false, List, [], ◌∷◌, ◌++◌, length, take, replicate, set, slice_get, Option, Some, None, Result, Ok, Err, refl, ap, sym, ◌∙◌, subst, arith, add-one, length-append, IsOk, IfErr, nat_tests, length-set, length-replicate, take-append-le, slice_get_within, take_next, Entry, Verdict, Applies, IsLibraryOf, library-more, Carried, Event, Offer, Begin, Deliver, Restart, StepFault, World, start, happens, all_happen, log, log_after, IsPrefixOf, Taken, world_of, with_event, carried_size, carried, all_carried, entries_of, NodeLibrary, Replicas, new_library, new_libraries, restarts, given_up, then_event, log_entries, IsOfLog, AreReplicas, if_taken, all_happen-append, after-push, log_grows, at_set_other}
+use Rattle.world.proofs.Words.{◌≡◌, ◌≢◌, ℕ, zero, suc, ◌+◌, ◌==◌, Bool, true, false, List, [], ◌∷◌, ◌++◌, length, take, replicate, set, slice_get, Option, Some, None, Result, Ok, Err, refl, ap, sym, ◌∙◌, subst, arith, add-one, length-append, IsOk, IfErr, nat_tests, length-set, length-replicate, take-append-le, slice_get_within, take_next, Entry, Verdict, Applies, IsLibraryOf, library-more, Carried, Event, Offer, Begin, Deliver, Restart, StepFault, World, start, event_result, events_result, log, log_after, IsPrefixOf, History, world_of, with_event, carried_size, carried, all_carried, entries_of, NodeLibrary, Replicas, new_library, new_libraries, restarts, given_up, then_event, log_entries, IsOfLog, AreReplicas, if_taken, events_result-append, after-push, log_grows, at_set_other}
 use Rattle.world.proofs.EntryLogs.{all_carried-append, entries_begin}
 
 -- A library and its log.
@@ -41,10 +41,10 @@ get-replicate (suc n) zero x y is = cc
 get-replicate (suc n) (suc k) x y is = get-replicate n k x y is
 
 -- new libraries, one a node, are those of their logs
-pub new_are_replicas : (taken : Taken Carried) (nodes : ℕ) → nodes ≡ length taken.weights → (libraries : List NodeLibrary) → libraries ≡ replicate nodes new_library → AreReplicas (record { taken = taken; libraries = libraries })
-new_are_replicas taken nodes count libraries new = subst (λ (ls : List NodeLibrary). AreReplicas (record { taken = taken; libraries = ls })) (sym new) record {
+pub new_are_replicas : (history : History Carried) (nodes : ℕ) → nodes ≡ length history.weights → (libraries : List NodeLibrary) → libraries ≡ replicate nodes new_library → AreReplicas (record { history = history; libraries = libraries })
+new_are_replicas history nodes count libraries new = subst (λ (ls : List NodeLibrary). AreReplicas (record { history = history; libraries = ls })) (sym new) record {
   one_each = length-replicate nodes new_library ∙ count;
-  of_logs = λ k node is. subst (λ (n : NodeLibrary). IsOfLog (log_entries taken k) n) (sym (get-replicate nodes k new_library node is)) (new_is_of_log (log_entries taken k));
+  of_logs = λ k node is. subst (λ (n : NodeLibrary). IsOfLog (log_entries history k) n) (sym (get-replicate nodes k new_library node is)) (new_is_of_log (log_entries history k));
 }
 
 -- One event more.
@@ -63,36 +63,36 @@ no_restart k (Begin j) is = λ same. let no = same in cc
 no_restart k (Deliver number) is = λ same. let no = same in cc
 no_restart k (Restart j) is = λ same. cc
 
-module _ (taken : Taken Carried) (w x : World Carried) (was : world_of carried_size taken ≡ Ok w) (e : Event Carried) (is : world_of carried_size (with_event taken e) ≡ Ok x) where
+module _ (history : History Carried) (w x : World Carried) (was : world_of carried_size history ≡ Ok w) (e : Event Carried) (is : world_of carried_size (with_event history e) ≡ Ok x) where
   -- the event leads from the world before it to the one after it
-  happened : happens carried_size w e ≡ Ok x
-  happened = sym (after-push carried_size taken.weights taken.events w e was) ∙ is
+  happened : event_result carried_size w e ≡ Ok x
+  happened = sym (after-push carried_size history.weights history.events w e was) ∙ is
 
   -- an event but a restart of node k leaves the log of its entries a beginning of the new one
-  log_longer : (k : ℕ) → e ≢ Restart k → IsPrefixOf (log_entries taken k) (log_entries (with_event taken e) k)
+  log_longer : (k : ℕ) → e ≢ Restart k → IsPrefixOf (log_entries history k) (log_entries (with_event history e) k)
   log_longer k other =
-      let grows = if_taken (λ (y : World Carried). IsPrefixOf (log w k) (log y k)) (happens carried_size w e) x happened (log_grows carried_size w k e other) in
+      let grows = if_taken (λ (y : World Carried). IsPrefixOf (log w k) (log y k)) (event_result carried_size w e) x happened (log_grows carried_size w k e other) in
       let longer = entries_begin (log w k) (log x k) grows in
       (longer.0, ap (λ (r : Result (World Carried) StepFault). entries_of (log_after r k) ++ longer.0) was ∙ longer.1 ∙ ap (λ (r : Result (World Carried) StepFault). entries_of (log_after r k)) (sym is))
 
   -- an event but a restart of node k leaves a library that of the log of node k
-  stays_of_log : (k : ℕ) (node : NodeLibrary) → e ≢ Restart k → IsOfLog (log_entries taken k) node → IsOfLog (log_entries (with_event taken e) k) node
-  stays_of_log k node other h = of_longer (log_entries taken k) (log_entries (with_event taken e) k) node (log_longer k other) h
+  stays_of_log : (k : ℕ) (node : NodeLibrary) → e ≢ Restart k → IsOfLog (log_entries history k) node → IsOfLog (log_entries (with_event history e) k) node
+  stays_of_log k node other h = of_longer (log_entries history k) (log_entries (with_event history e) k) node (log_longer k other) h
 
   -- the library at k, where node n restarts
   at_restart : (libraries : List NodeLibrary) (n k : ℕ) → restarts e ≡ Some n → (node old : NodeLibrary) → slice_get (set libraries n new_library) k ≡ Some node
-      → ((other : NodeLibrary) → slice_get libraries k ≡ Some other → IsOfLog (log_entries taken k) other) → (t : Bool) → (n == k) ≡ t → IsOfLog (log_entries (with_event taken e) k) node
+      → ((other : NodeLibrary) → slice_get libraries k ≡ Some other → IsOfLog (log_entries history k) other) → (t : Bool) → (n == k) ≡ t → IsOfLog (log_entries (with_event history e) k) node
   at_restart libraries n k restart node old got each false test =
       let other : n ≢ k = grind (arith, nat_tests) in
       stays_of_log k node (restart_other k e n restart other) (each node (sym (at_set_other libraries n k new_library other) ∙ got))
   at_restart libraries n k restart node old got each true test =
       let same : n ≡ k = grind (arith, nat_tests) in
       let new : node ≡ new_library = set_new libraries k new_library node (subst (λ (i : ℕ). slice_get (set libraries i new_library) k ≡ Some node) same got) in
-      subst (λ (l : NodeLibrary). IsOfLog (log_entries (with_event taken e) k) l) (sym new) (new_is_of_log (log_entries (with_event taken e) k))
+      subst (λ (l : NodeLibrary). IsOfLog (log_entries (with_event history e) k) l) (sym new) (new_is_of_log (log_entries (with_event history e) k))
 
   -- each library, the one of a node that restarts given up, is that of its log after the event
-  keeps_each : (libraries : List NodeLibrary) → ((k : ℕ) (node : NodeLibrary) → slice_get libraries k ≡ Some node → IsOfLog (log_entries taken k) node)
-      → (o : Option ℕ) → restarts e ≡ o → (k : ℕ) (node : NodeLibrary) → slice_get (given_up libraries o) k ≡ Some node → IsOfLog (log_entries (with_event taken e) k) node
+  keeps_each : (libraries : List NodeLibrary) → ((k : ℕ) (node : NodeLibrary) → slice_get libraries k ≡ Some node → IsOfLog (log_entries history k) node)
+      → (o : Option ℕ) → restarts e ≡ o → (k : ℕ) (node : NodeLibrary) → slice_get (given_up libraries o) k ≡ Some node → IsOfLog (log_entries (with_event history e) k) node
   keeps_each libraries each None none k node got = stays_of_log k node (no_restart k e none) (each k node got)
   keeps_each libraries each (Some n) restart k node got = at_restart libraries n k restart node node got (each k) (n == k) refl
 
@@ -102,19 +102,19 @@ as_many libraries None = refl
 as_many libraries (Some k) = length-set libraries k new_library
 
 -- an event that is taken comes after events that are taken
-ok_before : (taken : Taken Carried) (e : Event Carried) → IsOk (world_of carried_size (with_event taken e)) → IsOk (world_of carried_size taken)
-ok_before taken e is = before (world_of carried_size taken) (subst IsOk (all_happen-append carried_size taken.events (e ∷ []) (Ok (start taken.weights))) is) where
-  before : (r : Result (World Carried) StepFault) → IsOk (all_happen carried_size (e ∷ []) r) → IsOk r
+ok_before : (history : History Carried) (e : Event Carried) → IsOk (world_of carried_size (with_event history e)) → IsOk (world_of carried_size history)
+ok_before history e is = before (world_of carried_size history) (subst IsOk (events_result-append carried_size history.events (e ∷ []) (Ok (start history.weights))) is) where
+  before : (r : Result (World Carried) StepFault) → IsOk (events_result carried_size (e ∷ []) r) → IsOk r
   before (Ok w) h = refl
   before (Err fault) h = h
 
 -- an event that is taken leaves each library that of its log
-then_are_replicas : (old : Replicas) (e : Event Carried) → IsOk (world_of carried_size (with_event old.taken e)) → AreReplicas old → AreReplicas (then_event old e)
-then_are_replicas old e is h = both (world_of carried_size old.taken) refl (world_of carried_size (with_event old.taken e)) refl (ok_before old.taken e is) is where
-  both : (r : Result (World Carried) StepFault) → world_of carried_size old.taken ≡ r → (s : Result (World Carried) StepFault) → world_of carried_size (with_event old.taken e) ≡ s → IsOk r → IsOk s → AreReplicas (then_event old e)
+then_are_replicas : (old : Replicas) (e : Event Carried) → IsOk (world_of carried_size (with_event old.history e)) → AreReplicas old → AreReplicas (then_event old e)
+then_are_replicas old e is h = both (world_of carried_size old.history) refl (world_of carried_size (with_event old.history e)) refl (ok_before old.history e is) is where
+  both : (r : Result (World Carried) StepFault) → world_of carried_size old.history ≡ r → (s : Result (World Carried) StepFault) → world_of carried_size (with_event old.history e) ≡ s → IsOk r → IsOk s → AreReplicas (then_event old e)
   both (Ok w) at (Ok x) then ok done = record {
     one_each = as_many old.libraries (restarts e) ∙ h.one_each;
-    of_logs = keeps_each old.taken w x at e then old.libraries h.of_logs (restarts e) refl;
+    of_logs = keeps_each old.history w x at e then old.libraries h.of_logs (restarts e) refl;
   }
   both (Err fault) at s then ok done = let no : false ≡ true = ok in cc
   both (Ok w) at (Err fault) then ok done = let no : false ≡ true = done in cc
@@ -126,35 +126,35 @@ ok_unless_met (Err fault) count h = cc
 
 -- the events after a step that is taken
 pub step_taken : {A : Type 0} (old new : Replicas) (e : Event Carried) (result : Result A StepFault) (answer : A) → new ≡ then_event old e → result ≡ Ok answer
-    → IfErr (world_of carried_size (with_event old.taken e)) (λ fault. result ≡ Err fault) → IsOk (world_of carried_size new.taken)
-step_taken old new e result answer becomes ok refused = subst (λ (r : Replicas). IsOk (world_of carried_size r.taken)) (sym becomes) (met (world_of carried_size (with_event old.taken e)) refused) where
+    → IfErr (world_of carried_size (with_event old.history e)) (λ fault. result ≡ Err fault) → IsOk (world_of carried_size new.history)
+step_taken old new e result answer becomes ok refused = subst (λ (r : Replicas). IsOk (world_of carried_size r.history)) (sym becomes) (met (world_of carried_size (with_event old.history e)) refused) where
   met : (r : Result (World Carried) StepFault) → IfErr r (λ fault. result ≡ Err fault) → IsOk r
   met (Ok w) h = refl
   met (Err fault) h = cc
 
 -- what a step leaves
-pub step_keeps : (old : Replicas) (e : Event Carried) (taken : Taken Carried) (libraries : List NodeLibrary) (restarted : Option ℕ) (count : ℕ) → AreReplicas old
-    → taken ≡ with_event old.taken e → restarted ≡ restarts e → libraries ≡ given_up old.libraries restarted
-    → IfErr (world_of carried_size (with_event old.taken e)) (λ fault. let answer : Result ℕ StepFault = Ok count in answer ≡ Err fault) → AreReplicas (record { taken = taken; libraries = libraries })
-step_keeps old e taken libraries restarted count h is restarts_is given refused =
-    subst AreReplicas (sym (record_is taken (with_event old.taken e) libraries (given_up old.libraries (restarts e)) is (given ∙ ap (λ (o : Option ℕ). given_up old.libraries o) restarts_is)))
-    (then_are_replicas old e (ok_unless_met (world_of carried_size (with_event old.taken e)) count refused) h) where
-      record_is : (s t : Taken Carried) (ls ms : List NodeLibrary) → s ≡ t → ls ≡ ms → let r : Replicas = record { taken = s; libraries = ls } in r ≡ record { taken = t; libraries = ms }
-      record_is s t ls ms a b = ap (λ (u : Taken Carried). let r : Replicas = record { taken = u; libraries = ls } in r) a ∙ ap (λ (ns : List NodeLibrary). let r : Replicas = record { taken = t; libraries = ns } in r) b
+pub step_keeps : (old : Replicas) (e : Event Carried) (history : History Carried) (libraries : List NodeLibrary) (restarted : Option ℕ) (count : ℕ) → AreReplicas old
+    → history ≡ with_event old.history e → restarted ≡ restarts e → libraries ≡ given_up old.libraries restarted
+    → IfErr (world_of carried_size (with_event old.history e)) (λ fault. let answer : Result ℕ StepFault = Ok count in answer ≡ Err fault) → AreReplicas (record { history = history; libraries = libraries })
+step_keeps old e history libraries restarted count h is restarts_is given refused =
+    subst AreReplicas (sym (record_is history (with_event old.history e) libraries (given_up old.libraries (restarts e)) is (given ∙ ap (λ (o : Option ℕ). given_up old.libraries o) restarts_is)))
+    (then_are_replicas old e (ok_unless_met (world_of carried_size (with_event old.history e)) count refused) h) where
+      record_is : (s t : History Carried) (ls ms : List NodeLibrary) → s ≡ t → ls ≡ ms → let r : Replicas = record { history = s; libraries = ls } in r ≡ record { history = t; libraries = ms }
+      record_is s t ls ms a b = ap (λ (u : History Carried). let r : Replicas = record { history = u; libraries = ls } in r) a ∙ ap (λ (ns : List NodeLibrary). let r : Replicas = record { history = t; libraries = ns } in r) b
 
 -- One entry applied at node k.
 
 -- where the library of node k is set to one of its log, each is still that of its log
-pub applied_are_replicas : (old : Replicas) (k : ℕ) (next : NodeLibrary) → AreReplicas old → IsOfLog (log_entries old.taken k) next → AreReplicas (record { taken = old.taken; libraries = set old.libraries k next })
+pub applied_are_replicas : (old : Replicas) (k : ℕ) (next : NodeLibrary) → AreReplicas old → IsOfLog (log_entries old.history k) next → AreReplicas (record { history = old.history; libraries = set old.libraries k next })
 applied_are_replicas old k next h here = record {
   one_each = length-set old.libraries k next ∙ h.one_each;
   of_logs = λ j node got. at_node j node got (k == j) refl;
 } where
-  at_node : (j : ℕ) (node : NodeLibrary) → slice_get (set old.libraries k next) j ≡ Some node → (t : Bool) → (k == j) ≡ t → IsOfLog (log_entries old.taken j) node
+  at_node : (j : ℕ) (node : NodeLibrary) → slice_get (set old.libraries k next) j ≡ Some node → (t : Bool) → (k == j) ≡ t → IsOfLog (log_entries old.history j) node
   at_node j node got true test =
       let same : k ≡ j = grind (arith, nat_tests) in
       let new : node ≡ next = set_new old.libraries j next node (subst (λ (i : ℕ). slice_get (set old.libraries i next) j ≡ Some node) same got) in
-      subst (λ (l : NodeLibrary). IsOfLog (log_entries old.taken j) l) (sym new) (subst (λ (i : ℕ). IsOfLog (log_entries old.taken i) next) same here)
+      subst (λ (l : NodeLibrary). IsOfLog (log_entries old.history j) l) (sym new) (subst (λ (i : ℕ). IsOfLog (log_entries old.history i) next) same here)
   at_node j node got false test =
       let other : k ≢ j = grind (arith, nat_tests) in
       h.of_logs j node (sym (at_set_other old.libraries k j next other) ∙ got)
@@ -171,9 +171,9 @@ new_given_up n (Some k) = set_again n k where
   set_again (suc m) (suc i) = ap (λ ls. new_library ∷ ls) (set_again m i)
 
 -- the replicas of a run, with one event more, have new libraries as before
-pub run_goes_on : (weights : List ℕ) (done : List (Event Entry)) (e : Event Entry) (old new : Replicas) → old ≡ record { taken = record { weights = weights; events = all_carried done }; libraries = new_libraries weights }
-    → new ≡ then_event old (carried e) → new ≡ record { taken = record { weights = weights; events = all_carried (done ++ e ∷ []) }; libraries = new_libraries weights }
+pub run_goes_on : (weights : List ℕ) (done : List (Event Entry)) (e : Event Entry) (old new : Replicas) → old ≡ record { history = record { weights = weights; events = all_carried done }; libraries = new_libraries weights }
+    → new ≡ then_event old (carried e) → new ≡ record { history = record { weights = weights; events = all_carried (done ++ e ∷ []) }; libraries = new_libraries weights }
 run_goes_on weights done e old new was is =
     is ∙ (ap (λ (r : Replicas). then_event r (carried e)) was
-    ∙ (ap (λ (es : List (Event Carried)). let r : Replicas = record { taken = record { weights = weights; events = es }; libraries = given_up (new_libraries weights) (restarts (carried e)) } in r) (sym (all_carried-append done (e ∷ [])))
-    ∙ ap (λ (ls : List NodeLibrary). let r : Replicas = record { taken = record { weights = weights; events = all_carried (done ++ e ∷ []) }; libraries = ls } in r) (new_given_up (length weights) (restarts (carried e)))))
+    ∙ (ap (λ (es : List (Event Carried)). let r : Replicas = record { history = record { weights = weights; events = es }; libraries = given_up (new_libraries weights) (restarts (carried e)) } in r) (sym (all_carried-append done (e ∷ [])))
+    ∙ ap (λ (ls : List NodeLibrary). let r : Replicas = record { history = record { weights = weights; events = all_carried (done ++ e ∷ []) }; libraries = ls } in r) (new_given_up (length weights) (restarts (carried e)))))

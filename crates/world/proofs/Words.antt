@@ -6,14 +6,14 @@ pub use Rattle.library.specs.declared.verdict.Verdict.{Verdict}
 pub use Rattle.net.proofs.Beginnings.{beginnings_agree, then_begins}
 pub use Rattle.net.proofs.EveryEvent.{if_taken}
 pub use Rattle.net.proofs.GrowingLists.{at_set_other}
-pub use Rattle.net.proofs.HistoryLemmas.{agreement_of, stops_there, taken_front}
+pub use Rattle.net.proofs.AgreementLemmas.{agreement_of, stops_there, taken_front}
 pub use Rattle.net.proofs.LogsGrow.{log_grows}
-pub use Rattle.net.proofs.TakenLemmas.{after-push, set_same}
-pub use Rattle.net.proofs.TwoMoments.{all_happen-append}
+pub use Rattle.net.proofs.HistoryLemmas.{after-push, set_same}
+pub use Rattle.net.proofs.TwoMoments.{events_result-append}
 pub use Rattle.net.specs.Agree.{Agree, IsPrefixOf}
-pub use Rattle.net.specs.History.{Agreement}
-pub use Rattle.net.specs.Taken.{Taken, with_event, world_of}
-pub use Rattle.net.specs.World.{World, all_happen, happens, log, log_after, start}
+pub use Rattle.net.specs.Agreement.{Agreement}
+pub use Rattle.net.specs.History.{History, with_event, world_of}
+pub use Rattle.net.specs.World.{World, events_result, event_result, log, log_after, start}
 pub use Rattle.net.specs.declared.event.Event.{Event}
 pub use Rattle.net.specs.declared.event.Event.TheVariants.{Begin, Deliver, Offer, Restart}
 pub use Rattle.net.specs.declared.fault.StepFault.{StepFault}

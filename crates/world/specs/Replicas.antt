@@ -2,7 +2,7 @@
 -- Source: Lamport, Paxos Made Simple, section 3: a server executes the commands in order, each when it knows all earlier ones.
 -- The code has the nodes and packets too; by its type, each library is that of the first entries of its node's log.
 use Rattle.std.specs.Prelude.{◌≡◌, ◌+◌, ◌≤◌, ℕ, List, [], Option, Some, None, Result, Ok, Err, length, take, replicate, slice_get, slice_set}
-use Rattle.world.specs.Words.{Entry, Verdict, Replica, empty, Applies, IsLibraryOf, Event, StepFault, Memory, Offer, Begin, Deliver, Restart, log_after, Taken, world_of, with_event}
+use Rattle.world.specs.Words.{Entry, Verdict, Replica, empty, Applies, IsLibraryOf, Event, StepFault, Memory, Offer, Begin, Deliver, Restart, log_after, History, world_of, with_event}
 use Rattle.world.specs.declared.carried.Carried.{Carried}
 use Rattle.world.specs.Carried.{carried_size, entries_of}
 
@@ -12,7 +12,7 @@ pub record NodeLibrary : Type 0 where
   pub library : Replica
 
 pub record Replicas : Type 0 where
-  pub taken : Taken Carried
+  pub history : History Carried
   pub libraries : List NodeLibrary  -- one for each node
 
 abbrev pub new_library : NodeLibrary
@@ -23,7 +23,7 @@ new_libraries weights = replicate (length weights) new_library
 
 -- a world before any event
 abbrev pub new_replicas : List ℕ → Replicas
-new_replicas weights = record { taken = record { weights = weights; events = [] }; libraries = new_libraries weights }
+new_replicas weights = record { history = record { weights = weights; events = [] }; libraries = new_libraries weights }
 
 -- the node that the event restarts, if it is a restart
 abbrev pub restarts : {V : Type 0} → Event V → Option ℕ
@@ -39,11 +39,11 @@ given_up libraries (Some k) = slice_set libraries k new_library
 
 -- a world after one more event: the library of a node that restarts is emptied
 abbrev pub then_event : Replicas → Event Carried → Replicas
-then_event r e = record { taken = with_event r.taken e; libraries = given_up r.libraries (restarts e) }
+then_event r e = record { history = with_event r.history e; libraries = given_up r.libraries (restarts e) }
 
 -- the log of node k after the events
-abbrev pub log_entries : Taken Carried → ℕ → List (Option Entry)
-log_entries taken k = entries_of (log_after (world_of carried_size taken) k)
+abbrev pub log_entries : History Carried → ℕ → List (Option Entry)
+log_entries history k = entries_of (log_after (world_of carried_size history) k)
 
 -- the library is that of the first entries of the log, as many as were applied
 pub record IsOfLog (log : List (Option Entry)) (node : NodeLibrary) : Type 0 where
@@ -52,8 +52,8 @@ pub record IsOfLog (log : List (Option Entry)) (node : NodeLibrary) : Type 0 whe
 
 -- there is one library for each node, each of its node's log
 pub record AreReplicas (r : Replicas) : Type 0 where
-  pub one_each : length r.libraries ≡ length r.taken.weights
-  pub of_logs : (k : ℕ) (node : NodeLibrary) → slice_get r.libraries k ≡ Some node → IsOfLog (log_entries r.taken k) node
+  pub one_each : length r.libraries ≡ length r.history.weights
+  pub of_logs : (k : ℕ) (node : NodeLibrary) → slice_get r.libraries k ≡ Some node → IsOfLog (log_entries r.history k) node
 
 -- The next entry of a log.
 
@@ -63,7 +63,7 @@ next_of log (Some node) = slice_get log node.applied
 
 -- the entry of node k's log to be applied next, if there is one
 abbrev pub next_entry : Replicas → ℕ → Option (Option Entry)
-next_entry r k = next_of (log_entries r.taken k) (slice_get r.libraries k)
+next_entry r k = next_of (log_entries r.history k) (slice_get r.libraries k)
 
 -- the entry is applied to the library of node k, with this verdict, and nothing else changes
 pub record IsApplied (old : Replicas) (k : ℕ) (entry : Option Entry) (verdict : Verdict) (new : Replicas) : Type 0 where
@@ -71,7 +71,7 @@ pub record IsApplied (old : Replicas) (k : ℕ) (entry : Option Entry) (verdict 
   pub library : Replica
   pub was : slice_get old.libraries k ≡ Some before
   pub applies : Applies before.library entry verdict library
-  pub becomes : new ≡ record { taken = old.taken; libraries = slice_set old.libraries k (record { applied = before.applied + 1; library = library }) }
+  pub becomes : new ≡ record { history = old.history; libraries = slice_set old.libraries k (record { applied = before.applied + 1; library = library }) }
 
 -- the entry is applied with this verdict, or there is none; or an allocation fails, and nothing changes
 abbrev pub AppliesNext : NodeLibrary → NodeLibrary → Option (Option Entry) → Result (Option Verdict) StepFault → Type 0

@@ -1,4 +1,4 @@
-use Rattle.world.proofs.Words.{◌≡◌, List, ◌∷◌, ◌++◌, [], ap, sym, ◌∙◌, subst, append_assoc, into_iter_items, into_iter_steps, append-nil, nil_from_length, Yields-more, Entry, Event, carried, all_carried, carried_size, Taken, Carried, Headline, Replicas, taken_front, stops_there}
+use Rattle.world.proofs.Words.{◌≡◌, List, ◌∷◌, ◌++◌, [], ap, sym, ◌∙◌, subst, append_assoc, into_iter_items, into_iter_steps, append-nil, nil_from_length, Yields-more, Entry, Event, carried, all_carried, carried_size, History, Carried, Headline, Replicas, taken_front, stops_there}
 use Rattle.world.proofs.EntryLogs.{all_carried-append}
 use Rattle.world.proofs.HeadlineLemmas.{headline_holds}
 use Rattle.world.proofs.ReplicasLemmas.{run_goes_on, step_taken}
@@ -13,8 +13,8 @@ returns-in-Err-step-clause-stops c =
     let more = Yields-more into_iter_steps it done c.loop-event.event-iterator e c.next.new.self c.loop-event.yielded_by c.in-Some.ensures.steps in
     let split : c.args.events.items ≡ done ++ e ∷ rest = sym c.into_iter-event-iterator.ensures.into_iter_gives.0 ∙ (taken_front it (done ++ e ∷ []) c.next.new.self more ∙ append_assoc done (e ∷ []) rest) in
     let cut : all_carried c.args.events.items ≡ all_carried done ++ carried e ∷ all_carried rest = ap (λ (es : List (Event Entry)). all_carried es) split ∙ all_carried-append done (e ∷ rest) in
-    stops_there carried_size c.args.weights (all_carried c.args.events.items) (all_carried done) (all_carried rest) (carried e) c.loop-event.world.taken c.step.new.self.taken c.history.result.now c.in-Err-step.fault
-    cut (ap (λ (r : Replicas). r.taken) c.loop-event.invariant.world) (ap (λ (r : Replicas). r.taken) c.in-Err-step.ensures.same) c.history.ensures.events c.history.ensures.headline.agreement.is_taken c.in-Err-step.ensures.refused c.in-Err-step.ensures.only_memory
+    stops_there carried_size c.args.weights (all_carried c.args.events.items) (all_carried done) (all_carried rest) (carried e) c.loop-event.world.history c.step.new.self.history c.history.result.now c.in-Err-step.fault
+    cut (ap (λ (r : Replicas). r.history) c.loop-event.invariant.world) (ap (λ (r : Replicas). r.history) c.in-Err-step.ensures.same) c.history.ensures.events c.history.ensures.headline.agreement.is_taken c.in-Err-step.ensures.refused c.in-Err-step.ensures.only_memory
 
 pub loop-event-preserved : goal.loop-event-preserved
 loop-event-preserved c = record {
@@ -32,5 +32,5 @@ returns-clause-headline c =
     let whole : c.args.events.items ≡ done =
     sym c.into_iter-event-iterator.ensures.into_iter_gives.0 ∙ (taken_front c.into_iter-event-iterator.result done it c.loop-event.yielded_by
     ∙ (ap (λ (es : List (Event Entry)). done ++ es) none ∙ append-nil done)) in
-    subst Headline (ap (λ (r : Replicas). r.taken) c.loop-event.invariant.world ∙ ap (λ (es : List (Event Entry)). let t : Taken Carried = record { weights = c.args.weights; events = all_carried es } in t) (sym whole))
-    (headline_holds c.loop-event.world.taken c.loop-event.invariant.taken)
+    subst Headline (ap (λ (r : Replicas). r.history) c.loop-event.invariant.world ∙ ap (λ (es : List (Event Entry)). let t : History Carried = record { weights = c.args.weights; events = all_carried es } in t) (sym whole))
+    (headline_holds c.loop-event.world.history c.loop-event.invariant.taken)
