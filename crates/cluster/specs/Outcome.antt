@@ -27,4 +27,4 @@ IsOutcomeBy (Some verdict) first entry outcome =
 
 abbrev pub IsOutcomeOf : Cell → Entry → Option Verdict → Type 0
 IsOutcomeOf cell entry outcome =
-    IsOutcomeBy (status cell.node.library.decided (author_of entry) (serial_of entry)) (first_with_key entry cell.entries) entry outcome
+    IsOutcomeBy (status cell.replica.library.decided (author_of entry) (serial_of entry)) (first_with_key entry cell.entries) entry outcome

@@ -19,12 +19,12 @@ pub fn ask_on<T, F: FnOnce(&NodeCell) -> T + Drop>(
     question: F,
 ) -> Result<T, StepFault>
     requires { F.IsAlwaysCallable question }
-    ensures of_node { IfOk result (λ answer. cell.now.at ≡ k) }
+    ensures of_node { IfOk result (λ answer. cell.now.node ≡ k) }
     ensures answered { IfOk result (λ answer. FnOnceReturnsAt F.FnOnce question cell.now answer) }
-    ensures own { cell.now.at ≡ k → IsOk result }
-    ensures apart { (cell.now.at ≡ k → ⊥) → result ≡ Err Apart }
+    ensures own { cell.now.node ≡ k → IsOk result }
+    ensures apart { (cell.now.node ≡ k → ⊥) → result ≡ Err Apart }
 {
-    if cell.at() != k {
+    if cell.node() != k {
         return Err(StepFault::Apart);
     }
     Ok(question(cell))
@@ -51,7 +51,7 @@ fn is_first(entries: &[Option<Carried>], entry: &Entry) -> bool
 {
     for found in entries {
         if has_key_of(found, entry) {
-            return is_found(found, entry);
+            return is_equal_entry(found, entry);
         }
     }
     false
@@ -70,7 +70,7 @@ fn has_key_of(found: &Option<Carried>, entry: &Entry) -> bool
 }
 
 /// Returns whether `found` is this entry.
-fn is_found(found: &Option<Carried>, entry: &Entry) -> bool
+fn is_equal_entry(found: &Option<Carried>, entry: &Entry) -> bool
     ensures { IsTrue result ↔ (found.now ≡ Some (record { 0 = entry.now })) }
 {
     match found {

@@ -3,7 +3,7 @@ ghost use Rattle.std.specs.Prelude.{◌≡◌, ◌<◌, Ok, Err, Some, None, OnO
 ghost use Rattle.slots.specs.FiniteMap.{entry_at, trimmed};
 ghost use Rattle.slots.specs.declared.slots.TheConstants.{SLOTS};
 ghost use Rattle.synod.specs.Record.{new_kept, HasRoomFor};
-ghost use Rattle.cluster.specs.LongerRecord.{with_entry};
+ghost use Rattle.cluster.specs.CopiedSlots.{with_copied_slot};
 
 use scope::Steps;
 use slots::SLOTS;
@@ -103,7 +103,7 @@ fn copy_slot<V: Value>(
     slot: u32,
 ) -> Result<(), AllocError>
     requires { slot < SLOTS }
-    ensures { OnOk result (copy.new.kept.accepted ≡ with_entry copy.old.kept.accepted slot (entry_at source.now.kept.accepted slot)) }
+    ensures { OnOk result (copy.new.kept.accepted ≡ with_copied_slot copy.old.kept.accepted slot (entry_at source.now.kept.accepted slot)) }
 {
     let Some(entry) = source.get(slot) else {
         return Ok(());

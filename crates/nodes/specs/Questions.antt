@@ -9,7 +9,7 @@ use Rattle.nodes.specs.Words.{Cell, Carried, Event, SwitchView, world_of, carrie
 
 -- the cell is node k's
 pub record IsCellAt (k : ℕ) (cell : Cell) : Type 0 where
-  pub at : cell.at ≡ k
+  pub at : cell.node ≡ k
 
 -- the events of some switch, whose history is taken
 pub record IsHistory (history : List (Event Carried)) : Type 0 where
@@ -21,7 +21,7 @@ pub record IsHistory (history : List (Event Carried)) : Type 0 where
 pub record IsStanding (k : ℕ) (standing : NodeStanding) : Type 0 where
   pub cell : Cell
   pub of_node : IsCellAt k cell
-  pub applied : standing.applied ≡ cell.node.applied
+  pub applied : standing.applied ≡ cell.replica.applied
   pub switch : SwitchView Carried
   pub state : state_after (world_of carried_size switch) k ≡ Some standing.state
   pub is_down : standing.is_down ≡ is_down_at switch.stores (Some k)

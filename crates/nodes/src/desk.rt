@@ -87,7 +87,7 @@ impl<G: Gate, K: Keep<Carried>> Desk<G, K> {
                 return Err(self.shared.switch.lock(rt).without_node());
             };
             let mut node = lock.lock(rt);
-            if node.cell.at() != k {
+            if node.cell.node() != k {
                 return Err(StepFault::Apart);
             }
             node.try_at_once();
@@ -107,7 +107,7 @@ impl<G: Gate, K: Keep<Carried>> Desk<G, K> {
         ensures only_memory { k < self.now → IfErr result (λ fault. (fault ≡ Apart) ⊎ (fault ≡ Memory)) }
     {
         let node = self.shared.cell(k)?.lock(rt);
-        if node.cell.at() != k {
+        if node.cell.node() != k {
             return Err(StepFault::Apart);
         }
         Ok(list_on(&node.cell)?)
@@ -129,7 +129,7 @@ impl<G: Gate, K: Keep<Carried>> Desk<G, K> {
         ensures only_apart { k < self.now → IsOkUnless result Apart }
     {
         let node = self.shared.cell(k)?.lock(rt);
-        if node.cell.at() != k {
+        if node.cell.node() != k {
             return Err(StepFault::Apart);
         }
         Ok(node.cell.library().status(author, serial))

@@ -56,7 +56,7 @@ impl<G: Gate, K: Keep<Carried>> Desk<G, K> {
         ensures faults { IfErr result (λ fault. (fault ≡ NoNode) ⊎ (fault ≡ Apart)) }
     {
         let node = self.shared.cell(k)?.lock(rt);
-        if node.cell.at() != k {
+        if node.cell.node() != k {
             return Err(StepFault::Apart);
         }
         let applied = node.cell.applied();

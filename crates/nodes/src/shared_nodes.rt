@@ -91,7 +91,7 @@ impl<G: Gate, K: Keep<Carried>> SharedNodes<G, K> {
     {
         let gate: &G = &self.gate;
         for _entry in 0..SLOTS {
-            if !node.cell.is_behind() {
+            if !node.cell.has_unapplied() {
                 break;
             }
             gate.pass(Place::Apply(k));
@@ -136,9 +136,9 @@ impl<G: Gate, K: Keep<Carried>> SharedNodes<G, K> {
 /// Returns whether the cell is node `k`'s and belongs to the switch. No fact relates values under two locks, so this is tested
 /// while both are held.
 fn is_at<K: Keep<Carried>>(cell: &NodeCell, k: u8, switch: &Switch<Carried, K>) -> bool
-    ensures { IsTrue result → (cell.now.at ≡ k) × Belongs cell.now switch.now }
+    ensures { IsTrue result → (cell.now.node ≡ k) × Belongs cell.now switch.now }
 {
-    cell.at() == k && belongs(cell, switch)
+    cell.node() == k && belongs(cell, switch)
 }
 
 /// Takes over the next entries of the node's log, as far as allocations succeed.

@@ -52,7 +52,7 @@ impl<K: Keep<Carried>> SharedSwitch<K> {
         cell: &mut NodeCell,
         others: u64,
     ) -> Result<Vec<Hint>, StepFault>
-        ensures { AnswersAs self.old.switch self.new.switch (Restart cell.old.at) result }
+        ensures { AnswersAs self.old.switch self.new.switch (Restart cell.old.node) result }
     {
         let count = restart_on(cell, &mut self.switch)?;
         self.posted = count;

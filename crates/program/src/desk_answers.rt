@@ -35,7 +35,7 @@ impl<R: Wait> AnsweringDesk<'_, R> {
     /// Appends the statements of a node's library.
     pub fn push_export(&self, node: u8, text: &mut Vec<u8>) -> Result<(), Fault>
         ensures { OnOk result ((cell : Cell) × IsCellAt node cell
-            × (text.new.items ≡ text.old.items ++ export_text cell.node.library.statements)) }
+            × (text.new.items ≡ text.old.items ++ export_text cell.replica.library.statements)) }
     {
         let alloc = self.alloc;
         let made = self
@@ -67,7 +67,7 @@ impl<R: Wait> AnsweringDesk<'_, R> {
     /// Appends the answer to a question about a label of a node's library.
     pub fn push_label_answer(&self, asked: &NodeQuestion, text: &mut Vec<u8>) -> Result<(), Fault>
         ensures { OnOk result ((cell : Cell) × IsCellAt asked.now.node cell × (answer : List ℕ)
-            × IsLabelAnswer cell.node.library.statements asked.now.kind asked.now.label answer
+            × IsLabelAnswer cell.replica.library.statements asked.now.kind asked.now.label answer
             × (text.new.items ≡ text.old.items ++ answer)) }
     {
         let alloc = self.alloc;
@@ -116,7 +116,7 @@ fn decision_at(alloc: Global, cell: &NodeCell, at: EntryAt) -> Result<Decision, 
 
 /// Returns the statements of the library of a cell.
 fn export_of(alloc: Global, cell: &NodeCell) -> Result<Vec<u8>, AllocError>
-    ensures { IfOk result (λ text. text.items ≡ export_text cell.now.node.library.statements) }
+    ensures { IfOk result (λ text. text.items ≡ export_text cell.now.replica.library.statements) }
 {
     let mut text = Vec::new(alloc);
     push_export(&mut text, cell.library())?;

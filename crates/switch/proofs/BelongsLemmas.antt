@@ -1,5 +1,5 @@
 -- A prefix of a node's log stays one, whatever event comes, but for a restart of that node.
-use Rattle.switch.proofs.Words.{◌≡◌, ◌≢◌, ℕ, ◌<◌, ◌==◌, Bool, true, false, List, [], ◌∷◌, ◌++◌, length, slice_get, inl, inr, Option, Some, None, Result, Ok, Err, refl, ap, sym, ◌∙◌, subst, arith, nat_lt, ◌+◌, IsSome, OnErr, option_map, nat_tests, length-set, Packet, Change, Refusal, Node, StepResult, offered, begun, on_packet, restarted, MOST_EVENTS, Event, Offer, Begin, Deliver, Restart, StepFault, World, at_node, delivered, event_result_without_limit, event_result, log, log_after, events_result, start, IsAfter, IsPrefixOf, node_of, change_of, IfTaken, if_taken, spent_or, events_result-append, after-push, log_grows, then_begins, Status, up, down, StoreView, SwitchView, world_of, with_store, IsViewOf, AreStores, is_down, is_down_view, is_down_at, owed_on_failure, change_of_owed, owed_events, FailsAt, TakesAt, IsEffectAtUpNode, RevivesAt, Revives, IsEffectAtDownNode, IsEffect, BeginsLog, StaysBelonging, KeepsLogs, append-nil}
+use Rattle.switch.proofs.Words.{◌≡◌, ◌≢◌, ℕ, ◌<◌, ◌==◌, Bool, true, false, List, [], ◌∷◌, ◌++◌, length, slice_get, inl, inr, Option, Some, None, Result, Ok, Err, refl, ap, sym, ◌∙◌, subst, arith, nat_lt, ◌+◌, IsSome, OnErr, option_map, nat_tests, length-set, Packet, Change, Refusal, Node, StepResult, offered, begun, on_packet, restarted, MOST_EVENTS, Event, Offer, Begin, Deliver, Restart, StepFault, World, at_node, delivered, event_result_without_limit, event_result, log, log_after, events_result, start, IsAfter, IsPrefixOf, node_of, change_of, IfTaken, if_taken, spent_or, events_result-append, after-push, log_grows, then_begins, Status, up, down, StoreView, SwitchView, world_of, with_store, IsViewOf, AreStores, is_down, is_down_view, is_down_at, owed_on_failure, change_of_owed, owed_events, FailsAt, TakesAt, IsEffectAtUpNode, RevivesAt, Revives, IsEffectAtDownNode, IsEffect, IsLogPrefix, StaysBelonging, KeepsLogs, append-nil}
 use Rattle.switch.specs.Switch.{with_event}
 
 -- The node of an event that is taken is there.
@@ -43,18 +43,18 @@ log_goes_on {V} size w e x happened j other = if_taken (λ (y : World V). IsPref
 module _ {V : Type 0} (size : V → ℕ) (old : SwitchView V) where
   -- where nothing has changed, what begins a log still begins it
   pub same_stays : (new : SwitchView V) → new ≡ old → StaysBelonging size old new
-  same_stays new is k entries h = subst (λ (s : SwitchView V). BeginsLog size s k entries) (sym is) h
+  same_stays new is k entries h = subst (λ (s : SwitchView V). IsLogPrefix size s k entries) (sym is) h
 
   -- only a store changes
   view_stays : (new : SwitchView V) (k : ℕ) (view : StoreView V) → new ≡ with_store old k view → StaysBelonging size old new
-  view_stays new k view is j entries h = subst (λ (s : SwitchView V). BeginsLog size s j entries) (sym is) record {
+  view_stays new k view is j entries h = subst (λ (s : SwitchView V). IsLogPrefix size s j entries) (sym is) record {
     node = subst (λ (n : ℕ). j < n) (sym (length-set old.stores k view)) h.node;
     begins = h.begins;
   }
 
   module _ (w : World V) (was : world_of size old ≡ Ok w) where
     -- a history of which x is the world
-    longer_stays : (new : SwitchView V) (x : World V) → world_of size new ≡ Ok x → length new.stores ≡ length old.stores → (j : ℕ) (entries : List (Option V)) → IsPrefixOf (log w j) (log x j) → BeginsLog size old j entries → BeginsLog size new j entries
+    longer_stays : (new : SwitchView V) (x : World V) → world_of size new ≡ Ok x → length new.stores ≡ length old.stores → (j : ℕ) (entries : List (Option V)) → IsPrefixOf (log w j) (log x j) → IsLogPrefix size old j entries → IsLogPrefix size new j entries
     longer_stays new x is count j entries grows h = record {
       node = subst (λ (n : ℕ). j < n) (sym count) h.node;
       begins =
@@ -65,7 +65,7 @@ module _ {V : Type 0} (size : V → ℕ) (old : SwitchView V) where
 
     -- where the event is taken, and is no restart of node j, what begins the log of j begins the longer one
     taken_stays : (new : SwitchView V) (k : ℕ) (view : StoreView V) (change : Option (Change V)) (e : Event V) (x : World V) → event_result size w e ≡ Ok x → new ≡ with_event old k view change e
-        → (j : ℕ) (entries : List (Option V)) → e ≢ Restart j → BeginsLog size old j entries → BeginsLog size new j entries
+        → (j : ℕ) (entries : List (Option V)) → e ≢ Restart j → IsLogPrefix size old j entries → IsLogPrefix size new j entries
     taken_stays new k view change e x happened is j entries other h =
         longer_stays new x
         (ap (λ (s : SwitchView V). world_of size s) is ∙ after-push size old.weights old.history w e was ∙ happened)

@@ -30,7 +30,7 @@ pub use Rattle.std.specs.Option.{option_map}
 pub use Rattle.std.specs.Prelude.{IfErr, IsErrAnd, IsOkUnless, IsSome, OnErr, OnOk}
 pub use Rattle.std.specs.Result.{ForOk}
 pub use Rattle.std.specs.Vec.Iter.{into_iter_items}
-pub use Rattle.switch.specs.Belonging.{BeginsLog, KeepsLogs, StaysBelonging}
+pub use Rattle.switch.specs.Belonging.{IsLogPrefix, KeepsLogs, StaysBelonging}
 pub use Rattle.switch.specs.NodeStore.{Fails, IsRecordOf, IsWithOrWithout, Status, StoreState, change_owed, down, owed_in, posts_owed, up}
 pub use Rattle.switch.specs.Switch.{IsEffect, IsEffectAtDownNode, IsEffectAtUpNode, AreStores, CanTakeOwed, FailsAt, IsOwing, IsRecordIn, IsStore, IsSwitch, IsViewOf, Plays, Revives, RevivesAt, StoreView, SwitchView, TakesAt, TakesOwed, change_of_owed, owed_on_failure, event_owed, owed_events, is_down, is_down_at, is_down_view, new_stores, new_views, status_seen, view_of, views_of, with_store, world_of}
 pub use Rattle.synod.proofs.NodeInvariant.{all_append}

@@ -76,7 +76,7 @@ fn makes_all(alloc: Global, switch: &mut Switch<Carried, Fuse>) -> bool {
 /// Returns whether each cell adds as many statements as `added_at` returns, and all agree.
 fn fills(switch: &Switch<Carried, Fuse>, cells: &mut Vec<NodeCell>) -> Result<bool, StepFault> {
     for cell in cells.iter_mut() {
-        if !adds(cell, switch, added_at(cell.at()))? {
+        if !adds(cell, switch, added_at(cell.node()))? {
             return Ok(false);
         }
     }
@@ -100,9 +100,9 @@ fn adds(
 ) -> Result<bool, StepFault> {
     let was_ahead = apply_on(cell)?.is_some();
     settle(cell, switch)?;
-    let is_behind = take_on(cell, switch)? || apply_on(cell)?.is_some();
+    let has_unapplied = take_on(cell, switch)? || apply_on(cell)?.is_some();
     let listed = list_on(cell)?.len();
-    Ok(!was_ahead && !is_behind && listed == 0 && cell.library().statements().len() == added)
+    Ok(!was_ahead && !has_unapplied && listed == 0 && cell.library().statements().len() == added)
 }
 
 /// Makes a step of the scenario.

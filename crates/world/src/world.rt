@@ -3,12 +3,12 @@ ghost use Rattle.std.specs.Prelude.{◌≡◌, ◌↔◌, ◌≤◌, ◌<◌, No
 ghost use Rattle.net.specs.World.{packets_after};
 ghost use Rattle.net.specs.NodeStates.{state_after};
 ghost use Rattle.net.specs.History.{world_of, with_event};
-ghost use Rattle.world.specs.Carried.{carried as carried_event, carried_size};
-ghost use Rattle.world.specs.Replicas.{log_entries, AppliesNext};
+ghost use Rattle.world.specs.Carried.{value_event, carried_size};
+ghost use Rattle.world.specs.WorldView.{log_entries, AppliesNext};
 ghost use Rattle.net.specs.declared.fault.StepFault.TheVariants.{NoNode, NoPacket, Memory};
 
-use crate::carried::{Carried, carry, entries, restarted};
-use crate::replica::{Replica, give_up, new_replicas};
+use crate::carried::{Carried, entries, restarted, to_value_event};
+use crate::replica::{Replica, new_replicas, reset_library};
 use library::{Entry, Library, Verdict};
 use net::{Event, MOST_EVENTS, Net, StepFault};
 use std::alloc::Global;
@@ -19,7 +19,7 @@ use synod::{NodeState, Packet, Weights};
 /// entries applied.
 ///
 /// Source: Lamport, Paxos Made Simple, 2 and 3; the world after a list of events is in `net/specs/World.antt`, what contracts
-/// see of it in `specs/Replicas.antt`.
+/// see of it in `specs/WorldView.antt`.
 #[derive(Drop)]
 pub struct World {
     alloc: Global,
@@ -28,24 +28,24 @@ pub struct World {
 }
 
 impl Model for World {
-    ghost use Rattle.world.specs.Replicas.{Replicas, AreReplicas};
+    ghost use Rattle.world.specs.WorldView.{WorldView, AreLibrariesOfLogs};
 
-    ghost Value = { Replicas };
+    ghost Value = { WorldView };
 
     ghost view = { λ w. record { history = w.net.history; libraries = w.replicas.items } };
 
-    ghost invariant = { λ w. AreReplicas (record { history = w.net.history; libraries = w.replicas.items }) };
+    ghost invariant = { λ w. AreLibrariesOfLogs (record { history = w.net.history; libraries = w.replicas.items }) };
 }
 
 impl World {
-    ghost use Rattle.world.specs.Replicas.{new_replicas, then_event, next_entry, AreReplicas, IsApplied};
+    ghost use Rattle.world.specs.WorldView.{new_world, after_event, next_entry, AreLibrariesOfLogs, IsApplied};
     ghost use Rattle.world.specs.Headline.{Headline};
 
     /// Creates a world of new nodes, each with an empty library.
     ///
     /// Errors: `Memory`.
     pub fn new(alloc: Global, weights: Weights) -> Result<Self, StepFault>
-        ensures new { IfOk result (λ world. world ≡ new_replicas weights) }
+        ensures new { IfOk result (λ world. world ≡ new_world weights) }
         ensures only_memory { IsOkUnless result Memory }
     {
         Ok(World {
@@ -59,18 +59,18 @@ impl World {
     ///
     /// Errors: the first fault that the event meets, or `Memory` if it meets none; the world is then as before.
     pub fn step(&mut self, event: Event<Entry>) -> Result<u64, StepFault>
-        ensures taken { OnOk result (self.new ≡ then_event self.old (carried_event event)) }
+        ensures taken { OnOk result (self.new ≡ after_event self.old (value_event event)) }
         ensures posted { IfOk result (λ count. count ≡ length (packets_after (world_of carried_size self.new.history))) }
 
         // A fault of the event is returned even if every allocation fails.
-        ensures refused { IfErr (world_of carried_size (with_event self.old.history (carried_event event))) (λ fault. result ≡ Err fault) }
-        ensures only_memory { OnOk (world_of carried_size (with_event self.old.history (carried_event event))) (IsOkUnless result Memory) }
+        ensures refused { IfErr (world_of carried_size (with_event self.old.history (value_event event))) (λ fault. result ≡ Err fault) }
+        ensures only_memory { OnOk (world_of carried_size (with_event self.old.history (value_event event))) (IsOkUnless result Memory) }
         ensures same { OnErr result (self.new ≡ self.old) }
     {
-        let event = carry(event);
+        let event = to_value_event(event);
         let restarted = restarted(&event);
         let posted = self.net.step(event)?;
-        give_up(self.alloc, &mut self.replicas, restarted);
+        reset_library(self.alloc, &mut self.replicas, restarted);
         Ok(posted)
     }
 
@@ -97,7 +97,7 @@ impl World {
         ensures library { IfOk result (λ library. IsSomeAnd (slice_get self.now.libraries k) (λ node. library.now.replica ≡ node.library)) }
         ensures no_node { length self.now.history.weights ≤ k → result ≡ Err NoNode }
         ensures node { k < length self.now.history.weights → IsOk result }
-        ensures of_logs { AreReplicas self.now }
+        ensures of_logs { AreLibrariesOfLogs self.now }
     {
         match self.replicas.get(k as usize) {
             Some(replica) => Ok(replica.library()),

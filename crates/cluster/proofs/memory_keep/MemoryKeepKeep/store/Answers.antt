@@ -1,5 +1,5 @@
 use Rattle.cluster.proofs.Words.{◌≡◌, Some, sym, subst, trimmed, Kept}
-use Rattle.cluster.proofs.LongerRecordLemmas.{stays_whole}
+use Rattle.cluster.proofs.CopiedSlotsLemmas.{stays_whole}
 use Rattle.cluster.proofs.memory_keep.MemoryKeepKeep.store.Goals as goal
 
 pub invariant_of-self-2 : goal.invariant_of-self-2

@@ -1,5 +1,5 @@
 use Rattle.world.proofs.Words.{length, ap, sym, ◌∙◌, History, Carried}
-use Rattle.world.proofs.ReplicasLemmas.{new_are_replicas}
+use Rattle.world.proofs.WorldViewLemmas.{new_are_replicas}
 use Rattle.world.proofs.world.World.new.Goals as goal
 
 pub invariant_of-result : goal.invariant_of-result

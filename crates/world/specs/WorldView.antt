@@ -11,19 +11,19 @@ pub record NodeLibrary : Type 0 where
   pub applied : ℕ
   pub library : Replica
 
-pub record Replicas : Type 0 where
+pub record WorldView : Type 0 where
   pub history : History Carried
   pub libraries : List NodeLibrary  -- one for each node
 
-abbrev pub new_library : NodeLibrary
-new_library = record { applied = 0; library = empty }
+abbrev pub new_node_library : NodeLibrary
+new_node_library = record { applied = 0; library = empty }
 
-abbrev pub new_libraries : List ℕ → List NodeLibrary
-new_libraries weights = replicate (length weights) new_library
+abbrev pub new_node_libraries : List ℕ → List NodeLibrary
+new_node_libraries weights = replicate (length weights) new_node_library
 
 -- a world before any event
-abbrev pub new_replicas : List ℕ → Replicas
-new_replicas weights = record { history = record { weights = weights; events = [] }; libraries = new_libraries weights }
+abbrev pub new_world : List ℕ → WorldView
+new_world weights = record { history = record { weights = weights; events = [] }; libraries = new_node_libraries weights }
 
 -- the node that the event restarts, if it is a restart
 abbrev pub restarts : {V : Type 0} → Event V → Option ℕ
@@ -33,13 +33,13 @@ restarts (Deliver number) = None
 restarts (Restart k) = Some k
 
 -- the libraries, with that of this node, if there is one, emptied
-abbrev pub given_up : List NodeLibrary → Option ℕ → List NodeLibrary
-given_up libraries None = libraries
-given_up libraries (Some k) = slice_set libraries k new_library
+abbrev pub with_library_reset : List NodeLibrary → Option ℕ → List NodeLibrary
+with_library_reset libraries None = libraries
+with_library_reset libraries (Some k) = slice_set libraries k new_node_library
 
 -- a world after one more event: the library of a node that restarts is emptied
-abbrev pub then_event : Replicas → Event Carried → Replicas
-then_event r e = record { history = with_event r.history e; libraries = given_up r.libraries (restarts e) }
+abbrev pub after_event : WorldView → Event Carried → WorldView
+after_event r e = record { history = with_event r.history e; libraries = with_library_reset r.libraries (restarts e) }
 
 -- the log of node k after the events
 abbrev pub log_entries : History Carried → ℕ → List (Option Entry)
@@ -51,7 +51,7 @@ pub record IsOfLog (log : List (Option Entry)) (node : NodeLibrary) : Type 0 whe
   pub library : IsLibraryOf (take node.applied log) node.library
 
 -- there is one library for each node, each of its node's log
-pub record AreReplicas (r : Replicas) : Type 0 where
+pub record AreLibrariesOfLogs (r : WorldView) : Type 0 where
   pub one_each : length r.libraries ≡ length r.history.weights
   pub of_logs : (k : ℕ) (node : NodeLibrary) → slice_get r.libraries k ≡ Some node → IsOfLog (log_entries r.history k) node
 
@@ -62,11 +62,11 @@ next_of log None = None
 next_of log (Some node) = slice_get log node.applied
 
 -- the entry of node k's log to be applied next, if there is one
-abbrev pub next_entry : Replicas → ℕ → Option (Option Entry)
+abbrev pub next_entry : WorldView → ℕ → Option (Option Entry)
 next_entry r k = next_of (log_entries r.history k) (slice_get r.libraries k)
 
 -- the entry is applied to the library of node k, with this verdict, and nothing else changes
-pub record IsApplied (old : Replicas) (k : ℕ) (entry : Option Entry) (verdict : Verdict) (new : Replicas) : Type 0 where
+pub record IsApplied (old : WorldView) (k : ℕ) (entry : Option Entry) (verdict : Verdict) (new : WorldView) : Type 0 where
   pub before : NodeLibrary
   pub library : Replica
   pub was : slice_get old.libraries k ≡ Some before

@@ -1,5 +1,5 @@
 -- A map that ends in an entry stays one with an entry more, and is copied slot by slot.
-use Rattle.cluster.proofs.Words.{◌≡◌, ℕ, zero, suc, ◌+◌, ◌<◌, List, [], ◌∷◌, Option, Some, None, length, take, refl, ap, sym, ◌∙◌, subst, arith, add-one, le_of_suc-le-suc, entry_at, put_at, trim_head, trimmed, AcceptedEntry, Change, Round, Promise, Kept, changed_by, with_entry}
+use Rattle.cluster.proofs.Words.{◌≡◌, ℕ, zero, suc, ◌+◌, ◌<◌, List, [], ◌∷◌, Option, Some, None, length, take, refl, ap, sym, ◌∙◌, subst, arith, add-one, le_of_suc-le-suc, entry_at, put_at, trim_head, trimmed, AcceptedEntry, Change, Round, Promise, Kept, changed_by, with_copied_slot}
 use Rattle.synod.specs.declared.change.Change.TheVariants.{Entry}
 
 -- a gap in front of entries, one of which was put, is not trimmed away
@@ -28,23 +28,23 @@ trimmed-put_at (x ∷ xs) zero v = sym (put_first x (trimmed xs) v)
 trimmed-put_at (x ∷ xs) (suc s) v = ap (λ ys. trim_head x ys) (trimmed-put_at xs s v) ∙ sym (put_past_head x (trimmed xs) s v)
 
 -- to copy a slot past the first, the first may be trimmed before or after
-with_past_head : {T : Type 0} (x : Option T) (xs : List (Option T)) (s : ℕ) (o : Option T) → with_entry (trim_head x xs) (suc s) o ≡ trim_head x (with_entry xs s o)
+with_past_head : {T : Type 0} (x : Option T) (xs : List (Option T)) (s : ℕ) (o : Option T) → with_copied_slot (trim_head x xs) (suc s) o ≡ trim_head x (with_copied_slot xs s o)
 with_past_head x xs s None = refl
 with_past_head x xs s (Some v) = put_past_head x xs s v
 
 -- to copy the first slot gives it alone, trimmed
-with_first : {T : Type 0} (x : Option T) → with_entry [] zero x ≡ trim_head x []
+with_first : {T : Type 0} (x : Option T) → with_copied_slot [] zero x ≡ trim_head x []
 with_first None = refl
 with_first (Some v) = refl
 
 -- the first slots with the next one copied are the first slots up to it, trimmed
-with_suc : {T : Type 0} (xs : List (Option T)) (s : ℕ) → s < length xs → with_entry (trimmed (take s xs)) s (entry_at xs s) ≡ trimmed (take (suc s) xs)
+with_suc : {T : Type 0} (xs : List (Option T)) (s : ℕ) → s < length xs → with_copied_slot (trimmed (take s xs)) s (entry_at xs s) ≡ trimmed (take (suc s) xs)
 with_suc [] s low = absurd (omega arith)
 with_suc (x ∷ xs) zero low = with_first x
 with_suc (x ∷ xs) (suc s) low = with_past_head x (trimmed (take s xs)) s (entry_at xs s) ∙ ap (λ ys. trim_head x ys) (with_suc xs s (le_of_suc-le-suc low))
 
 -- one slot more is copied
-pub with_next : {T : Type 0} (xs : List (Option T)) (s : ℕ) → s < length xs → with_entry (trimmed (take s xs)) s (entry_at xs s) ≡ trimmed (take (s + 1) xs)
+pub with_next : {T : Type 0} (xs : List (Option T)) (s : ℕ) → s < length xs → with_copied_slot (trimmed (take s xs)) s (entry_at xs s) ≡ trimmed (take (s + 1) xs)
 with_next {T} xs s low = with_suc xs s low ∙ ap (λ (i : ℕ). trimmed (take i xs)) (sym (add-one s))
 
 -- What a keep in memory has: a record whose entries end in an entry.

@@ -1,6 +1,6 @@
 use Rattle.cluster.proofs.Words.{◌≡◌, true, false, length, refl, sym, ◌∙◌, arith, log_after, world_of, carried_size}
 use Rattle.cluster.proofs.CellTieLemmas.{all_found, in_switch, no_err, no_ok}
-use Rattle.cluster.proofs.log.begins_log.Goals as goal
+use Rattle.cluster.proofs.log.is_log_prefix.Goals as goal
 
 pub returns-then-is_err-clause-begins : goal.returns-then-is_err-clause-begins
 returns-then-is_err-clause-begins g c = (

@@ -1,5 +1,5 @@
 use Rattle.cluster.proofs.Words.{◌≡◌, ℕ, ◌<◌, slice_get, log_after, world_of, carried_size}
-use Rattle.cluster.proofs.log.begins_log.Given as goal
+use Rattle.cluster.proofs.log.is_log_prefix.Given as goal
 
 -- the entries gone through are those of the log
 abbrev pub invariant-loop-slot : goal.invariant-loop-slot

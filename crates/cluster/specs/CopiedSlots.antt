@@ -4,6 +4,6 @@
 use Rattle.std.specs.Prelude.{ℕ, List, Option, Some, None}
 use Rattle.cluster.specs.Words.{put_at}
 
-abbrev pub with_entry : {T : Type 0} → List (Option T) → ℕ → Option T → List (Option T)
-with_entry xs s None = xs
-with_entry xs s (Some v) = put_at xs s v
+abbrev pub with_copied_slot : {T : Type 0} → List (Option T) → ℕ → Option T → List (Option T)
+with_copied_slot xs s None = xs
+with_copied_slot xs s (Some v) = put_at xs s v
