@@ -32,9 +32,9 @@ pub record IsCompared (j k : ℕ) (ahead : Ahead) : Type 0 where
 -- The event that a call at a desk plays on the switch under the lock.
 
 -- the result of a call is that of the event at the switch: some count of packets if it is taken, else its fault
-abbrev pub AnswersAs : {A : Type 0} → SwitchView Carried → SwitchView Carried → Event Carried → Result A StepFault → Type 0
-AnswersAs old new e (Ok answer) = (count : ℕ) × Plays carried_size old new e (Ok count)
-AnswersAs old new e (Err fault) = Plays carried_size old new e (Err fault)
+abbrev pub IsResultOf : {A : Type 0} → SwitchView Carried → SwitchView Carried → Event Carried → Result A StepFault → Type 0
+IsResultOf old new e (Ok answer) = (count : ℕ) × Plays carried_size old new e (Ok count)
+IsResultOf old new e (Err fault) = Plays carried_size old new e (Err fault)
 
 -- packets are delivered one after another, whatever the result of each delivery
 abbrev pub DeliversAll : SwitchView Carried → SwitchView Carried → List ℕ → Type 0

@@ -3,8 +3,8 @@ ghost use Rattle.std.specs.Prelude.{◌≡◌, ◌++◌, ◌≤◌, ℕ, List, E
 ghost use Rattle.cluster.specs.Cell.{Cell};
 ghost use Rattle.net.specs.declared.event.Event.{Event as TakenEvent};
 ghost use Rattle.world.specs.declared.carried.Carried.{Carried as TakenEntry};
-ghost use Rattle.nodes.specs.Questions.{IsCellAt, IsHistory, IsStanding};
-ghost use Rattle.nodes.specs.declared.questions.NodeStanding.{NodeStanding};
+ghost use Rattle.nodes.specs.Questions.{IsCellAt, IsHistory, IsNodeStatus};
+ghost use Rattle.nodes.specs.declared.questions.NodeStatus.{NodeStatus};
 ghost use Rattle.printed.specs.Counted.{learned_text};
 ghost use Rattle.printed.specs.Printed.{export_text};
 ghost use Rattle.printed.specs.States.{state_text};
@@ -56,12 +56,12 @@ impl<R: Wait> AnsweringDesk<'_, R> {
 
     /// Appends the state of a node.
     pub fn push_state(&self, node: u8, text: &mut Vec<u8>) -> Result<(), Fault>
-        ensures { OnOk result ((standing : NodeStanding) × IsStanding node standing
+        ensures { OnOk result ((status : NodeStatus) × IsNodeStatus node status
             × (text.new.items ≡ text.old.items
-            ++ state_text standing.state standing.applied standing.is_down)) }
+            ++ state_text status.state status.applied status.is_down)) }
     {
-        let standing = self.desk.standing(self.rt, node)?;
-        Ok(push_state(text, &standing.state, standing.applied, standing.is_down)?)
+        let status = self.desk.node_status(self.rt, node)?;
+        Ok(push_state(text, &status.state, status.applied, status.is_down)?)
     }
 
     /// Appends the answer to a question about a label of a node's library.
