@@ -61,7 +61,7 @@ more_room a b c one two = record {
   heard = let x = one.heard in let y = two.heard in omega (arith, x, y);
   waiting = let x = one.waiting in let y = two.waiting in omega (arith, x, y);
   tallies = let x = one.tallies in let y = two.tallies in omega (arith, x, y);
-  later = let x = one.later in let y = two.later in omega (arith, x, y);
+  other_tallies = let x = one.other_tallies in let y = two.other_tallies in omega (arith, x, y);
   learned = let x = one.learned in let y = two.learned in omega (arith, x, y);
 }
 

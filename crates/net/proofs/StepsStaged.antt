@@ -1,6 +1,6 @@
 -- A step that a node made ready, seen of the whole net.
 use Rattle.net.proofs.Words.{◌≡◌, ℕ, ◌<◌, ◌≤◌, List, [], ◌∷◌, length, get_or, set, slice_get, Option, Some, None, Result, Ok, Err, refl, ap, sym, ◌∙◌, subst, arith, append-nil, slice_get_within, slice_get_read, AllByRecursion, Packet, Refusal, IsPost, Node, StepResult, Core, HasNoLessRoom, ReadyView, offered, begun, on_packet, restarted, same_room, MOST_EVENTS, Event, Offer, Begin, Deliver, Restart, StepFault, NoNode, NoPacket, World, after_step_or_fault, at_node, delivered, event_result_without_limit, node_of_event, History, AreOfWorld, world_of, with_event, steps, StagedEvent, posts_of, step_of, IsOfEvent, HasResult, IsStagedAt, IsStagingResultAt, IsStagingResultOfEvent, NetView, ChangeOnlyRooms, ChangesOnlyRoom, IsStaged, IsStagingResultInNet}
-use Rattle.synod.specs.Ready.{IsStagingResultAt as ReadiesStep}
+use Rattle.synod.specs.Ready.{IsStagingResult as ReadiesStep}
 use Rattle.net.proofs.GrowingLists.{at_set}
 use Rattle.net.proofs.HistoryLemmas.{next_is, node_shown, no_node_shown, own_weights, rooms_stay}
 use Rattle.net.proofs.EventsStaged.{comes_offer, comes_begin, comes_restart, comes_packet, not_mapped, mapped, more_room, still_same, still_set, nodes_still}

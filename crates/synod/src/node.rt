@@ -219,7 +219,7 @@ impl<V: Value> NodeCore<V> {
     ///
     /// Errors, the first that applies: `RoundsSpent`, `Memory`. Cost: the posts.
     pub fn begin(&mut self) -> Result<Vec<Packet<V>>, Refusal>
-        ensures call { IsCallResult self.old.node self.new.node (begun self.old.node) result }
+        ensures outcome { IsCallResult self.old.node self.new.node (begun self.old.node) result }
         ensures posts { IfOk result (λ posts. AllByRecursion (IsPost (length self.old.node.weights)) posts.items) }
     {
         match self.ready_begin() {
@@ -254,7 +254,7 @@ impl<V: Value> NodeCore<V> {
     /// Errors, the first that applies: `TooLong`, `LogFull`, `Busy`, `Memory`. Cost: the posts, each with a copy of the
     /// value.
     pub fn offer(&mut self, value: V) -> Result<Vec<Packet<V>>, Refusal>
-        ensures call { IsCallResult self.old.node self.new.node (offered V.bytes self.old.node value) result }
+        ensures outcome { IsCallResult self.old.node self.new.node (offered V.bytes self.old.node value) result }
         ensures posts { IfOk result (λ posts. AllByRecursion (IsPost (length self.old.node.weights)) posts.items) }
     {
         match self.ready_offer(value) {
@@ -268,7 +268,7 @@ impl<V: Value> NodeCore<V> {
     /// Cost: the packet and the posts; a promise costs its reports.
     pub fn on_packet(&mut self, packet: &Packet<V>) -> Result<Vec<Packet<V>>, Refusal>
         requires { IsPacket (length self.old.node.weights) packet.now }
-        ensures call { IsCallResult self.old.node self.new.node (Ok (on_packet self.old.node packet.now)) result }
+        ensures outcome { IsCallResult self.old.node self.new.node (Ok (on_packet self.old.node packet.now)) result }
         ensures posts { IfOk result (λ posts. AllByRecursion (IsPost (length self.old.node.weights)) posts.items) }
     {
         match self.ready_packet(packet) {
@@ -338,7 +338,7 @@ impl<V: Value> NodeCore<V> {
     /// Restarts: the kept part stays, the rest is that of a new node. Returns posts that ask the others for missed
     /// entries. After `Memory` the node is unchanged.
     pub fn restart(&mut self) -> Result<Vec<Packet<V>>, Refusal>
-        ensures call { IsCallResult self.old.node self.new.node (Ok (restarted self.old.node)) result }
+        ensures outcome { IsCallResult self.old.node self.new.node (Ok (restarted self.old.node)) result }
         ensures posts { IfOk result (λ posts. AllByRecursion (IsPost (length self.old.node.weights)) posts.items) }
     {
         let posts = self.ready_restart()?;
@@ -349,7 +349,7 @@ impl<V: Value> NodeCore<V> {
     /// Restarts with a loaded record as the kept part, and returns posts as `restart` does. After `Memory` the node is
     /// unchanged.
     pub fn reload(&mut self, stored: Record<V>) -> Result<Vec<Packet<V>>, Refusal>
-        ensures call { IsCallResult self.old.node self.new.node (Ok (reloaded self.old.node stored.kept)) result }
+        ensures outcome { IsCallResult self.old.node self.new.node (Ok (reloaded self.old.node stored.kept)) result }
         ensures posts { IfOk result (λ posts. AllByRecursion (IsPost (length self.old.node.weights)) posts.items) }
     {
         let posts = self.ready_restart()?;
