@@ -9,24 +9,24 @@ use Rattle.net.proofs.Ledger.{Proposal, proposal, Ledger, AllGrounded, IsSound}
 
 module _ {V : Type 0} (ws : List ℕ) (offers : List V) (l : Ledger V) (sound : IsSound ws offers l) where
   -- the value of each of the older proposals is the one chosen at its slot under an earlier ballot
-  other_tallies_at : (older : List (Proposal V)) → AllGrounded ws l older → ((p : Proposal V) → In p older → In p l.proposals)
+  later_at : (older : List (Proposal V)) → AllGrounded ws l older → ((p : Proposal V) → In p older → In p l.proposals)
       → (p : Proposal V) → In p older → (b : Ballot) (v : Option V) → IsChosenAt ws l.votes b p.slot v → Under b p.ballot → v ≡ p.value
-  other_tallies_at [] grounded known p i b v = elim i [ ]
-  other_tallies_at (x ∷ older) grounded known p (inl e) b v = subst (λ (p : Proposal V). IsChosenAt ws l.votes b p.slot v → Under b p.ballot → v ≡ p.value) e (λ chosen under.
+  later_at [] grounded known p i b v = elim i [ ]
+  later_at (x ∷ older) grounded known p (inl e) b v = subst (λ (p : Proposal V). IsChosenAt ws l.votes b p.slot v → Under b p.ballot → v ≡ p.value) e (λ chosen under.
       let shared = quorums_meet ws grounded.0.quorum chosen.voters grounded.0.majority chosen.majority in
       let voted = Contains-in _ l.votes (chosen.voted shared.0 shared.2) in
       elim grounded.0.picks [
         | inl none ↦ absurd (none (vote shared.0 b x.slot v) voted shared.1 refl under)
         | inr most ↦ elim (upto_splits b most.ballot (most.highest (vote shared.0 b x.slot v) voted shared.1 refl under)) [
-          | inl between ↦ other_tallies_at older grounded.1 (λ q i. known q (inr i)) (proposal most.ballot x.slot x.value) most.proposed b v chosen between
+          | inl between ↦ later_at older grounded.1 (λ q i. known q (inr i)) (proposal most.ballot x.slot x.value) most.proposed b v chosen between
           | inr same ↦ sound.one_value (proposal b x.slot v) (proposal most.ballot x.slot x.value) (sound.backed _ voted) (known _ (inr most.proposed)) (same, refl)
         ]
       ])
-  other_tallies_at (x ∷ older) grounded known p (inr i) b v = other_tallies_at older grounded.1 (λ q j. known q (inr j)) p i b v
+  later_at (x ∷ older) grounded known p (inr i) b v = later_at older grounded.1 (λ q j. known q (inr j)) p i b v
 
   -- the value of each proposal is the one chosen at its slot under an earlier ballot
   pub later_value : (p : Proposal V) → In p l.proposals → (b : Ballot) (v : Option V) → IsChosenAt ws l.votes b p.slot v → Under b p.ballot → v ≡ p.value
-  later_value p i b v chosen under = other_tallies_at l.proposals sound.grounded (λ q j. j) p i b v chosen under
+  later_value p i b v chosen under = later_at l.proposals sound.grounded (λ q j. j) p i b v chosen under
 
 -- what an Accept proposes under a later ballot is the value chosen there under an earlier
 pub later_ballots_keep_chosen : {V : Type 0} → ChosenValuesPersist V
