@@ -1,7 +1,7 @@
 -- The tie between cells and switch: what it gives, and how a call keeps it.
 use Rattle.cluster.proofs.Words.{◌≡◌, ℕ, suc, ◌<◌, ◌≤◌, nat_lt, Bool, true, false, List, [], ◌∷◌, ◌++◌, length, slice_get, Option, Some, None, Result, Ok, Err, refl, ap, sym, ◌∙◌, subst, arith, append_assoc, IsOk, MatchOption, is_err, option_map, Bor, nat_tests, StepFault, NoNode, log_after, IsPrefixOf, SwitchView, world_of, IsLogPrefix, Carried, carried_size, NodeLibrary, Cell, new_cell, AddsEntry, TakesOver, Belongs}
 
--- What a switch shows of a log.
+-- A log, as a switch shows it.
 
 -- what is shown of a slot is the entry of the log there, or none
 pub shown_is : (log : List (Option Carried)) (slot : ℕ) (found : Option (Bor (Option Carried))) → MatchOption found (slice_get log slot ≡ None) (λ (e : Bor (Option Carried)). slice_get log slot ≡ Some e.now)
@@ -48,7 +48,7 @@ module _ (s : SwitchView Carried) (k : ℕ) (old new : List (Option Carried)) (b
   taken_belongs None (Ok false) slot is shows adds = as_begun adds
   taken_belongs None (Err fault) slot is shows adds = elim adds [ ]
 
--- What is told of the entry that is next.
+-- The next entry of the log.
 
 abbrev cell_of : ℕ → List (Option Carried) → NodeLibrary → Cell
 cell_of k entries node = record { node = k; entries = entries; replica = node }

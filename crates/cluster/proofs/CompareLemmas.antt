@@ -1,4 +1,4 @@
--- Of the libraries of two cells of one switch one is a prefix of the other.
+-- If two cells are of one switch, the library of one is a prefix of that of the other.
 use Rattle.cluster.proofs.Words.{◌≡◌, ◌+◌, ◌<◌, ◌≤◌, true, false, List, [], ◌∷◌, ◌++◌, length, inl, inr, Option, Result, Ok, Err, refl, ap, sym, ◌∙◌, subst, arith, append-nil, length-append, IsOk, Database, Carried, StepFault, World, log, log_after, IsPrefixOf, Agree, History, IsMoment, carried_size, entries_of, IsOfLog, Headline, entries_begin, headline_holds, of_longer, SwitchView, world_of, Cell, IsCell, Belongs}
 
 module _ (s : SwitchView Carried) (w : World Carried) (is : world_of carried_size s ≡ Ok w) where
@@ -26,7 +26,7 @@ cells_agree one other s ok b d h k = from (world_of carried_size s) refl ok wher
   from (Ok w) is ok = agree_in s w is one other b d h k
   from (Err fault) is ok = let no : false ≡ true = ok in cc
 
--- What the counts of statements say.
+-- The counts of statements decide which library is ahead.
 
 module _ (xs ys : Database) where
   -- where the first of two lists that agree is longer, the second begins it

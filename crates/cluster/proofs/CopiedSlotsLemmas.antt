@@ -47,7 +47,7 @@ with_suc (x ∷ xs) (suc s) low = with_past_head x (trimmed (take s xs)) s (entr
 pub with_next : {T : Type 0} (xs : List (Option T)) (s : ℕ) → s < length xs → with_copied_slot (trimmed (take s xs)) s (entry_at xs s) ≡ trimmed (take (s + 1) xs)
 with_next {T} xs s low = with_suc xs s low ∙ ap (λ (i : ℕ). trimmed (take i xs)) (sym (add-one s))
 
--- What a keep in memory has: a record whose entries end in an entry.
+-- The record of a keep in memory: its list of entries ends in an entry.
 pub stays_whole : {V : Type 0} (old new : Kept V) (change : Option (Change V)) → new ≡ changed_by old change → trimmed old.accepted ≡ old.accepted → trimmed new.accepted ≡ new.accepted
 stays_whole {V} old new change is whole = subst (λ (k : Kept V). trimmed k.accepted ≡ k.accepted) (sym is) (by_change change) where
   by_change : (change : Option (Change V)) → trimmed (changed_by old change).accepted ≡ (changed_by old change).accepted

@@ -21,7 +21,7 @@ pub fn ask_on<T, F: FnOnce(&NodeCell) -> T + Drop>(
     requires { F.IsAlwaysCallable question }
     ensures of_node { IfOk result (λ answer. cell.now.node ≡ k) }
     ensures answered { IfOk result (λ answer. FnOnceReturnsAt F.FnOnce question cell.now answer) }
-    ensures own { cell.now.node ≡ k → IsOk result }
+    ensures same_node { cell.now.node ≡ k → IsOk result }
     ensures apart { (cell.now.node ≡ k → ⊥) → result ≡ Err Apart }
 {
     if cell.node() != k {

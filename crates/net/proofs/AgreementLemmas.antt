@@ -1,4 +1,4 @@
--- What agreement says of a history that is taken, and where a run of events stops.
+-- Agreement for a history that is taken, and where a run of events stops.
 use Rattle.net.proofs.Words.{◌≡◌, ℕ, suc, List, [], ◌∷◌, ◌++◌, ◌<◌, length, take, Result, Ok, Err, inl, inr, refl, ap, sym, ◌∙◌, subst, arith, append_assoc, length-append, take-append_seam, Yields, into_iter_items, into_iter_steps, IntoIter, IsOk, IfErr, OnOk, Event, StepFault, Memory, World, after, IsAfter, ChosenAgree, LogsAgree, History, world_of, with_event, IsMoment, Agreement, IsMetOrMemory, StopsAt}
 use Rattle.net.proofs.Beginnings.{swapped, beginnings_agree}
 use Rattle.net.proofs.OneValue.{ballots_have_one_value}

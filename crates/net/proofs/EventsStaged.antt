@@ -1,8 +1,8 @@
--- What an event comes to at its node, and what is ready while nodes stand.
+-- The result of an event at its node, and staged events while nodes stay as they are.
 use Rattle.net.proofs.Words.{◌≡◌, ℕ, zero, suc, List, [], ◌∷◌, length, get_or, set, slice_get, Option, Some, None, Ok, refl, ap, sym, ◌∙◌, subst, arith, AllByRecursion, option_map, Packet, Ask, IsPost, to_others, Node, kept_of, Core, HasNoLessRoom, offered, begun, on_packet, restarted, same_room, Offer, Begin, Deliver, Restart, after_step_or_fault, at_node, delivered, change_at, change_delivered, History, nodes_of, StagedWork, steps, restarts, StagedEvent, posts_of, step_of, IsReadyAt, HasResult, NetView, ChangeOnlyRooms, ChangesOnlyRoom, IsStaged}
 use Rattle.net.proofs.GrowingLists.{at_front}
 
--- What an event comes to at its node.
+-- The result of an event at its node.
 
 module _ {V : Type 0} (size : V → ℕ) (ps : List (Packet V)) (k : ℕ) (n : Node V) where
   -- an offer comes to what its node makes of the value
@@ -97,7 +97,7 @@ still_at (x ∷ cs) (d ∷ ds) h (suc k) c at = still_at cs ds h.2 k c at
 still_at [] (d ∷ ds) h k c at = elim h [ ]
 still_at (x ∷ cs) [] h k c at = elim h [ ]
 
--- What is ready stays so.
+-- A staged event stays staged.
 
 -- what a node can do it can do with more room
 pub ready_still : {V : Type 0} (c d : Core V) (w : StagedWork V) → d.node ≡ c.node → HasNoLessRoom c d → IsReadyAt c w → IsReadyAt d w

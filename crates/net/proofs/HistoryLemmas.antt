@@ -1,4 +1,4 @@
--- What a world keeps of its events, after one more.
+-- The world after a history, and after one more event.
 use Rattle.net.proofs.Words.{◌≡◌, ℕ, zero, suc, ◌+◌, ◌<◌, ◌≤◌, Bool, true, false, ◌==◌, if◌then◌else◌, List, [], ◌∷◌, ◌++◌, length, take, get_or, set, slice_get, Option, Some, None, Result, Ok, Err, refl, ap, sym, ◌∙◌, subst, arith, le_of_suc-le-suc, add-one, AllByRecursion, Packet, IsWeights, IsPost, nat_tests, Refusal, Node, StepResult, new_node, offered, begun, on_packet, restarted, log_of, Core, Event, Offer, Begin, Deliver, Restart, MOST_EVENTS, StepFault, EventsSpent, World, nodes_from, start, after_step, after_step_or_fault, at_node, delivered, event_result_without_limit, event_result, events_result, after, log_at, log_after, packets_after, offers_of, IsAfter, History, nodes_of, AreOfWorld, world_of, with_event}
 use Rattle.net.proofs.EveryEvent.{IfTaken, if_taken, spent_or, node_at, holds_after}
 use Rattle.net.proofs.TwoMoments.{events_result-append, world_lasts}
@@ -128,7 +128,7 @@ event_result-spent {V} size w e spent = all (w.event_count == MOST_EVENTS) (grin
   all true d = refl
   all false d = cc
 
--- What a step leaves.
+-- The world after a step.
 
 module _ {V : Type 0} (size : V → ℕ) (old : History V) (cores : List (Core V)) (packets : List (Packet V)) (h : AreOfWorld size old cores packets) where
   -- another room of the nodes is nothing that is seen
@@ -210,7 +210,7 @@ events_within {V} size old now cores packets h seen =
     let count = taken_count size old.weights old.events h.world h.is_after in
     subst (λ (t : History V). length t.events ≤ MOST_EVENTS) seen (omega (arith, most, count))
 
--- What the fields show of the world after the events.
+-- The world after the events, as the fields show it.
 
 length-nodes_from : (V : Type 0) (weights : List ℕ) (k : ℕ) (ws : List ℕ) → length (nodes_from {V = V} weights k ws) ≡ length ws
 length-nodes_from V weights k [] = refl

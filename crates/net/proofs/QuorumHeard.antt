@@ -1,4 +1,4 @@
--- What a proposer may propose once it has heard the promises of a quorum (phase 2 of section 2.2): at a slot reported the value of
+-- The values that a proposer may propose with the promises of a quorum (phase 2 of section 2.2): at a slot reported the value of
 -- the highest ballot reported there; at any other slot from the first on, any value. Each such proposal is grounded.
 use Rattle.net.proofs.Words.{◌≡◌, ℕ, zero, suc, ◌≤◌, Bool, true, false, ◌||◌, ◌==◌, List, [], ◌∷◌, Option, Some, None, inl, inr, refl, sym, ◌∙◌, subst, arith, eqb-true, AllByRecursion, In, In-append_left, In-append_right, In-append, Ballot, SlotReport, Heard, is_quorum, joined_pages, pages_from, is_heard, highest_at, reported_value, top_or_first, proposed_values, all_reports, Under, upto_upto, IsHighest, HighestHolds, highest_holds, below_top, Vote}
 use Rattle.net.proofs.Ledger.{begun_as, Promised, proposal, Ledger, HasPromised, NoneVoted, HighestVoted, IsGrounded, IsFree, HasHigher, IsBrought, IsSound}

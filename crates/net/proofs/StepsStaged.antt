@@ -24,7 +24,7 @@ made_staged old new k e f (Err refusal) made h same kind posts = elim h [ ]
 pub packet_is : {V : Type 0} (ps : List (Packet V)) (number : ℕ) (p q : Packet V) → p ≡ get_or ps number p → slice_get ps number ≡ Some q → p ≡ q
 packet_is ps number p q is at = let both : Some p ≡ Some q = sym (slice_get_read ps (length ps) number p refl (slice_get_within ps number q at) is) ∙ at in cc
 
--- What a node's answer tells of the net, view being what the fields show.
+-- From a node's answer to the net, `view` being the fields.
 
 module _ {V : Type 0} (size : V → ℕ) (view now : NetView V) (seen : view ≡ now) (h : AreOfWorld size view.history view.cores view.packets) (low : length now.history.events < MOST_EVENTS) where
   -- the history of the fields has an event left

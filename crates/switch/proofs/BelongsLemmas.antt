@@ -170,7 +170,7 @@ module _ {V : Type 0} (size : V → ℕ) (old : SwitchView V) (w : World V) (was
   revived_logs j view e owed (Err fault) (inl h) = logs_store size old (Restart j) new (Err fault) j (record { kept = h.1.kept; failures = view.failures; status = view.status }) h.1.rest
   revived_logs j view e owed (Err fault) (inr h) = logs_fail size old (Restart j) new (Err fault) j view (change_of_owed size w e) view.status h.1
 
-  -- What a node owes is an event of its own.
+  -- An event that a node owes is one of its own events.
   module _ (owed : (j : ℕ) (view : StoreView V) → slice_get old.stores j ≡ Some view → (ev : Event V) → view.status ≡ down (Some ev) → node_of w ev ≡ Some j) where
     -- an event whose node is down
     down_logs : (e : Event V) (result : Result ℕ StepFault) → is_down_at old.stores (node_of w e) ≡ true → IsEffectAtDownNode size w old new e result → KeepsLogs size e old new result

@@ -1,4 +1,4 @@
--- What is owed at a node that is down: that it can be taken, and the switch once it is.
+-- The event that a node which is down owes: that it can be taken, and the switch once it is.
 use Rattle.switch.proofs.Words.{◌≡◌, ℕ, ◌+◌, ◌<◌, ◌≤◌, List, ◌++◌, length, set, slice_get, Option, Some, None, refl, ap, sym, ◌∙◌, subst, arith, changed_by, Node, kept_of, MOST_EVENTS, World, History, StagedEvent, NetView, HasRoom, step_of, Status, up, down, StoreState, change_owed, posts_owed, IsRecordOf, event_owed, IsOwing, IsSwitch, CanTakeOwed, TakesOwed, change_of_owed, owed_events, append-nil}
 use Rattle.switch.proofs.KeepLemmas.{with_either}
 use Rattle.switch.proofs.SwitchLemmas.{other_store, node_is, committed, change_told, changes}

@@ -3,7 +3,7 @@
 -- The code has the keep itself. Contracts see the record that it would load, how often it failed, and the event that the node owes, whose store failed.
 use Rattle.std.specs.Prelude.{◌≡◌, ◌⊎◌, ◌+◌, ℕ, List, [], Option, Some, None}
 use Rattle.switch.specs.Words.{Packet, Change, Kept, changed_by, Node, kept_of, StagedEvent, change_in, posts_of}
-use Rattle.switch.specs.declared.node_store.Status.{Status as Stands}
+use Rattle.switch.specs.declared.node_store.Status.{Status as RustStatus}
 use Rattle.switch.specs.declared.node_store.Status.TheVariants.{Up, Down}
 
 -- up; or down, with the event that the node owes, if there is one
@@ -11,7 +11,7 @@ pub data Status (A : Type 0) : Type 0 where
   up : Status A
   down : Option A → Status A
 
-abbrev pub status_of : {V : Type 0} → Stands V → Status (StagedEvent V)
+abbrev pub status_of : {V : Type 0} → RustStatus V → Status (StagedEvent V)
 status_of Up = up
 status_of (Down staged) = down staged
 

@@ -1,5 +1,5 @@
 -- The highest report of a slot, the reports being gone through from the first on, and one above the greatest slot.
-use Rattle.synod.proofs.Words.{◌≡◌, ◌≢◌, ℕ, zero, suc, ◌+◌, ◌-◌, ◌<◌, ◌≤◌, max, min, Bool, true, false, ◌==◌, List, [], ◌∷◌, ◌++◌, length, take, drop, drop-cons, add-one, Option, Some, None, refl, ap, sym, ◌∙◌, subst, arith, if◌then◌else◌, append_assoc, append-nil, get_or, set, length-set, slice_index_or, eqb-true, le_of_suc-le-suc, ◌⊎◌, inl, inr, drop_of_length-le, length-take-le, get_or-set_same, get_or-set_other, get_or_default, take_all, nat_tests, AllByRecursion, Bor, option_copied, Ballot, SlotReport, is_below, Packet, Accept, to_all, accept_posts, higher, highest_at, reported_value, top_or_zero, top_or_first, proposed_values, entry_at, joined_pages, SLOTS, all_of, IsHighestTable, some_of, IsLead}
+use Rattle.synod.proofs.Words.{◌≡◌, ◌≢◌, ℕ, zero, suc, ◌+◌, ◌-◌, ◌<◌, ◌≤◌, max, min, Bool, true, false, ◌==◌, List, [], ◌∷◌, ◌++◌, length, take, drop, drop-cons, add-one, Option, Some, None, refl, ap, sym, ◌∙◌, subst, arith, if◌then◌else◌, append_assoc, append-nil, get_or, set, length-set, slice_index_or, eqb-true, le_of_suc-le-suc, ◌⊎◌, inl, inr, drop_of_length-le, length-take-le, get_or-set_same, get_or-set_other, get_or_default, take_all, nat_tests, AllByRecursion, Bor, option_copied, Ballot, SlotReport, is_below, Packet, Accept, to_all, accept_posts, higher, highest_at, reported_value, top_or_zero, top_or_first, proposed_values, entry_at, joined_pages, SLOTS, reports_of_pages, IsHighestTable, as_entries, IsLead}
 
 -- The order of ballots, as a test.
 
@@ -85,7 +85,7 @@ module _ {V : Type 0} (first : ℕ) (table : List (Option (Bor (SlotReport V))))
     pub highest_set : IsHighestTable first (set table place (Some b)) (reports ++ r ∷ [])
     highest_set k low = set_at k (omega (arith, low, length-set table place (Some b))) (k == place) refl
 
--- What the table has at a place.
+-- The entry of the table at a place.
 
 -- the item that was read at a place is what the table has there
 pub table_at : {V : Type 0} (table : List (Option (Bor (SlotReport V)))) (place : ℕ) (item : Option (Bor (SlotReport V))) → place < length table → item ≡ get_or table place item → slice_index_or table place None ≡ item
@@ -117,12 +117,12 @@ take_next xs i x is low = ap (λ (j : ℕ). take j xs) (add-one i) ∙ take-suc_
 pub drop_next : {A : Type 0} (xs : List A) (i : ℕ) (x : A) → x ≡ get_or xs i x → i < length xs → drop i xs ≡ x ∷ drop (i + 1) xs
 drop_next {A} xs i x is low = drop-cons xs i x low ∙ ap (λ (z : A). z ∷ drop (suc i) xs) (sym is) ∙ ap (λ (j : ℕ). x ∷ drop j xs) (sym (add-one i))
 
-all_of-append : {V : Type 0} (pages more : List (Bor (List (SlotReport V)))) → all_of (pages ++ more) ≡ all_of pages ++ all_of more
-all_of-append [] more = refl
-all_of-append (page ∷ pages) more = ap (λ rs. page.now ++ rs) (all_of-append pages more) ∙ sym (append_assoc page.now (all_of pages) (all_of more))
+reports_of_pages-append : {V : Type 0} (pages more : List (Bor (List (SlotReport V)))) → reports_of_pages (pages ++ more) ≡ reports_of_pages pages ++ reports_of_pages more
+reports_of_pages-append [] more = refl
+reports_of_pages-append (page ∷ pages) more = ap (λ rs. page.now ++ rs) (reports_of_pages-append pages more) ∙ sym (append_assoc page.now (reports_of_pages pages) (reports_of_pages more))
 
-pub all_of-push : {V : Type 0} (pages : List (Bor (List (SlotReport V)))) (page : Bor (List (SlotReport V))) → all_of (pages ++ page ∷ []) ≡ all_of pages ++ page.now
-all_of-push pages page = all_of-append pages (page ∷ []) ∙ ap (λ rs. all_of pages ++ rs) (append-nil page.now)
+pub reports_of_pages-push : {V : Type 0} (pages : List (Bor (List (SlotReport V)))) (page : Bor (List (SlotReport V))) → reports_of_pages (pages ++ page ∷ []) ≡ reports_of_pages pages ++ page.now
+reports_of_pages-push pages page = reports_of_pages-append pages (page ∷ []) ∙ ap (λ rs. reports_of_pages pages ++ rs) (append-nil page.now)
 
 -- each fact of all is one of the page at hand, and of the pages to come
 pub all_left : {A : Type 0} (P : A → Type 0) (xs ys : List A) → AllByRecursion P (xs ++ ys) → AllByRecursion P xs
@@ -135,8 +135,8 @@ all_right P [] ys h = h
 all_right P (x ∷ xs) ys h = all_right P xs ys h.1
 
 -- the reports to come are those of the page at hand and of the pages behind it
-pub pages_next : {V : Type 0} (pages : List (Bor (List (SlotReport V)))) (i : ℕ) (page : Bor (List (SlotReport V))) → page ≡ get_or pages i page → i < length pages → all_of (drop i pages) ≡ page.now ++ all_of (drop (i + 1) pages)
-pages_next {V} pages i page is low = ap (λ (ps : List (Bor (List (SlotReport V)))). all_of ps) (drop_next pages i page is low)
+pub pages_next : {V : Type 0} (pages : List (Bor (List (SlotReport V)))) (i : ℕ) (page : Bor (List (SlotReport V))) → page ≡ get_or pages i page → i < length pages → reports_of_pages (drop i pages) ≡ page.now ++ reports_of_pages (drop (i + 1) pages)
+pages_next {V} pages i page is low = ap (λ (ps : List (Bor (List (SlotReport V)))). reports_of_pages ps) (drop_next pages i page is low)
 
 -- a table of nothing
 pub highest_of_none : {V : Type 0} (first : ℕ) (table : List (Option (Bor (SlotReport V)))) → ((k : ℕ) → slice_index_or table k None ≡ None) → IsHighestTable first table []
@@ -184,12 +184,12 @@ joined-page {V} pages i count page e = here pages i count page e ∙ ap (λ (j :
 
 -- one page more was added
 pub add_next : {V : Type 0} (had : List (Option (List (SlotReport V)))) (i n : ℕ) (all more : List (Bor (List (SlotReport V)))) (page : Bor (List (SlotReport V))) → entry_at had i ≡ Some page.now → more ≡ all ++ page ∷ []
-    → all_of more ++ joined_pages (drop (i + 1) had) n ≡ all_of all ++ joined_pages (drop i had) (suc n)
+    → reports_of_pages more ++ joined_pages (drop (i + 1) had) n ≡ reports_of_pages all ++ joined_pages (drop i had) (suc n)
 add_next {V} had i n all more page is added =
-    ap (λ (ps : List (Bor (List (SlotReport V)))). all_of ps ++ joined_pages (drop (i + 1) had) n) added
-    ∙ ap (λ (rs : List (SlotReport V)). rs ++ joined_pages (drop (i + 1) had) n) (all_of-push all page)
-    ∙ append_assoc (all_of all) page.now (joined_pages (drop (i + 1) had) n)
-    ∙ ap (λ (rs : List (SlotReport V)). all_of all ++ rs) (sym (joined-page had i n page.now is))
+    ap (λ (ps : List (Bor (List (SlotReport V)))). reports_of_pages ps ++ joined_pages (drop (i + 1) had) n) added
+    ∙ ap (λ (rs : List (SlotReport V)). rs ++ joined_pages (drop (i + 1) had) n) (reports_of_pages-push all page)
+    ∙ append_assoc (reports_of_pages all) page.now (joined_pages (drop (i + 1) had) n)
+    ∙ ap (λ (rs : List (SlotReport V)). reports_of_pages all ++ rs) (sym (joined-page had i n page.now is))
 
 -- As many of the values as there are slots.
 
@@ -212,18 +212,18 @@ take_min {A} xs n proposed e = elim (le_or_lt (length xs) n) [
 -- The parts of a lead.
 pub is_lead : {V : Type 0} (me : ℕ) (weights : List ℕ) (b : Ballot) (first : ℕ) (reports : List (SlotReport V)) (waiting : List V) (top proposed : ℕ) (all : List (SlotReport V)) (none filled posts : List (Packet V))
     → top ≡ top_or_first first reports → proposed ≡ min (length waiting) (SLOTS - top) → all ≡ reports → none ≡ [] → filled ≡ none ++ accept_posts me weights b first (proposed_values all first (top - first))
-    → posts ≡ filled ++ accept_posts me weights b top (some_of (take proposed waiting)) → IsLead me weights b first reports waiting posts (top + proposed) proposed
+    → posts ≡ filled ++ accept_posts me weights b top (as_entries (take proposed waiting)) → IsLead me weights b first reports waiting posts (top + proposed) proposed
 is_lead {V} me weights b first reports waiting top proposed all none filled posts is_top is_taken is_all is_none is_filled is_posts =
     let part = take_min waiting (SLOTS - top) proposed is_taken in
     let room : SLOTS - top ≡ SLOTS - top_or_first first reports = ap (λ (t : ℕ). SLOTS - t) is_top in
     record {
       posted = is_posts
-          ∙ ap (λ (ps : List (Packet V)). ps ++ accept_posts me weights b top (some_of (take proposed waiting))) (is_filled
+          ∙ ap (λ (ps : List (Packet V)). ps ++ accept_posts me weights b top (as_entries (take proposed waiting))) (is_filled
           ∙ ap (λ (ps : List (Packet V)). ps ++ accept_posts me weights b first (proposed_values all first (top - first))) is_none
           ∙ ap (λ (rs : List (SlotReport V)). accept_posts me weights b first (proposed_values rs first (top - first))) is_all
           ∙ ap (λ (t : ℕ). accept_posts me weights b first (proposed_values reports first (t - first))) is_top)
-          ∙ ap (λ (vs : List V). accept_posts me weights b first (proposed_values reports first (top_or_first first reports - first)) ++ accept_posts me weights b top (some_of vs)) (part.0 ∙ ap (λ (i : ℕ). take i waiting) room)
-          ∙ ap (λ (t : ℕ). accept_posts me weights b first (proposed_values reports first (top_or_first first reports - first)) ++ accept_posts me weights b t (some_of (take (SLOTS - top_or_first first reports) waiting))) is_top;
+          ∙ ap (λ (vs : List V). accept_posts me weights b first (proposed_values reports first (top_or_first first reports - first)) ++ accept_posts me weights b top (as_entries vs)) (part.0 ∙ ap (λ (i : ℕ). take i waiting) room)
+          ∙ ap (λ (t : ℕ). accept_posts me weights b first (proposed_values reports first (top_or_first first reports - first)) ++ accept_posts me weights b t (as_entries (take (SLOTS - top_or_first first reports) waiting))) is_top;
       next_is = let count = sym part.2 ∙ ap (λ (i : ℕ). length (take i waiting)) room in omega (arith, is_top, count);
       left = part.1 ∙ ap (λ (i : ℕ). drop i waiting) room;
       within = omega (arith, is_taken);

@@ -1,4 +1,4 @@
--- What every node is, and what it posts, over steps that change no proposal.
+-- The invariant of a node and of its posts, over steps that change no proposal.
 use Rattle.synod.proofs.Words.{◌≡◌, ℕ, zero, suc, ◌+◌, ◌^◌, ◌<◌, ◌≤◌, Bool, true, false, ◌&&◌, ◌==◌, nat_lt, List, [], ◌∷◌, ◌++◌, length, Option, Some, None, Result, Ok, Err, refl, arith, set, if◌then◌else◌, nat_tests, AllByRecursion, SLOTS, entry_at, put_at, top_of-put_at, front_of-le, MOST_BYTES, MOST_WAITING, Ballot, SlotReport, Packet, Body, Prepare, Accept, Accepted, Nack, Ask, Told, AcceptedEntry, Heard, Role, Idle, Preparing, Leading, Refusal, Busy, LogFull, RoundsSpent, TooLong, is_below, packet, to_all_from, to_all, to_others_from, to_others, accept_posts, IsBody, IsPost, Kept, Node, StepResult, unchanged, no_pages, log_length, refuses, accepted_entry, accepts_value, on_accept, waits, proposes_value, offer_waits, offer_as, offered, next_round, next_ballot, begins, begun, is_at, idles, on_nack, learns, chooses, on_ask_at, on_ask, on_told_at, on_told, PreservesInvariant, reloaded, IsRole, ArePages, IsNode}
 use Rattle.std.specs.List.{slice_index_or}
 

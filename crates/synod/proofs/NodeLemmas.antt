@@ -1,4 +1,4 @@
--- What a node keeps, told of what contracts see of it.
+-- The facts of NodeInvariant, stated of a node as contracts see it.
 use Rattle.synod.proofs.Words.{◌≡◌, ℕ, ◌^◌, ◌<◌, Bool, List, length, Result, Ok, Err, refl, subst, sym, ap, if◌then◌else◌, AllByRecursion, IfOk, AllocError, lt-ltb, Refusal, RoundsSpent, Memory, IsPost, to_others, Ask, Node, StepResult, kept_of, RecordView, Core, ProposerView, LearnerView, core_of, assembled, begun, begins, next_round, IsNode, PreservesInvariant, ReadyView, IsReadyFor}
 use Rattle.synod.proofs.NodeInvariant.{KeepsOnOk, keeps_begun, keeps_reloaded}
 

@@ -144,7 +144,7 @@ module _ (firsts : List (Option Tally)) (other_tallies : ℕ → List Tally) (s 
   pub voters_other : (t : Tally) → entry_at firsts s ≡ Some t → is_same t.ballot b ≡ false → (j : ℕ) → has_voter (counted all s b k) s b j ≡ voted_in (counted_in (other_tallies s) b k) b j
   voters_other t here other j = voters_at (t ∷ other_tallies s) (at_slot (Some t) here) j ∙ simp other
 
--- What a learner keeps of these two.
+-- The invariant of a learner over these two.
 
 module _ {T : Type 0} (firsts : List (Option Tally)) (other_tallies : ℕ → List Tally) (learned : List (Option T)) (is : IsLearner firsts other_tallies learned) (s : ℕ) where
   -- with another first tally

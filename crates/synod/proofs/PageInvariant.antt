@@ -62,7 +62,7 @@ posts_pages nodes me to b count i (page ∷ pages) from for one all few each = (
   posts_pages nodes me to b count (suc i) pages from for (omega arith) (omega arith) few each.1,
 )
 
--- What is proposed stands below the limit.
+-- Proposals are at slots below the limit.
 
 -- one above the greatest slot reported is at most the limit
 all_low : {V : Type 0} (reports : List (SlotReport V)) → AllByRecursion IsReport reports → top_or_zero reports ≤ SLOTS

@@ -18,7 +18,7 @@ pages_with_room-all (x ∷ xs) (suc room) = onto_first-all x (pages_with_room ro
 pub pages-all : {T : Type 0} (xs : List T) → append_all (pages_of xs) ≡ xs
 pages-all xs = pages_with_room-all xs 256
 
--- where as many pages were had as there are, and each is one of these, they join to all
+-- where as many pages are received as there are, and each is one of these, they join to all
 pub joined-all : {T : Type 0} (pages : List (List T)) (had : List (Option (List T))) → ((i : ℕ) (page : List T) → entry_at had i ≡ Some page → slice_get pages i ≡ Some page)
     → length pages ≤ front_of had → joined_pages had (length pages) ≡ append_all pages
 joined-all [] had each all = refl

@@ -111,7 +111,7 @@ pages-within first accepted low =
     let count = (pages_few 256 (reports_from first 0 accepted)).0 in
     omega (arith, low, few, count)
 
--- What the loop over the slots keeps: the pages so far, the page begun and the reports of the slots to come are all pages.
+-- The invariant of the loop over the slots: the pages so far, the page begun and the reports of the slots to come are all pages.
 pub record Gathers {V : Type 0} (first s : ℕ) (accepted : List (Option (AcceptedEntry V))) (full : List (List (SlotReport V))) (page : List (SlotReport V)) : Type 0 where
   pub from : first ≤ s
   pub low : length page ≤ 256

@@ -1,4 +1,4 @@
--- What reports say, and what the highest of them is.
+-- The reports of accepted entries, and the highest of them.
 use Rattle.synod.proofs.Words.{AcceptedEntry, ◌≡◌, ℕ, zero, suc, ◌+◌, ◌<◌, ◌≤◌, max, Bool, true, false, ◌==◌, nat_lt, List, [], ◌∷◌, Option, Some, None, inl, inr, refl, ap, ◌∙◌, subst, arith, ltb-true, ltb-false, eqb-true, if◌then◌else◌, nat_tests, In, entry_at, Ballot, SlotReport, is_below, reports_from, higher, highest_at, top_or_zero, top_or_first}
 use Rattle.synod.proofs.BallotsLemmas.{Upto, upto_self, under_true, under_false, under_is_upto, upto_upto}
 

@@ -21,7 +21,7 @@ pub use Rattle.synod.specs.Acceptor.{accepted_entry, on_accept, on_prepare, prom
 pub use Rattle.synod.specs.Ballots.{is_same, is_below, zero_ballot}
 pub use Rattle.synod.specs.Broadcast.{body_of, broadcast_posts, is_ask, to_node, to_nodes_from}
 pub use Rattle.synod.specs.Core.{Core, OtherTalliesView, LearnerState, LearnerView, ProposerState, ProposerView, assembled, core_of, learner_state, proposer_state}
-pub use Rattle.synod.specs.HighestReports.{IsHighestTable, IsLead, all_of, some_of}
+pub use Rattle.synod.specs.HighestReports.{IsHighestTable, IsLead, reports_of_pages, as_entries}
 pub use Rattle.synod.specs.Learner.{asks_below, asks_for, chooses, counted, counted_in, has_voter, is_voter, learns, no_voters, on_accepted, on_accepted_at, on_ask, on_ask_at, on_told, on_told_at, tallies_at, voted_in, with_voter}
 pub use Rattle.synod.specs.Log.{log_length, log_of}
 pub use Rattle.synod.specs.Node.{Node, StepResult, volatile_step, is_heard, kept_of, new_node, no_pages, page_of, pages_from, unchanged, with_page}

@@ -9,7 +9,7 @@ ghost use Rattle.synod.specs.Proposer.{top_or_zero, top_or_first, highest_at, re
 ghost use Rattle.synod.specs.PromisePages.{joined_pages};
 ghost use Rattle.synod.specs.Node.{pages_from};
 ghost use Rattle.synod.specs.Stored.ReceivedPages.{pages_after_delivery};
-ghost use Rattle.synod.specs.HighestReports.{all_of, IsHighestTable, some_of, IsLead};
+ghost use Rattle.synod.specs.HighestReports.{reports_of_pages, IsHighestTable, as_entries, IsLead};
 
 use crate::ballot::Ballot;
 use crate::packet::{Packet, SlotReport};
@@ -35,8 +35,8 @@ fn top_with_page<V>(top: u32, reports: &[SlotReport<V>]) -> u32
 
 /// Returns one above the greatest slot reported, or `first` if nothing is reported.
 fn top_of_reports<V>(first: u32, pages: &[&[SlotReport<V>]]) -> u32
-    requires { AllByRecursion IsReport (all_of pages.now) }
-    ensures { result ≡ top_or_first first (all_of pages.now) }
+    requires { AllByRecursion IsReport (reports_of_pages pages.now) }
+    ensures { result ≡ top_or_first first (reports_of_pages pages.now) }
 {
     let mut top = 0;
     for reports in pages {
@@ -92,7 +92,7 @@ fn highest_reports<'a, V>(
     top: u32,
     pages: &[&'a [SlotReport<V>]],
 ) -> Result<Vec<Option<&'a SlotReport<V>>>, AllocError>
-    ensures highest { IfOk result (λ table. IsHighestTable first table.items (all_of pages.now)) }
+    ensures highest { IfOk result (λ table. IsHighestTable first table.items (reports_of_pages pages.now)) }
     ensures slots { IfOk result (λ table. length table.items ≡ top - first) }
 {
     let mut table = Vec::new(alloc);
@@ -127,7 +127,7 @@ fn post_reported_values<V: Value>(
     top: u32,
     pages: &[&[SlotReport<V>]],
 ) -> Result<(), AllocError>
-    ensures { OnOk result (posts.new.items ≡ posts.old.items ++ accept_posts me weights.now ballot first (proposed_values (all_of pages.now) first (top - first))) }
+    ensures { OnOk result (posts.new.items ≡ posts.old.items ++ accept_posts me weights.now ballot first (proposed_values (reports_of_pages pages.now) first (top - first))) }
 {
     let table = highest_reports(alloc, first, top, pages)?;
     let mut slot = first;
@@ -152,7 +152,7 @@ fn add_pages<'a, V: Drop>(
     count: u32,
 ) -> Result<(), AllocError>
     requires { pages.now.node < length pages.now.pages.now }
-    ensures { OnOk result (all_of all.new.items ≡ all_of all.old.items ++ joined_pages (pages_from (pages_after_delivery pages.now) node) count) }
+    ensures { OnOk result (reports_of_pages all.new.items ≡ reports_of_pages all.old.items ++ joined_pages (pages_from (pages_after_delivery pages.now) node) count) }
 {
     for page in 0..count {
         if let Some(reports) = pages.get(node, page) {
@@ -169,7 +169,7 @@ fn heard_pages<'a, V: Drop>(
     heard: &[Heard],
 ) -> Result<Vec<&'a [SlotReport<V>]>, AllocError>
     requires { pages.now.node < length pages.now.pages.now }
-    ensures { IfOk result (λ all. all_of all.items ≡ all_reports (pages_after_delivery pages.now) heard.now) }
+    ensures { IfOk result (λ all. reports_of_pages all.items ≡ all_reports (pages_after_delivery pages.now) heard.now) }
 {
     let mut all = Vec::new(alloc);
     for node in heard {
@@ -188,7 +188,7 @@ fn post_waiting<V: Value>(
     waiting: &[V],
 ) -> Result<(), AllocError>
     requires { top + length waiting.now ≤ SLOTS }
-    ensures { OnOk result (posts.new.items ≡ posts.old.items ++ accept_posts me weights.now ballot top (some_of waiting.now)) }
+    ensures { OnOk result (posts.new.items ≡ posts.old.items ++ accept_posts me weights.now ballot top (as_entries waiting.now)) }
 {
     let mut slot = top;
     for value in waiting {

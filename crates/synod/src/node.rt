@@ -91,7 +91,7 @@ impl<V: Value> NodeCore<V> {
         ensures ready { IsStagingResult self.new (begun self.old.node) result }
         ensures node { self.new.node ≡ self.old.node }
         ensures room { HasNoLessRoom self.old self.new }
-        ensures posts { IfOk result (λ made. AllByRecursion (IsPost (length self.old.node.weights)) made.step.posts) }
+        ensures posts { IfOk result (λ ready. AllByRecursion (IsPost (length self.old.node.weights)) ready.step.posts) }
     {
         let last = std::cmp::max(self.kept_part.round(), self.kept_part.promise().round);
         if last == u64::MAX {
@@ -111,7 +111,7 @@ impl<V: Value> NodeCore<V> {
         ensures ready { IsStagingResult self.new (offered V.bytes self.old.node value) result }
         ensures node { self.new.node ≡ self.old.node }
         ensures room { HasNoLessRoom self.old self.new }
-        ensures posts { IfOk result (λ made. AllByRecursion (IsPost (length self.old.node.weights)) made.step.posts) }
+        ensures posts { IfOk result (λ ready. AllByRecursion (IsPost (length self.old.node.weights)) ready.step.posts) }
     {
         if value.size() > MOST_BYTES {
             return Err(Refusal::TooLong);
@@ -133,7 +133,7 @@ impl<V: Value> NodeCore<V> {
         ensures ready { IsStagingResult self.new (offer_waits self.old.node value) result }
         ensures node { self.new.node ≡ self.old.node }
         ensures room { HasNoLessRoom self.old self.new }
-        ensures posts { IfOk result (λ made. AllByRecursion (IsPost (length self.old.node.weights)) made.step.posts) }
+        ensures posts { IfOk result (λ ready. AllByRecursion (IsPost (length self.old.node.weights)) ready.step.posts) }
     {
         if self.learner.front() == SLOTS {
             return Err(Refusal::LogFull);
@@ -152,7 +152,7 @@ impl<V: Value> NodeCore<V> {
         ensures ready { IsStagingResult self.new (Ok (on_packet self.old.node packet.now)) result }
         ensures node { self.new.node ≡ self.old.node }
         ensures room { HasNoLessRoom self.old self.new }
-        ensures posts { IfOk result (λ made. AllByRecursion (IsPost (length self.old.node.weights)) made.step.posts) }
+        ensures posts { IfOk result (λ ready. AllByRecursion (IsPost (length self.old.node.weights)) ready.step.posts) }
     {
         prove!(packet.from < self.nodes());
         or_memory(self.stage_body(packet.from, &packet.body))
