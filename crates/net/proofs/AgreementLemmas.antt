@@ -1,5 +1,5 @@
 -- Agreement for a history that is taken, and where a run of events stops.
-use Rattle.net.proofs.Words.{◌≡◌, ℕ, suc, List, [], ◌∷◌, ◌++◌, ◌<◌, length, take, Result, Ok, Err, inl, inr, refl, ap, sym, ◌∙◌, subst, arith, append_assoc, length-append, take-append_seam, Yields, into_iter_items, into_iter_steps, IntoIter, IsOk, IfErr, OnOk, Event, StepFault, Memory, World, after, IsAfter, ChosenAgree, LogsAgree, History, world_of, with_event, IsMoment, Agreement, IsMetOrMemory, StopsAt}
+use Rattle.net.proofs.Words.{◌≡◌, ℕ, suc, List, [], ◌∷◌, ◌++◌, ◌<◌, length, take, Result, Ok, Err, inl, inr, refl, ap, sym, ◌∙◌, subst, arith, append_assoc, length-append, take-append_seam, Yields, into_iter_items, into_iter_steps, IntoIter, IsOk, IfErr, OnOk, Event, StepFault, Memory, World, after, IsAfter, ChosenAgree, LogsAgree, History, world_of, with_event, IsMoment, Agreement, IsMetOrMemory, RunStopsAt}
 use Rattle.net.proofs.Beginnings.{swapped, beginnings_agree}
 use Rattle.net.proofs.OneValue.{ballots_have_one_value}
 use Rattle.net.proofs.LaterBallots.{later_ballots_keep_chosen}
@@ -82,10 +82,10 @@ taken_front s (x ∷ xs) t y = y.1.0 ∙ ap (λ ys. x ∷ ys) (taken_front y.0 x
 pub stops_there : {V : Type 0} (size : V → ℕ) (weights : List ℕ) (events done rest : List (Event V)) (e : Event V) (old now : History V) (shown : List (Event V)) (fault : StepFault)
     → events ≡ done ++ e ∷ rest → old ≡ record { weights = weights; events = done } → now ≡ old → shown ≡ now.events → IsOk (world_of size now)
     → IfErr (world_of size (with_event old e)) (λ met. let answer : Result ℕ StepFault = Err fault in answer ≡ Err met) → OnOk (world_of size (with_event old e)) (fault ≡ Memory)
-    → StopsAt size weights events (length shown) fault
+    → RunStopsAt size weights events (length shown) fault
 stops_there {V} size weights events done rest e old now shown fault split is same shows before refused only_memory =
     let count : length shown ≡ length done = ap (λ (es : List (Event V)). length es) (shows ∙ ap (λ (t : History V). t.events) (same ∙ is)) in
-    subst (λ (i : ℕ). StopsAt size weights events i fault) (sym count) record {
+    subst (λ (i : ℕ). RunStopsAt size weights events i fault) (sym count) record {
       before = subst (λ (es : List (Event V)). IsOk (after size weights es)) (sym (taken_before done (e ∷ rest) events split)) (subst (λ (t : History V). IsOk (world_of size t)) (same ∙ is) before);
       fault_is = inl (
         stands_within done rest events e split,

@@ -1,7 +1,7 @@
 -- The words in which this crate is proved, passed on from one place.
 pub use Rattle.net.specs.Agree.{Agree, ChosenAgree, IsAfter, IsPrefixOf, IsProposed, LogsAgree}
 pub use Rattle.net.specs.Chosen.{IsChosen, IsChosenAt, Vote, vote}
-pub use Rattle.net.specs.Agreement.{Agreement, IsMetOrMemory, IsMoment, StopsAt}
+pub use Rattle.net.specs.Agreement.{Agreement, IsMetOrMemory, IsMoment, RunStopsAt}
 pub use Rattle.net.specs.KeptPart.{AreOfOthers, node_of_event, change_of_result, change_at, change_delivered, change_of, kept_part, node_of}
 pub use Rattle.net.specs.Laws.{BallotsHaveOneValue, ChosenValuesAgree, KeptPartSurvives, ChosenValuesPersist, LogEntriesAreChosen, LogEntriesWereOffered, LogsOfNodesAgree, LogsOnlyGrow, RestartEmptiesLog}
 pub use Rattle.net.specs.Staged.{ChangeOnlyRooms, HasResult, IsStagingResultInNet, IsOfEvent, IsReadyAt, IsStaged, IsStagedAt, ChangesOnlyRoom, IsTaken, NetView, IsStagingResultAt, IsStagingResultOfEvent, StagedEvent, StagedWork, posts_of, restarts, step_of, steps, work_of}

@@ -37,6 +37,6 @@ IsMetOrMemory (Err met) fault = fault ≡ met
 
 -- the run stops at event i, from 0: the first i events are taken, and the fault is the one that event i meets, or Memory if it
 -- meets none; or an allocation for the new nodes failed before the first event
-pub record StopsAt {V : Type 0} (size : V → ℕ) (weights : List ℕ) (events : List (Event V)) (i : ℕ) (fault : StepFault) : Type 0 where
+pub record RunStopsAt {V : Type 0} (size : V → ℕ) (weights : List ℕ) (events : List (Event V)) (i : ℕ) (fault : StepFault) : Type 0 where
   pub before : IsOk (after size weights (take i events))
   pub fault_is : ((i < length events) × IsMetOrMemory (after size weights (take (suc i) events)) fault) ⊎ ((i ≡ 0) × (fault ≡ Memory))

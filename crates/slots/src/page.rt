@@ -16,13 +16,13 @@ pub struct Page<T> {
 
 impl<T> Model for Page<T> {
     ghost use Rattle.std.specs.Prelude.{List, Option, vec_capacity};
-    ghost use Rattle.slots.specs.Stored.Pages.{padded, IsPage};
+    ghost use Rattle.slots.specs.Stored.Pages.{padded, IsStoredPage};
 
     ghost Value = { List (Option T) };
 
     ghost view = { λ p. padded p.slots.items };
 
-    ghost invariant = { λ p. IsPage p.slots.items (vec_capacity p.slots) };
+    ghost invariant = { λ p. IsStoredPage p.slots.items (vec_capacity p.slots) };
 }
 
 impl<T: Drop> Page<T> {

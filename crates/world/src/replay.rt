@@ -1,6 +1,6 @@
 //! Taking all events of a list, one after another.
 ghost use Rattle.std.specs.Prelude.{◌≡◌, IfOk, IfErr, OnOk};
-ghost use Rattle.net.specs.Agreement.{StopsAt};
+ghost use Rattle.net.specs.Agreement.{RunStopsAt};
 ghost use Rattle.world.specs.Carried.{carried_size, value_events};
 ghost use Rattle.world.specs.WorldView.{new_node_libraries};
 ghost use Rattle.world.specs.Headline.{Headline};
@@ -22,7 +22,7 @@ pub fn run(
 ) -> Result<World, (u32, StepFault)>
     ensures taken { IfOk result (λ world. world ≡ record { history = record { weights = weights; events = value_events events.items }; libraries = new_node_libraries weights }) }
     ensures headline { OnOk result (Headline (record { weights = weights; events = value_events events.items })) }
-    ensures stops { IfErr result (λ stop. StopsAt carried_size weights (value_events events.items) stop.0 stop.1) }
+    ensures stops { IfErr result (λ stop. RunStopsAt carried_size weights (value_events events.items) stop.0 stop.1) }
 {
     let mut world = match World::new(alloc, weights) {
         Ok(world) => world,
