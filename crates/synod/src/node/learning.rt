@@ -136,7 +136,7 @@ impl<V: Value> NodeCore<V> {
         Ok(self.stage_learner_update(update, posts))
     }
 
-    /// Stages an update that learns a value told by `from`, and asks `from` for the next gap.
+    /// Stages an update that learns a value that `from` sent in a Told, and asks `from` for the next gap.
     fn stage_told_next(
         &self,
         update: LearnerUpdate<V>,
