@@ -1,9 +1,9 @@
--- What a cell keeps: room for its entries, and a library that is that of the first of them.
+-- The invariant of a cell: room for its entries, and a library that is that of the first of them.
 use Rattle.cluster.proofs.Words.{◌≡◌, ℕ, ◌<◌, Bool, true, false, List, [], ◌∷◌, ◌++◌, length, slice_get, Option, Some, None, Result, Ok, Err, refl, ap, sym, subst, arith, length-append, IsSome, option_map, Bor, SLOTS, Verdict, Carried, StepFault, entry_of, entries_of, NodeLibrary, AppliesNext, entries_begin, entries_of-get, entries_of-none, of_longer, of_log_applied, Cell, IsCell, AddsEntry, next_entry, Entry}
 
 -- the cell as a call sees it
 abbrev pub cell : ℕ → List (Option Carried) → NodeLibrary → Cell
-cell k entries node = record { at = k; entries = entries; node = node }
+cell k entries node = record { node = k; entries = entries; replica = node }
 
 -- An entry is taken over.
 
@@ -55,6 +55,6 @@ applied_cell k entries old new h (Some entry) at (Err fault) applies = subst (λ
 
 -- what is seen of a cell, the fields of which are these
 pub applied_seen : (k : ℕ) (entries : List (Option Carried)) (old new : NodeLibrary) (seen : Cell) → cell k entries old ≡ seen → (next : Option (Option Entry)) → slice_get (entries_of entries) old.applied ≡ next
-    → (result : Result (Option Verdict) StepFault) → AppliesNext old new next result → AppliesNext seen.node new (next_entry seen) result
+    → (result : Result (Option Verdict) StepFault) → AppliesNext old new next result → AppliesNext seen.replica new (next_entry seen) result
 applied_seen k entries old new seen is next at result applies =
-    subst (λ (c : Cell). AppliesNext c.node new (next_entry c) result) is (subst (λ (o : Option (Option Entry)). AppliesNext old new o result) (sym at) applies)
+    subst (λ (c : Cell). AppliesNext c.replica new (next_entry c) result) is (subst (λ (o : Option (Option Entry)). AppliesNext old new o result) (sym at) applies)

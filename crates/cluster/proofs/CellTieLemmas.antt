@@ -1,7 +1,7 @@
 -- The tie between cells and switch: what it gives, and how a call keeps it.
-use Rattle.cluster.proofs.Words.{◌≡◌, ℕ, suc, ◌<◌, ◌≤◌, nat_lt, Bool, true, false, List, [], ◌∷◌, ◌++◌, length, slice_get, Option, Some, None, Result, Ok, Err, refl, ap, sym, ◌∙◌, subst, arith, append_assoc, IsOk, MatchOption, is_err, option_map, Bor, nat_tests, StepFault, NoNode, log_after, IsPrefixOf, SwitchView, world_of, BeginsLog, Carried, carried_size, NodeLibrary, Cell, new_cell, AddsEntry, TakesOver, Belongs}
+use Rattle.cluster.proofs.Words.{◌≡◌, ℕ, suc, ◌<◌, ◌≤◌, nat_lt, Bool, true, false, List, [], ◌∷◌, ◌++◌, length, slice_get, Option, Some, None, Result, Ok, Err, refl, ap, sym, ◌∙◌, subst, arith, append_assoc, IsOk, MatchOption, is_err, option_map, Bor, nat_tests, StepFault, NoNode, log_after, IsPrefixOf, SwitchView, world_of, IsLogPrefix, Carried, carried_size, NodeLibrary, Cell, new_cell, AddsEntry, TakesOver, Belongs}
 
--- What a switch shows of a log.
+-- A log, as a switch shows it.
 
 -- what is shown of a slot is the entry of the log there, or none
 pub shown_is : (log : List (Option Carried)) (slot : ℕ) (found : Option (Bor (Option Carried))) → MatchOption found (slice_get log slot ≡ None) (λ (e : Bor (Option Carried)). slice_get log slot ≡ Some e.now)
@@ -10,10 +10,10 @@ shown_is log slot None h = sym h
 shown_is log slot (Some e) h = sym h
 
 -- The cell of a node that restarted.
-pub restarted_belongs : (old new : Cell) (was now : SwitchView Carried) → new ≡ new_cell old.at → length now.stores ≡ length was.stores → Belongs old was → Belongs new now
+pub restarted_belongs : (old new : Cell) (was now : SwitchView Carried) → new ≡ new_cell old.node → length now.stores ≡ length was.stores → Belongs old was → Belongs new now
 restarted_belongs old new was now is count b = subst (λ (c : Cell). Belongs c now) (sym is) record {
   node = let low = b.node in omega (arith, low, count);
-  begins = (log_after (world_of carried_size now) old.at, refl);
+  begins = (log_after (world_of carried_size now) old.node, refl);
 }
 
 -- One entry more is taken over.
@@ -30,13 +30,13 @@ one_more_begins {A} xs ys x h at =
     let rest = get_past xs h.0 x (ap (λ (zs : List A). slice_get zs (length xs)) h.1 ∙ at) in
     (rest.0, append_assoc xs (x ∷ []) rest.0 ∙ ap (λ (zs : List A). xs ++ zs) (sym rest.1) ∙ h.1)
 
-module _ (s : SwitchView Carried) (k : ℕ) (old new : List (Option Carried)) (b : BeginsLog carried_size s k old) where
+module _ (s : SwitchView Carried) (k : ℕ) (old new : List (Option Carried)) (b : IsLogPrefix carried_size s k old) where
   -- entries that are the same begin the log
-  as_begun : new ≡ old → BeginsLog carried_size s k new
-  as_begun is = subst (λ (es : List (Option Carried)). BeginsLog carried_size s k es) (sym is) b
+  as_begun : new ≡ old → IsLogPrefix carried_size s k new
+  as_begun is = subst (λ (es : List (Option Carried)). IsLogPrefix carried_size s k es) (sym is) b
 
   -- whatever is answered, what is left begins the log
-  pub taken_belongs : (next : Option (Option Carried)) (result : Result Bool StepFault) (slot : ℕ) → slot ≡ length old → next ≡ slice_get (log_after (world_of carried_size s) k) slot → AddsEntry old new next result → BeginsLog carried_size s k new
+  pub taken_belongs : (next : Option (Option Carried)) (result : Result Bool StepFault) (slot : ℕ) → slot ≡ length old → next ≡ slice_get (log_after (world_of carried_size s) k) slot → AddsEntry old new next result → IsLogPrefix carried_size s k new
   taken_belongs (Some entry) (Ok true) slot is shows adds = record {
     node = b.node;
     begins = subst (λ (es : List (Option Carried)). IsPrefixOf es (log_after (world_of carried_size s) k)) (sym adds)
@@ -48,19 +48,19 @@ module _ (s : SwitchView Carried) (k : ℕ) (old new : List (Option Carried)) (b
   taken_belongs None (Ok false) slot is shows adds = as_begun adds
   taken_belongs None (Err fault) slot is shows adds = elim adds [ ]
 
--- What is told of the entry that is next.
+-- The next entry of the log.
 
 abbrev cell_of : ℕ → List (Option Carried) → NodeLibrary → Cell
-cell_of k entries node = record { at = k; entries = entries; node = node }
+cell_of k entries node = record { node = k; entries = entries; replica = node }
 
 -- the cell takes over the next entry of its node's log, as it is shown
 pub takes_over : (s : SwitchView Carried) (k : ℕ) (node : NodeLibrary) (es : List (Option Carried)) (now : Cell) → cell_of k es node ≡ now → (fs : List (Option Carried)) (found : Option (Bor (Option Carried))) (slot : ℕ) → slot ≡ length es
     → MatchOption found (slice_get (log_after (world_of carried_size s) k) slot ≡ None) (λ (e : Bor (Option Carried)). slice_get (log_after (world_of carried_size s) k) slot ≡ Some e.now)
     → (result : Result Bool StepFault) → AddsEntry es fs (option_map (λ (e : Bor (Option Carried)). e.now) found) result
-    → TakesOver now (cell_of k fs node) (slice_get (log_after (world_of carried_size s) now.at) (length now.entries)) result
+    → TakesOver now (cell_of k fs node) (slice_get (log_after (world_of carried_size s) now.node) (length now.entries)) result
 takes_over s k node es now seen fs found slot is shown result adds =
     let next = shown_is (log_after (world_of carried_size s) k) slot found shown ∙ ap (λ (i : ℕ). slice_get (log_after (world_of carried_size s) k) i) is in
-    subst (λ (c : Cell). TakesOver c (cell_of k fs node) (slice_get (log_after (world_of carried_size s) c.at) (length c.entries)) result) seen
+    subst (λ (c : Cell). TakesOver c (cell_of k fs node) (slice_get (log_after (world_of carried_size s) c.node) (length c.entries)) result) seen
     (subst (λ (o : Option (Option Carried)). TakesOver (cell_of k es node) (cell_of k fs node) o result) next record { adds = adds; rest = refl })
 
 -- Entries found one by one.

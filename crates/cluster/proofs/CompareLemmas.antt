@@ -1,32 +1,32 @@
--- Of the libraries of two cells of one switch one is a prefix of the other.
-use Rattle.cluster.proofs.Words.{◌≡◌, ◌+◌, ◌<◌, ◌≤◌, true, false, List, [], ◌∷◌, ◌++◌, length, inl, inr, Option, Result, Ok, Err, refl, ap, sym, ◌∙◌, subst, arith, append-nil, length-append, IsOk, Database, Carried, StepFault, World, log, log_after, IsPrefixOf, Agree, Taken, IsMoment, carried_size, entries_of, IsOfLog, Headline, entries_begin, headline_holds, of_longer, SwitchView, world_of, Cell, IsCell, Belongs}
+-- If two cells are of one switch, the library of one is a prefix of that of the other.
+use Rattle.cluster.proofs.Words.{◌≡◌, ◌+◌, ◌<◌, ◌≤◌, true, false, List, [], ◌∷◌, ◌++◌, length, inl, inr, Option, Result, Ok, Err, refl, ap, sym, ◌∙◌, subst, arith, append-nil, length-append, IsOk, Database, Carried, StepFault, World, log, log_after, IsPrefixOf, Agree, History, IsMoment, carried_size, entries_of, IsOfLog, Headline, entries_begin, headline_holds, of_longer, SwitchView, world_of, Cell, IsCell, Belongs}
 
 module _ (s : SwitchView Carried) (w : World Carried) (is : world_of carried_size s ≡ Ok w) where
-  abbrev taken : Taken Carried
-  taken = record { weights = s.weights; events = s.history }
+  abbrev history : History Carried
+  history = record { weights = s.weights; events = s.history }
 
   -- the library is that of the node's log
-  of_log : (c : Cell) → Belongs c s → IsCell c → IsOfLog (entries_of (log w c.at)) c.node
-  of_log c b h = of_longer (entries_of c.entries) (entries_of (log w c.at)) c.node
-      (entries_begin c.entries (log w c.at) (subst (λ (es : List (Option Carried)). IsPrefixOf c.entries es) (ap (λ (r : Result (World Carried) StepFault). log_after r c.at) is) b.begins)) h.of_entries
+  of_log : (c : Cell) → Belongs c s → IsCell c → IsOfLog (entries_of (log w c.node)) c.replica
+  of_log c b h = of_longer (entries_of c.entries) (entries_of (log w c.node)) c.replica
+      (entries_begin c.entries (log w c.node) (subst (λ (es : List (Option Carried)). IsPrefixOf c.entries es) (ap (λ (r : Result (World Carried) StepFault). log_after r c.node) is) b.begins)) h.of_entries
 
   -- the statements of two cells of the switch agree, by the headline in its world
-  agree_in : (one other : Cell) → Belongs one s → Belongs other s → IsCell one → IsCell other → Agree one.node.library.statements other.node.library.statements
+  agree_in : (one other : Cell) → Belongs one s → Belongs other s → IsCell one → IsCell other → Agree one.replica.library.statements other.replica.library.statements
   agree_in one other b d h k =
-      let line : Headline taken = headline_holds taken (subst (λ (r : Result (World Carried) StepFault). IsOk r) (sym is) refl) in
-      let moment : IsMoment carried_size taken w = record { early = s.history; begins = ([], append-nil s.history); is_after = is } in
-      line.libraries_agree one.node.library other.node.library
-      record { world = w; moment = moment; node = one.at; applied = one.node.applied; of_log = (of_log one b h).library }
-      record { world = w; moment = moment; node = other.at; applied = other.node.applied; of_log = (of_log other d k).library }
+      let line : Headline history = headline_holds history (subst (λ (r : Result (World Carried) StepFault). IsOk r) (sym is) refl) in
+      let moment : IsMoment carried_size history w = record { early = s.history; begins = ([], append-nil s.history); is_after = is } in
+      line.libraries_agree one.replica.library other.replica.library
+      record { world = w; moment = moment; node = one.node; applied = one.replica.applied; of_log = (of_log one b h).library }
+      record { world = w; moment = moment; node = other.node; applied = other.replica.applied; of_log = (of_log other d k).library }
 
 -- the statements of two cells of one switch agree
-pub cells_agree : (one other : Cell) (s : SwitchView Carried) → IsOk (world_of carried_size s) → Belongs one s → Belongs other s → IsCell one → IsCell other → Agree one.node.library.statements other.node.library.statements
+pub cells_agree : (one other : Cell) (s : SwitchView Carried) → IsOk (world_of carried_size s) → Belongs one s → Belongs other s → IsCell one → IsCell other → Agree one.replica.library.statements other.replica.library.statements
 cells_agree one other s ok b d h k = from (world_of carried_size s) refl ok where
-  from : (r : Result (World Carried) StepFault) → world_of carried_size s ≡ r → IsOk r → Agree one.node.library.statements other.node.library.statements
+  from : (r : Result (World Carried) StepFault) → world_of carried_size s ≡ r → IsOk r → Agree one.replica.library.statements other.replica.library.statements
   from (Ok w) is ok = agree_in s w is one other b d h k
   from (Err fault) is ok = let no : false ≡ true = ok in cc
 
--- What the counts of statements say.
+-- The counts of statements decide which library is ahead.
 
 module _ (xs ys : Database) where
   -- where the first of two lists that agree is longer, the second begins it

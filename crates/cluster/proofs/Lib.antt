@@ -1,6 +1,6 @@
 pub mod Words
 mod CellsLemmas
-mod LongerRecordLemmas
+mod CopiedSlotsLemmas
 mod CellLemmas
 mod CellTieLemmas
 mod CompareLemmas

@@ -2,15 +2,15 @@
 pub use Rattle.cluster.specs.Belongs.{Belongs, EachBelongs, IsAhead}
 pub use Rattle.cluster.specs.Cell.{AddsEntry, Cell, IsCell, TakesOver, new_cell, next_entry}
 pub use Rattle.cluster.specs.Cells.{new_cells}
-pub use Rattle.cluster.specs.LongerRecord.{with_entry}
-pub use Rattle.cluster.specs.Outcome.{first_under}
+pub use Rattle.cluster.specs.CopiedSlots.{with_copied_slot}
+pub use Rattle.cluster.specs.Outcome.{first_with_key}
 pub use Rattle.library.specs.LibraryOf.{Replica}
 pub use Rattle.library.specs.declared.entry.Entry.{Entry}
 pub use Rattle.library.specs.declared.verdict.Verdict.{Verdict}
 pub use Rattle.mm_read.specs.Statements.{Database}
 pub use Rattle.net.specs.Agree.{Agree, IsPrefixOf}
-pub use Rattle.net.specs.History.{IsMoment}
-pub use Rattle.net.specs.Taken.{Taken}
+pub use Rattle.net.specs.Agreement.{IsMoment}
+pub use Rattle.net.specs.History.{History}
 pub use Rattle.net.specs.World.{World, log, log_after}
 pub use Rattle.net.specs.declared.fault.StepFault.{StepFault}
 pub use Rattle.net.specs.declared.fault.StepFault.TheVariants.{NoNode}
@@ -20,7 +20,7 @@ pub use Rattle.std.proofs.Common.{Bool, Err, List, None, Ok, Option, Result, Som
 pub use Rattle.std.proofs.lemmas.Bool.Decides.{nat_tests}
 pub use Rattle.std.specs.Borrow.{Bor}
 pub use Rattle.std.specs.Prelude.{IsOk, IsSome, MatchOption, is_err, option_map}
-pub use Rattle.switch.specs.Belonging.{BeginsLog}
+pub use Rattle.switch.specs.Belonging.{IsLogPrefix}
 pub use Rattle.switch.specs.Switch.{SwitchView, new_views, world_of}
 pub use Rattle.synod.specs.Record.{Kept, changed_by}
 pub use Rattle.synod.specs.declared.change.Change.{Change}
@@ -28,8 +28,8 @@ pub use Rattle.synod.specs.declared.change.Change.TheVariants.{Promise, Round}
 pub use Rattle.synod.specs.declared.change.AcceptedEntry.{AcceptedEntry}
 pub use Rattle.world.proofs.EntryLogs.{entries_begin, entries_of-get, entries_of-none}
 pub use Rattle.world.proofs.HeadlineLemmas.{headline_holds}
-pub use Rattle.world.proofs.ReplicasLemmas.{of_log_applied, of_longer}
+pub use Rattle.world.proofs.WorldViewLemmas.{of_log_applied, of_longer}
 pub use Rattle.world.specs.Carried.{carried_size, entries_of, entry_of}
 pub use Rattle.world.specs.Headline.{Headline}
-pub use Rattle.world.specs.Replicas.{AppliesNext, IsOfLog, NodeLibrary}
+pub use Rattle.world.specs.WorldView.{AppliesNext, IsOfLog, NodeLibrary}
 pub use Rattle.world.specs.declared.carried.Carried.{Carried}

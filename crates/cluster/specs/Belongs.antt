@@ -2,14 +2,14 @@
 -- Source: Lamport, Paxos Made Simple, section 3: all servers execute the same commands, each as far as it learned them.
 -- The code tests this entry by entry where it has both switch and cell, since no fact relates values under different locks.
 use Rattle.std.specs.Prelude.{◌≡◌, ◌<◌, ℕ, List, Some, length, slice_get}
-use Rattle.cluster.specs.Words.{Database, IsPrefixOf, SwitchView, BeginsLog, Carried, carried_size}
+use Rattle.cluster.specs.Words.{Database, IsPrefixOf, SwitchView, IsLogPrefix, Carried, carried_size}
 use Rattle.cluster.specs.declared.compare.Ahead.{Ahead}
 use Rattle.cluster.specs.declared.compare.Ahead.TheVariants.{First, Same, Second}
 use Rattle.cluster.specs.Cell.{Cell}
 
 -- the cell belongs to the switch: the entries taken over are a prefix of its node's log
 abbrev pub Belongs : Cell → SwitchView Carried → Type 0
-Belongs c switch = BeginsLog carried_size switch c.at c.entries
+Belongs c switch = IsLogPrefix carried_size switch c.node c.entries
 
 -- each of the cells belongs to the switch
 abbrev pub EachBelongs : List Cell → SwitchView Carried → Type 0

@@ -2,20 +2,20 @@
 -- Source: Lamport, Paxos Made Simple, section 3: a server executes the commands in the order of their numbers.
 -- `nodes` keeps these under a lock of their own; that the entries are a prefix of the log is tested where both are borrowed.
 use Rattle.std.specs.Prelude.{◌≡◌, ℕ, ◌+◌, ◌≤◌, Bool, true, false, List, [], ◌∷◌, ◌++◌, Option, Some, None, Result, Ok, Err, length, slice_get}
-use Rattle.cluster.specs.Words.{SLOTS, Entry, Carried, StepFault, Memory, entries_of, NodeLibrary, new_library, IsOfLog}
+use Rattle.cluster.specs.Words.{SLOTS, Entry, Carried, StepFault, Memory, entries_of, NodeLibrary, new_node_library, IsOfLog}
 
 pub record Cell : Type 0 where
-  pub at : ℕ
+  pub node : ℕ
   pub entries : List (Option Carried)  -- taken over, in order
-  pub node : NodeLibrary  -- the library, and how many of the entries made it
+  pub replica : NodeLibrary  -- the library, and how many of the entries made it
 
 abbrev pub new_cell : ℕ → Cell
-new_cell k = record { at = k; entries = []; node = new_library }
+new_cell k = record { node = k; entries = []; replica = new_node_library }
 
 -- the library is that of the first entries taken over, as many as were applied
 pub record IsCell (c : Cell) : Type 0 where
   pub few : length c.entries ≤ SLOTS
-  pub of_entries : IsOfLog (entries_of c.entries) c.node
+  pub of_entries : IsOfLog (entries_of c.entries) c.replica
 
 -- the next entry is appended, or there is none; or an allocation fails, and nothing is appended
 abbrev pub AddsEntry : List (Option Carried) → List (Option Carried) → Option (Option Carried) → Result Bool StepFault → Type 0
@@ -33,4 +33,4 @@ pub record TakesOver (old new : Cell) (next : Option (Option Carried)) (result :
 
 -- the next entry to apply, if it is taken over
 abbrev pub next_entry : Cell → Option (Option Entry)
-next_entry c = slice_get (entries_of c.entries) c.node.applied
+next_entry c = slice_get (entries_of c.entries) c.replica.applied

@@ -2,5 +2,5 @@ pub mod Words
 pub mod Cell
 pub mod Cells
 pub mod Belongs
-pub mod LongerRecord
+pub mod CopiedSlots
 pub mod Outcome

@@ -9,14 +9,14 @@ use Rattle.world.specs.declared.carried.Carried.{Carried}
 use Rattle.cluster.specs.Cell.{Cell}
 
 -- an element of a log is an entry with the author and the serial number of this entry
-abbrev pub is_under : Entry → Option Carried → Bool
-is_under entry None = false
-is_under entry (Some c) = (author_of entry == author_of c.0) && (serial_of entry == serial_of c.0)
+abbrev pub has_key_of : Entry → Option Carried → Bool
+has_key_of entry None = false
+has_key_of entry (Some c) = (author_of entry == author_of c.0) && (serial_of entry == serial_of c.0)
 
 -- the first entry of a log under this entry's author and number, which the log's library decides; None if there is none
-abbrev pub first_under : Entry → List (Option Carried) → Option Carried
-first_under entry [] = None
-first_under entry (c ∷ cs) = if is_under entry c then c else first_under entry cs
+abbrev pub first_with_key : Entry → List (Option Carried) → Option Carried
+first_with_key entry [] = None
+first_with_key entry (c ∷ cs) = if has_key_of entry c then c else first_with_key entry cs
 
 -- from the verdict and the first entry under that author and number: the verdict if the first is this entry, else a repeat
 abbrev pub IsOutcomeBy : Option Verdict → Option Carried → Entry → Option Verdict → Type 0
@@ -27,4 +27,4 @@ IsOutcomeBy (Some verdict) first entry outcome =
 
 abbrev pub IsOutcomeOf : Cell → Entry → Option Verdict → Type 0
 IsOutcomeOf cell entry outcome =
-    IsOutcomeBy (status cell.node.library.decided (author_of entry) (serial_of entry)) (first_under entry cell.entries) entry outcome
+    IsOutcomeBy (status cell.replica.library.decided (author_of entry) (serial_of entry)) (first_with_key entry cell.entries) entry outcome

@@ -6,8 +6,8 @@ pub use Rattle.net.specs.declared.fault.StepFault.{StepFault}
 pub use Rattle.net.specs.declared.fault.StepFault.TheVariants.{Memory}
 pub use Rattle.slots.specs.FiniteMap.{put_at}
 pub use Rattle.slots.specs.declared.slots.TheConstants.{SLOTS}
-pub use Rattle.switch.specs.Belonging.{BeginsLog}
+pub use Rattle.switch.specs.Belonging.{IsLogPrefix}
 pub use Rattle.switch.specs.Switch.{SwitchView}
 pub use Rattle.world.specs.Carried.{carried_size, entries_of}
-pub use Rattle.world.specs.Replicas.{IsOfLog, NodeLibrary, new_library}
+pub use Rattle.world.specs.WorldView.{IsOfLog, NodeLibrary, new_node_library}
 pub use Rattle.world.specs.declared.carried.Carried.{Carried}

@@ -2,7 +2,7 @@
 ghost use Rattle.std.specs.Prelude.{◌≡◌, ◌↔◌, Err, IfOk, IsOk, IsTrue, Some};
 ghost use Rattle.std.specs.Fn.{FnOnceReturnsAt};
 ghost use Rattle.net.specs.declared.fault.StepFault.TheVariants.{Apart};
-ghost use Rattle.cluster.specs.Outcome.{IsOutcomeOf, first_under, is_under};
+ghost use Rattle.cluster.specs.Outcome.{IsOutcomeOf, first_with_key, has_key_of};
 
 use crate::cell::NodeCell;
 use crate::log::is_same;
@@ -19,12 +19,12 @@ pub fn ask_on<T, F: FnOnce(&NodeCell) -> T + Drop>(
     question: F,
 ) -> Result<T, StepFault>
     requires { F.IsAlwaysCallable question }
-    ensures of_node { IfOk result (λ answer. cell.now.at ≡ k) }
+    ensures of_node { IfOk result (λ answer. cell.now.node ≡ k) }
     ensures answered { IfOk result (λ answer. FnOnceReturnsAt F.FnOnce question cell.now answer) }
-    ensures own { cell.now.at ≡ k → IsOk result }
-    ensures apart { (cell.now.at ≡ k → ⊥) → result ≡ Err Apart }
+    ensures same_node { cell.now.node ≡ k → IsOk result }
+    ensures apart { (cell.now.node ≡ k → ⊥) → result ≡ Err Apart }
 {
-    if cell.at() != k {
+    if cell.node() != k {
         return Err(StepFault::Apart);
     }
     Ok(question(cell))
@@ -47,19 +47,19 @@ pub fn outcome_on(cell: &NodeCell, entry: &Entry) -> Option<Verdict>
 
 /// Returns whether the entry is the first under its author and serial number.
 fn is_first(entries: &[Option<Carried>], entry: &Entry) -> bool
-    ensures { IsTrue result ↔ (first_under entry.now entries.now ≡ Some (record { 0 = entry.now })) }
+    ensures { IsTrue result ↔ (first_with_key entry.now entries.now ≡ Some (record { 0 = entry.now })) }
 {
     for found in entries {
-        if is_under(found, entry) {
-            return is_found(found, entry);
+        if has_key_of(found, entry) {
+            return is_equal_entry(found, entry);
         }
     }
     false
 }
 
 /// Returns whether `found` is an entry with the author and serial number of `entry`.
-fn is_under(found: &Option<Carried>, entry: &Entry) -> bool
-    ensures { result ≡ is_under entry.now found.now }
+fn has_key_of(found: &Option<Carried>, entry: &Entry) -> bool
+    ensures { result ≡ has_key_of entry.now found.now }
 {
     match found {
         Some(Carried(found)) => {
@@ -70,7 +70,7 @@ fn is_under(found: &Option<Carried>, entry: &Entry) -> bool
 }
 
 /// Returns whether `found` is this entry.
-fn is_found(found: &Option<Carried>, entry: &Entry) -> bool
+fn is_equal_entry(found: &Option<Carried>, entry: &Entry) -> bool
     ensures { IsTrue result ↔ (found.now ≡ Some (record { 0 = entry.now })) }
 {
     match found {

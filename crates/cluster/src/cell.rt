@@ -6,13 +6,13 @@ ghost use Rattle.synod.specs.Record.{new_kept};
 ghost use Rattle.net.specs.declared.fault.StepFault.TheVariants.{NoNode, Memory};
 ghost use Rattle.net.specs.World.{log_after};
 ghost use Rattle.world.specs.Carried.{carried_size};
-ghost use Rattle.world.specs.Replicas.{AppliesNext};
+ghost use Rattle.world.specs.WorldView.{AppliesNext};
 ghost use Rattle.switch.specs.Switch.{new_views, world_of};
 ghost use Rattle.cluster.specs.Belongs.{Belongs, EachBelongs};
 ghost use Rattle.cluster.specs.Cells.{new_cells};
 ghost use Rattle.cluster.specs.Cell.{Cell, new_cell, IsCell, AddsEntry, TakesOver, next_entry};
 
-use crate::log::begins_log;
+use crate::log::is_log_prefix;
 use library::{Library, Listed, Verdict};
 use net::StepFault;
 use std::alloc::{AllocError, Global};
@@ -23,13 +23,13 @@ use synod::{Keep, Weights, copy_value};
 use verify_pool::{Gate, Workers};
 use world::{Carried, Replica};
 
-/// The entries that node `at` has taken over from its log, and the library of those applied: the first `applied` of them.
+/// The entries that `node` has taken over from its log, and the library of those applied: the first `applied` of them.
 ///
 /// Contracts see the node's number, those entries, the count applied and what the library holds.
 #[derive(Drop)]
 pub struct NodeCell {
     alloc: Global,
-    at: u8,
+    node: u8,
     entries: Vec<Option<Carried>>,
     replica: Replica,
 }
@@ -39,34 +39,34 @@ impl Model for NodeCell {
 
     ghost Value = { Cell };
 
-    ghost view = { λ c. record { at = c.at; entries = c.entries.items; node = c.replica } };
+    ghost view = { λ c. record { node = c.node; entries = c.entries.items; replica = c.replica } };
 
-    ghost invariant = { λ c. IsCell (record { at = c.at; entries = c.entries.items; node = c.replica }) };
+    ghost invariant = { λ c. IsCell (record { node = c.node; entries = c.entries.items; replica = c.replica }) };
 }
 
 impl NodeCell {
     /// Creates the cell of a new node. It does not allocate.
-    pub(crate) fn new(alloc: Global, at: u8) -> Self
-        ensures { result ≡ new_cell at }
+    pub(crate) fn new(alloc: Global, node: u8) -> Self
+        ensures { result ≡ new_cell node }
     {
         NodeCell {
             alloc,
-            at,
+            node,
             entries: Vec::new(alloc),
             replica: Replica::new(alloc),
         }
     }
 
     /// Returns the number of the cell's node.
-    pub fn at(&self) -> u8
-        ensures { result ≡ self.now.at }
+    pub fn node(&self) -> u8
+        ensures { result ≡ self.now.node }
     {
-        self.at
+        self.node
     }
 
     /// Returns the library: that of the first `applied` entries taken over. It does not allocate.
     pub fn library(&self) -> &Library
-        ensures library { result.now.replica ≡ self.now.node.library }
+        ensures library { result.now.replica ≡ self.now.replica.library }
         ensures of_entries { IsCell self.now }
     {
         self.replica.library()
@@ -81,24 +81,24 @@ impl NodeCell {
 
     /// Returns the number of entries applied. It does not allocate.
     pub fn applied(&self) -> u32
-        ensures { result ≡ self.now.node.applied }
+        ensures { result ≡ self.now.replica.applied }
     {
         self.replica.applied()
     }
 
     /// Returns whether an entry that was taken over is still to be applied.
-    pub fn is_behind(&self) -> bool
-        ensures { IsTrue result ↔ self.now.node.applied < length self.now.entries }
+    pub fn has_unapplied(&self) -> bool
+        ensures { IsTrue result ↔ self.now.replica.applied < length self.now.entries }
     {
         (self.replica.applied() as usize) < self.entries.len()
     }
 
     /// Discards the entries taken over, and empties the library. It does not allocate.
-    pub(crate) fn give_up(&mut self)
-        ensures { self.new ≡ new_cell self.old.at }
+    pub(crate) fn reset(&mut self)
+        ensures { self.new ≡ new_cell self.old.node }
     {
         self.entries.clear();
-        self.replica.give_up(self.alloc);
+        self.replica.reset(self.alloc);
     }
 }
 
@@ -109,7 +109,7 @@ pub fn belongs<K: Keep<Carried>>(cell: &NodeCell, switch: &Switch<Carried, K>) -
     ensures belongs { IsTrue result ↔ Belongs cell.now switch.now }
     ensures taken { IsOk (world_of carried_size switch.now) }
 {
-    begins_log(switch, cell.at, &cell.entries)
+    is_log_prefix(switch, cell.node, &cell.entries)
 }
 
 /// Takes over the next entry of the node's log, and returns whether there is one.
@@ -121,12 +121,12 @@ pub fn take_on<K: Keep<Carried>>(
     switch: &Switch<Carried, K>,
 ) -> Result<bool, StepFault>
     ensures taken { IsOk (world_of carried_size switch.now) }
-    ensures no_node { length switch.now.stores ≤ cell.old.at → (result ≡ Err NoNode) × (cell.new ≡ cell.old) }
-    ensures takes { cell.old.at < length switch.now.stores → TakesOver cell.old cell.new (slice_get (log_after (world_of carried_size switch.now) cell.old.at) (length cell.old.entries)) result }
+    ensures no_node { length switch.now.stores ≤ cell.old.node → (result ≡ Err NoNode) × (cell.new ≡ cell.old) }
+    ensures takes { cell.old.node < length switch.now.stores → TakesOver cell.old cell.new (slice_get (log_after (world_of carried_size switch.now) cell.old.node) (length cell.old.entries)) result }
     ensures belongs { Belongs cell.old switch.now → Belongs cell.new switch.now }
 {
     let slot = cell.entries.len() as u32;
-    let next = match switch.entry(cell.at, slot) {
+    let next = match switch.entry(cell.node, slot) {
         Ok(next) => next,
         Err(fault) => return Err(fault),
     };
@@ -156,8 +156,8 @@ fn add_entry(
 ///
 /// Errors: `Memory`; the entry is then still to be applied. Cost: that of `Library::apply` on the entry.
 pub fn apply_on(cell: &mut NodeCell) -> Result<Option<Verdict>, StepFault>
-    ensures applies { AppliesNext cell.old.node cell.new.node (next_entry cell.old) result }
-    ensures rest { cell.new ≡ record cell.old { node = cell.new.node } }
+    ensures applies { AppliesNext cell.old.replica cell.new.replica (next_entry cell.old) result }
+    ensures rest { cell.new ≡ record cell.old { replica = cell.new.replica } }
 {
     let next = entry_at(&cell.entries, cell.replica.applied());
     cell.replica.apply_next(next)
@@ -174,8 +174,8 @@ pub fn apply_on_with<G: Gate + Sync, R: Threads + Sync>(
     workers: Workers,
     gate: &G,
 ) -> Result<Option<Verdict>, StepFault>
-    ensures applies { AppliesNext cell.old.node cell.new.node (next_entry cell.old) result }
-    ensures rest { cell.new ≡ record cell.old { node = cell.new.node } }
+    ensures applies { AppliesNext cell.old.replica cell.new.replica (next_entry cell.old) result }
+    ensures rest { cell.new ≡ record cell.old { replica = cell.new.replica } }
 {
     let next = entry_at(&cell.entries, cell.replica.applied());
     cell.replica.apply_next_with(rt, next, workers, gate)
@@ -192,7 +192,7 @@ fn entry_at(entries: &[Option<Carried>], slot: u32) -> Option<&Option<Carried>>
 ///
 /// Errors: an allocation fails. Cost: one pass over all statements.
 pub fn list_on(cell: &NodeCell) -> Result<Vec<Listed>, AllocError>
-    ensures lists { IfOk result (λ list. list.items ≡ listed cell.now.node.library.statements) }
+    ensures lists { IfOk result (λ list. list.items ≡ listed cell.now.replica.library.statements) }
     ensures of_entries { IsCell cell.now }
 {
     cell.replica.library().list()

@@ -30,10 +30,10 @@ pub fn compare_on<K: Keep<Carried>>(
 ) -> Ahead
     requires one { Belongs one.now switch.now }
     requires other { Belongs other.now switch.now }
-    ensures { IsAhead result one.now.node.library.statements other.now.node.library.statements }
+    ensures { IsAhead result one.now.replica.library.statements other.now.replica.library.statements }
 {
     // The switch has the node, and a clause of `entry` states that the history is taken.
-    prove!(switch.entry(one.at(), 0).is_ok());
+    prove!(switch.entry(one.node(), 0).is_ok());
     ahead_of(one.library(), other.library())
 }
 

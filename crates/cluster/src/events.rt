@@ -59,13 +59,13 @@ pub fn restart_on<K: Keep<Carried>>(
     cell: &mut NodeCell,
     switch: &mut Switch<Carried, K>,
 ) -> Result<u64, StepFault>
-    ensures plays { Plays carried_size switch.old switch.new (Restart cell.old.at) result }
-    ensures logs { KeepsLogs carried_size (Restart cell.old.at) switch.old switch.new result }
-    ensures fresh { OnOk result (cell.new ≡ new_cell cell.old.at) }
+    ensures plays { Plays carried_size switch.old switch.new (Restart cell.old.node) result }
+    ensures logs { KeepsLogs carried_size (Restart cell.old.node) switch.old switch.new result }
+    ensures fresh { OnOk result (cell.new ≡ new_cell cell.old.node) }
     ensures stays { OnErr result (cell.new ≡ cell.old) }
     ensures belongs { Belongs cell.old switch.old → Belongs cell.new switch.new }
 {
-    let count = switch.play(Event::Restart(cell.at()))?;
-    cell.give_up();
+    let count = switch.play(Event::Restart(cell.node()))?;
+    cell.reset();
     Ok(count)
 }

@@ -3,7 +3,7 @@ ghost use Rattle.std.specs.Prelude.{◌≡◌, ◌↔◌, ◌≤◌, ◌<◌, So
 ghost use Rattle.slots.specs.declared.slots.TheConstants.{SLOTS};
 ghost use Rattle.net.specs.World.{log_after};
 ghost use Rattle.switch.specs.Switch.{world_of};
-ghost use Rattle.switch.specs.Belonging.{BeginsLog};
+ghost use Rattle.switch.specs.Belonging.{IsLogPrefix};
 ghost use Rattle.world.specs.Carried.{carried_size};
 
 use library::{Entry, Submission};
@@ -14,13 +14,13 @@ use world::Carried;
 /// Returns whether there is a node `k`, and the entries are a prefix of its log.
 ///
 /// Cost: the size of the entries, each compared with one of the log.
-pub(crate) fn begins_log<K: Keep<Carried>>(
+pub(crate) fn is_log_prefix<K: Keep<Carried>>(
     switch: &Switch<Carried, K>,
     k: u8,
     entries: &[Option<Carried>],
 ) -> bool
     requires { length entries.now ≤ SLOTS }
-    ensures begins { IsTrue result ↔ BeginsLog carried_size switch.now k entries.now }
+    ensures begins { IsTrue result ↔ IsLogPrefix carried_size switch.now k entries.now }
     ensures taken { IsOk (world_of carried_size switch.now) }
 {
     if switch.entry(k, 0).is_err() {
@@ -45,13 +45,13 @@ fn is_entry<K: Keep<Carried>>(
     ensures { IsTrue result ↔ (slice_get (log_after (world_of carried_size switch.now) k) slot ≡ Some entry.now) }
 {
     match switch.entry(k, slot) {
-        Ok(found) => is_found(found, entry),
+        Ok(found) => is_equal_value(found, entry),
         Err(_) => false,
     }
 }
 
 /// Returns whether `found` is there and equal to `entry`: both are a no-operation, or both are the same entry.
-fn is_found(found: Option<&Option<Carried>>, entry: &Option<Carried>) -> bool
+fn is_equal_value(found: Option<&Option<Carried>>, entry: &Option<Carried>) -> bool
     ensures { IsTrue result ↔ (option_map (λ e. e.now) found.entry ≡ Some entry.now) }
 {
     match (found, entry) {

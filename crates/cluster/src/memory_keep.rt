@@ -3,7 +3,7 @@ ghost use Rattle.std.specs.Prelude.{◌≡◌, ◌<◌, Ok, Err, Some, None, OnO
 ghost use Rattle.slots.specs.FiniteMap.{entry_at, trimmed};
 ghost use Rattle.slots.specs.declared.slots.TheConstants.{SLOTS};
 ghost use Rattle.synod.specs.Record.{new_kept, HasRoomFor};
-ghost use Rattle.cluster.specs.LongerRecord.{with_entry};
+ghost use Rattle.cluster.specs.CopiedSlots.{with_copied_slot};
 
 use scope::Steps;
 use slots::SLOTS;
@@ -43,7 +43,7 @@ impl<V: Value> Keep<V> for MemoryKeep<V> {
             self.failures.tick();
             return Err(Failed);
         };
-        self.stored.change_by(Some(change));
+        self.stored.apply_change(Some(change));
         Ok(())
     }
 
@@ -67,14 +67,14 @@ fn ready_change<V: Value>(kept: &mut Record<V>, change: &Change<V>) -> Result<Ch
     match change {
         Change::Round(round) => Ok(Change::Round(*round)),
         Change::Promise(ballot) => Ok(Change::Promise(*ballot)),
-        Change::Entry { slot, held } => {
+        Change::Entry { slot, entry } => {
             if *slot >= SLOTS {
                 return Err(AllocError);
             }
             kept.room(*slot)?;
             Ok(Change::Entry {
                 slot: *slot,
-                held: copy_held(held)?,
+                entry: copy_entry(entry)?,
             })
         }
     }
@@ -91,8 +91,8 @@ fn copy_record<V: Value>(alloc: Global, source: &Record<V>) -> Result<Record<V>,
     for slot in 0..source.top() {
         copy_slot(&mut copy, source, slot)?;
     }
-    copy.change_by(Some(Change::Round(source.round())));
-    copy.change_by(Some(Change::Promise(source.promise())));
+    copy.apply_change(Some(Change::Round(source.round())));
+    copy.apply_change(Some(Change::Promise(source.promise())));
     Ok(copy)
 }
 
@@ -103,23 +103,23 @@ fn copy_slot<V: Value>(
     slot: u32,
 ) -> Result<(), AllocError>
     requires { slot < SLOTS }
-    ensures { OnOk result (copy.new.kept.accepted ≡ with_entry copy.old.kept.accepted slot (entry_at source.now.kept.accepted slot)) }
+    ensures { OnOk result (copy.new.kept.accepted ≡ with_copied_slot copy.old.kept.accepted slot (entry_at source.now.kept.accepted slot)) }
 {
-    let Some(held) = source.get(slot) else {
+    let Some(entry) = source.get(slot) else {
         return Ok(());
     };
-    let held = copy_held(held)?;
+    let entry = copy_entry(entry)?;
     copy.room(slot)?;
-    copy.change_by(Some(Change::Entry { slot, held }));
+    copy.apply_change(Some(Change::Entry { slot, entry }));
     Ok(())
 }
 
 /// Returns a copy of an accepted entry.
-fn copy_held<V: Value>(held: &AcceptedEntry<V>) -> Result<AcceptedEntry<V>, AllocError>
-    ensures { IfOk result (λ copy. copy ≡ held.now) }
+fn copy_entry<V: Value>(entry: &AcceptedEntry<V>) -> Result<AcceptedEntry<V>, AllocError>
+    ensures { IfOk result (λ copy. copy ≡ entry.now) }
 {
     Ok(AcceptedEntry {
-        ballot: held.ballot,
-        value: copy_value(&held.value)?,
+        ballot: entry.ballot,
+        value: copy_value(&entry.value)?,
     })
 }

@@ -69,7 +69,7 @@ fn agree_on_one(rt: &HostRuntime) -> Result<()> {
     }
     for cell in cells.iter_mut() {
         take_on(cell, &switch)?;
-        println!(rt; "node {}: {:?}", cell.at(), apply_on(cell)?)?;
+        println!(rt; "node {}: {:?}", cell.node(), apply_on(cell)?)?;
     }
     if let [first, _, last] = cells.as_slice() {
         if cluster::belongs(first, &switch) && cluster::belongs(last, &switch) {

@@ -1,5 +1,5 @@
 -- A Prepare and an Accept continue the story: a promise tells the truth of the acceptor's votes, and a vote keeps its promises.
-use Rattle.net.proofs.Words.{◌≡◌, ℕ, suc, ◌+◌, ◌≤◌, Bool, true, false, List, [], ◌∷◌, length, Option, Some, inl, inr, refl, ap, sym, ◌∙◌, subst, arith, if◌then◌else◌, slice_get, AllByRecursion, entry_at, put_at, In, put_either, put_same, Ballot, SlotReport, Accepted, AcceptedEntry, is_under, pages_of, Node, reports_from, promise_pages, promises, refuses, on_prepare, held, takes_value, on_accept, Under, Upto, upto_self, upto_upto, upto_under, under_is_upto, not_both, under_true, under_false, reports-held, held-reported, Vote, vote}
+use Rattle.net.proofs.Words.{◌≡◌, ℕ, suc, ◌+◌, ◌≤◌, Bool, true, false, List, [], ◌∷◌, length, Option, Some, inl, inr, refl, ap, sym, ◌∙◌, subst, arith, if◌then◌else◌, slice_get, AllByRecursion, entry_at, put_at, In, put_either, put_same, Ballot, SlotReport, Accepted, AcceptedEntry, is_below, pages_of, Node, reports_from, promise_pages, promises, refuses, on_prepare, accepted_entry, accepts_value, on_accept, Under, Upto, upto_self, upto_upto, upto_under, under_is_upto, not_both, under_true, under_false, reports-held, held-reported, Vote, vote}
 use Rattle.net.proofs.Ledger.{begun_as, Promised, proposal, Ledger, HasHigher, IsBacked, OnePromise, IsSound}
 use Rattle.net.proofs.LedgerGrows.{AllPromisedUpto, Grows, with_promise, with_vote, grows-with_promise, grows-with_vote}
 use Rattle.net.proofs.LedgerSteps.{promised_sound, voted_sound}
@@ -90,14 +90,14 @@ module _ {V : Type 0} {offers : List V} {l : Ledger V} (n : Node V) (sound : IsS
         }
 
   -- a Prepare gets a promise or a refusal, by the test, and both continue the story
-  prepare_either : (to : ℕ) (b : Ballot) (first : ℕ) → In (begun_as b first) l.begun → (t : Bool) → is_under n.promise b ≡ t
+  prepare_either : (to : ℕ) (b : Ballot) (first : ℕ) → In (begun_as b first) l.begun → (t : Bool) → is_below n.promise b ≡ t
       → Continues n.weights offers n.me l (if t then promises n to b first else refuses n to b)
   prepare_either to b first begun true test = promises_continue b first (under_true _ _ test) to begun
   prepare_either to b first begun false test = same_ledger sound holds (tt, tt) refl
 
   -- a Prepare of a ballot that was begun continues the story
   pub prepare_continues : (to : ℕ) (b : Ballot) (first : ℕ) → In (begun_as b first) l.begun → Continues n.weights offers n.me l (on_prepare n to b first)
-  prepare_continues to b first begun = prepare_either to b first begun (is_under n.promise b) refl
+  prepare_continues to b first begun = prepare_either to b first begun (is_below n.promise b) refl
 
   -- An Accept not below the promise.
 
@@ -108,23 +108,23 @@ module _ {V : Type 0} {offers : List V} {l : Ledger V} (n : Node V) (sound : IsS
     voted_upto x (inr i) mine = upto_upto x.ballot n.promise b (holds.acceptor.voted x i mine) upto
 
     -- what was put is a higher vote of its slot, and leaves the others
-    held_from_put : (x : Vote V) → In x (vote n.me b s v ∷ l.votes) → x.node ≡ n.me → IsHeldFrom (put_at n.accepted s (held b v)) x
-    held_from_put x (inl e) mine = subst (λ (x : Vote V). IsHeldFrom (put_at n.accepted s (held b v)) x) e record { entry = held b v; is_held = put_same n.accepted s (held b v); upto = upto_self b }
-    held_from_put x (inr i) mine = let old = holds.acceptor.held_from x i mine in elim (put_either n.accepted s x.slot (held b v)) [
-      | inl put ↦ record { entry = held b v; is_held = put.1; upto = voted_upto x (inr i) mine }
+    held_from_put : (x : Vote V) → In x (vote n.me b s v ∷ l.votes) → x.node ≡ n.me → IsHeldFrom (put_at n.accepted s (accepted_entry b v)) x
+    held_from_put x (inl e) mine = subst (λ (x : Vote V). IsHeldFrom (put_at n.accepted s (accepted_entry b v)) x) e record { entry = accepted_entry b v; is_held = put_same n.accepted s (accepted_entry b v); upto = upto_self b }
+    held_from_put x (inr i) mine = let old = holds.acceptor.held_from x i mine in elim (put_either n.accepted s x.slot (accepted_entry b v)) [
+      | inl put ↦ record { entry = accepted_entry b v; is_held = put.1; upto = voted_upto x (inr i) mine }
       | inr same ↦ record { entry = old.entry; is_held = same ∙ old.is_held; upto = old.upto }
     ]
 
     -- each entry held, once the new one is put, was voted for
-    put_voted : (t : ℕ) (h : AcceptedEntry V) → entry_at (put_at n.accepted s (held b v)) t ≡ Some h → In (vote n.me h.ballot t h.value) (vote n.me b s v ∷ l.votes)
-    put_voted t h e = elim (put_either n.accepted s t (held b v)) [
-      | inl put ↦ let same : held b v ≡ h = cc (put.1, e) in
+    put_voted : (t : ℕ) (h : AcceptedEntry V) → entry_at (put_at n.accepted s (accepted_entry b v)) t ≡ Some h → In (vote n.me h.ballot t h.value) (vote n.me b s v ∷ l.votes)
+    put_voted t h e = elim (put_either n.accepted s t (accepted_entry b v)) [
+      | inl put ↦ let same : accepted_entry b v ≡ h = cc (put.1, e) in
           inl (subst (λ (h : AcceptedEntry V). vote n.me b s v ≡ vote n.me h.ballot t h.value) same (ap (λ (s : ℕ). vote n.me b s v) (sym put.0)))
       | inr same ↦ inr (holds.acceptor.held t h (sym same ∙ e))
     ]
 
     -- a vote for a proposal under a ballot not below the promise continues the story
-    pub accepts_continue : In (proposal b s v) l.proposals → Continues n.weights offers n.me l (takes_value n b s v)
+    pub accepts_continue : In (proposal b s v) l.proposals → Continues n.weights offers n.me l (accepts_value n b s v)
     accepts_continue proposed =
         let m : Ledger V = with_vote (vote n.me b s v) l in
         let kept : AllPromisedUpto l.promises n.me b = λ p i e. upto_upto p.ballot n.promise b (holds.acceptor.promised p i e) upto in
@@ -145,11 +145,11 @@ module _ {V : Type 0} {offers : List V} {l : Ledger V} (n : Node V) (sound : IsS
         }
 
   -- an Accept is refused or accepted, by the test, and both continue the story
-  accept_either : (to : ℕ) (b : Ballot) (s : ℕ) (v : Option V) → In (proposal b s v) l.proposals → (t : Bool) → is_under b n.promise ≡ t
-      → Continues n.weights offers n.me l (if t then refuses n to b else takes_value n b s v)
+  accept_either : (to : ℕ) (b : Ballot) (s : ℕ) (v : Option V) → In (proposal b s v) l.proposals → (t : Bool) → is_below b n.promise ≡ t
+      → Continues n.weights offers n.me l (if t then refuses n to b else accepts_value n b s v)
   accept_either to b s v proposed true test = same_ledger sound holds (tt, tt) refl
   accept_either to b s v proposed false test = accepts_continue b s v (under_false _ _ test) proposed
 
   -- an Accept of what was proposed continues the story
   pub accept_continues : (to : ℕ) (b : Ballot) (s : ℕ) (v : Option V) → In (proposal b s v) l.proposals → Continues n.weights offers n.me l (on_accept n to b s v)
-  accept_continues to b s v proposed = accept_either to b s v proposed (is_under b n.promise) refl
+  accept_continues to b s v proposed = accept_either to b s v proposed (is_below b n.promise) refl

@@ -1,42 +1,42 @@
--- What an event comes to at its node, and what is ready while nodes stand.
-use Rattle.net.proofs.Words.{◌≡◌, ℕ, zero, suc, List, [], ◌∷◌, length, get_or, set, slice_get, Option, Some, None, Ok, refl, ap, sym, ◌∙◌, subst, arith, AllByRecursion, option_map, Packet, Ask, IsPost, to_others, Node, kept_of, Core, HasAtLeast, offered, begun, on_packet, restarted, same_room, Offer, Begin, Deliver, Restart, answered, at_node, delivered, change_at, change_delivered, Taken, nodes_of, StagedWork, steps, restarts, StagedEvent, posts_of, step_of, IsReadyAt, ComesTo, NetView, AreStill, IsStill, IsStaged}
+-- The result of an event at its node, and staged events while nodes stay as they are.
+use Rattle.net.proofs.Words.{◌≡◌, ℕ, zero, suc, List, [], ◌∷◌, length, get_or, set, slice_get, Option, Some, None, Ok, refl, ap, sym, ◌∙◌, subst, arith, AllByRecursion, option_map, Packet, Ask, IsPost, to_others, Node, kept_of, Core, HasNoLessRoom, offered, begun, on_packet, restarted, same_room, Offer, Begin, Deliver, Restart, after_step_or_fault, at_node, delivered, change_at, change_delivered, History, nodes_of, StagedWork, steps, restarts, StagedEvent, posts_of, step_of, IsReadyAt, HasResult, NetView, ChangeOnlyRooms, ChangesOnlyRoom, IsStaged}
 use Rattle.net.proofs.GrowingLists.{at_front}
 
--- What an event comes to at its node.
+-- The result of an event at its node.
 
 module _ {V : Type 0} (size : V → ℕ) (ps : List (Packet V)) (k : ℕ) (n : Node V) where
   -- an offer comes to what its node makes of the value
-  pub comes_offer : (v : V) → ComesTo size ps k n (Offer k v) (offered size n v)
+  pub comes_offer : (v : V) → HasResult size ps k n (Offer k v) (offered size n v)
   comes_offer v = λ w more e is. record {
-    happens = ap (λ (o : Option (Node V)). at_node w k (λ n. offered size n v) o) is;
+    event_result = ap (λ (o : Option (Node V)). at_node w k (λ n. offered size n v) o) is;
     change = ap (λ (o : Option (Node V)). change_at (λ n. offered size n v) o) is;
     node = refl;
   }
 
   -- a begin comes to what its node makes of it
-  pub comes_begin : ComesTo size ps k n (Begin k) (begun n)
+  pub comes_begin : HasResult size ps k n (Begin k) (begun n)
   comes_begin = λ w more e is. record {
-    happens = ap (λ (o : Option (Node V)). at_node w k begun o) is;
+    event_result = ap (λ (o : Option (Node V)). at_node w k begun o) is;
     change = ap (λ (o : Option (Node V)). change_at begun o) is;
     node = refl;
   }
 
   -- a restart comes to the restarted node
-  pub comes_restart : ComesTo size ps k n (Restart k) (Ok (restarted n))
+  pub comes_restart : HasResult size ps k n (Restart k) (Ok (restarted n))
   comes_restart = λ w more e is. record {
-    happens = ap (λ (o : Option (Node V)). at_node w k (λ n. Ok (restarted n)) o) is;
+    event_result = ap (λ (o : Option (Node V)). at_node w k (λ n. Ok (restarted n)) o) is;
     change = ap (λ (o : Option (Node V)). change_at (λ n. Ok (restarted n)) o) is;
     node = refl;
   }
 
   -- a delivery comes to what the node that its packet is for makes of it
-  pub comes_packet : (number : ℕ) (p : Packet V) → slice_get ps number ≡ Some p → p.to ≡ k → ComesTo size ps k n (Deliver number) (Ok (on_packet n p))
+  pub comes_packet : (number : ℕ) (p : Packet V) → slice_get ps number ≡ Some p → p.to ≡ k → HasResult size ps k n (Deliver number) (Ok (on_packet n p))
   comes_packet number p at to = λ w more e is.
       let got : slice_get w.packets number ≡ Some p = ap (λ (qs : List (Packet V)). slice_get qs number) e ∙ at_front ps more number p at in
       let node : slice_get w.nodes p.to ≡ Some n = ap (λ (j : ℕ). slice_get w.nodes j) to ∙ is in
       record {
-        happens = ap (λ (o : Option (Packet V)). delivered w o) got ∙ ap (λ (o : Option (Node V)). at_node w p.to (λ n. Ok (on_packet n p)) o) node
-            ∙ ap (λ (j : ℕ). answered w j (Ok (on_packet n p))) to;
+        event_result = ap (λ (o : Option (Packet V)). delivered w o) got ∙ ap (λ (o : Option (Node V)). at_node w p.to (λ n. Ok (on_packet n p)) o) node
+            ∙ ap (λ (j : ℕ). after_step_or_fault w j (Ok (on_packet n p))) to;
         change = ap (λ (o : Option (Packet V)). change_delivered w o) got ∙ ap (λ (o : Option (Node V)). change_at (λ n. Ok (on_packet n p)) o) node;
         node = ap (λ (o : Option (Packet V)). option_map (λ p. p.to) o) got ∙ ap (λ (j : ℕ). let o : Option ℕ = Some j in o) to;
       }
@@ -54,30 +54,30 @@ mapped (Some p) k is = (p, refl, let same : p.to ≡ k = cc in same)
 -- Nodes that stand, with room at least as much.
 
 -- room at least as much, twice, is room at least as much
-pub more_room : {V : Type 0} (a b c : Core V) → HasAtLeast a b → HasAtLeast b c → HasAtLeast a c
+pub more_room : {V : Type 0} (a b c : Core V) → HasNoLessRoom a b → HasNoLessRoom b c → HasNoLessRoom a c
 more_room a b c one two = record {
   accepted = let x = one.accepted in let y = two.accepted in omega (arith, x, y);
   pages = λ k. (let x = one.pages k in let y = two.pages k in omega (arith, x, y));
   heard = let x = one.heard in let y = two.heard in omega (arith, x, y);
   waiting = let x = one.waiting in let y = two.waiting in omega (arith, x, y);
   tallies = let x = one.tallies in let y = two.tallies in omega (arith, x, y);
-  later = let x = one.later in let y = two.later in omega (arith, x, y);
+  other_tallies = let x = one.other_tallies in let y = two.other_tallies in omega (arith, x, y);
   learned = let x = one.learned in let y = two.learned in omega (arith, x, y);
 }
 
 -- cores are as they were where nothing is done
-pub still_same : {V : Type 0} (cs : List (Core V)) → AreStill cs cs
+pub still_same : {V : Type 0} (cs : List (Core V)) → ChangeOnlyRooms cs cs
 still_same [] = tt
 still_same (c ∷ cs) = (refl, same_room c, still_same cs)
 
 -- to set a core of the same node, with at least the room, leaves each as it was
-pub still_set : {V : Type 0} (cs : List (Core V)) (k : ℕ) (c d : Core V) → c ≡ get_or cs k c → d.node ≡ c.node → HasAtLeast c d → AreStill cs (set cs k d)
+pub still_set : {V : Type 0} (cs : List (Core V)) (k : ℕ) (c d : Core V) → c ≡ get_or cs k c → d.node ≡ c.node → HasNoLessRoom c d → ChangeOnlyRooms cs (set cs k d)
 still_set [] k c d is node room = tt
-still_set {V} (x ∷ cs) zero c d is node room = (node ∙ ap (λ (y : Core V). y.node) is, subst (λ (y : Core V). HasAtLeast y d) is room, still_same cs)
+still_set {V} (x ∷ cs) zero c d is node room = (node ∙ ap (λ (y : Core V). y.node) is, subst (λ (y : Core V). HasNoLessRoom y d) is room, still_same cs)
 still_set (x ∷ cs) (suc k) c d is node room = (refl, same_room x, still_set cs k c d is node room)
 
 -- cores that are as they were, but for their room, have the same nodes
-pub nodes_still : {V : Type 0} (cs ds : List (Core V)) → AreStill cs ds → nodes_of ds ≡ nodes_of cs
+pub nodes_still : {V : Type 0} (cs ds : List (Core V)) → ChangeOnlyRooms cs ds → nodes_of ds ≡ nodes_of cs
 nodes_still [] [] h = refl
 nodes_still {V} (c ∷ cs) (d ∷ ds) h = ap (λ (n : Node V). n ∷ nodes_of ds) h.0 ∙ ap (λ (ns : List (Node V)). c.node ∷ ns) (nodes_still cs ds h.2)
 nodes_still [] (d ∷ ds) h = elim h [ ]
@@ -90,30 +90,30 @@ nodes_found {V} (x ∷ cs) zero c at = let same : x ≡ c = cc in ap (λ (y : Co
 nodes_found (x ∷ cs) (suc k) c at = nodes_found cs k c at
 
 -- the one at a place
-pub still_at : {V : Type 0} (cs ds : List (Core V)) → AreStill cs ds → (k : ℕ) (c : Core V) → slice_get cs k ≡ Some c → (d : Core V) × (slice_get ds k ≡ Some d) × (d.node ≡ c.node) × HasAtLeast c d
+pub still_at : {V : Type 0} (cs ds : List (Core V)) → ChangeOnlyRooms cs ds → (k : ℕ) (c : Core V) → slice_get cs k ≡ Some c → (d : Core V) × (slice_get ds k ≡ Some d) × (d.node ≡ c.node) × HasNoLessRoom c d
 still_at [] [] h k c at = cc
-still_at {V} (x ∷ cs) (d ∷ ds) h zero c at = let same : x ≡ c = cc in (d, refl, h.0 ∙ ap (λ (y : Core V). y.node) same, subst (λ (y : Core V). HasAtLeast y d) same h.1)
+still_at {V} (x ∷ cs) (d ∷ ds) h zero c at = let same : x ≡ c = cc in (d, refl, h.0 ∙ ap (λ (y : Core V). y.node) same, subst (λ (y : Core V). HasNoLessRoom y d) same h.1)
 still_at (x ∷ cs) (d ∷ ds) h (suc k) c at = still_at cs ds h.2 k c at
 still_at [] (d ∷ ds) h k c at = elim h [ ]
 still_at (x ∷ cs) [] h k c at = elim h [ ]
 
--- What is ready stays so.
+-- A staged event stays staged.
 
 -- what a node can do it can do with more room
-pub ready_still : {V : Type 0} (c d : Core V) (w : StagedWork V) → d.node ≡ c.node → HasAtLeast c d → IsReadyAt c w → IsReadyAt d w
+pub ready_still : {V : Type 0} (c d : Core V) (w : StagedWork V) → d.node ≡ c.node → HasNoLessRoom c d → IsReadyAt c w → IsReadyAt d w
 ready_still c d (steps made) same room h = (same ∙ h.0, more_room made.before c d h.1 room)
 ready_still {V} c d (restarts posts None) same room h = h ∙ ap (λ (n : Node V). to_others n.me n.weights (Ask 0)) (sym same)
 ready_still {V} c d (restarts posts (Some kept)) same room h = (h.0 ∙ ap (λ (n : Node V). to_others n.me n.weights (Ask 0)) (sym same), h.1 ∙ ap (λ (n : Node V). kept_of n) (sym same))
 
--- what is due stays so where nothing has changed but the room
-pub due_still : {V : Type 0} (size : V → ℕ) (a b : NetView V) (due : StagedEvent V) → IsStill a b → IsStaged size a due → IsStaged size b due
-due_still {V} size a b due still h =
-    let d = still_at a.cores b.cores still.cores due.at h.core h.at in
+-- what is staged stays so where nothing has changed but the room
+pub staged_still : {V : Type 0} (size : V → ℕ) (a b : NetView V) (staged : StagedEvent V) → ChangesOnlyRoom a b → IsStaged size a staged → IsStaged size b staged
+staged_still {V} size a b staged only_room h =
+    let d = still_at a.cores b.cores only_room.cores staged.at h.core h.at in
     record {
       core = d.0;
       at = d.1;
-      ready = ready_still h.core d.0 due.work d.2 d.3 h.ready;
-      comes = subst (λ (ps : List (Packet V)). ComesTo size ps due.at d.0.node due.event (Ok (step_of due.work d.0.node))) (sym still.packets)
-          (subst (λ (n : Node V). ComesTo size a.packets due.at n due.event (Ok (step_of due.work n))) (sym d.2) h.comes);
-      posts = subst (λ (t : Taken V). AllByRecursion (IsPost (length t.weights)) (posts_of due.work)) (sym still.taken) h.posts;
+      ready = ready_still h.core d.0 staged.work d.2 d.3 h.ready;
+      has_result = subst (λ (ps : List (Packet V)). HasResult size ps staged.at d.0.node staged.event (Ok (step_of staged.work d.0.node))) (sym only_room.packets)
+          (subst (λ (n : Node V). HasResult size a.packets staged.at n staged.event (Ok (step_of staged.work n))) (sym d.2) h.has_result);
+      posts = subst (λ (t : History V). AllByRecursion (IsPost (length t.weights)) (posts_of staged.work)) (sym only_room.history) h.posts;
     }

@@ -1,5 +1,5 @@
 -- The invariant holds at the start and each event that is taken keeps it, so it holds of the world after any events.
-use Rattle.net.proofs.Words.{◌≡◌, ℕ, zero, suc, ◌+◌, ◌<◌, Bool, true, false, ◌==◌, List, [], ◌∷◌, Option, Some, None, Result, Ok, Err, inl, inr, refl, ap, sym, ◌∙◌, subst, arith, if◌then◌else◌, slice_get, set, AllByRecursion, In, Packet, Body, Prepare, Promise, Accept, Accepted, Nack, Ask, Told, Refusal, Node, Stepped, offered, begun, on_body, on_packet, restarted, MOST_EVENTS, Event, Offer, Begin, Deliver, Restart, StepFault, EventsSpent, Vote, World, start, nodes_from, stepped, answered, votes_after, at_node, delivered, happens_at, happens, all_happen, after, offers_of, IsAfter, all_append}
+use Rattle.net.proofs.Words.{◌≡◌, ℕ, zero, suc, ◌+◌, ◌<◌, Bool, true, false, ◌==◌, List, [], ◌∷◌, Option, Some, None, Result, Ok, Err, inl, inr, refl, ap, sym, ◌∙◌, subst, arith, if◌then◌else◌, slice_get, set, AllByRecursion, In, Packet, Body, Prepare, Promise, Accept, Accepted, Nack, Ask, Told, Refusal, Node, StepResult, offered, begun, on_body, on_packet, restarted, MOST_EVENTS, Event, Offer, Begin, Deliver, Restart, StepFault, EventsSpent, Vote, World, start, nodes_from, after_step, after_step_or_fault, votes_after, at_node, delivered, event_result_without_limit, event_result, events_result, after, offers_of, IsAfter, all_append}
 use Rattle.net.proofs.GrowingLists.{all_more, all_in, in_slice_get}
 use Rattle.net.proofs.Ledger.{Ledger, IsSound}
 use Rattle.net.proofs.LedgerGrows.{Grows}
@@ -68,7 +68,7 @@ IfTaken (Err fault) P = Unit {0}
 
 module _ {V : Type 0} (offers : List V) (w : World V) (h : WorldHolds offers w) where
   -- the invariant holds of the world after a step that continues the story
-  world_after : (k : ℕ) (step : Stepped V) → Continues w.weights offers k h.ledger step → WorldHolds offers (stepped w k step)
+  world_after : (k : ℕ) (step : StepResult V) → Continues w.weights offers k h.ledger step → WorldHolds offers (after_step w k step)
   world_after k step next = record {
     ledger = next.ledger;
     sound = next.sound;
@@ -92,12 +92,12 @@ module _ {V : Type 0} (offers : List V) (w : World V) (h : WorldHolds offers w) 
     own_holds = subst (λ (ws : List ℕ). NodeHolds ws offers h.ledger n.me n) (sym there.weights) (subst (λ (j : ℕ). NodeHolds w.weights offers h.ledger j n) (sym there.me) there)
 
     -- where each step of the node continues the story, the invariant holds after its answer
-    answered_holds : (r : Result (Stepped V) Refusal) → IfStep r (λ step. Continues n.weights offers n.me h.ledger step) → IfTaken (answered w k r) (WorldHolds offers)
+    answered_holds : (r : Result (StepResult V) Refusal) → IfStep r (λ step. Continues n.weights offers n.me h.ledger step) → IfTaken (after_step_or_fault w k r) (WorldHolds offers)
     answered_holds (Ok step) next = world_after k step (subst (λ (j : ℕ). Continues w.weights offers j h.ledger step) there.me (subst (λ (ws : List ℕ). Continues ws offers n.me h.ledger step) there.weights next))
     answered_holds (Err refusal) next = tt
 
   -- what every node with its number and weights makes of itself continues the story
-  at_node_holds : (k : ℕ) (make : Node V → Result (Stepped V) Refusal)
+  at_node_holds : (k : ℕ) (make : Node V → Result (StepResult V) Refusal)
       → ((n : Node V) → NodeHolds w.weights offers h.ledger k n → IsSound n.weights offers h.ledger → NodeHolds n.weights offers h.ledger n.me n → IfStep (make n) (λ step. Continues n.weights offers n.me h.ledger step))
       → (o : Option (Node V)) → slice_get w.nodes k ≡ o → IfTaken (at_node w k make o) (WorldHolds offers)
   at_node_holds k make continues None e = tt
@@ -113,7 +113,7 @@ module _ {V : Type 0} (offers : List V) (w : World V) (h : WorldHolds offers w) 
       (slice_get w.nodes p.to) refl
 
   -- the invariant holds after an event that is taken, where what it offers is among the offers
-  happens_at_holds : (size : V → ℕ) (e : Event V) → ((v : V) → In v (offers_of (e ∷ [])) → In v offers) → IfTaken (happens_at size w e) (WorldHolds offers)
+  happens_at_holds : (size : V → ℕ) (e : Event V) → ((v : V) → In v (offers_of (e ∷ [])) → In v offers) → IfTaken (event_result_without_limit size w e) (WorldHolds offers)
   happens_at_holds size (Offer k v) brought = at_node_holds k (λ n. offered size n v) (λ n at sound holds. offer_continues n sound holds size v (brought v (inl refl))) (slice_get w.nodes k) refl
   happens_at_holds size (Begin k) brought = at_node_holds k begun (λ n at sound holds. begin_continues n sound holds) (slice_get w.nodes k) refl
   happens_at_holds size (Deliver number) brought = delivered_holds number (slice_get w.packets number) refl
@@ -125,12 +125,12 @@ spent_or P r true h = tt
 spent_or P r false h = h
 
 -- a fact that each event keeps, if it is taken, is kept by the events together
-pub all_keep : {V : Type 0} (size : V → ℕ) (P : World V → Type 0) (each : Event V → Type 0) → ((w : World V) (e : Event V) → each e → P w → IfTaken (happens_at size w e) P)
-    → (es : List (Event V)) → AllByRecursion each es → (r : Result (World V) StepFault) → IfTaken r P → IfTaken (all_happen size es r) P
+pub all_keep : {V : Type 0} (size : V → ℕ) (P : World V → Type 0) (each : Event V → Type 0) → ((w : World V) (e : Event V) → each e → P w → IfTaken (event_result_without_limit size w e) P)
+    → (es : List (Event V)) → AllByRecursion each es → (r : Result (World V) StepFault) → IfTaken r P → IfTaken (events_result size es r) P
 all_keep size P each keeps [] all r h = h
 all_keep size P each keeps (e ∷ es) all (Err fault) h = tt
 all_keep size P each keeps (e ∷ es) all (Ok w) h =
-    all_keep size P each keeps es all.1 (happens size w e) (spent_or P (happens_at size w e) (w.taken == MOST_EVENTS) (keeps w e all.0 h))
+    all_keep size P each keeps es all.1 (event_result size w e) (spent_or P (event_result_without_limit size w e) (w.event_count == MOST_EVENTS) (keeps w e all.0 h))
 
 -- The start.
 

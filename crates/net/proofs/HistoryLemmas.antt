@@ -1,95 +1,242 @@
--- What agreement says of a history that is taken, and where a run of events stops.
-use Rattle.net.proofs.Words.{◌≡◌, ℕ, suc, List, [], ◌∷◌, ◌++◌, ◌<◌, length, take, Result, Ok, Err, inl, inr, refl, ap, sym, ◌∙◌, subst, arith, append_assoc, length-append, take-append_seam, Yields, into_iter_items, into_iter_steps, IntoIter, IsOk, IfErr, OnOk, Event, StepFault, Memory, World, after, IsAfter, ChosenAgree, LogsAgree, Taken, world_of, with_event, IsMoment, Agreement, IsMetOrMemory, StopsAt}
-use Rattle.net.proofs.Beginnings.{swapped, beginnings_agree}
-use Rattle.net.proofs.OneValue.{ballots_have_one_value}
-use Rattle.net.proofs.LaterBallots.{later_ballots_keep_chosen}
-use Rattle.net.proofs.ChosenAgree.{chosen_values_agree}
-use Rattle.net.proofs.LogsAgree.{log_entries_are_chosen, logs_of_nodes_agree}
-use Rattle.net.proofs.Offered.{log_entries_were_offered}
+-- The world after a history, and after one more event.
+use Rattle.net.proofs.Words.{◌≡◌, ℕ, zero, suc, ◌+◌, ◌<◌, ◌≤◌, Bool, true, false, ◌==◌, if◌then◌else◌, List, [], ◌∷◌, ◌++◌, length, take, get_or, set, slice_get, Option, Some, None, Result, Ok, Err, refl, ap, sym, ◌∙◌, subst, arith, le_of_suc-le-suc, add-one, AllByRecursion, Packet, IsWeights, IsPost, nat_tests, Refusal, Node, StepResult, new_node, offered, begun, on_packet, restarted, log_of, Core, Event, Offer, Begin, Deliver, Restart, MOST_EVENTS, StepFault, EventsSpent, World, nodes_from, start, after_step, after_step_or_fault, at_node, delivered, event_result_without_limit, event_result, events_result, after, log_at, log_after, packets_after, offers_of, IsAfter, History, nodes_of, AreOfWorld, world_of, with_event}
+use Rattle.net.proofs.EveryEvent.{IfTaken, if_taken, spent_or, node_at, holds_after}
+use Rattle.net.proofs.TwoMoments.{events_result-append, world_lasts}
 
--- Any two moments of a history: one comes first.
+-- New nodes, one after another.
 
-module _ {V : Type 0} (size : V → ℕ) (taken : Taken V) (w x : World V) (m : IsMoment size taken w) (n : IsMoment size taken x) where
-  -- x comes after the events of a moment of w and those that lead on from there
-  later : (first : IsMoment size taken w) (late : List (Event V)) (second : IsMoment size taken x) → first.early ++ late ≡ second.early → IsAfter size taken.weights (first.early ++ late) x
-  later first late second e = subst (λ (es : List (Event V)). IsAfter size taken.weights es x) (sym e) second.is_after
+pub nodes_of-push : {V : Type 0} (cores : List (Core V)) (core : Core V) → nodes_of (cores ++ core ∷ []) ≡ nodes_of cores ++ core.node ∷ []
+nodes_of-push [] core = refl
+nodes_of-push (c ∷ cores) core = ap (λ ns. c.node ∷ ns) (nodes_of-push cores core)
 
-  -- w comes after the events of the moment of x and those that lead on from there
-  earlier : (late : List (Event V)) → n.early ++ late ≡ m.early → IsAfter size taken.weights (n.early ++ late) w
-  earlier late e = subst (λ (es : List (Event V)). IsAfter size taken.weights es w) (sym e) m.is_after
+pub nodes_from-take : (V : Type 0) (weights : List ℕ) (k i : ℕ) (ws : List ℕ) → i < length ws → nodes_from {V = V} weights k (take (suc i) ws) ≡ nodes_from weights k (take i ws) ++ new_node (k + i) weights ∷ []
+nodes_from-take V weights k i [] h = absurd (omega arith)
+nodes_from-take V weights k zero (w ∷ ws) h = let e : k ≡ k + 0 = omega arith in ap (λ (j : ℕ). let ns : List (Node V) = new_node j weights ∷ [] in ns) e
+nodes_from-take V weights k (suc i) (w ∷ ws) h =
+    let e : suc k + i ≡ k + suc i = omega arith in
+    ap (λ (ns : List (Node V)). new_node k weights ∷ ns) (nodes_from-take V weights (suc k) i ws (le_of_suc-le-suc h)
+    ∙ ap (λ (j : ℕ). nodes_from {V = V} weights (suc k) (take i ws) ++ new_node j weights ∷ []) e)
 
-  -- values chosen at one slot at two moments of a history are equal
-  pub moments_choose_one : ChosenAgree w x
-  moments_choose_one = elim (beginnings_agree m.early n.early taken.events m.begins n.begins) [
-    | inl h ↦ chosen_values_agree size taken.weights m.early h.0 w x m.is_after (later m h.0 n h.1)
-    | inr h ↦ λ s u v c d. sym (chosen_values_agree size taken.weights n.early h.0 x w n.is_after (earlier h.0 h.1) s v u d c)
-  ]
+-- one node more
+pub new_nodes-push : {V : Type 0} (weights : List ℕ) (k : ℕ) (old new : List (Core V)) (core : Core V) → new ≡ old ++ core ∷ [] → core.node ≡ new_node k weights → nodes_of old ≡ nodes_from weights 0 (take k weights)
+    → k < length weights → nodes_of new ≡ nodes_from weights 0 (take (k + 1) weights)
+new_nodes-push {V} weights k old new core pushed is_new before under =
+    let z : 0 + k ≡ k = omega arith in
+    ap (λ (cores : List (Core V)). nodes_of cores) pushed ∙ nodes_of-push old core
+    ∙ ap (λ (n : Node V). nodes_of old ++ n ∷ []) (is_new ∙ ap (λ (j : ℕ). new_node {V = V} j weights) (sym z))
+    ∙ ap (λ (ns : List (Node V)). ns ++ new_node (0 + k) weights ∷ []) before
+    ∙ sym (nodes_from-take V weights 0 k weights under)
+    ∙ ap (λ (i : ℕ). nodes_from {V = V} weights 0 (take i weights)) (sym (add-one k))
 
-  -- logs at two moments of a history agree
-  pub moments_agree : LogsAgree w x
-  moments_agree = elim (beginnings_agree m.early n.early taken.events m.begins n.begins) [
-    | inl h ↦ logs_of_nodes_agree size taken.weights m.early h.0 w x m.is_after (later m h.0 n h.1)
-    | inr h ↦ λ j k. swapped _ _ (logs_of_nodes_agree size taken.weights n.early h.0 x w n.is_after (earlier h.0 h.1) k j)
-  ]
-
--- a history that is taken has all that agreement says
-pub agreement_of : {V : Type 0} (size : V → ℕ) (taken : Taken V) (w : World V) → IsAfter size taken.weights taken.events w → Agreement size taken
-agreement_of size taken w is_after = record {
-  is_taken = subst IsOk (sym is_after) refl;
-  one_value = λ x m. ballots_have_one_value size taken.weights m.early x m.is_after;
-  later_value = λ x m. later_ballots_keep_chosen size taken.weights m.early x m.is_after;
-  chosen = moments_choose_one size taken;
-  logs_chosen = λ x m. log_entries_are_chosen size taken.weights m.early x m.is_after;
-  logs_agree = moments_agree size taken;
-  logs_offered = λ x m. log_entries_were_offered size taken.weights m.early x m.is_after;
-}
-
--- Where a run stops: done went before, and e is refused.
-
--- of a list in two parts, as many elements as the first part has are the first part
-taken_before : {A : Type 0} (xs ys zs : List A) → zs ≡ xs ++ ys → take (length xs) zs ≡ xs
-taken_before xs ys zs is = ap (λ ws. take (length xs) ws) is ∙ take-append_seam xs ys
-
--- of a list with an element between two parts, as many as the first has and one more are that part and the element
-taken_with : {A : Type 0} (xs ys zs : List A) (x : A) → zs ≡ xs ++ x ∷ ys → take (suc (length xs)) zs ≡ xs ++ x ∷ []
-taken_with {A} xs ys zs x is =
-    let count : length (xs ++ x ∷ []) ≡ suc (length xs) = omega (arith, length-append xs (x ∷ [])) in
-    let whole : zs ≡ (xs ++ x ∷ []) ++ ys = is ∙ sym (append_assoc xs (x ∷ []) ys) in
-    ap (λ n. take n zs) (sym count) ∙ taken_before (xs ++ x ∷ []) ys zs whole
-
--- a first part with an element behind it is shorter than the list
-stands_within : {A : Type 0} (xs ys zs : List A) (x : A) → zs ≡ xs ++ x ∷ ys → length xs < length zs
-stands_within {A} xs ys zs x is =
-    let count : length zs ≡ length (xs ++ x ∷ ys) = ap (λ (ws : List A). length ws) is in
-    omega (arith, count, length-append xs (x ∷ ys))
-
--- the two clauses on a fault as one: it is the one met, or Memory where none is
-met_or_memory : {V : Type 0} (r : Result (World V) StepFault) (fault : StepFault) → IfErr r (λ met. fault ≡ met) → OnOk r (fault ≡ Memory) → IsMetOrMemory r fault
-met_or_memory (Ok w) fault met memory = memory
-met_or_memory (Err met) fault is memory = is
-
--- an answer that is the fault met has that fault
-answered_met : {V : Type 0} (r : Result (World V) StepFault) (fault : StepFault) → IfErr r (λ met. let answer : Result ℕ StepFault = Err fault in answer ≡ Err met) → IfErr r (λ met. fault ≡ met)
-answered_met (Ok w) fault h = tt
-answered_met (Err met) fault h = cc
-
--- what the iterator of a vector has given is a beginning of its items
-pub taken_front : {X A : Type 0} (s : IntoIter X A) (xs : List X) (t : IntoIter X A) → Yields into_iter_steps s xs t → into_iter_items s ≡ xs ++ into_iter_items t
-taken_front s [] t y = ap into_iter_items y
-taken_front s (x ∷ xs) t y = y.1.0 ∙ ap (λ ys. x ∷ ys) (taken_front y.0 xs t y.2)
-
--- the run stops at the event after those taken, with the fault that was answered
-pub stops_there : {V : Type 0} (size : V → ℕ) (weights : List ℕ) (events done rest : List (Event V)) (e : Event V) (old now : Taken V) (shown : List (Event V)) (fault : StepFault)
-    → events ≡ done ++ e ∷ rest → old ≡ record { weights = weights; events = done } → now ≡ old → shown ≡ now.events → IsOk (world_of size now)
-    → IfErr (world_of size (with_event old e)) (λ met. let answer : Result ℕ StepFault = Err fault in answer ≡ Err met) → OnOk (world_of size (with_event old e)) (fault ≡ Memory)
-    → StopsAt size weights events (length shown) fault
-stops_there {V} size weights events done rest e old now shown fault split is same shows before refused only_memory =
-    let count : length shown ≡ length done = ap (λ (es : List (Event V)). length es) (shows ∙ ap (λ (t : Taken V). t.events) (same ∙ is)) in
-    subst (λ (i : ℕ). StopsAt size weights events i fault) (sym count) record {
-      before = subst (λ (es : List (Event V)). IsOk (after size weights es)) (sym (taken_before done (e ∷ rest) events split)) (subst (λ (t : Taken V). IsOk (world_of size t)) (same ∙ is) before);
-      fault_is = inl (
-        stands_within done rest events e split,
-        subst (λ (es : List (Event V)). IsMetOrMemory (after size weights es) fault) (sym (taken_with done rest events e split))
-            (subst (λ (t : Taken V). IsMetOrMemory (world_of size (with_event t e)) fault) is (met_or_memory (world_of size (with_event old e)) fault (answered_met (world_of size (with_event old e)) fault refused) only_memory)),
-      );
+-- a world of new nodes, of no packets and no events
+pub start_of_world : {V : Type 0} (size : V → ℕ) (weights : List ℕ) → IsWeights weights → (cores : List (Core V)) (packets : List (Packet V)) (events : List (Event V)) → nodes_of cores ≡ nodes_from weights 0 weights → events ≡ [] → packets ≡ []
+    → AreOfWorld size (record { weights = weights; events = events }) cores packets
+start_of_world {V} size weights are cores packets events new no_events no_packets =
+    subst (λ (es : List (Event V)). AreOfWorld size (record { weights = weights; events = es }) cores packets) (sym no_events) record {
+      world = start weights;
+      is_after = refl;
+      nodes = sym new;
+      posted = sym no_packets;
+      weights = are;
+      posts = subst (λ (ps : List (Packet V)). AllByRecursion (IsPost (length weights)) ps) (sym no_packets) tt;
     }
+
+-- The nodes of the cores.
+
+pub nodes_of-set : {V : Type 0} (cores : List (Core V)) (k : ℕ) (core : Core V) → nodes_of (set cores k core) ≡ set (nodes_of cores) k core.node
+nodes_of-set [] k core = refl
+nodes_of-set (c ∷ cores) zero core = refl
+nodes_of-set (c ∷ cores) (suc k) core = ap (λ ns. c.node ∷ ns) (nodes_of-set cores k core)
+
+-- the node of the core that is read at an index stands there among the nodes
+pub nodes_at : {V : Type 0} (cores : List (Core V)) (k : ℕ) (core : Core V) → k < length cores → core ≡ get_or cores k core → slice_get (nodes_of cores) k ≡ Some core.node
+nodes_at [] k core low is = absurd (omega arith)
+nodes_at {V} (c ∷ cores) zero core low is = ap (λ (x : Core V). let o : Option (Node V) = Some x.node in o) (sym is)
+nodes_at (c ∷ cores) (suc k) core low is = nodes_at cores k core (le_of_suc-le-suc low) is
+
+-- past the cores there is no node
+pub nodes_past : {V : Type 0} (cores : List (Core V)) (k : ℕ) → length cores ≤ k → slice_get (nodes_of cores) k ≡ None
+nodes_past [] k past = refl
+nodes_past (c ∷ cores) zero past = absurd (omega arith)
+nodes_past (c ∷ cores) (suc k) past = nodes_past cores k (le_of_suc-le-suc past)
+
+-- to set what stands at an index changes nothing
+pub set_same : {A : Type 0} (xs : List A) (k : ℕ) (x : A) → slice_get xs k ≡ Some x → set xs k x ≡ xs
+set_same [] k x is = refl
+set_same {A} (y ∷ xs) zero x is = let same : y ≡ x = cc in ap (λ (z : A). z ∷ xs) (sym same)
+set_same (y ∷ xs) (suc k) x is = ap (λ zs. y ∷ zs) (set_same xs k x is)
+
+-- How many events were taken.
+
+module _ {V : Type 0} (count : ℕ) (w : World V) (counted : w.event_count ≡ count) where
+  abbrev Counts : Result (World V) StepFault → Type 0
+  Counts r = IfTaken r (λ x. x.event_count ≡ count + 1)
+
+  -- what a node makes of itself counts one event more
+  counts_at : (k : ℕ) (make : Node V → Result (StepResult V) Refusal) (o : Option (Node V)) → Counts (at_node w k make o)
+  counts_at k make None = tt
+  counts_at k make (Some n) = counts_answered (make n) where
+    counts_answered : (r : Result (StepResult V) Refusal) → Counts (after_step_or_fault w k r)
+    counts_answered (Ok step) = ap (λ (i : ℕ). i + 1) counted
+    counts_answered (Err refusal) = tt
+
+  -- a delivery counts one event more
+  counts_delivered : (o : Option (Packet V)) → Counts (delivered w o)
+  counts_delivered None = tt
+  counts_delivered (Some p) = counts_at p.to (λ n. Ok (on_packet n p)) (slice_get w.nodes p.to)
+
+  -- each event counts one more
+  counts_happens_at : (size : V → ℕ) (e : Event V) → Counts (event_result_without_limit size w e)
+  counts_happens_at size (Offer k v) = counts_at k (λ n. offered size n v) (slice_get w.nodes k)
+  counts_happens_at size (Begin k) = counts_at k begun (slice_get w.nodes k)
+  counts_happens_at size (Deliver number) = counts_delivered (slice_get w.packets number)
+  counts_happens_at size (Restart k) = counts_at k (λ n. Ok (restarted n)) (slice_get w.nodes k)
+
+  -- each event counts one more, once the limit is tested
+  counts_happens : (size : V → ℕ) (e : Event V) → Counts (event_result size w e)
+  counts_happens size e = spent_or (λ x. x.event_count ≡ count + 1) (event_result_without_limit size w e) (w.event_count == MOST_EVENTS) (counts_happens_at size e)
+
+-- a list of events counts as many more as it has
+counts_all : {V : Type 0} (size : V → ℕ) (count : ℕ) (es : List (Event V)) (r : Result (World V) StepFault) → IfTaken r (λ x. x.event_count ≡ count) → IfTaken (events_result size es r) (λ x. x.event_count ≡ count + length es)
+counts_all size count [] (Ok w) h = let e : w.event_count ≡ count + 0 = omega (arith, h) in e
+counts_all size count [] (Err fault) h = tt
+counts_all size count (e ∷ es) (Err fault) h = tt
+counts_all {V} size count (e ∷ es) (Ok w) h =
+    let step : (count + 1) + length es ≡ count + suc (length es) = omega arith in
+    subst (λ (n : ℕ). IfTaken (events_result size es (event_result size w e)) (λ (x : World V). x.event_count ≡ n)) step (counts_all size (count + 1) es (event_result size w e) (counts_happens count w h size e))
+
+-- the world after a list of events has counted as many as it has
+pub taken_count : {V : Type 0} (size : V → ℕ) (weights : List ℕ) (es : List (Event V)) (w : World V) → IsAfter size weights es w → w.event_count ≡ length es
+taken_count {V} size weights es w is_after = if_taken (λ (x : World V). x.event_count ≡ 0 + length es) (after size weights es) w is_after (counts_all size 0 es (Ok (start weights)) refl) ∙ omega arith
+
+-- One event more.
+
+pub after-push : {V : Type 0} (size : V → ℕ) (weights : List ℕ) (es : List (Event V)) (w : World V) (e : Event V) → IsAfter size weights es w → after size weights (es ++ e ∷ []) ≡ event_result size w e
+after-push size weights es w e is_after = events_result-append size es (e ∷ []) (Ok (start weights)) ∙ ap (λ r. events_result size (e ∷ []) r) is_after
+
+-- where the test of the limit fails, what an event comes to stays
+not_spent : {V : Type 0} (r : Result (World V) StepFault) (t : Bool) → t ≡ false → (if t then Err EventsSpent else r) ≡ r
+not_spent r true e = cc
+not_spent r false e = refl
+
+pub event_result-not_spent : {V : Type 0} (size : V → ℕ) (w : World V) (e : Event V) → w.event_count < MOST_EVENTS → event_result size w e ≡ event_result_without_limit size w e
+event_result-not_spent size w e low = not_spent (event_result_without_limit size w e) (w.event_count == MOST_EVENTS) (grind (arith, nat_tests))
+
+pub event_result-spent : {V : Type 0} (size : V → ℕ) (w : World V) (e : Event V) → w.event_count ≡ MOST_EVENTS → event_result size w e ≡ Err EventsSpent
+event_result-spent {V} size w e spent = all (w.event_count == MOST_EVENTS) (grind (arith, nat_tests)) where
+  all : (t : Bool) → t ≡ true → (if t then Err EventsSpent else event_result_without_limit size w e) ≡ Err EventsSpent
+  all true d = refl
+  all false d = cc
+
+-- The world after a step.
+
+module _ {V : Type 0} (size : V → ℕ) (old : History V) (cores : List (Core V)) (packets : List (Packet V)) (h : AreOfWorld size old cores packets) where
+  -- another room of the nodes is nothing that is seen
+  pub rooms_stay : (others : List (Core V)) → nodes_of others ≡ nodes_of cores → AreOfWorld size old others packets
+  rooms_stay others same = record {
+    world = h.world;
+    is_after = h.is_after;
+    nodes = h.nodes ∙ sym same;
+    posted = h.posted;
+    weights = h.weights;
+    posts = h.posts;
+  }
+
+  -- the core that is read at a number has the state of that node in the world
+  pub node_shown : (k : ℕ) (core : Core V) → k < length cores → core ≡ get_or cores k core → slice_get h.world.nodes k ≡ Some core.node
+  node_shown k core in_cores is = ap (λ (ns : List (Node V)). slice_get ns k) h.nodes ∙ nodes_at cores k core in_cores is
+
+  -- past the cores there is no node in the world
+  pub no_node_shown : (k : ℕ) → length cores ≤ k → slice_get h.world.nodes k ≡ None
+  no_node_shown k past = ap (λ (ns : List (Node V)). slice_get ns k) h.nodes ∙ nodes_past cores k past
+
+  module _ (low : length old.events < MOST_EVENTS) where
+    -- where an event is left, the history with one more comes to what the event makes of the world
+    pub next_is : (e : Event V) → world_of size (with_event old e) ≡ event_result_without_limit size h.world e
+    next_is e = after-push size old.weights old.events h.world e h.is_after ∙ event_result-not_spent size h.world e (let count = taken_count size old.weights old.events h.world h.is_after in omega (arith, count, low))
+
+    -- the step is made
+    pub makes : (e : Event V) (k : ℕ) (new : Core V) (step : StepResult V) → event_result_without_limit size h.world e ≡ Ok (after_step h.world k step) → (more : List (Packet V)) → new.node ≡ step.node → more ≡ packets ++ step.posts
+        → AllByRecursion (IsPost (length old.weights)) more → AreOfWorld size (with_event old e) (set cores k new) more
+    makes e k new step at more node added posts = record {
+      world = after_step h.world k step;
+      is_after = next_is e ∙ at;
+      nodes = ap (λ (ns : List (Node V)). set ns k step.node) h.nodes ∙ ap (λ (n : Node V). set (nodes_of cores) k n) (sym node) ∙ sym (nodes_of-set cores k new);
+      posted = ap (λ (ps : List (Packet V)). ps ++ step.posts) h.posted ∙ sym added;
+      weights = h.weights;
+      posts = posts;
+    }
+
+-- Each node has the world's weights.
+
+-- the weights that a node has are those of the history
+pub own_weights : {V : Type 0} (size : V → ℕ) (old : History V) (cores : List (Core V)) (packets : List (Packet V)) (h : AreOfWorld size old cores packets) (k : ℕ) (core : Core V) → k < length cores → core ≡ get_or cores k core → core.node.weights ≡ old.weights
+own_weights {V} size old cores packets h k core low is =
+    let holds = holds_after size old.weights old.events h.world h.is_after in
+    let at : slice_get h.world.nodes k ≡ Some core.node = ap (λ (ns : List (Node V)). slice_get ns k) h.nodes ∙ nodes_at cores k core low is in
+    (node_at h.world.weights (offers_of old.events) holds.ledger h.world.nodes 0 k core.node at holds.nodes).weights
+    ∙ (world_lasts size old.weights [] old.events (start old.weights) h.world refl h.is_after).weights
+
+-- with no event left, each event meets EventsSpent
+pub spent_met : {V : Type 0} (size : V → ℕ) (old now : History V) (cores : List (Core V)) (packets : List (Packet V)) → AreOfWorld size old cores packets → old ≡ now → (e : Event V) → length old.events ≡ MOST_EVENTS → world_of size (with_event now e) ≡ Err EventsSpent
+spent_met {V} size old now cores packets h seen e spent =
+    let count = taken_count size old.weights old.events h.world h.is_after in
+    subst (λ (t : History V). world_of size (with_event t e) ≡ Err EventsSpent) seen (after-push size old.weights old.events h.world e h.is_after ∙ event_result-spent size h.world e (count ∙ spent))
+
+-- A run has no more events than it may have.
+
+-- where one fact gives another, a world that has the one, if there is one, has the other
+if_more : {V : Type 0} (P Q : World V → Type 0) (r : Result (World V) StepFault) → ((x : World V) → P x → Q x) → IfTaken r P → IfTaken r Q
+if_more P Q (Ok x) more h = more x h
+if_more P Q (Err fault) more h = tt
+
+-- an event leaves the count of events up to the limit
+within_if : {V : Type 0} (size : V → ℕ) (w : World V) (e : Event V) (t : Bool) → (w.event_count == MOST_EVENTS) ≡ t → w.event_count ≤ MOST_EVENTS → IfTaken (if t then Err EventsSpent else event_result_without_limit size w e) (λ x. x.event_count ≤ MOST_EVENTS)
+within_if size w e true test low = tt
+within_if {V} size w e false test low =
+    let other : w.event_count < MOST_EVENTS = grind (arith, nat_tests) in
+    if_more (λ (x : World V). x.event_count ≡ w.event_count + 1) (λ (x : World V). x.event_count ≤ MOST_EVENTS) (event_result_without_limit size w e) (λ x count. omega (arith, count, other)) (counts_happens_at w.event_count w refl size e)
+
+-- events leave the count of events up to the limit
+within_all : {V : Type 0} (size : V → ℕ) (es : List (Event V)) (r : Result (World V) StepFault) → IfTaken r (λ x. x.event_count ≤ MOST_EVENTS) → IfTaken (events_result size es r) (λ x. x.event_count ≤ MOST_EVENTS)
+within_all size [] r h = h
+within_all size (e ∷ es) (Err fault) h = tt
+within_all size (e ∷ es) (Ok w) h = within_all size es (event_result size w e) (within_if size w e (w.event_count == MOST_EVENTS) refl h)
+
+-- a history that is taken has events up to the limit
+pub events_within : {V : Type 0} (size : V → ℕ) (old now : History V) (cores : List (Core V)) (packets : List (Packet V)) → AreOfWorld size old cores packets → old ≡ now → length now.events ≤ MOST_EVENTS
+events_within {V} size old now cores packets h seen =
+    let most = if_taken (λ (x : World V). x.event_count ≤ MOST_EVENTS) (after size old.weights old.events) h.world h.is_after (within_all size old.events (Ok (start old.weights)) (omega arith)) in
+    let count = taken_count size old.weights old.events h.world h.is_after in
+    subst (λ (t : History V). length t.events ≤ MOST_EVENTS) seen (omega (arith, most, count))
+
+-- The world after the events, as the fields show it.
+
+length-nodes_from : (V : Type 0) (weights : List ℕ) (k : ℕ) (ws : List ℕ) → length (nodes_from {V = V} weights k ws) ≡ length ws
+length-nodes_from V weights k [] = refl
+length-nodes_from V weights k (w ∷ ws) = ap suc (length-nodes_from V weights (suc k) ws)
+
+pub length-nodes_of : {V : Type 0} (cores : List (Core V)) → length (nodes_of cores) ≡ length cores
+length-nodes_of [] = refl
+length-nodes_of (c ∷ cores) = ap suc (length-nodes_of cores)
+
+module _ {V : Type 0} (size : V → ℕ) (old now : History V) (cores : List (Core V)) (packets : List (Packet V)) (h : AreOfWorld size old cores packets) (seen : old ≡ now) where
+  -- the history that is shown leads to the world that the fields are of
+  world_is : world_of size now ≡ Ok h.world
+  world_is = ap (λ (t : History V). world_of size t) (sym seen) ∙ h.is_after
+
+  -- as many as there are weights
+  pub count_shown : length cores ≡ length now.weights
+  count_shown =
+      let lasts = (world_lasts size old.weights [] old.events (start old.weights) h.world refl h.is_after).count in
+      sym (length-nodes_of cores) ∙ ap (λ (ns : List (Node V)). length ns) (sym h.nodes) ∙ lasts ∙ length-nodes_from V old.weights 0 old.weights ∙ ap (λ (t : History V). length t.weights) seen
+
+  -- the log of the core that is read at a number is that of the node after the history
+  pub log_shown : (k : ℕ) (core : Core V) → k < length cores → core ≡ get_or cores k core → log_after (world_of size now) k ≡ log_of core.node
+  log_shown k core low at =
+      ap (λ (r : Result (World V) StepFault). log_after r k) world_is
+      ∙ ap (λ (o : Option (Node V)). log_at o) (ap (λ (ns : List (Node V)). slice_get ns k) h.nodes ∙ nodes_at cores k core low at)
+
+  -- the packets after the history are those that are kept
+  pub packets_shown : packets_after (world_of size now) ≡ packets
+  packets_shown = ap (λ (r : Result (World V) StepFault). packets_after r) world_is ∙ h.posted

@@ -1,5 +1,5 @@
--- What always holds of a world: some sound ledger tells its story. The votes of the ledger are those ever cast; what each node
--- keeps is what it did; each packet says what was done.
+-- The invariant of a world: there is a sound ledger for it. The votes of the ledger are those ever cast; the state of each node and
+-- each packet agree with the ledger.
 use Rattle.net.proofs.Words.{◌≡◌, ◌≢◌, ℕ, suc, ◌≤◌, true, List, [], ◌∷◌, length, Option, Some, ◌⊎◌, inl, inr, ap, sym, ◌∙◌, slice_get, AllByRecursion, entry_at, In, Ballot, SlotReport, Packet, Body, Prepare, Promise, Accept, Accepted, Nack, Ask, Told, AcceptedEntry, Heard, Role, Idle, Preparing, Leading, Tally, pages_of, joined_pages, Node, pages_from, page_of, has_voter, Upto, Vote, vote, IsChosen, World}
 use Rattle.net.proofs.GrowingLists.{all_more}
 use Rattle.net.proofs.Ledger.{Begun, begun_as, Promised, Proposal, proposal, Ledger, IsFree, IsBegun, IsSound}

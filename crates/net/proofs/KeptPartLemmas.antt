@@ -1,7 +1,7 @@
 -- The law of the kept part: each step makes its one change of the kept part of its node and of no other node's, and a restart makes none.
-use Rattle.net.proofs.Words.{◌≡◌, ◌≢◌, ℕ, ◌==◌, List, [], ◌∷◌, ◌++◌, Option, Some, None, Result, Ok, Err, refl, ap, sym, ◌∙◌, subst, slice_get, option_map, Packet, Change, Refusal, Kept, changed_by, Node, Stepped, kept_of, offered, begun, on_packet, restarted, ChangesKeptOnOk, offered_kept, begun_kept, body_kept, restarted_kept, MOST_EVENTS, Event, Offer, Begin, Deliver, Restart, StepFault, World, stepped, answered, at_node, delivered, happens_at, happens, all_happen, kept_part, node_of, change_answered, change_at, change_delivered, change_of, AreOfOthers, KeptPartSurvives}
+use Rattle.net.proofs.Words.{◌≡◌, ◌≢◌, ℕ, ◌==◌, List, [], ◌∷◌, ◌++◌, Option, Some, None, Result, Ok, Err, refl, ap, sym, ◌∙◌, subst, slice_get, option_map, Packet, Change, Refusal, Kept, changed_by, Node, StepResult, kept_of, offered, begun, on_packet, restarted, ChangesKeptOnOk, offered_kept, begun_kept, body_kept, restarted_kept, MOST_EVENTS, Event, Offer, Begin, Deliver, Restart, StepFault, World, after_step, after_step_or_fault, at_node, delivered, event_result_without_limit, event_result, events_result, kept_part, node_of, change_of_result, change_at, change_delivered, change_of, AreOfOthers, KeptPartSurvives}
 use Rattle.net.proofs.EveryEvent.{IfTaken, if_taken, spent_or}
-use Rattle.net.proofs.TwoMoments.{all_happen-append, later_events}
+use Rattle.net.proofs.TwoMoments.{events_result-append, later_events}
 use Rattle.net.proofs.GrowingLists.{at_set, at_set_other}
 
 abbrev changed_part : {V : Type 0} → Option (Change V) → Option (Kept V) → Option (Kept V)
@@ -14,22 +14,22 @@ pub record Moves {V : Type 0} (w : World V) (j k : ℕ) (change : Option (Change
 
 module _ {V : Type 0} (w : World V) (j k : ℕ) where
   -- a step that makes its change of its node's kept part does so in the world
-  own_part : (n : Node V) (step : Stepped V) → slice_get w.nodes j ≡ Some n → kept_of step.node ≡ changed_by (kept_of n) step.change → kept_part (stepped w j step) j ≡ changed_part step.change (kept_part w j)
+  own_part : (n : Node V) (step : StepResult V) → slice_get w.nodes j ≡ Some n → kept_of step.node ≡ changed_by (kept_of n) step.change → kept_part (after_step w j step) j ≡ changed_part step.change (kept_part w j)
   own_part n step is_node changes =
       ap (λ (o : Option (Node V)). option_map kept_of o) (at_set w.nodes j step.node n is_node)
       ∙ ap (λ (kept : Kept V). let o : Option (Kept V) = Some kept in o) changes
       ∙ ap (λ (o : Option (Node V)). changed_part step.change (option_map kept_of o)) (sym is_node)
 
   -- a node's answer makes its change of that node's kept part and of no other
-  moves_answered : (n : Node V) → slice_get w.nodes j ≡ Some n → (r : Result (Stepped V) Refusal) → ChangesKeptOnOk n r → IfTaken (answered w j r) (Moves w j k (change_answered r))
+  moves_answered : (n : Node V) → slice_get w.nodes j ≡ Some n → (r : Result (StepResult V) Refusal) → ChangesKeptOnOk n r → IfTaken (after_step_or_fault w j r) (Moves w j k (change_of_result r))
   moves_answered n is_node (Ok step) changes = record {
-    own = λ e. subst (λ (k : ℕ). kept_part (stepped w j step) k ≡ changed_part step.change (kept_part w k)) e (own_part n step is_node changes);
+    own = λ e. subst (λ (k : ℕ). kept_part (after_step w j step) k ≡ changed_part step.change (kept_part w k)) e (own_part n step is_node changes);
     other = λ other. ap (λ (o : Option (Node V)). option_map kept_of o) (at_set_other w.nodes j k step.node other);
   }
   moves_answered n is_node (Err refusal) changes = tt
 
   -- what a node makes of itself makes its change of that node's kept part and of no other
-  moves_at : (make : Node V → Result (Stepped V) Refusal) → ((n : Node V) → ChangesKeptOnOk n (make n)) → (o : Option (Node V)) → slice_get w.nodes j ≡ o → IfTaken (at_node w j make o) (Moves w j k (change_at make o))
+  moves_at : (make : Node V → Result (StepResult V) Refusal) → ((n : Node V) → ChangesKeptOnOk n (make n)) → (o : Option (Node V)) → slice_get w.nodes j ≡ o → IfTaken (at_node w j make o) (Moves w j k (change_at make o))
   moves_at make changes None e = tt
   moves_at make changes (Some n) e = moves_answered n e (make n) (changes n)
 
@@ -56,15 +56,15 @@ module _ {V : Type 0} (size : V → ℕ) (w : World V) (k : ℕ) where
       (moves_at w p.to k (λ n. Ok (on_packet n p)) (λ n. body_kept n p.from p.body) (slice_get w.nodes p.to) refl))
 
   -- each event makes its change of its node's kept part and of no other
-  happens_moves : (e : Event V) → IfTaken (happens_at size w e) (Happens size w k e)
-  happens_moves (Offer j v) = as_happens (Offer j v) j refl (happens_at size w (Offer j v)) (moves_at w j k (λ n. offered size n v) (λ n. offered_kept n size v) (slice_get w.nodes j) refl)
-  happens_moves (Begin j) = as_happens (Begin j) j refl (happens_at size w (Begin j)) (moves_at w j k begun (λ n. begun_kept n) (slice_get w.nodes j) refl)
+  happens_moves : (e : Event V) → IfTaken (event_result_without_limit size w e) (Happens size w k e)
+  happens_moves (Offer j v) = as_happens (Offer j v) j refl (event_result_without_limit size w (Offer j v)) (moves_at w j k (λ n. offered size n v) (λ n. offered_kept n size v) (slice_get w.nodes j) refl)
+  happens_moves (Begin j) = as_happens (Begin j) j refl (event_result_without_limit size w (Begin j)) (moves_at w j k begun (λ n. begun_kept n) (slice_get w.nodes j) refl)
   happens_moves (Deliver number) = happens_delivered number (slice_get w.packets number) refl
-  happens_moves (Restart j) = as_happens (Restart j) j refl (happens_at size w (Restart j)) (moves_at w j k (λ n. Ok (restarted n)) (λ n. restarted_kept n) (slice_get w.nodes j) refl)
+  happens_moves (Restart j) = as_happens (Restart j) j refl (event_result_without_limit size w (Restart j)) (moves_at w j k (λ n. Ok (restarted n)) (λ n. restarted_kept n) (slice_get w.nodes j) refl)
 
   -- behind the test of the limit, each event makes its change of its node's kept part and of no other
-  pub event_moves : (e : Event V) → IfTaken (happens size w e) (Happens size w k e)
-  event_moves e = spent_or (Happens size w k e) (happens_at size w e) (w.taken == MOST_EVENTS) (happens_moves e)
+  pub event_moves : (e : Event V) → IfTaken (event_result size w e) (Happens size w k e)
+  event_moves e = spent_or (Happens size w k e) (event_result_without_limit size w e) (w.event_count == MOST_EVENTS) (happens_moves e)
 
 -- Events of others, and then the restart.
 
@@ -78,10 +78,10 @@ module _ {V : Type 0} (size : V → ℕ) (k : ℕ) (kept : Option (Kept V)) wher
   other_keeps w e is other (Err fault) h = tt
 
   -- events of other nodes keep the kept part of node k
-  others_keep : (es : List (Event V)) (r : Result (World V) StepFault) → AreOfOthers size k r es → IfTaken r (KeptIs k kept) → IfTaken (all_happen size es r) (KeptIs k kept)
+  others_keep : (es : List (Event V)) (r : Result (World V) StepFault) → AreOfOthers size k r es → IfTaken r (KeptIs k kept) → IfTaken (events_result size es r) (KeptIs k kept)
   others_keep [] r others h = h
   others_keep (e ∷ es) (Err fault) others h = tt
-  others_keep (e ∷ es) (Ok w) others h = others_keep es (happens size w e) others.1 (other_keeps w e h others.0 (happens size w e) (event_moves size w k e))
+  others_keep (e ∷ es) (Ok w) others h = others_keep es (event_result size w e) others.1 (other_keeps w e h others.0 (event_result size w e) (event_moves size w k e))
 
   -- the change of a restart is none
   no_change : (o : Option (Node V)) → changed_part (change_at (λ n. Ok (restarted n)) o) (option_map kept_of o) ≡ option_map kept_of o
@@ -94,18 +94,18 @@ module _ {V : Type 0} (size : V → ℕ) (k : ℕ) (kept : Option (Kept V)) wher
   restart_keeps w is (Err fault) h = tt
 
   -- a restart of node k behind other events keeps the kept part that they kept
-  then_restart : (r : Result (World V) StepFault) → IfTaken r (KeptIs k kept) → IfTaken (all_happen size (Restart k ∷ []) r) (KeptIs k kept)
+  then_restart : (r : Result (World V) StepFault) → IfTaken r (KeptIs k kept) → IfTaken (events_result size (Restart k ∷ []) r) (KeptIs k kept)
   then_restart (Err fault) h = tt
-  then_restart (Ok w) h = restart_keeps w h (happens size w (Restart k)) (event_moves size w k (Restart k))
+  then_restart (Ok w) h = restart_keeps w h (event_result size w (Restart k)) (event_moves size w k (Restart k))
 
 -- after an event of a node and a restart of it, the kept part is the one before with the event's change
 pub kept_part_survives : {V : Type 0} → KeptPartSurvives V
 kept_part_survives {V} size ws events others e k w x y before made is_of of_others after_all =
     let kept : Option (Kept V) = changed_part (change_of size w e) (kept_part w k) in
-    let moved : KeptIs k kept x = (if_taken (Happens size w k e) (happens size w e) x made (event_moves size w k e)).own is_of in
+    let moved : KeptIs k kept x = (if_taken (Happens size w k e) (event_result size w e) x made (event_moves size w k e)).own is_of in
     let rest : List (Event V) = others ++ Restart k ∷ [] in
     let from_e = later_events size ws events (e ∷ rest) w (Ok y) before after_all in
-    let from_x : all_happen size rest (Ok x) ≡ Ok y = ap (λ (r : Result (World V) StepFault). all_happen size rest r) (sym made) ∙ from_e in
-    let last : all_happen size (Restart k ∷ []) (all_happen size others (Ok x)) ≡ Ok y = sym (all_happen-append size others (Restart k ∷ []) (Ok x)) ∙ from_x in
-    if_taken (KeptIs k kept) (all_happen size (Restart k ∷ []) (all_happen size others (Ok x))) y last
-    (then_restart size k kept (all_happen size others (Ok x)) (others_keep size k kept others (Ok x) of_others moved))
+    let from_x : events_result size rest (Ok x) ≡ Ok y = ap (λ (r : Result (World V) StepFault). events_result size rest r) (sym made) ∙ from_e in
+    let last : events_result size (Restart k ∷ []) (events_result size others (Ok x)) ≡ Ok y = sym (events_result-append size others (Restart k ∷ []) (Ok x)) ∙ from_x in
+    if_taken (KeptIs k kept) (events_result size (Restart k ∷ []) (events_result size others (Ok x))) y last
+    (then_restart size k kept (events_result size others (Ok x)) (others_keep size k kept others (Ok x) of_others moved))

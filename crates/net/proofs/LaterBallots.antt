@@ -2,7 +2,7 @@
 -- A later proposal is grounded on a quorum, which shares a node with the quorum that chose. That node promised the later ballot
 -- and voted under the earlier, so it voted before it promised; so the proposal's value is that of an older proposal, under a
 -- ballot in between, and the claim is that of the older one. No proposal refers to a newer, so this comes to an end.
-use Rattle.net.proofs.Words.{◌≡◌, ℕ, List, [], ◌∷◌, Option, inl, inr, refl, sym, subst, In, Contains-in, Ballot, Under, upto_splits, under_true, quorums_meet, Vote, vote, IsChosenAt, LaterBallotsKeepChosen}
+use Rattle.net.proofs.Words.{◌≡◌, ℕ, List, [], ◌∷◌, Option, inl, inr, refl, sym, subst, In, Contains-in, Ballot, Under, upto_splits, under_true, quorums_meet, Vote, vote, IsChosenAt, ChosenValuesPersist}
 use Rattle.net.proofs.EveryEvent.{holds_after}
 use Rattle.net.proofs.OneValue.{proposed_in}
 use Rattle.net.proofs.Ledger.{Proposal, proposal, Ledger, AllGrounded, IsSound}
@@ -29,7 +29,7 @@ module _ {V : Type 0} (ws : List ℕ) (offers : List V) (l : Ledger V) (sound : 
   later_value p i b v chosen under = later_at l.proposals sound.grounded (λ q j. j) p i b v chosen under
 
 -- what an Accept proposes under a later ballot is the value chosen there under an earlier
-pub later_ballots_keep_chosen : {V : Type 0} → LaterBallotsKeepChosen V
+pub later_ballots_keep_chosen : {V : Type 0} → ChosenValuesPersist V
 later_ballots_keep_chosen {V} size ws events w is_after b c s u v chosen p under =
     let h = holds_after size ws events w is_after in
     later_value w.weights _ h.ledger h.sound (proposal c s v) (proposed_in _ w h c s v p) b u

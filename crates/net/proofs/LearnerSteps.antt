@@ -5,7 +5,7 @@ use Rattle.net.proofs.Invariant.{HasVoted, NodeHolds, IsTrue}
 use Rattle.net.proofs.StepsContinue.{Continues, same_ledger, true_to_others}
 
 module _ {V : Type 0} {offers : List V} {l : Ledger V} (n : Node V) (sound : IsSound n.weights offers l) (holds : NodeHolds n.weights offers l n.me n) where
-  -- What is learned.
+  -- Learned values.
 
   -- with a chosen value put at a slot, all that is learned is chosen
   put_chosen : (s : ℕ) (v : Option V) → IsChosen n.weights l.votes s v → (t : ℕ) (u : Option V) → entry_at (put_at n.learned s v) t ≡ Some u → IsChosen n.weights l.votes t u

@@ -74,7 +74,7 @@ abbrev pub AllGrounded : {V : Type 0} → List ℕ → Ledger V → List (Propos
 AllGrounded ws l [] = Unit {0}
 AllGrounded ws l (p ∷ older) = IsGrounded ws l older p.ballot p.slot p.value × AllGrounded ws l older
 
--- What a promise tells.
+-- The facts that a promise states.
 
 -- one of the reports is of the vote's slot, under a ballot not below the vote's
 pub record HasHigher {V : Type 0} (reports : List (SlotReport V)) (x : Vote V) : Type 0 where
@@ -95,7 +95,7 @@ pub record IsTruthful {V : Type 0} (l : Ledger V) (p : Promised V) : Type 0 wher
   pub reported : (x : Vote V) → In x l.votes → x.node ≡ p.node → p.first ≤ x.slot → Under x.ballot p.ballot → HasHigher p.reports x
   pub backed : (r : SlotReport V) → In r p.reports → IsBacked l p r
 
--- What always holds of the ledger.
+-- The invariant of the ledger.
 
 pub record IsBegun {V : Type 0} (l : Ledger V) (b : Ballot) : Type 0 where
   pub first : ℕ

@@ -28,7 +28,7 @@ grows_both g h = record {
   votes = adds_both (λ x e. e) (λ x e. (e.0, λ p i d. e.1 p (g.promises.old p i) d)) g.votes h.votes;
 }
 
--- What one node adds.
+-- The additions of one node.
 
 abbrev pub with_begun : {V : Type 0} → Begun → Ledger V → Ledger V
 with_begun x l = record l { begun = x ∷ l.begun }
@@ -54,7 +54,7 @@ grows-with_proposal x l k mine = record { begun = adds_none; promises = adds_non
 pub grows-with_vote : {V : Type 0} (x : Vote V) (l : Ledger V) → AllPromisedUpto l.promises x.node x.ballot → Grows x.node l (with_vote x l)
 grows-with_vote x l upto = record { begun = adds_none; promises = adds_none; proposals = adds_none; votes = adds_one (refl, upto) }
 
--- What lasts.
+-- The facts that last.
 
 -- what is chosen stays chosen with more votes
 pub chosen_with_more : {V : Type 0} {ws : List ℕ} {s : ℕ} {v : Option V} (old new : List (Vote V)) → ((x : Vote V) → In x old → In x new) → IsChosen ws old s v → IsChosen ws new s v

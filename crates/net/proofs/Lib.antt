@@ -20,9 +20,9 @@ mod LogsAgree
 mod Offered
 pub mod KeptPartLemmas
 pub mod LogsGrow
-pub mod HistoryLemmas
+pub mod AgreementLemmas
 mod Rows
-pub mod TakenLemmas
+pub mod HistoryLemmas
 pub mod NodeStatesLemmas
 pub mod EventsStaged
 pub mod StepsStaged

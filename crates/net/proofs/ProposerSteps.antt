@@ -1,5 +1,5 @@
 -- A begin, an offer, a Promise and a Nack continue the story: a proposer begins a ballot of its own once, and proposes only what is grounded.
-use Rattle.net.proofs.Words.{◌≡◌, ℕ, zero, suc, ◌+◌, ◌≤◌, ◌^◌, Bool, true, false, ◌&&◌, ◌==◌, nat_lt, List, [], ◌∷◌, length, Option, Some, Result, Ok, Err, inl, inr, refl, ap, sym, subst, arith, if◌then◌else◌, AllByRecursion, SLOTS, In, Ballot, SlotReport, Prepare, Accept, Heard, Role, Idle, Preparing, Leading, MOST_BYTES, MOST_WAITING, Refusal, Busy, LogFull, RoundsSpent, TooLong, is_under, Node, Stepped, unchanged, page_of, no_pages, log_length, waits, takes_slot, offer_as, offered, next_round, next_ballot, begins, begun, is_at, idles, on_nack, all_append}
+use Rattle.net.proofs.Words.{◌≡◌, ℕ, zero, suc, ◌+◌, ◌≤◌, ◌^◌, Bool, true, false, ◌&&◌, ◌==◌, nat_lt, List, [], ◌∷◌, length, Option, Some, Result, Ok, Err, inl, inr, refl, ap, sym, subst, arith, if◌then◌else◌, AllByRecursion, SLOTS, In, Ballot, SlotReport, Prepare, Accept, Heard, Role, Idle, Preparing, Leading, MOST_BYTES, MOST_WAITING, Refusal, Busy, LogFull, RoundsSpent, TooLong, is_below, Node, StepResult, unchanged, page_of, no_pages, log_length, waits, proposes_value, offer_as, offered, next_round, next_ballot, begins, begun, is_at, idles, on_nack, all_append}
 use Rattle.net.proofs.Ledger.{Begun, begun_as, Ledger, IsSound}
 use Rattle.net.proofs.LedgerGrows.{Grows, with_begun, grows-with_begun, begun_lasts, free_lasts}
 use Rattle.net.proofs.LedgerSteps.{begun_sound, with_proposals, each_free, batch}
@@ -7,12 +7,12 @@ use Rattle.net.proofs.Invariant.{IsLeading, RoleHolds, NodeHolds, AcceptorHolds,
 use Rattle.net.proofs.StepsContinue.{Continues, same_ledger, true_to_all}
 
 -- where a step is answered
-abbrev pub IfStep : {V : Type 0} → Result (Stepped V) Refusal → (Stepped V → Type 0) → Type 0
+abbrev pub IfStep : {V : Type 0} → Result (StepResult V) Refusal → (StepResult V → Type 0) → Type 0
 IfStep (Ok step) P = P step
 IfStep (Err refusal) P = Unit {0}
 
 module _ {V : Type 0} {offers : List V} {l : Ledger V} (n : Node V) (sound : IsSound n.weights offers l) (holds : NodeHolds n.weights offers l n.me n) where
-  abbrev Goes : Stepped V → Type 0
+  abbrev Goes : StepResult V → Type 0
   Goes step = Continues n.weights offers n.me l step
 
   -- the node with another role
@@ -104,7 +104,7 @@ module _ {V : Type 0} {offers : List V} {l : Ledger V} (n : Node V) (sound : IsS
   }
 
   -- a leader that proposes an offered value at its next slot continues the story
-  takes_slot_continues : (v : V) (b : Ballot) (next : ℕ) → In v offers → IsLeading n.weights l n.me b next → Goes (takes_slot n b next v)
+  takes_slot_continues : (v : V) (b : Ballot) (next : ℕ) → In v offers → IsLeading n.weights l n.me b next → Goes (proposes_value n b next v)
   takes_slot_continues v b next brought leading =
       let vs : List (Option V) = Some v ∷ [] in
       let m : Ledger V = with_proposals b next vs l in
@@ -142,7 +142,7 @@ module _ {V : Type 0} {offers : List V} {l : Ledger V} (n : Node V) (sound : IsS
   waits_either v brought false false = tt
 
   -- an offer to a leader takes the next slot, which continues the story, or is refused where none is left
-  slot_either : (v : V) (b : Ballot) (next : ℕ) → In v offers → IsLeading n.weights l n.me b next → (t : Bool) → IfStep (if t then Err LogFull else Ok (takes_slot n b next v)) Goes
+  slot_either : (v : V) (b : Ballot) (next : ℕ) → In v offers → IsLeading n.weights l n.me b next → (t : Bool) → IfStep (if t then Err LogFull else Ok (proposes_value n b next v)) Goes
   slot_either v b next brought leading true = tt
   slot_either v b next brought leading false = takes_slot_continues v b next brought leading
 
@@ -153,7 +153,7 @@ module _ {V : Type 0} {offers : List V} {l : Ledger V} (n : Node V) (sound : IsS
   offer_as_continues v brought (Leading b next) h = slot_either v b next brought h (next == SLOTS)
 
   -- an answer that continues the story, if it is a step, does so behind the test of the length
-  long_either : (r : Result (Stepped V) Refusal) → IfStep r Goes → (t : Bool) → IfStep (if t then Err TooLong else r) Goes
+  long_either : (r : Result (StepResult V) Refusal) → IfStep r Goes → (t : Bool) → IfStep (if t then Err TooLong else r) Goes
   long_either r h true = tt
   long_either r h false = h
 
@@ -170,4 +170,4 @@ module _ {V : Type 0} {offers : List V} {l : Ledger V} (n : Node V) (sound : IsS
 
   -- a Nack continues the story
   pub nack_continues : (b c : Ballot) → Goes (on_nack n b c)
-  nack_continues b c = nack_either (is_at n.role b && is_under b c)
+  nack_continues b c = nack_either (is_at n.role b && is_below b c)

@@ -1,6 +1,6 @@
--- What a proposer may propose once it has heard the promises of a quorum (phase 2 of section 2.2): at a slot reported the value of
+-- The values that a proposer may propose with the promises of a quorum (phase 2 of section 2.2): at a slot reported the value of
 -- the highest ballot reported there; at any other slot from the first on, any value. Each such proposal is grounded.
-use Rattle.net.proofs.Words.{◌≡◌, ℕ, zero, suc, ◌≤◌, Bool, true, false, ◌||◌, ◌==◌, List, [], ◌∷◌, Option, Some, None, inl, inr, refl, sym, ◌∙◌, subst, arith, eqb-true, AllByRecursion, In, In-append_left, In-append_right, In-append, Ballot, SlotReport, Heard, is_quorum, joined_pages, pages_from, is_heard, highest_at, reported_value, top_reported, fills, all_reports, Under, upto_upto, IsHighest, HighestHolds, highest_holds, below_top, Vote}
+use Rattle.net.proofs.Words.{◌≡◌, ℕ, zero, suc, ◌≤◌, Bool, true, false, ◌||◌, ◌==◌, List, [], ◌∷◌, Option, Some, None, inl, inr, refl, sym, ◌∙◌, subst, arith, eqb-true, AllByRecursion, In, In-append_left, In-append_right, In-append, Ballot, SlotReport, Heard, is_quorum, joined_pages, pages_from, is_heard, highest_at, reported_value, top_or_first, proposed_values, all_reports, Under, upto_upto, IsHighest, HighestHolds, highest_holds, below_top, Vote}
 use Rattle.net.proofs.Ledger.{begun_as, Promised, proposal, Ledger, HasPromised, NoneVoted, HighestVoted, IsGrounded, IsFree, HasHigher, IsBrought, IsSound}
 use Rattle.net.proofs.LedgerSteps.{EachGrounded}
 use Rattle.net.proofs.Invariant.{IsHeard}
@@ -117,7 +117,7 @@ module _ {V : Type 0} (ws : List ℕ) (offers : List V) (l : Ledger V) (b : Ball
   fill_grounded s from (Some r) most = record { quorum = is_heard heard; majority = h.quorum; promised = all_promised; picks = inr (highest_voted s from r most) }
 
   -- the values for the slots from s on, by the reports, are each grounded
-  pub fills_grounded : (s count : ℕ) → first ≤ s → EachGrounded ws l b s (fills reports s count)
+  pub fills_grounded : (s count : ℕ) → first ≤ s → EachGrounded ws l b s (proposed_values reports s count)
   fills_grounded s zero from = tt
   fills_grounded s (suc count) from = (fill_grounded s from (highest_at s reports) (highest_holds s reports), fills_grounded (suc s) count (omega arith))
 
@@ -129,12 +129,12 @@ module _ {V : Type 0} (ws : List ℕ) (offers : List V) (l : Ledger V) (b : Ball
       h.sound.brought _ (h.sound.backed _ ((h.sound.truthful t.promise t.is_in).backed r t.reported).voted)
 
   -- the values for the slots from s on, by the reports, were each brought
-  pub fills_brought : (s count : ℕ) → AllByRecursion (IsBrought offers) (fills reports s count)
+  pub fills_brought : (s count : ℕ) → AllByRecursion (IsBrought offers) (proposed_values reports s count)
   fills_brought s zero = tt
   fills_brought s (suc count) = (fill_brought s (highest_at s reports) (highest_holds s reports), fills_brought (suc s) count)
 
   -- above what is reported any value may be proposed
-  pub free_above : (s : ℕ) → first ≤ s → top_reported first reports ≤ s → IsFree ws l b s
+  pub free_above : (s : ℕ) → first ≤ s → top_or_first first reports ≤ s → IsFree ws l b s
   free_above s from above = record {
     quorum = is_heard heard;
     majority = h.quorum;

@@ -1,6 +1,6 @@
 -- Worked runs, computed: after each event the count of packets posted so far, then what single packets say, and what is learned.
 -- An entry stands for its author and serial, as 71 for serial 1 of author 7.
-use Rattle.net.proofs.Words.{◌≡◌, ℕ, zero, suc, List, [], ◌∷◌, ◌++◌, length, Option, Some, None, Result, Ok, Err, refl, slice_get, Ballot, SlotReport, Packet, Prepare, Promise, Accept, Nack, Ask, Told, packet, Event, Offer, Begin, Deliver, Restart, StepFault, NoNode, NoPacket, World, start, happens, after, log}
+use Rattle.net.proofs.Words.{◌≡◌, ℕ, zero, suc, List, [], ◌∷◌, ◌++◌, length, Option, Some, None, Result, Ok, Err, refl, slice_get, Ballot, SlotReport, Packet, Prepare, Promise, Accept, Nack, Ask, Told, packet, Event, Offer, Begin, Deliver, Restart, StepFault, NoNode, NoPacket, World, start, event_result, after, log}
 
 abbrev size : ℕ → ℕ
 size v = 0
@@ -11,7 +11,7 @@ run weights events = after size weights events
 abbrev counts_on : Result (World ℕ) StepFault → List (Event ℕ) → List ℕ
 counts_on (Err fault) es = []
 counts_on (Ok w) [] = length w.packets ∷ []
-counts_on (Ok w) (e ∷ es) = length w.packets ∷ counts_on (happens size w e) es
+counts_on (Ok w) (e ∷ es) = length w.packets ∷ counts_on (event_result size w e) es
 
 -- how many packets there are before the first event, and after each
 abbrev counts : List ℕ → List (Event ℕ) → List ℕ

@@ -1,12 +1,12 @@
 -- A step of a node continues the story: a ledger that grew by what the node did, and of which all holds again.
-use Rattle.net.proofs.Words.{◌≡◌, ℕ, suc, Bool, true, false, ◌==◌, List, [], ◌∷◌, Option, if◌then◌else◌, AllByRecursion, Packet, Body, Accept, Ballot, packet, to_all_from, to_all, to_others_from, accepts, Stepped, votes_after, all_append}
+use Rattle.net.proofs.Words.{◌≡◌, ℕ, suc, Bool, true, false, ◌==◌, List, [], ◌∷◌, Option, if◌then◌else◌, AllByRecursion, Packet, Body, Accept, Ballot, packet, to_all_from, to_all, to_others_from, accept_posts, StepResult, votes_after, all_append}
 use Rattle.net.proofs.Ledger.{Ledger, IsSound}
 use Rattle.net.proofs.LedgerGrows.{Grows, grows_none}
 use Rattle.net.proofs.LedgerSteps.{EachProposed}
 use Rattle.net.proofs.Invariant.{NodeHolds, SaysTrue, IsTrue}
 
 -- node k made the step
-pub record Continues {V : Type 0} (ws : List ℕ) (offers : List V) (k : ℕ) (l : Ledger V) (step : Stepped V) : Type 0 where
+pub record Continues {V : Type 0} (ws : List ℕ) (offers : List V) (k : ℕ) (l : Ledger V) (step : StepResult V) : Type 0 where
   pub ledger : Ledger V
   pub grows : Grows k l ledger
   pub sound : IsSound ws offers ledger
@@ -15,7 +15,7 @@ pub record Continues {V : Type 0} (ws : List ℕ) (offers : List V) (k : ℕ) (l
   pub cast : ledger.votes ≡ votes_after k step.change l.votes
 
 -- nothing new was done
-pub same_ledger : {V : Type 0} {ws : List ℕ} {offers : List V} {k : ℕ} {l : Ledger V} {step : Stepped V} → IsSound ws offers l → NodeHolds ws offers l k step.node
+pub same_ledger : {V : Type 0} {ws : List ℕ} {offers : List V} {k : ℕ} {l : Ledger V} {step : StepResult V} → IsSound ws offers l → NodeHolds ws offers l k step.node
     → AllByRecursion (IsTrue ws l) step.posts → l.votes ≡ votes_after k step.change l.votes → Continues ws offers k l step
 same_ledger {k = k} {l = l} sound holds posts none_cast = record { ledger = l; grows = grows_none k l; sound = sound; node = holds; posts = posts; cast = none_cast }
 
@@ -39,7 +39,7 @@ module _ {V : Type 0} (ws : List ℕ) (l : Ledger V) (me : ℕ) (body : Body V) 
 
 -- Accepts of values that were proposed slot after slot are true
 pub true_accepts : {V : Type 0} (ws : List ℕ) (l : Ledger V) (me : ℕ) (weights : List ℕ) (b : Ballot) (s : ℕ) (vs : List (Option V)) → EachProposed l.proposals b s vs
-    → AllByRecursion (IsTrue ws l) (accepts me weights b s vs)
+    → AllByRecursion (IsTrue ws l) (accept_posts me weights b s vs)
 true_accepts ws l me weights b s [] h = tt
 true_accepts ws l me weights b s (v ∷ vs) h =
-    all_append (IsTrue ws l) (to_all me weights (Accept b s v)) (accepts me weights b (suc s) vs) (true_to_all ws l me (Accept b s v) h.0 0 weights) (true_accepts ws l me weights b (suc s) vs h.1)
+    all_append (IsTrue ws l) (to_all me weights (Accept b s v)) (accept_posts me weights b (suc s) vs) (true_to_all ws l me (Accept b s v) h.0 0 weights) (true_accepts ws l me weights b (suc s) vs h.1)

@@ -1,5 +1,5 @@
 -- From one moment of a run to a later one the weights stay, and what was voted stays voted; so what is chosen stays chosen.
-use Rattle.net.proofs.Words.{◌≡◌, ℕ, List, [], ◌∷◌, ◌++◌, Option, Some, None, Result, Ok, Err, inr, refl, ap, sym, ◌∙◌, subst, length, slice_get, length-set, AllByRecursion, In, Change, Round, Entry, Packet, Refusal, Node, Stepped, offered, begun, on_packet, restarted, Event, Offer, Begin, Deliver, Restart, StepFault, Vote, IsChosen, World, start, votes_after, answered, at_node, delivered, happens_at, happens, all_happen, after, IsAfter}
+use Rattle.net.proofs.Words.{◌≡◌, ℕ, List, [], ◌∷◌, ◌++◌, Option, Some, None, Result, Ok, Err, inr, refl, ap, sym, ◌∙◌, subst, length, slice_get, length-set, AllByRecursion, In, Change, Round, Entry, Packet, Refusal, Node, StepResult, offered, begun, on_packet, restarted, Event, Offer, Begin, Deliver, Restart, StepFault, Vote, IsChosen, World, start, votes_after, after_step_or_fault, at_node, delivered, event_result_without_limit, event_result, events_result, after, IsAfter}
 use Rattle.synod.specs.declared.change.Change.TheVariants.{Promise}
 use Rattle.net.proofs.LedgerGrows.{chosen_with_more}
 use Rattle.net.proofs.EveryEvent.{IfTaken, if_taken, all_keep}
@@ -18,12 +18,12 @@ votes_stay k (Some (Entry s h)) votes v i = inr i
 
 module _ {V : Type 0} (first w : World V) (h : Lasts first w) where
   -- weights, the count of nodes and votes last over a node's answer
-  lasts_answered : (k : ℕ) (r : Result (Stepped V) Refusal) → IfTaken (answered w k r) (Lasts first)
+  lasts_answered : (k : ℕ) (r : Result (StepResult V) Refusal) → IfTaken (after_step_or_fault w k r) (Lasts first)
   lasts_answered k (Ok step) = record { weights = h.weights; count = length-set w.nodes k step.node ∙ h.count; votes = λ v i. votes_stay k step.change w.votes_cast v (h.votes v i) }
   lasts_answered k (Err refusal) = tt
 
   -- weights, the count of nodes and votes last over what a node makes of itself
-  lasts_at : (k : ℕ) (make : Node V → Result (Stepped V) Refusal) (o : Option (Node V)) → IfTaken (at_node w k make o) (Lasts first)
+  lasts_at : (k : ℕ) (make : Node V → Result (StepResult V) Refusal) (o : Option (Node V)) → IfTaken (at_node w k make o) (Lasts first)
   lasts_at k make None = tt
   lasts_at k make (Some n) = lasts_answered k (make n)
 
@@ -33,7 +33,7 @@ module _ {V : Type 0} (first w : World V) (h : Lasts first w) where
   lasts_delivered (Some p) = lasts_at p.to (λ n. Ok (on_packet n p)) (slice_get w.nodes p.to)
 
   -- weights, the count of nodes and votes last over each event
-  lasts_happens : (size : V → ℕ) (e : Event V) → IfTaken (happens_at size w e) (Lasts first)
+  lasts_happens : (size : V → ℕ) (e : Event V) → IfTaken (event_result_without_limit size w e) (Lasts first)
   lasts_happens size (Offer k v) = lasts_at k (λ n. offered size n v) (slice_get w.nodes k)
   lasts_happens size (Begin k) = lasts_at k begun (slice_get w.nodes k)
   lasts_happens size (Deliver number) = lasts_delivered (slice_get w.packets number)
@@ -44,20 +44,20 @@ each_event : {V : Type 0} (es : List (Event V)) → AllByRecursion (λ e. Unit {
 each_event [] = tt
 each_event (e ∷ es) = (tt, each_event es)
 
-pub all_happen-append : {V : Type 0} (size : V → ℕ) (es ds : List (Event V)) (r : Result (World V) StepFault) → all_happen size (es ++ ds) r ≡ all_happen size ds (all_happen size es r)
-all_happen-append size [] ds r = refl
-all_happen-append size (e ∷ es) [] (Err fault) = refl
-all_happen-append size (e ∷ es) (d ∷ ds) (Err fault) = refl
-all_happen-append size (e ∷ es) ds (Ok w) = all_happen-append size es ds (happens size w e)
+pub events_result-append : {V : Type 0} (size : V → ℕ) (es ds : List (Event V)) (r : Result (World V) StepFault) → events_result size (es ++ ds) r ≡ events_result size ds (events_result size es r)
+events_result-append size [] ds r = refl
+events_result-append size (e ∷ es) [] (Err fault) = refl
+events_result-append size (e ∷ es) (d ∷ ds) (Err fault) = refl
+events_result-append size (e ∷ es) ds (Ok w) = events_result-append size es ds (event_result size w e)
 
 -- the later events go on from the earlier moment
-pub later_events : {V : Type 0} (size : V → ℕ) (ws : List ℕ) (early late : List (Event V)) (w : World V) (r : Result (World V) StepFault) → IsAfter size ws early w → after size ws (early ++ late) ≡ r → all_happen size late (Ok w) ≡ r
-later_events size ws early late w r first then = ap (λ r. all_happen size late r) (sym first) ∙ sym (all_happen-append size early late (Ok (start ws))) ∙ then
+pub later_events : {V : Type 0} (size : V → ℕ) (ws : List ℕ) (early late : List (Event V)) (w : World V) (r : Result (World V) StepFault) → IsAfter size ws early w → after size ws (early ++ late) ≡ r → events_result size late (Ok w) ≡ r
+later_events size ws early late w r first then = ap (λ r. events_result size late r) (sym first) ∙ sym (events_result-append size early late (Ok (start ws))) ∙ then
 
 module _ {V : Type 0} (size : V → ℕ) (ws : List ℕ) (early late : List (Event V)) (w x : World V) (first : IsAfter size ws early w) (then : IsAfter size ws (early ++ late) x) where
   -- weights, the count of nodes and votes last from the earlier moment to the later
   pub world_lasts : Lasts w x
-  world_lasts = if_taken (Lasts w) (all_happen size late (Ok w)) x (later_events size ws early late w (Ok x) first then)
+  world_lasts = if_taken (Lasts w) (events_result size late (Ok w)) x (later_events size ws early late w (Ok x) first then)
       (all_keep size (Lasts w) (λ e. Unit {0}) (λ y e u h. lasts_happens w y h size e) late (each_event late) (Ok w) record { weights = refl; count = refl; votes = λ v i. i })
 
   -- what is chosen at the earlier moment is chosen at the later

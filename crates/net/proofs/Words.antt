@@ -1,12 +1,12 @@
 -- The words in which this crate is proved, passed on from one place.
 pub use Rattle.net.specs.Agree.{Agree, ChosenAgree, IsAfter, IsPrefixOf, IsProposed, LogsAgree}
 pub use Rattle.net.specs.Chosen.{IsChosen, IsChosenAt, Vote, vote}
-pub use Rattle.net.specs.History.{Agreement, IsMetOrMemory, IsMoment, StopsAt}
-pub use Rattle.net.specs.KeptPart.{AreOfOthers, addressed, change_answered, change_at, change_delivered, change_of, kept_part, node_of}
-pub use Rattle.net.specs.Laws.{BallotsHaveOneValue, ChosenValuesAgree, KeptPartSurvives, LaterBallotsKeepChosen, LogEntriesAreChosen, LogEntriesWereOffered, LogsOfNodesAgree, LogsOnlyGrow, RestartEmptiesLog}
-pub use Rattle.net.specs.Staged.{AreStill, ComesTo, Gives, IsOfEvent, IsReadyAt, IsStaged, IsStagedAt, IsStill, IsTaken, NetView, Readies, ReadiesEvent, StagedEvent, StagedWork, posts_of, restarts, step_of, steps, work_of}
-pub use Rattle.net.specs.Taken.{AreOfWorld, Taken, nodes_of, with_event, world_of}
-pub use Rattle.net.specs.World.{World, after, all_happen, answered, at_node, delivered, happens, happens_at, log, log_after, log_at, nodes_from, offers_of, packets_after, start, stepped, votes_after}
+pub use Rattle.net.specs.Agreement.{Agreement, IsMetOrMemory, IsMoment, RunStopsAt}
+pub use Rattle.net.specs.KeptPart.{AreOfOthers, node_of_event, change_of_result, change_at, change_delivered, change_of, kept_part, node_of}
+pub use Rattle.net.specs.Laws.{BallotsHaveOneValue, ChosenValuesAgree, KeptPartSurvives, ChosenValuesPersist, LogEntriesAreChosen, LogEntriesWereOffered, LogsOfNodesAgree, LogsOnlyGrow, RestartEmptiesLog}
+pub use Rattle.net.specs.Staged.{ChangeOnlyRooms, HasResult, IsStagingResultInNet, IsOfEvent, IsReadyAt, IsStaged, IsStagedAt, ChangesOnlyRoom, IsTaken, NetView, IsStagingResultAt, IsStagingResultOfEvent, StagedEvent, StagedWork, posts_of, restarts, step_of, steps, work_of}
+pub use Rattle.net.specs.History.{AreOfWorld, History, nodes_of, with_event, world_of}
+pub use Rattle.net.specs.World.{World, after, events_result, after_step_or_fault, at_node, delivered, event_result, event_result_without_limit, log, log_after, log_at, nodes_from, offers_of, packets_after, start, after_step, votes_after}
 pub use Rattle.net.specs.declared.event.Event.{Event}
 pub use Rattle.net.specs.declared.event.Event.TheVariants.{Begin, Deliver, Offer, Restart}
 pub use Rattle.net.specs.declared.event.TheConstants.{MOST_EVENTS}
@@ -33,24 +33,24 @@ pub use Rattle.std.specs.declared.vec.IntoIter.{IntoIter}
 pub use Rattle.synod.proofs.BallotsLemmas.{Under, Upto, not_both, same_true, total, under_false, under_is_upto, under_true, upto_self, upto_splits, upto_under, upto_upto}
 pub use Rattle.synod.proofs.KeptPartLemmas.{ChangesKeptOnOk, begun_kept, body_kept, offered_kept, restarted_kept}
 pub use Rattle.synod.proofs.KnownVoteLemmas.{counted_either, other_pages, page_either}
-pub use Rattle.synod.proofs.NodeKeeps.{all_append}
-pub use Rattle.synod.proofs.PageKeeps.{length-fills}
-pub use Rattle.synod.proofs.PromisePages.{all_had-front, joined-all, pages-all}
+pub use Rattle.synod.proofs.NodeInvariant.{all_append}
+pub use Rattle.synod.proofs.PageInvariant.{length-proposed_values}
+pub use Rattle.synod.proofs.PromisePages.{are_received-front, joined-all, pages-all}
 pub use Rattle.synod.proofs.QuorumLemmas.{quorums_meet}
 pub use Rattle.synod.proofs.ReportsLemmas.{HighestHolds, IsHighest, below_top, first_to_top, held-reported, highest_holds, reports-held}
 pub use Rattle.synod.proofs.RoomLemmas.{same_room}
-pub use Rattle.synod.specs.Acceptor.{held, on_accept, on_prepare, promise_pages, promises, refuses, reports_from, takes_value}
-pub use Rattle.synod.specs.Ballots.{is_same, is_under}
+pub use Rattle.synod.specs.Acceptor.{accepted_entry, on_accept, on_prepare, promise_pages, promises, refuses, reports_from, accepts_value}
+pub use Rattle.synod.specs.Ballots.{is_same, is_below}
 pub use Rattle.synod.specs.Core.{Core}
 pub use Rattle.synod.specs.Learner.{chooses, counted, has_voter, learns, on_accepted, on_accepted_at, on_ask, on_ask_at, on_told, on_told_at}
 pub use Rattle.synod.specs.Log.{log_length, log_of}
-pub use Rattle.synod.specs.Node.{Node, Stepped, is_heard, kept_of, new_node, no_pages, page_of, pages_from, unchanged, with_page}
-pub use Rattle.synod.specs.Packets.{IsPost, accepts, packet, to_all, to_all_from, to_others, to_others_from}
-pub use Rattle.synod.specs.PromisePages.{all_had, joined_pages, pages_of}
-pub use Rattle.synod.specs.Proposer.{all_reports, begins, begun, fills, gathers, hears, highest_at, idles, is_at, keeps_page, keeps_promise, leads, next_ballot, next_round, offer_as, offer_waits, offered, on_nack, on_promise, on_promise_as, reported_value, takes_slot, top_reported, waits}
-pub use Rattle.synod.specs.Ready.{Made}
+pub use Rattle.synod.specs.Node.{Node, StepResult, is_heard, kept_of, new_node, no_pages, page_of, pages_from, unchanged, with_page}
+pub use Rattle.synod.specs.Packets.{IsPost, accept_posts, packet, to_all, to_all_from, to_others, to_others_from}
+pub use Rattle.synod.specs.PromisePages.{are_received, joined_pages, pages_of}
+pub use Rattle.synod.specs.Proposer.{all_reports, begins, begun, proposed_values, on_promise_page, on_complete_promise, highest_at, idles, is_at, adds_page, completes_promise, leads, next_ballot, next_round, offer_as, offer_waits, offered, on_nack, on_promise, on_promise_as, reported_value, proposes_value, top_or_first, waits}
+pub use Rattle.synod.specs.Ready.{ReadyView}
 pub use Rattle.synod.specs.Record.{Kept, changed_by}
-pub use Rattle.synod.specs.Rooms.{HasAtLeast}
+pub use Rattle.synod.specs.Rooms.{HasNoLessRoom}
 pub use Rattle.synod.specs.Step.{on_body, on_packet, restarted}
 pub use Rattle.synod.specs.Weights.{IsWeights, is_quorum}
 pub use Rattle.synod.specs.declared.ballot.Ballot.{Ballot}

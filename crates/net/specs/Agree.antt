@@ -1,8 +1,8 @@
 -- Agreement in one world, and between the worlds at two moments of one run.
--- Source: Lamport, Paxos Made Simple, section 2.2; LaterValue is his P2b.
+-- Source: Lamport, Paxos Made Simple, section 2.2; ChosenValuePersists is his P2b.
 -- No code states this; it follows from the steps of the nodes.
 use Rattle.std.specs.Prelude.{◌≡◌, ℕ, true, List, ◌++◌, Option, Some, Contains, ◌⊎◌, Ok, slice_get}
-use Rattle.net.specs.Words.{Ballot, Packet, Accept, is_under, Event}
+use Rattle.net.specs.Words.{Ballot, Packet, Accept, is_below, Event}
 use Rattle.net.specs.Chosen.{IsChosen, IsChosenAt}
 use Rattle.net.specs.World.{World, after, log, offers_of}
 
@@ -19,8 +19,8 @@ abbrev pub OneValue : {V : Type 0} → World V → Type 0
 OneValue {V} w = (b : Ballot) (s : ℕ) (u v : Option V) → IsProposed w b s u → IsProposed w b s v → u ≡ v
 
 -- a value proposed for a slot under a later ballot is the one chosen there under an earlier ballot
-abbrev pub LaterValue : {V : Type 0} → World V → Type 0
-LaterValue {V} w = (b c : Ballot) (s : ℕ) (u v : Option V) → IsChosenAt w.weights w.votes_cast b s u → IsProposed w c s v → is_under b c ≡ true → u ≡ v
+abbrev pub ChosenValuePersists : {V : Type 0} → World V → Type 0
+ChosenValuePersists {V} w = (b c : Ballot) (s : ℕ) (u v : Option V) → IsChosenAt w.weights w.votes_cast b s u → IsProposed w c s v → is_below b c ≡ true → u ≡ v
 
 -- the values chosen at a slot in the two worlds are equal
 abbrev pub ChosenAgree : {V : Type 0} → World V → World V → Type 0

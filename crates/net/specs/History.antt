@@ -1,42 +1,33 @@
--- Agreement at every moment of a history.
--- Source: Lamport, Paxos Made Simple, section 2.2.
--- No code states this; it follows from the laws, for the events that one world took.
-use Rattle.std.specs.Prelude.{◌≡◌, ◌⊎◌, ◌<◌, ℕ, List, length, take, suc, Result, Ok, Err, IsOk}
-use Rattle.net.specs.Words.{Event, StepFault, Memory}
+-- The history of a net: its weights and the events that it took. Its nodes and packets are those of the world after them.
+-- Source: Lamport, Paxos Made Simple, section 3: the inputs of a state machine determine its run.
+-- The code stores nodes and packets too; by the invariant of `Net` they are those of the world after the events.
+use Rattle.std.specs.Prelude.{◌≡◌, ℕ, List, [], ◌∷◌, ◌++◌, Result, length}
+use Rattle.net.specs.Words.{AllByRecursion, Packet, IsWeights, IsPost, Node, Core, Event, StepFault}
 use Rattle.net.specs.World.{World, after}
-use Rattle.net.specs.Agree.{IsAfter, OneValue, LaterValue, ChosenAgree, LogsChosen, IsPrefixOf, LogsAgree, LogsOffered}
-use Rattle.net.specs.Taken.{Taken, world_of}
+use Rattle.net.specs.Agree.{IsAfter}
 
--- w is the world at a moment of the history: after a prefix of its events
-pub record IsMoment {V : Type 0} (size : V → ℕ) (taken : Taken V) (w : World V) : Type 0 where
-  pub early : List (Event V)
-  pub begins : IsPrefixOf early taken.events
-  pub is_after : IsAfter size taken.weights early w
+pub record History (V : Type 0) : Type 0 where
+  pub weights : List ℕ
+  pub events : List (Event V)
 
-pub record Agreement {V : Type 0} (size : V → ℕ) (taken : Taken V) : Type 0 where
-  -- no event of the history meets a fault
-  pub is_taken : IsOk (world_of size taken)
-  -- under one ballot at most one value is proposed for a slot, and a later ballot's value is the one chosen under an earlier
-  pub one_value : (w : World V) → IsMoment size taken w → OneValue w
-  pub later_value : (w : World V) → IsMoment size taken w → LaterValue w
-  -- values chosen at one slot, at any two moments, are equal
-  pub chosen : (w x : World V) → IsMoment size taken w → IsMoment size taken x → ChosenAgree w x
-  -- an entry of a log is chosen
-  pub logs_chosen : (w : World V) → IsMoment size taken w → LogsChosen w
-  -- of the logs of any two nodes, at any two moments, one is a prefix of the other
-  pub logs_agree : (w x : World V) → IsMoment size taken w → IsMoment size taken x → LogsAgree w x
-  -- an entry of a log is a no-operation, or was offered before that moment
-  pub logs_offered : (w : World V) (moment : IsMoment size taken w) → LogsOffered moment.early w
+-- the nodes, without their reserved room
+abbrev pub nodes_of : {V : Type 0} → List (Core V) → List (Node V)
+nodes_of [] = []
+nodes_of (core ∷ cores) = core.node ∷ nodes_of cores
 
--- Where a run of events stops.
+-- the nodes and the packets are those of the world after the events
+pub record AreOfWorld {V : Type 0} (size : V → ℕ) (history : History V) (cores : List (Core V)) (packets : List (Packet V)) : Type 0 where
+  pub world : World V
+  pub is_after : IsAfter size history.weights history.events world
+  pub nodes : world.nodes ≡ nodes_of cores
+  pub posted : world.packets ≡ packets
+  pub weights : IsWeights history.weights
+  pub posts : AllByRecursion (IsPost (length history.weights)) packets
 
--- the fault that was met, or Memory if none was
-abbrev pub IsMetOrMemory : {V : Type 0} → Result (World V) StepFault → StepFault → Type 0
-IsMetOrMemory (Ok w) fault = fault ≡ Memory
-IsMetOrMemory (Err met) fault = fault ≡ met
+-- the world after the events taken
+abbrev pub world_of : {V : Type 0} → (V → ℕ) → History V → Result (World V) StepFault
+world_of size history = after size history.weights history.events
 
--- the run stops at event i, from 0: the first i events are taken, and the fault is the one that event i meets, or Memory if it
--- meets none; or an allocation for the new nodes failed before the first event
-pub record StopsAt {V : Type 0} (size : V → ℕ) (weights : List ℕ) (events : List (Event V)) (i : ℕ) (fault : StepFault) : Type 0 where
-  pub before : IsOk (after size weights (take i events))
-  pub fault_is : ((i < length events) × IsMetOrMemory (after size weights (take (suc i) events)) fault) ⊎ ((i ≡ 0) × (fault ≡ Memory))
+-- the history with one more event
+abbrev pub with_event : {V : Type 0} → History V → Event V → History V
+with_event history e = record { weights = history.weights; events = history.events ++ e ∷ [] }

@@ -3,8 +3,8 @@
 -- A law has no code; its steps are the definitions that the contracts of the nodes cite.
 use Rattle.std.specs.Prelude.{◌≡◌, ◌≢◌, ℕ, List, [], ◌∷◌, ◌++◌, Some, Ok}
 use Rattle.net.specs.Words.{option_map, changed_by, Event, Restart}
-use Rattle.net.specs.World.{World, happens, log}
-use Rattle.net.specs.Agree.{IsAfter, OneValue, LaterValue, ChosenAgree, LogsChosen, IsPrefixOf, LogsAgree, LogsOffered}
+use Rattle.net.specs.World.{World, event_result, log}
+use Rattle.net.specs.Agree.{IsAfter, OneValue, ChosenValuePersists, ChosenAgree, LogsChosen, IsPrefixOf, LogsAgree, LogsOffered}
 use Rattle.net.specs.KeptPart.{kept_part, node_of, change_of, AreOfOthers}
 
 -- the fact holds of the world after any events
@@ -22,8 +22,8 @@ abbrev pub BallotsHaveOneValue : Type 0 → Type 0
 BallotsHaveOneValue V = Always {V = V} (λ events w. OneValue w)
 
 -- a later ballot's value at a slot is the one chosen there under an earlier ballot
-abbrev pub LaterBallotsKeepChosen : Type 0 → Type 0
-LaterBallotsKeepChosen V = Always {V = V} (λ events w. LaterValue w)
+abbrev pub ChosenValuesPersist : Type 0 → Type 0
+ChosenValuesPersist V = Always {V = V} (λ events w. ChosenValuePersists w)
 
 -- values chosen at one slot at any two moments are equal
 abbrev pub ChosenValuesAgree : Type 0 → Type 0
@@ -47,7 +47,7 @@ LogEntriesWereOffered V = Always {V = V} (λ events w. LogsOffered events w)
 -- at other nodes in between; so it does not matter whether any packet of e is delivered to them
 abbrev pub KeptPartSurvives : Type 0 → Type 0
 KeptPartSurvives V = (size : V → ℕ) (weights : List ℕ) (events others : List (Event V)) (e : Event V) (k : ℕ) (w x y : World V)
-    → IsAfter size weights events w → happens size w e ≡ Ok x → node_of w e ≡ Some k → AreOfOthers size k (Ok x) others
+    → IsAfter size weights events w → event_result size w e ≡ Ok x → node_of w e ≡ Some k → AreOfOthers size k (Ok x) others
     → IsAfter size weights (events ++ e ∷ (others ++ Restart k ∷ [])) y
     → kept_part y k ≡ option_map (λ kept. changed_by kept (change_of size w e)) (kept_part w k)
 
@@ -56,9 +56,9 @@ KeptPartSurvives V = (size : V → ℕ) (weights : List ℕ) (events others : Li
 -- after an event other than a restart of node k, the old log of k is a prefix of the new one
 abbrev pub LogsOnlyGrow : Type 0 → Type 0
 LogsOnlyGrow V = (size : V → ℕ) (weights : List ℕ) (events : List (Event V)) (e : Event V) (k : ℕ) (w x : World V)
-    → IsAfter size weights events w → happens size w e ≡ Ok x → e ≢ Restart k → IsPrefixOf (log w k) (log x k)
+    → IsAfter size weights events w → event_result size w e ≡ Ok x → e ≢ Restart k → IsPrefixOf (log w k) (log x k)
 
 -- a restart of node k empties its log
 abbrev pub RestartEmptiesLog : Type 0 → Type 0
 RestartEmptiesLog V = (size : V → ℕ) (weights : List ℕ) (events : List (Event V)) (k : ℕ) (w x : World V)
-    → IsAfter size weights events w → happens size w (Restart k) ≡ Ok x → log x k ≡ []
+    → IsAfter size weights events w → event_result size w (Restart k) ≡ Ok x → log x k ≡ []

@@ -5,6 +5,6 @@ pub mod Chosen
 pub mod Agree
 pub mod KeptPart
 pub mod Laws
-pub mod Taken
 pub mod History
+pub mod Agreement
 pub mod Staged

@@ -6,15 +6,15 @@ pub use Rattle.net.specs.declared.fault.StepFault.{StepFault}
 pub use Rattle.net.specs.declared.fault.StepFault.TheVariants.{Busy, EventsSpent, LogFull, Memory, NoNode, NoPacket, RoundsSpent, TooLong}
 pub use Rattle.std.specs.List.{AllByRecursion}
 pub use Rattle.std.specs.Option.{option_map}
-pub use Rattle.synod.specs.Ballots.{is_under}
+pub use Rattle.synod.specs.Ballots.{is_below}
 pub use Rattle.synod.specs.Core.{Core}
 pub use Rattle.synod.specs.Log.{log_of}
-pub use Rattle.synod.specs.Node.{Node, Stepped, kept_of, new_node}
+pub use Rattle.synod.specs.Node.{Node, StepResult, kept_of, new_node}
 pub use Rattle.synod.specs.Packets.{IsPost, to_others}
 pub use Rattle.synod.specs.Proposer.{begun, offered}
-pub use Rattle.synod.specs.Ready.{Made}
+pub use Rattle.synod.specs.Ready.{ReadyView}
 pub use Rattle.synod.specs.Record.{Kept, RecordView, changed_by}
-pub use Rattle.synod.specs.Rooms.{HasAtLeast}
+pub use Rattle.synod.specs.Rooms.{HasNoLessRoom}
 pub use Rattle.synod.specs.Step.{on_packet, reloaded, restarted}
 pub use Rattle.synod.specs.Weights.{IsWeights, is_quorum}
 pub use Rattle.synod.specs.declared.ballot.Ballot.{Ballot}

@@ -2,7 +2,7 @@
 -- Source: Lamport, Paxos Made Simple, sections 2.1 and 3 (messages may be lost, repeated and delayed, agents restart).
 -- The code stores the present nodes, the packets and the events that led there; the world here also has every vote.
 use Rattle.std.specs.Prelude.{ℕ, suc, ◌+◌, ◌==◌, List, [], ◌∷◌, ◌++◌, Option, Some, None, Result, Ok, Err, slice_get, slice_set, if◌then◌else◌}
-use Rattle.net.specs.Words.{Packet, Change, Round, Promise, Entry, Refusal, Node, Stepped, new_node, log_of, offered, begun, on_packet, restarted, MOST_EVENTS, Event, Offer, Begin, Deliver, Restart, StepFault, Busy, LogFull, RoundsSpent, TooLong, Memory, NoNode, NoPacket, EventsSpent}
+use Rattle.net.specs.Words.{Packet, Change, Round, Promise, Entry, Refusal, Node, StepResult, new_node, log_of, offered, begun, on_packet, restarted, MOST_EVENTS, Event, Offer, Begin, Deliver, Restart, StepFault, Busy, LogFull, RoundsSpent, TooLong, Memory, NoNode, NoPacket, EventsSpent}
 use Rattle.synod.specs.declared.refusal.Refusal.TheVariants.{Busy as NodeBusy, LogFull as NodeLogFull, RoundsSpent as NodeRoundsSpent, TooLong as NodeTooLong, Memory as NodeMemory}
 use Rattle.net.specs.Chosen.{Vote, vote}
 
@@ -11,7 +11,7 @@ pub record World (V : Type 0) : Type 0 where
   pub nodes : List (Node V)
   pub packets : List (Packet V)  -- every packet ever posted, in the order of posting
   pub votes_cast : List (Vote V)  -- every vote ever cast, newest first
-  pub taken : ℕ  -- the number of events taken
+  pub event_count : ℕ  -- the number of events taken
 
 -- a new node for each of the last weights, numbered from k
 abbrev pub nodes_from : {V : Type 0} → List ℕ → ℕ → List ℕ → List (Node V)
@@ -20,7 +20,7 @@ nodes_from weights k (w ∷ ws) = new_node k weights ∷ nodes_from weights (suc
 
 -- the world before any event
 abbrev pub start : {V : Type 0} → List ℕ → World V
-start weights = record { weights = weights; nodes = nodes_from weights 0 weights; packets = []; votes_cast = []; taken = 0 }
+start weights = record { weights = weights; nodes = nodes_from weights 0 weights; packets = []; votes_cast = []; event_count = 0 }
 
 -- the refusal of a node, as the fault of the event
 abbrev pub fault_of : Refusal → StepFault
@@ -38,24 +38,24 @@ votes_after k (Some (Promise b)) votes = votes
 votes_after k (Some (Entry s h)) votes = vote k h.ballot s h.value ∷ votes
 
 -- the world once node k has made the step, whose posts are appended to the packets
-abbrev pub stepped : {V : Type 0} → World V → ℕ → Stepped V → World V
-stepped w k step = record {
+abbrev pub after_step : {V : Type 0} → World V → ℕ → StepResult V → World V
+after_step w k step = record {
   weights = w.weights;
   nodes = slice_set w.nodes k step.node;
   packets = w.packets ++ step.posts;
   votes_cast = votes_after k step.change w.votes_cast;
-  taken = w.taken + 1;
+  event_count = w.event_count + 1;
 }
 
 -- the world after a step of node k, or the refusal as a fault
-abbrev pub answered : {V : Type 0} → World V → ℕ → Result (Stepped V) Refusal → Result (World V) StepFault
-answered w k (Ok step) = Ok (stepped w k step)
-answered w k (Err refusal) = Err (fault_of refusal)
+abbrev pub after_step_or_fault : {V : Type 0} → World V → ℕ → Result (StepResult V) Refusal → Result (World V) StepFault
+after_step_or_fault w k (Ok step) = Ok (after_step w k step)
+after_step_or_fault w k (Err refusal) = Err (fault_of refusal)
 
 -- the world after the step that node k makes, or a fault if there is no node k or it refuses
-abbrev pub at_node : {V : Type 0} → World V → ℕ → (Node V → Result (Stepped V) Refusal) → Option (Node V) → Result (World V) StepFault
+abbrev pub at_node : {V : Type 0} → World V → ℕ → (Node V → Result (StepResult V) Refusal) → Option (Node V) → Result (World V) StepFault
 at_node w k make None = Err NoNode
-at_node w k make (Some n) = answered w k (make n)
+at_node w k make (Some n) = after_step_or_fault w k (make n)
 
 -- the world after the packet is delivered to its receiver, or NoPacket if there is none
 abbrev pub delivered : {V : Type 0} → World V → Option (Packet V) → Result (World V) StepFault
@@ -63,25 +63,25 @@ delivered w None = Err NoPacket
 delivered w (Some p) = at_node w p.to (λ n. Ok (on_packet n p)) (slice_get w.nodes p.to)
 
 -- the world after the event, or the fault that it meets, whatever the number of events taken
-abbrev pub happens_at : {V : Type 0} → (V → ℕ) → World V → Event V → Result (World V) StepFault
-happens_at size w (Offer k v) = at_node w k (λ n. offered size n v) (slice_get w.nodes k)
-happens_at size w (Begin k) = at_node w k begun (slice_get w.nodes k)
-happens_at size w (Deliver number) = delivered w (slice_get w.packets number)
-happens_at size w (Restart k) = at_node w k (λ n. Ok (restarted n)) (slice_get w.nodes k)
+abbrev pub event_result_without_limit : {V : Type 0} → (V → ℕ) → World V → Event V → Result (World V) StepFault
+event_result_without_limit size w (Offer k v) = at_node w k (λ n. offered size n v) (slice_get w.nodes k)
+event_result_without_limit size w (Begin k) = at_node w k begun (slice_get w.nodes k)
+event_result_without_limit size w (Deliver number) = delivered w (slice_get w.packets number)
+event_result_without_limit size w (Restart k) = at_node w k (λ n. Ok (restarted n)) (slice_get w.nodes k)
 
 -- the world after the event, or the fault that the event meets
-abbrev pub happens : {V : Type 0} → (V → ℕ) → World V → Event V → Result (World V) StepFault
-happens size w e = if w.taken == MOST_EVENTS then Err EventsSpent else happens_at size w e
+abbrev pub event_result : {V : Type 0} → (V → ℕ) → World V → Event V → Result (World V) StepFault
+event_result size w e = if w.event_count == MOST_EVENTS then Err EventsSpent else event_result_without_limit size w e
 
 -- the world after these events in turn, or the first fault
-abbrev pub all_happen : {V : Type 0} → (V → ℕ) → List (Event V) → Result (World V) StepFault → Result (World V) StepFault
-all_happen size [] r = r
-all_happen size (e ∷ es) (Err fault) = Err fault
-all_happen size (e ∷ es) (Ok w) = all_happen size es (happens size w e)
+abbrev pub events_result : {V : Type 0} → (V → ℕ) → List (Event V) → Result (World V) StepFault → Result (World V) StepFault
+events_result size [] r = r
+events_result size (e ∷ es) (Err fault) = Err fault
+events_result size (e ∷ es) (Ok w) = events_result size es (event_result size w e)
 
 -- the world after these events, or the fault of the first that is refused; size gives the length of a value
 abbrev pub after : {V : Type 0} → (V → ℕ) → List ℕ → List (Event V) → Result (World V) StepFault
-after size weights events = all_happen size events (Ok (start weights))
+after size weights events = events_result size events (Ok (start weights))
 
 abbrev pub log_at : {V : Type 0} → Option (Node V) → List (Option V)
 log_at None = []

@@ -1,5 +1,5 @@
 //! The laws of agreement, each the contract of a function that does nothing.
-ghost use Rattle.net.specs.Laws.{BallotsHaveOneValue, LaterBallotsKeepChosen, ChosenValuesAgree, LogEntriesAreChosen, LogsOfNodesAgree, LogEntriesWereOffered, KeptPartSurvives, LogsOnlyGrow, RestartEmptiesLog};
+ghost use Rattle.net.specs.Laws.{BallotsHaveOneValue, ChosenValuesPersist, ChosenValuesAgree, LogEntriesAreChosen, LogsOfNodesAgree, LogEntriesWereOffered, KeptPartSurvives, LogsOnlyGrow, RestartEmptiesLog};
 
 /// States agreement after any events of which none meets a fault, whatever was lost, repeated or delayed and whichever
 /// nodes restarted, for any weights and any values.
@@ -7,7 +7,7 @@ ghost use Rattle.net.specs.Laws.{BallotsHaveOneValue, LaterBallotsKeepChosen, Ch
 /// Source: Lamport, Paxos Made Simple, section 2.2.
 pub fn agreement<V>()
     ensures one_value { BallotsHaveOneValue V }
-    ensures later_value { LaterBallotsKeepChosen V }
+    ensures later_value { ChosenValuesPersist V }
     ensures chosen { ChosenValuesAgree V }
     ensures logs_chosen { LogEntriesAreChosen V }
     ensures logs_agree { LogsOfNodesAgree V }

@@ -4,7 +4,7 @@
 //! repeated or delayed and whichever nodes restarted, of the logs of any two nodes at any two moments one is a prefix of the
 //! other. `kept_part` states which part of a node survives a restart; `logs_grow` states that only a restart shortens a log.
 //!
-//! Read `event` and `fault`, then the definitions: specs/World, Chosen, Agree, KeptPart, Laws, Taken, History; then `laws`,
+//! Read `event` and `fault`, then the definitions: specs/World, Chosen, Agree, KeptPart, Laws, History, Agreement; then `laws`,
 //! `staged` (an event that is ready to be committed), `net` and `node_state`.
 #![tactic(auto)]
 

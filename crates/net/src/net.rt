@@ -1,12 +1,12 @@
 //! A net: the nodes of a log, all packets that they posted, and the events that led there, over any values.
 ghost use Rattle.synod.specs.Weights.{IsWeights};
-ghost use Rattle.net.specs.Taken.{nodes_of};
+ghost use Rattle.net.specs.History.{nodes_of};
 ghost use Rattle.net.specs.World.{nodes_from};
 ghost use Rattle.std.specs.Prelude.{◌≡◌, ◌↔◌, ◌≤◌, ◌<◌, ◌++◌, [], Ok, Err, Some, None, length, vec_len, vec_capacity, IfOk, IsOk, OnOk, OnErr, IsOkUnless, MatchResult};
 
 use crate::event::{Event, MOST_EVENTS};
 use crate::fault::StepFault;
-use crate::staged::{StagedEvent, commit_at, ready_event};
+use crate::staged::{StagedEvent, commit_at, stage_event};
 use std::alloc::{AllocError, Global};
 use std::marker::Model;
 use synod::{NodeCore, Packet, Value, Weights};
@@ -25,13 +25,13 @@ pub struct Net<V: Value> {
 
 impl<V: Value> Model for Net<V> {
     ghost use Rattle.std.specs.Prelude.{vec_capacity};
-    ghost use Rattle.net.specs.Taken.{AreOfWorld};
+    ghost use Rattle.net.specs.History.{AreOfWorld};
     ghost use Rattle.net.specs.Staged.{NetView};
 
     ghost Value = { NetView V };
 
     ghost view = { λ w. record {
-      taken = record { weights = w.weights; events = w.events.items };
+      history = record { weights = w.weights; events = w.events.items };
       cores = w.nodes.items;
       packets = w.packets.items;
       packet_room = vec_capacity w.packets;
@@ -45,18 +45,18 @@ impl<V: Value> Net<V> {
     ghost use Rattle.std.specs.Prelude.{slice_get, IfErr, IsSome, MatchOption};
     ghost use Rattle.slots.specs.declared.slots.TheConstants.{SLOTS};
     ghost use Rattle.net.specs.World.{log_after, packets_after};
-    ghost use Rattle.net.specs.Taken.{AreOfWorld, world_of, with_event};
-    ghost use Rattle.net.specs.KeptPart.{addressed};
-    ghost use Rattle.net.specs.Staged.{Gives, HasRoom, IsStaged, IsOfEvent, IsStill, IsTaken, posts_of};
-    ghost use Rattle.net.specs.History.{Agreement};
+    ghost use Rattle.net.specs.History.{AreOfWorld, world_of, with_event};
+    ghost use Rattle.net.specs.KeptPart.{node_of_event};
+    ghost use Rattle.net.specs.Staged.{IsStagingResultInNet, HasRoom, IsStaged, IsOfEvent, ChangesOnlyRoom, IsTaken, posts_of};
+    ghost use Rattle.net.specs.Agreement.{Agreement};
     ghost use Rattle.net.specs.declared.fault.StepFault.TheVariants.{NoNode, NoPacket, Memory};
 
     /// Creates a world with a new node for each weight. It has taken no events.
     ///
     /// Errors: `Memory`.
     pub fn new(alloc: Global, weights: Weights) -> Result<Self, StepFault>
-        ensures new { IfOk result (λ net. net.taken ≡ record { weights = weights; events = [] }) }
-        ensures world { IfOk result (λ net. AreOfWorld V.bytes net.taken net.cores net.packets) }
+        ensures new { IfOk result (λ net. net.history ≡ record { weights = weights; events = [] }) }
+        ensures world { IfOk result (λ net. AreOfWorld V.bytes net.history net.cores net.packets) }
         ensures only_memory { IsOkUnless result Memory }
     {
         Ok(Net {
@@ -70,30 +70,30 @@ impl<V: Value> Net<V> {
     /// Stages an event: allocates all that its step needs, and changes nothing but reserved room.
     ///
     /// Errors: the first fault that the event meets, or `Memory` if it meets none. Cost: that of the step at its node.
-    pub fn ready(&mut self, event: Event<V>) -> Result<StagedEvent<V>, StepFault>
-        ensures due { IfOk result (IsStaged V.bytes self.new) }
-        ensures event { IfOk result (λ due. due.event ≡ event) }
-        ensures kind { IfOk result (λ due. IsOfEvent event due.work) }
-        ensures room { IfOk result (λ due. HasRoom self.new (length (posts_of due.work)) 1) }
+    pub fn stage(&mut self, event: Event<V>) -> Result<StagedEvent<V>, StepFault>
+        ensures staged { IfOk result (IsStaged V.bytes self.new) }
+        ensures event { IfOk result (λ staged. staged.event ≡ event) }
+        ensures kind { IfOk result (λ staged. IsOfEvent event staged.work) }
+        ensures room { IfOk result (λ staged. HasRoom self.new (length (posts_of staged.work)) 1) }
 
         // A fault is returned even if every allocation fails.
-        ensures refused { IfErr (world_of V.bytes (with_event self.old.taken event)) (λ fault. result ≡ Err fault) }
-        ensures only_memory { OnOk (world_of V.bytes (with_event self.old.taken event)) (IsOkUnless result Memory) }
-        ensures still { IsStill self.old self.new }
-        ensures few { IfOk result (λ _. length self.old.taken.events < MOST_EVENTS) }
+        ensures refused { IfErr (world_of V.bytes (with_event self.old.history event)) (λ fault. result ≡ Err fault) }
+        ensures only_memory { OnOk (world_of V.bytes (with_event self.old.history event)) (IsOkUnless result Memory) }
+        ensures only_room { ChangesOnlyRoom self.old self.new }
+        ensures few { IfOk result (λ _. length self.old.history.events < MOST_EVENTS) }
     {
         if self.events.len() as u64 == MOST_EVENTS {
             return Err(StepFault::EventsSpent);
         }
-        let due = self.ready_at_node(event)?;
-        self.room(due.posts().len(), 1)?;
-        Ok(due)
+        let staged = self.stage_at_node(event)?;
+        self.room(staged.posts().len(), 1)?;
+        Ok(staged)
     }
 
     /// Returns the node at which an event happens; for a delivery the receiver of the packet, or `None` if there is no such
     /// packet.
     pub fn node_of(&self, event: &Event<V>) -> Option<u8>
-        ensures { result ≡ addressed self.now.packets event.now }
+        ensures { result ≡ node_of_event self.now.packets event.now }
     {
         match event {
             Event::Offer(k, _) => Some(*k),
@@ -107,10 +107,10 @@ impl<V: Value> Net<V> {
     }
 
     /// Stages an event at its node, without room for its posts in the world.
-    fn ready_at_node(&mut self, event: Event<V>) -> Result<StagedEvent<V>, StepFault>
-        requires { length self.old.taken.events < MOST_EVENTS }
-        ensures gives { Gives V.bytes self.new event (world_of V.bytes (with_event self.old.taken event)) result }
-        ensures still { IsStill self.old self.new }
+    fn stage_at_node(&mut self, event: Event<V>) -> Result<StagedEvent<V>, StepFault>
+        requires { length self.old.history.events < MOST_EVENTS }
+        ensures staged { IsStagingResultInNet V.bytes self.new event (world_of V.bytes (with_event self.old.history event)) result }
+        ensures only_room { ChangesOnlyRoom self.old self.new }
     {
         let Some(k) = self.node_of(&event) else {
             return Err(StepFault::NoPacket);
@@ -118,7 +118,7 @@ impl<V: Value> Net<V> {
         let Some(node) = self.nodes.get_mut(k as usize) else {
             return Err(StepFault::NoNode);
         };
-        ready_event(node, k, event, &self.packets)
+        stage_event(node, k, event, &self.packets)
     }
 
     /// Reserves room for `packets` more packets and `events` more events.
@@ -127,7 +127,7 @@ impl<V: Value> Net<V> {
     pub fn room(&mut self, packets: usize, events: usize) -> Result<(), StepFault>
         ensures room { OnOk result (HasRoom self.new packets events) }
         ensures only_memory { IsOkUnless result Memory }
-        ensures still { IsStill self.old self.new }
+        ensures only_room { ChangesOnlyRoom self.old self.new }
     {
         self.packets.reserve(packets)?;
         self.events.reserve(events)?;
@@ -135,14 +135,14 @@ impl<V: Value> Net<V> {
     }
 
     /// Commits a staged event, and returns the number of packets posted so far. It does not allocate.
-    pub fn commit(&mut self, due: StagedEvent<V>) -> u64
-        requires due { IsStaged V.bytes self.old due }
-        requires room { HasRoom self.old (length (posts_of due.work)) 1 }
-        requires few { length self.old.taken.events < MOST_EVENTS }
-        ensures taken { IsTaken self.old self.new due }
-        ensures posted { result ≡ length (packets_after (world_of V.bytes self.new.taken)) }
+    pub fn commit(&mut self, staged: StagedEvent<V>) -> u64
+        requires staged { IsStaged V.bytes self.old staged }
+        requires room { HasRoom self.old (length (posts_of staged.work)) 1 }
+        requires few { length self.old.history.events < MOST_EVENTS }
+        ensures taken { IsTaken self.old self.new staged }
+        ensures posted { result ≡ length (packets_after (world_of V.bytes self.new.history)) }
     {
-        let (at, event, work) = due.into_parts();
+        let (at, event, work) = staged.into_parts();
         let mut posts = commit_at(&mut self.nodes[at as usize], work);
         // This cannot fail: there is room for the posts.
         let _added = self.packets.append(&mut posts);
@@ -154,24 +154,24 @@ impl<V: Value> Net<V> {
     ///
     /// Errors: the first fault that the event meets, or `Memory` if it meets none; the world is then unchanged.
     pub fn step(&mut self, event: Event<V>) -> Result<u64, StepFault>
-        ensures taken { OnOk result (self.new.taken ≡ with_event self.old.taken event) }
-        ensures posted { IfOk result (λ count. count ≡ length (packets_after (world_of V.bytes self.new.taken))) }
+        ensures taken { OnOk result (self.new.history ≡ with_event self.old.history event) }
+        ensures posted { IfOk result (λ count. count ≡ length (packets_after (world_of V.bytes self.new.history))) }
 
         // A fault is returned even if every allocation fails.
-        ensures refused { IfErr (world_of V.bytes (with_event self.old.taken event)) (λ fault. result ≡ Err fault) }
-        ensures only_memory { OnOk (world_of V.bytes (with_event self.old.taken event)) (IsOkUnless result Memory) }
-        ensures same { OnErr result (self.new.taken ≡ self.old.taken) }
+        ensures refused { IfErr (world_of V.bytes (with_event self.old.history event)) (λ fault. result ≡ Err fault) }
+        ensures only_memory { OnOk (world_of V.bytes (with_event self.old.history event)) (IsOkUnless result Memory) }
+        ensures same { OnErr result (self.new.history ≡ self.old.history) }
     {
-        let due = self.ready(event)?;
-        Ok(self.commit(due))
+        let staged = self.stage(event)?;
+        Ok(self.commit(staged))
     }
 
     /// Returns the events taken, oldest first. None of them meets a fault, and agreement holds after every prefix of them.
     pub fn history(&self) -> &[Event<V>]
-        ensures events { result.now ≡ self.now.taken.events }
-        ensures few { length self.now.taken.events ≤ MOST_EVENTS }
-        ensures agreement { Agreement V.bytes self.now.taken }
-        ensures world { AreOfWorld V.bytes self.now.taken self.now.cores self.now.packets }
+        ensures events { result.now ≡ self.now.history.events }
+        ensures few { length self.now.history.events ≤ MOST_EVENTS }
+        ensures agreement { Agreement V.bytes self.now.history }
+        ensures world { AreOfWorld V.bytes self.now.history self.now.cores self.now.packets }
     {
         &self.events
     }
@@ -180,10 +180,10 @@ impl<V: Value> Net<V> {
     ///
     /// Errors: `NoNode`.
     pub fn entry(&self, k: u8, slot: u32) -> Result<Option<&Option<V>>, StepFault>
-        ensures entry { IfOk result (λ found. MatchOption found (slice_get (log_after (world_of V.bytes self.now.taken) k) slot ≡ None) (λ entry. slice_get (log_after (world_of V.bytes self.now.taken) k) slot ≡ Some entry.now)) }
+        ensures entry { IfOk result (λ found. MatchOption found (slice_get (log_after (world_of V.bytes self.now.history) k) slot ≡ None) (λ entry. slice_get (log_after (world_of V.bytes self.now.history) k) slot ≡ Some entry.now)) }
         ensures below { IfOk result (λ found. IsSome found → slot < SLOTS) }
-        ensures no_node { length self.now.taken.weights ≤ k → result ≡ Err NoNode }
-        ensures node { k < length self.now.taken.weights → IsOk result }
+        ensures no_node { length self.now.history.weights ≤ k → result ≡ Err NoNode }
+        ensures node { k < length self.now.history.weights → IsOk result }
     {
         match self.nodes.get(k as usize) {
             Some(node) => Ok(node.entry(slot)),
@@ -195,9 +195,9 @@ impl<V: Value> Net<V> {
     ///
     /// Errors: `NoNode`; else `Memory`. Cost: the size of the log; each value is copied once.
     pub fn log(&self, k: u8) -> Result<Vec<Option<V>>, StepFault>
-        ensures log { IfOk result (λ entries. entries.items ≡ log_after (world_of V.bytes self.now.taken) k) }
-        ensures no_node { length self.now.taken.weights ≤ k → result ≡ Err NoNode }
-        ensures only_memory { k < length self.now.taken.weights → IsOkUnless result Memory }
+        ensures log { IfOk result (λ entries. entries.items ≡ log_after (world_of V.bytes self.now.history) k) }
+        ensures no_node { length self.now.history.weights ≤ k → result ≡ Err NoNode }
+        ensures only_memory { k < length self.now.history.weights → IsOkUnless result Memory }
     {
         match self.nodes.get(k as usize) {
             Some(node) => Ok(node.log()?),
@@ -209,8 +209,8 @@ impl<V: Value> Net<V> {
     ///
     /// Errors: `NoPacket`.
     pub fn packet(&self, number: u64) -> Result<&Packet<V>, StepFault>
-        ensures found { IfOk result (λ packet. slice_get (packets_after (world_of V.bytes self.now.taken)) number ≡ Some packet.now) }
-        ensures no_packet { (result ≡ Err NoPacket) ↔ (slice_get (packets_after (world_of V.bytes self.now.taken)) number ≡ None) }
+        ensures found { IfOk result (λ packet. slice_get (packets_after (world_of V.bytes self.now.history)) number ≡ Some packet.now) }
+        ensures no_packet { (result ≡ Err NoPacket) ↔ (slice_get (packets_after (world_of V.bytes self.now.history)) number ≡ None) }
         ensures only_no_packet { IsOkUnless result NoPacket }
     {
         match self.packets.get(number as usize) {

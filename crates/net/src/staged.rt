@@ -2,9 +2,9 @@
 ghost use Rattle.std.specs.Prelude.{◌≡◌, Some, None, MatchOption, length};
 ghost use Rattle.std.specs.List.{AllByRecursion};
 ghost use Rattle.synod.specs.Packets.{IsPost};
-ghost use Rattle.synod.specs.Rooms.{HasAtLeast};
-ghost use Rattle.net.specs.KeptPart.{addressed};
-ghost use Rattle.net.specs.Staged.{IsReadyAt, ReadiesEvent, posts_of, step_of, work_of};
+ghost use Rattle.synod.specs.Rooms.{HasNoLessRoom};
+ghost use Rattle.net.specs.KeptPart.{node_of_event};
+ghost use Rattle.net.specs.Staged.{IsReadyAt, IsStagingResultOfEvent, posts_of, step_of, work_of};
 
 use crate::event::Event;
 use crate::fault::StepFault;
@@ -87,17 +87,17 @@ impl<V: Value> StagedEvent<V> {
 /// Stages an event at its node.
 ///
 /// Errors: the node's refusal, or `Memory`. Cost: that of the step; an offer copies its value once, for the history.
-pub(crate) fn ready_event<V: Value>(
+pub(crate) fn stage_event<V: Value>(
     node: &mut NodeCore<V>,
     k: u8,
     event: Event<V>,
     packets: &[Packet<V>],
 ) -> Result<StagedEvent<V>, StepFault>
     requires posts { AllByRecursion (IsPost (length node.old.node.weights)) packets.now }
-    requires at { addressed packets.now event ≡ Some k }
-    ensures ready { ReadiesEvent V.bytes packets.now node.old node.new k event result }
+    requires at { node_of_event packets.now event ≡ Some k }
+    ensures ready { IsStagingResultOfEvent V.bytes packets.now node.old node.new k event result }
     ensures node { node.new.node ≡ node.old.node }
-    ensures room { HasAtLeast node.old node.new }
+    ensures room { HasNoLessRoom node.old node.new }
 {
     let (event, work) = match event {
         Event::Offer(at, value) => {

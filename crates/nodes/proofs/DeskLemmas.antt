@@ -1,5 +1,5 @@
 -- Each change by a desk is an event of the switch: the call under the lock says so.
-use Rattle.nodes.proofs.Words.{◌≡◌, ℕ, List, [], ◌∷◌, ◌++◌, Result, Ok, Err, refl, sym, subst, IfErr, IsErrAnd, Event, Deliver, StepFault, SwitchView, Plays, Carried, carried_size, AnswersAs, DeliversAll}
+use Rattle.nodes.proofs.Words.{◌≡◌, ℕ, List, [], ◌∷◌, ◌++◌, Result, Ok, Err, refl, sym, subst, IfErr, IsErrAnd, Event, Deliver, StepFault, SwitchView, Plays, Carried, carried_size, IsResultOf, DeliversAll}
 
 -- A fault that `?` hands on.
 pub handed : {A : Type 0} (P : StepFault → Type 0) (r : Result A StepFault) (fault : StepFault) → IsErrAnd r (λ f. f ≡ fault) → P fault → IfErr r P
@@ -7,7 +7,7 @@ handed P (Err f) fault same p = subst P (sym same) p
 handed P (Ok x) fault same p = elim same [ ]
 
 -- a fault of an event that `?` hands on
-pub answers_err : {A : Type 0} (old new : SwitchView Carried) (e : Event Carried) (r : Result A StepFault) (fault : StepFault) → IsErrAnd r (λ f. f ≡ fault) → Plays carried_size old new e (Err fault) → AnswersAs old new e r
+pub answers_err : {A : Type 0} (old new : SwitchView Carried) (e : Event Carried) (r : Result A StepFault) (fault : StepFault) → IsErrAnd r (λ f. f ≡ fault) → Plays carried_size old new e (Err fault) → IsResultOf old new e r
 answers_err old new e (Err f) fault same p = subst (λ (x : StepFault). Plays carried_size old new e (Err x)) (sym same) p
 answers_err old new e (Ok x) fault same p = elim same [ ]
 

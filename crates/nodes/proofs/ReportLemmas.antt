@@ -1,34 +1,34 @@
 -- The counts of a report, with one event more.
 use Rattle.nodes.proofs.Words.{◌≡◌, ℕ, zero, suc, ◌+◌, ◌*◌, ◌<◌, ◌≤◌, ◌==◌, nat_lt, Bool, true, false, List, [], ◌∷◌, ◌++◌, length, get_or, set, take, replicate, sum, Option, Some, None, Result, Ok, Err, refl, sym, ap, ◌∙◌, arith, if◌then◌else◌, IsOk, ForOk, nat_tests, take_more, sum_by-replicate}
-use Rattle.nodes.proofs.Words.{World, Event, StepFault, node_of, SwitchView, world_of, Carried, carried_size, is_own, own_events, own_counts, with_one, IsReport}
+use Rattle.nodes.proofs.Words.{World, Event, StepFault, node_of, SwitchView, world_of, Carried, carried_size, is_event_of_node, event_count_of, event_counts, with_one_more_at, IsReport}
 
 -- The counts with one more at a node.
 
 plus-none : (k : ℕ) (c : ℕ) (cs ds : List ℕ) (b : Bool) → b ≡ false → cs ≡ ds → ((c + (if b then 1 else 0)) ∷ cs) ≡ c ∷ ds
 plus-none k c cs ds b off same = ap (λ (t : Bool). (c + (if t then 1 else 0)) ∷ cs) off ∙ (let z : c + 0 ≡ c = omega arith in ap (λ (n : ℕ). n ∷ cs) z) ∙ ap (λ (ns : List ℕ). c ∷ ns) same
 
-pub with_one-none : (k : ℕ) (cs : List ℕ) → with_one k None cs ≡ cs
-with_one-none k [] = refl
-with_one-none k (c ∷ cs) = plus-none k c (with_one (suc k) None cs) cs false refl (with_one-none (suc k) cs)
+pub with_one_more_at-none : (k : ℕ) (cs : List ℕ) → with_one_more_at k None cs ≡ cs
+with_one_more_at-none k [] = refl
+with_one_more_at-none k (c ∷ cs) = plus-none k c (with_one_more_at (suc k) None cs) cs false refl (with_one_more_at-none (suc k) cs)
 
 -- a node before the first
-with_one-before : (k j : ℕ) (cs : List ℕ) → j < k → with_one k (Some j) cs ≡ cs
-with_one-before k j [] low = refl
-with_one-before k j (c ∷ cs) low = plus-none k c (with_one (suc k) (Some j) cs) cs (j == k) (grind (arith, nat_tests)) (with_one-before (suc k) j cs (omega arith))
+with_one_more_at-before : (k j : ℕ) (cs : List ℕ) → j < k → with_one_more_at k (Some j) cs ≡ cs
+with_one_more_at-before k j [] low = refl
+with_one_more_at-before k j (c ∷ cs) low = plus-none k c (with_one_more_at (suc k) (Some j) cs) cs (j == k) (grind (arith, nat_tests)) (with_one_more_at-before (suc k) j cs (omega arith))
 
 -- a node after the last
-pub with_one-past : (k j : ℕ) (cs : List ℕ) → k + length cs ≤ j → with_one k (Some j) cs ≡ cs
-with_one-past k j [] high = refl
-with_one-past k j (c ∷ cs) high = plus-none k c (with_one (suc k) (Some j) cs) cs (j == k) (let other : k < j = omega arith in grind (arith, nat_tests)) (with_one-past (suc k) j cs (omega arith))
+pub with_one_more_at-past : (k j : ℕ) (cs : List ℕ) → k + length cs ≤ j → with_one_more_at k (Some j) cs ≡ cs
+with_one_more_at-past k j [] high = refl
+with_one_more_at-past k j (c ∷ cs) high = plus-none k c (with_one_more_at (suc k) (Some j) cs) cs (j == k) (let other : k < j = omega arith in grind (arith, nat_tests)) (with_one_more_at-past (suc k) j cs (omega arith))
 
 -- one of them
-pub with_one-at : (k j i : ℕ) (cs : List ℕ) → j ≡ k + i → i < length cs → with_one k (Some j) cs ≡ set cs i (get_or cs i 0 + 1)
-with_one-at k j i [] is low = absurd (omega arith)
-with_one-at k j zero (c ∷ cs) is low =
+pub with_one_more_at-at : (k j i : ℕ) (cs : List ℕ) → j ≡ k + i → i < length cs → with_one_more_at k (Some j) cs ≡ set cs i (get_or cs i 0 + 1)
+with_one_more_at-at k j i [] is low = absurd (omega arith)
+with_one_more_at-at k j zero (c ∷ cs) is low =
     let yes : (j == k) ≡ true = grind (arith, nat_tests) in
-    ap (λ (t : Bool). (c + (if t then 1 else 0)) ∷ with_one (suc k) (Some j) cs) yes ∙ ap (λ (ns : List ℕ). (c + 1) ∷ ns) (with_one-before (suc k) j cs (omega arith))
-with_one-at k j (suc i) (c ∷ cs) is low =
-    plus-none k c (with_one (suc k) (Some j) cs) (set cs i (get_or cs i 0 + 1)) (j == k) (let other : k < j = omega arith in grind (arith, nat_tests)) (with_one-at (suc k) j i cs (omega arith) (omega arith))
+    ap (λ (t : Bool). (c + (if t then 1 else 0)) ∷ with_one_more_at (suc k) (Some j) cs) yes ∙ ap (λ (ns : List ℕ). (c + 1) ∷ ns) (with_one_more_at-before (suc k) j cs (omega arith))
+with_one_more_at-at k j (suc i) (c ∷ cs) is low =
+    plus-none k c (with_one_more_at (suc k) (Some j) cs) (set cs i (get_or cs i 0 + 1)) (j == k) (let other : k < j = omega arith in grind (arith, nat_tests)) (with_one_more_at-at (suc k) j i cs (omega arith) (omega arith))
 
 -- no count is raised yet
 pub no_sum : (cs : List ℕ) (n : ℕ) → cs ≡ replicate n 0 → 0 ≡ sum cs
@@ -43,29 +43,29 @@ at_least k n over = by_test (nat_lt k n) refl where
 
 -- The counts of a history with one event more.
 
-own_events-push : {V : Type 0} (w : World V) (k : ℕ) (es : List (Event V)) (e : Event V) → own_events w k (es ++ e ∷ []) ≡ own_events w k es + (if is_own w k e then 1 else 0)
-own_events-push w k [] e = omega arith
-own_events-push w k (x ∷ es) e = let rest = own_events-push w k es e in omega (arith, rest)
+event_count_of-push : {V : Type 0} (w : World V) (k : ℕ) (es : List (Event V)) (e : Event V) → event_count_of w k (es ++ e ∷ []) ≡ event_count_of w k es + (if is_event_of_node w k e then 1 else 0)
+event_count_of-push w k [] e = omega arith
+event_count_of-push w k (x ∷ es) e = let rest = event_count_of-push w k es e in omega (arith, rest)
 
-pub own_counts-push : {V : Type 0} (w : World V) (k n : ℕ) (es : List (Event V)) (e : Event V) → own_counts w k n (es ++ e ∷ []) ≡ with_one k (node_of w e) (own_counts w k n es)
-own_counts-push w k zero es e = refl
-own_counts-push w k (suc n) es e =
-    ap (λ (c : ℕ). c ∷ own_counts w (suc k) n (es ++ e ∷ [])) (own_events-push w k es e)
-    ∙ ap (λ (cs : List ℕ). (own_events w k es + (if is_own w k e then 1 else 0)) ∷ cs) (own_counts-push w (suc k) n es e)
+pub event_counts-push : {V : Type 0} (w : World V) (k n : ℕ) (es : List (Event V)) (e : Event V) → event_counts w k n (es ++ e ∷ []) ≡ with_one_more_at k (node_of w e) (event_counts w k n es)
+event_counts-push w k zero es e = refl
+event_counts-push w k (suc n) es e =
+    ap (λ (c : ℕ). c ∷ event_counts w (suc k) n (es ++ e ∷ [])) (event_count_of-push w k es e)
+    ∙ ap (λ (cs : List ℕ). (event_count_of w k es + (if is_event_of_node w k e then 1 else 0)) ∷ cs) (event_counts-push w (suc k) n es e)
 
-pub own_counts-none : {V : Type 0} (w : World V) (k n : ℕ) → own_counts w k n [] ≡ replicate n 0
-own_counts-none w k zero = refl
-own_counts-none w k (suc n) = ap (λ (cs : List ℕ). 0 ∷ cs) (own_counts-none w (suc k) n)
+pub event_counts-none : {V : Type 0} (w : World V) (k n : ℕ) → event_counts w k n [] ≡ replicate n 0
+event_counts-none w k zero = refl
+event_counts-none w k (suc n) = ap (λ (cs : List ℕ). 0 ∷ cs) (event_counts-none w (suc k) n)
 
 -- the counts of the events gone through, with one event more
 pub counts_more : {V : Type 0} (w : World V) (nodes : ℕ) (es : List (Event V)) (i : ℕ) (e : Event V) (o : Option ℕ) (old new : List ℕ) → e ≡ get_or es i e → i < length es → o ≡ node_of w e
-    → old ≡ own_counts w 0 nodes (take i es) → new ≡ with_one 0 o old → new ≡ own_counts w 0 nodes (take (i + 1) es)
+    → old ≡ event_counts w 0 nodes (take i es) → new ≡ with_one_more_at 0 o old → new ≡ event_counts w 0 nodes (take (i + 1) es)
 counts_more {V} w nodes es i e o old new is low node was added =
-    added ∙ ap (λ (p : Option ℕ). with_one 0 p old) node ∙ ap (λ (cs : List ℕ). with_one 0 (node_of w e) cs) was ∙ sym (own_counts-push w 0 nodes (take i es) e)
-    ∙ ap (λ (ds : List (Event V)). own_counts w 0 nodes ds) (ap (λ (x : Event V). take i es ++ x ∷ []) is ∙ sym (take_more es i e low))
+    added ∙ ap (λ (p : Option ℕ). with_one_more_at 0 p old) node ∙ ap (λ (cs : List ℕ). with_one_more_at 0 (node_of w e) cs) was ∙ sym (event_counts-push w 0 nodes (take i es) e)
+    ∙ ap (λ (ds : List (Event V)). event_counts w 0 nodes ds) (ap (λ (x : Event V). take i es ++ x ∷ []) is ∙ sym (take_more es i e low))
 
 -- The counts in the world after the history.
-pub report_of : (switch : SwitchView Carried) (nodes : ℕ) (handled : List ℕ) → IsOk (world_of carried_size switch) → ForOk (world_of carried_size switch) (λ w. handled ≡ own_counts w 0 nodes switch.history) → IsReport switch nodes handled
+pub report_of : (switch : SwitchView Carried) (nodes : ℕ) (handled : List ℕ) → IsOk (world_of carried_size switch) → ForOk (world_of carried_size switch) (λ w. handled ≡ event_counts w 0 nodes switch.history) → IsReport switch nodes handled
 report_of switch nodes handled ok counts = from (world_of carried_size switch) refl ok where
   from : (r : Result (World Carried) StepFault) → world_of carried_size switch ≡ r → IsOk r → IsReport switch nodes handled
   from (Ok w) is ok = record { world = w; is_after = is; counts = counts w is }

@@ -7,34 +7,34 @@ use Rattle.nodes.specs.Words.{Listed, Verdict, status, listed, Carried, Ahead, E
 -- the assertions of the library of some cell of node k
 pub record IsListed (k : ℕ) (list : List Listed) : Type 0 where
   pub cell : Cell
-  pub at : cell.at ≡ k
+  pub at : cell.node ≡ k
   pub is_cell : IsCell cell
-  pub lists : list ≡ listed cell.node.library.statements
+  pub lists : list ≡ listed cell.replica.library.statements
 
 -- the verdict of the library of some cell of node k on the author's entry of that serial number
 pub record IsStatus (k author serial : ℕ) (verdict : Option Verdict) : Type 0 where
   pub cell : Cell
-  pub at : cell.at ≡ k
+  pub at : cell.node ≡ k
   pub is_cell : IsCell cell
-  pub decides : verdict ≡ status cell.node.library.decided author serial
+  pub decides : verdict ≡ status cell.replica.library.decided author serial
 
 -- which library has more statements: that of a cell of node j or that of a cell of node k, both of one switch
 pub record IsCompared (j k : ℕ) (ahead : Ahead) : Type 0 where
   pub switch : SwitchView Carried
   pub one : Cell
   pub other : Cell
-  pub one_at : one.at ≡ j
-  pub other_at : other.at ≡ k
+  pub one_at : one.node ≡ j
+  pub other_at : other.node ≡ k
   pub one_belongs : Belongs one switch
   pub other_belongs : Belongs other switch
-  pub compares : IsAhead ahead one.node.library.statements other.node.library.statements
+  pub compares : IsAhead ahead one.replica.library.statements other.replica.library.statements
 
 -- The event that a call at a desk plays on the switch under the lock.
 
 -- the result of a call is that of the event at the switch: some count of packets if it is taken, else its fault
-abbrev pub AnswersAs : {A : Type 0} → SwitchView Carried → SwitchView Carried → Event Carried → Result A StepFault → Type 0
-AnswersAs old new e (Ok answer) = (count : ℕ) × Plays carried_size old new e (Ok count)
-AnswersAs old new e (Err fault) = Plays carried_size old new e (Err fault)
+abbrev pub IsResultOf : {A : Type 0} → SwitchView Carried → SwitchView Carried → Event Carried → Result A StepFault → Type 0
+IsResultOf old new e (Ok answer) = (count : ℕ) × Plays carried_size old new e (Ok count)
+IsResultOf old new e (Err fault) = Plays carried_size old new e (Err fault)
 
 -- packets are delivered one after another, whatever the result of each delivery
 abbrev pub DeliversAll : SwitchView Carried → SwitchView Carried → List ℕ → Type 0

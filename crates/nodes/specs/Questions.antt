@@ -4,12 +4,12 @@
 use Rattle.std.specs.Prelude.{◌≡◌, ℕ, List, Some, IsOk}
 use Rattle.net.specs.NodeStates.{state_after}
 use Rattle.switch.specs.Switch.{is_down_at}
-use Rattle.nodes.specs.declared.questions.NodeStanding.{NodeStanding}
+use Rattle.nodes.specs.declared.questions.NodeStatus.{NodeStatus}
 use Rattle.nodes.specs.Words.{Cell, Carried, Event, SwitchView, world_of, carried_size}
 
 -- the cell is node k's
 pub record IsCellAt (k : ℕ) (cell : Cell) : Type 0 where
-  pub at : cell.at ≡ k
+  pub at : cell.node ≡ k
 
 -- the events of some switch, whose history is taken
 pub record IsHistory (history : List (Event Carried)) : Type 0 where
@@ -18,10 +18,10 @@ pub record IsHistory (history : List (Event Carried)) : Type 0 where
   pub events : history ≡ switch.history
 
 -- the state of node k of some switch, and the number of entries that some cell of node k applied
-pub record IsStanding (k : ℕ) (standing : NodeStanding) : Type 0 where
+pub record IsNodeStatus (k : ℕ) (node_status : NodeStatus) : Type 0 where
   pub cell : Cell
   pub of_node : IsCellAt k cell
-  pub applied : standing.applied ≡ cell.node.applied
+  pub applied : node_status.applied ≡ cell.replica.applied
   pub switch : SwitchView Carried
-  pub state : state_after (world_of carried_size switch) k ≡ Some standing.state
-  pub is_down : standing.is_down ≡ is_down_at switch.stores (Some k)
+  pub state : state_after (world_of carried_size switch) k ≡ Some node_status.state
+  pub is_down : node_status.is_down ≡ is_down_at switch.stores (Some k)

@@ -9,26 +9,26 @@ is_node k None = false
 is_node k (Some j) = j == k
 
 -- the event is node k's own: a delivery is an event of the node that its packet is addressed to
-abbrev pub is_own : {V : Type 0} → World V → ℕ → Event V → Bool
-is_own w k e = is_node k (node_of w e)
+abbrev pub is_event_of_node : {V : Type 0} → World V → ℕ → Event V → Bool
+is_event_of_node w k e = is_node k (node_of w e)
 
 -- the number of events that are node k's own
-abbrev pub own_events : {V : Type 0} → World V → ℕ → List (Event V) → ℕ
-own_events w k [] = 0
-own_events w k (e ∷ es) = (if is_own w k e then 1 else 0) + own_events w k es
+abbrev pub event_count_of : {V : Type 0} → World V → ℕ → List (Event V) → ℕ
+event_count_of w k [] = 0
+event_count_of w k (e ∷ es) = (if is_event_of_node w k e then 1 else 0) + event_count_of w k es
 
 -- the counts of this many nodes from node k on, in order
-abbrev pub own_counts : {V : Type 0} → World V → ℕ → ℕ → List (Event V) → List ℕ
-own_counts w k zero events = []
-own_counts w k (suc n) events = own_events w k events ∷ own_counts w (suc k) n events
+abbrev pub event_counts : {V : Type 0} → World V → ℕ → ℕ → List (Event V) → List ℕ
+event_counts w k zero events = []
+event_counts w k (suc n) events = event_count_of w k events ∷ event_counts w (suc k) n events
 
 -- the counts of the nodes from node k on, with one added at the node `at`, if it is one of them
-abbrev pub with_one : ℕ → Option ℕ → List ℕ → List ℕ
-with_one k at [] = []
-with_one k at (count ∷ counts) = (count + (if is_node k at then 1 else 0)) ∷ with_one (suc k) at counts
+abbrev pub with_one_more_at : ℕ → Option ℕ → List ℕ → List ℕ
+with_one_more_at k at [] = []
+with_one_more_at k at (count ∷ counts) = (count + (if is_node k at then 1 else 0)) ∷ with_one_more_at (suc k) at counts
 
 -- the counts are those of the nodes in the history of the switch
 pub record IsReport (switch : SwitchView Carried) (nodes : ℕ) (handled : List ℕ) : Type 0 where
   pub world : World Carried
   pub is_after : world_of carried_size switch ≡ Ok world
-  pub counts : handled ≡ own_counts world 0 nodes switch.history
+  pub counts : handled ≡ event_counts world 0 nodes switch.history

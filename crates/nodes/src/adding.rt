@@ -23,7 +23,7 @@ const FIRST_WAIT: u64 = 1024;
 const MOST_DOUBLINGS: u32 = 9;
 
 /// The number of turns from one query for the outcome to the next: each takes the lock that the node needs.
-const TURNS_AN_ASK: u64 = 64;
+const TURNS_PER_QUERY: u64 = 64;
 
 /// The golden ratio's fraction of 2^64: the fractions of its multiples are far from one another.
 const GOLDEN: u64 = 0x9E37_79B9_7F4A_7C15;
@@ -47,16 +47,16 @@ impl<G: Gate, K: Keep<Carried>> Desk<G, K> {
         ensures no_node { self.now ≤ k → IsErr result }
         ensures refused { IfErr result (IsAddFault k entry.now) }
     {
-        for turn in 0..MOST_TRIES {
+        for attempt in 0..MOST_TRIES {
             self.submit_again(rt, k, entry)?;
             let known = self.outcome(rt, k, entry)?;
             if known.is_some() {
                 return Ok(known);
             }
-            if turn > 0 || !self.leads(rt, k) {
+            if attempt > 0 || !self.leads(rt, k) {
                 self.begin(rt, k)?;
             }
-            let known = self.awaited(rt, k, entry, wait_after(k, turn))?;
+            let known = self.await_outcome(rt, k, entry, wait_after(k, attempt))?;
             if known.is_some() {
                 return Ok(known);
             }
@@ -84,7 +84,7 @@ impl<G: Gate, K: Keep<Carried>> Desk<G, K> {
     }
 
     /// Returns the outcome of the entry at node `k` as soon as it is known, at the latest after `turns` turns.
-    fn awaited<R: Wait>(
+    fn await_outcome<R: Wait>(
         &self,
         rt: &R,
         k: u8,
@@ -96,7 +96,7 @@ impl<G: Gate, K: Keep<Carried>> Desk<G, K> {
         ensures only_apart { k < self.now → IsOkUnless result Apart }
     {
         for turn in 0..turns {
-            if turn % TURNS_AN_ASK == 0 {
+            if turn % TURNS_PER_QUERY == 0 {
                 let known = self.outcome(rt, k, entry)?;
                 if known.is_some() {
                     return Ok(known);
@@ -117,10 +117,10 @@ impl<G: Gate, K: Keep<Carried>> Desk<G, K> {
     }
 }
 
-/// Returns the number of turns that node `k` waits after try `turn`, from 0: `FIRST_WAIT`, doubled for
+/// Returns the number of turns that node `k` waits after attempt `attempt`, from 0: `FIRST_WAIT`, doubled for
 /// each try up to `MOST_DOUBLINGS` times, plus a fraction of that, drawn for the node and the try.
-fn wait_after(k: u8, turn: u32) -> u64 {
-    let least = FIRST_WAIT << turn.min(MOST_DOUBLINGS);
-    let drawn = (u64::from(turn) * 256 + u64::from(k) + 1).wrapping_mul(GOLDEN) >> 32;
+fn wait_after(k: u8, attempt: u32) -> u64 {
+    let least = FIRST_WAIT << attempt.min(MOST_DOUBLINGS);
+    let drawn = (u64::from(attempt) * 256 + u64::from(k) + 1).wrapping_mul(GOLDEN) >> 32;
     least.saturating_add(drawn.saturating_mul(least) >> 32)
 }

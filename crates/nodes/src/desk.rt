@@ -84,13 +84,13 @@ impl<G: Gate, K: Keep<Carried>> Desk<G, K> {
         let others = self.shared.cells.len().saturating_sub(1) as u64;
         let hints = {
             let Ok(lock) = self.shared.cell(k) else {
-                return Err(self.shared.switch.lock(rt).without_node());
+                return Err(self.shared.switch.lock(rt).missing_node_fault());
             };
             let mut node = lock.lock(rt);
-            if node.cell.at() != k {
+            if node.cell.node() != k {
                 return Err(StepFault::Apart);
             }
-            node.try_at_once();
+            node.clear_postponement();
             let mut switch = self.shared.switch.lock(rt);
             switch.restart(self.shared.alloc, &mut node.cell, others)?
         };
@@ -107,7 +107,7 @@ impl<G: Gate, K: Keep<Carried>> Desk<G, K> {
         ensures only_memory { k < self.now → IfErr result (λ fault. (fault ≡ Apart) ⊎ (fault ≡ Memory)) }
     {
         let node = self.shared.cell(k)?.lock(rt);
-        if node.cell.at() != k {
+        if node.cell.node() != k {
             return Err(StepFault::Apart);
         }
         Ok(list_on(&node.cell)?)
@@ -129,7 +129,7 @@ impl<G: Gate, K: Keep<Carried>> Desk<G, K> {
         ensures only_apart { k < self.now → IsOkUnless result Apart }
     {
         let node = self.shared.cell(k)?.lock(rt);
-        if node.cell.at() != k {
+        if node.cell.node() != k {
             return Err(StepFault::Apart);
         }
         Ok(node.cell.library().status(author, serial))
@@ -154,13 +154,13 @@ impl<G: Gate, K: Keep<Carried>> Desk<G, K> {
         } else if j < k {
             self.shared.compare(rt, j, k)
         } else {
-            Ok(turned(self.shared.compare(rt, k, j)?))
+            Ok(swapped(self.shared.compare(rt, k, j)?))
         }
     }
 }
 
 /// Returns the same answer with the two nodes in the other order.
-fn turned(ahead: Ahead) -> Ahead
+fn swapped(ahead: Ahead) -> Ahead
     ensures { (j k : ℕ) → IsCompared j k ahead → IsCompared k j result }
 {
     match ahead {

@@ -21,6 +21,6 @@ mod weather;
 
 pub use desk::Desk;
 pub use node_threads::{Cluster, start};
-pub use questions::NodeStanding;
+pub use questions::NodeStatus;
 pub use report::Report;
 pub use weather::{Clear, Fate, Weather};

@@ -3,7 +3,7 @@ ghost use Rattle.std.specs.Prelude.{◌≡◌, ◌≤◌, ◌<◌, ◌⊎◌, Er
 ghost use Rattle.std.specs.Fn.{FnOnceReturnsAt};
 ghost use Rattle.net.specs.declared.fault.StepFault.TheVariants.{Apart, Memory, NoNode};
 ghost use Rattle.cluster.specs.Cell.{Cell};
-ghost use Rattle.nodes.specs.Questions.{IsCellAt, IsHistory, IsStanding};
+ghost use Rattle.nodes.specs.Questions.{IsCellAt, IsHistory, IsNodeStatus};
 
 use crate::desk::Desk;
 use cluster::{NodeCell, ask_on};
@@ -16,7 +16,7 @@ use world::Carried;
 
 /// The state of a node and of its cell.
 #[derive(Clone, Copy, PartialEq, Eq)]
-pub struct NodeStanding {
+pub struct NodeStatus {
     /// The state that the node reports.
     pub state: NodeState,
     /// The number of entries of its log that were applied.
@@ -50,19 +50,19 @@ impl<G: Gate, K: Keep<Carried>> Desk<G, K> {
     /// allocate.
     ///
     /// Errors: `NoNode`; else `Apart` if the cell is not that of its node.
-    pub fn standing<R: Wait>(&self, rt: &R, k: u8) -> Result<NodeStanding, StepFault>
-        ensures standing { IfOk result (IsStanding k) }
+    pub fn node_status<R: Wait>(&self, rt: &R, k: u8) -> Result<NodeStatus, StepFault>
+        ensures node_status { IfOk result (IsNodeStatus k) }
         ensures no_node { self.now ≤ k → result ≡ Err NoNode }
         ensures faults { IfErr result (λ fault. (fault ≡ NoNode) ⊎ (fault ≡ Apart)) }
     {
         let node = self.shared.cell(k)?.lock(rt);
-        if node.cell.at() != k {
+        if node.cell.node() != k {
             return Err(StepFault::Apart);
         }
         let applied = node.cell.applied();
         let shared = self.shared.switch.lock(rt);
         let state = shared.switch.state(k)?;
-        Ok(NodeStanding {
+        Ok(NodeStatus {
             state,
             applied,
             is_down: shared.switch.is_down(Some(k)),
@@ -78,23 +78,23 @@ impl<G: Gate, K: Keep<Carried>> Desk<G, K> {
         ensures only_memory { IsOkUnless result Memory }
     {
         let shared = self.shared.switch.lock(rt);
-        Ok(copied(self.shared.alloc, shared.switch.history())?)
+        Ok(copy_events(self.shared.alloc, shared.switch.history())?)
     }
 }
 
 /// Returns a copy of events.
-fn copied(alloc: Global, events: &[Event<Carried>]) -> Result<Vec<Event<Carried>>, AllocError>
+fn copy_events(alloc: Global, events: &[Event<Carried>]) -> Result<Vec<Event<Carried>>, AllocError>
     ensures { IfOk result (λ copy. copy.items ≡ events.now) }
 {
     let mut copy = Vec::with_capacity(alloc, events.len())?;
     for event in events {
-        copy.push(copied_event(event)?)?;
+        copy.push(copy_event(event)?)?;
     }
     Ok(copy)
 }
 
 /// Returns a copy of an event.
-fn copied_event(event: &Event<Carried>) -> Result<Event<Carried>, AllocError>
+fn copy_event(event: &Event<Carried>) -> Result<Event<Carried>, AllocError>
     ensures { IfOk result (λ copy. copy ≡ event.now) }
 {
     match event {

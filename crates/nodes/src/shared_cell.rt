@@ -11,7 +11,7 @@ pub(crate) struct SharedCell {
     /// The number of packets since an allocation first failed for the next entry.
     packets: u64,
     /// The number of packets at which the entry is tried again; 0 if no allocation failed for it.
-    due: u64,
+    next_try: u64,
 }
 
 impl SharedCell {
@@ -22,7 +22,7 @@ impl SharedCell {
         SharedCell {
             cell,
             packets: 0,
-            due: 0,
+            next_try: 0,
         }
     }
 
@@ -30,24 +30,24 @@ impl SharedCell {
     pub fn is_due(&mut self, packets: usize) -> bool
         ensures { self.new.cell ≡ self.old.cell }
     {
-        if self.due > 0 {
+        if self.next_try > 0 {
             self.packets = self.packets.saturating_add(packets as u64);
         }
-        self.packets >= self.due
+        self.packets >= self.next_try
     }
 
     /// Postpones the next entry, for which an allocation failed, until twice as many packets have arrived.
     pub fn postpone(&mut self)
         ensures { self.new.cell ≡ self.old.cell }
     {
-        self.due = self.packets.saturating_mul(2).max(1);
+        self.next_try = self.packets.saturating_mul(2).max(1);
     }
 
     /// Ends the postponement: the next entry is another one, or the node was restarted.
-    pub fn try_at_once(&mut self)
+    pub fn clear_postponement(&mut self)
         ensures { self.new.cell ≡ self.old.cell }
     {
         self.packets = 0;
-        self.due = 0;
+        self.next_try = 0;
     }
 }

@@ -91,7 +91,7 @@ impl<G: Gate, K: Keep<Carried>> SharedNodes<G, K> {
     {
         let gate: &G = &self.gate;
         for _entry in 0..SLOTS {
-            if !node.cell.is_behind() {
+            if !node.cell.has_unapplied() {
                 break;
             }
             gate.pass(Place::Apply(k));
@@ -99,7 +99,7 @@ impl<G: Gate, K: Keep<Carried>> SharedNodes<G, K> {
                 node.postpone();
                 break;
             }
-            node.try_at_once();
+            node.clear_postponement();
         }
     }
 
@@ -125,7 +125,9 @@ impl<G: Gate, K: Keep<Carried>> SharedNodes<G, K> {
         let one = self.cell(low)?.lock(rt);
         let other = self.cell(high)?.lock(rt);
         let shared = self.switch.lock(rt);
-        if is_at(&one.cell, low, &shared.switch) && is_at(&other.cell, high, &shared.switch) {
+        if is_cell_of(&one.cell, low, &shared.switch)
+            && is_cell_of(&other.cell, high, &shared.switch)
+        {
             Ok(compare_on(&one.cell, &other.cell, &shared.switch))
         } else {
             Err(StepFault::Apart)
@@ -135,10 +137,10 @@ impl<G: Gate, K: Keep<Carried>> SharedNodes<G, K> {
 
 /// Returns whether the cell is node `k`'s and belongs to the switch. No fact relates values under two locks, so this is tested
 /// while both are held.
-fn is_at<K: Keep<Carried>>(cell: &NodeCell, k: u8, switch: &Switch<Carried, K>) -> bool
-    ensures { IsTrue result → (cell.now.at ≡ k) × Belongs cell.now switch.now }
+fn is_cell_of<K: Keep<Carried>>(cell: &NodeCell, k: u8, switch: &Switch<Carried, K>) -> bool
+    ensures { IsTrue result → (cell.now.node ≡ k) × Belongs cell.now switch.now }
 {
-    cell.at() == k && belongs(cell, switch)
+    cell.node() == k && belongs(cell, switch)
 }
 
 /// Takes over the next entries of the node's log, as far as allocations succeed.

@@ -2,7 +2,7 @@
 ghost use Rattle.std.specs.Prelude.{◌≡◌, ◌⊎◌};
 ghost use Rattle.net.specs.declared.event.Event.TheVariants.{Restart};
 ghost use Rattle.net.specs.declared.fault.StepFault.TheVariants.{EventsSpent, NoNode};
-ghost use Rattle.nodes.specs.Desk.{AnswersAs, DeliversAll};
+ghost use Rattle.nodes.specs.Desk.{IsResultOf, DeliversAll};
 
 use cluster::{NodeCell, Switch, deliver_on, restart_on};
 use net::{Event, MOST_EVENTS, StepFault};
@@ -35,7 +35,7 @@ impl<K: Keep<Carried>> SharedSwitch<K> {
     ///
     /// Errors: those of `Switch::play`. Cost: that of the event, and of its hints.
     pub fn play(&mut self, alloc: Global, event: Event<Carried>) -> Result<Vec<Hint>, StepFault>
-        ensures { AnswersAs self.old.switch self.new.switch event result }
+        ensures { IsResultOf self.old.switch self.new.switch event result }
     {
         let count = self.switch.play(event)?;
         let before = mem::replace(&mut self.posted, count);
@@ -52,7 +52,7 @@ impl<K: Keep<Carried>> SharedSwitch<K> {
         cell: &mut NodeCell,
         others: u64,
     ) -> Result<Vec<Hint>, StepFault>
-        ensures { AnswersAs self.old.switch self.new.switch (Restart cell.old.at) result }
+        ensures { IsResultOf self.old.switch self.new.switch (Restart cell.old.node) result }
     {
         let count = restart_on(cell, &mut self.switch)?;
         self.posted = count;
@@ -87,7 +87,7 @@ impl<K: Keep<Carried>> SharedSwitch<K> {
     }
 
     /// Returns the fault of an event whose node does not exist.
-    pub fn without_node(&self) -> StepFault
+    pub fn missing_node_fault(&self) -> StepFault
         ensures { (result ≡ EventsSpent) ⊎ (result ≡ NoNode) }
     {
         if self.switch.history().len() as u64 >= MOST_EVENTS {

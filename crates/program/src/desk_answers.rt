@@ -3,8 +3,8 @@ ghost use Rattle.std.specs.Prelude.{◌≡◌, ◌++◌, ◌≤◌, ℕ, List, E
 ghost use Rattle.cluster.specs.Cell.{Cell};
 ghost use Rattle.net.specs.declared.event.Event.{Event as TakenEvent};
 ghost use Rattle.world.specs.declared.carried.Carried.{Carried as TakenEntry};
-ghost use Rattle.nodes.specs.Questions.{IsCellAt, IsHistory, IsStanding};
-ghost use Rattle.nodes.specs.declared.questions.NodeStanding.{NodeStanding};
+ghost use Rattle.nodes.specs.Questions.{IsCellAt, IsHistory, IsNodeStatus};
+ghost use Rattle.nodes.specs.declared.questions.NodeStatus.{NodeStatus};
 ghost use Rattle.printed.specs.Counted.{learned_text};
 ghost use Rattle.printed.specs.Printed.{export_text};
 ghost use Rattle.printed.specs.States.{state_text};
@@ -35,7 +35,7 @@ impl<R: Wait> AnsweringDesk<'_, R> {
     /// Appends the statements of a node's library.
     pub fn push_export(&self, node: u8, text: &mut Vec<u8>) -> Result<(), Fault>
         ensures { OnOk result ((cell : Cell) × IsCellAt node cell
-            × (text.new.items ≡ text.old.items ++ export_text cell.node.library.statements)) }
+            × (text.new.items ≡ text.old.items ++ export_text cell.replica.library.statements)) }
     {
         let alloc = self.alloc;
         let made = self
@@ -56,12 +56,12 @@ impl<R: Wait> AnsweringDesk<'_, R> {
 
     /// Appends the state of a node.
     pub fn push_state(&self, node: u8, text: &mut Vec<u8>) -> Result<(), Fault>
-        ensures { OnOk result ((standing : NodeStanding) × IsStanding node standing
+        ensures { OnOk result ((status : NodeStatus) × IsNodeStatus node status
             × (text.new.items ≡ text.old.items
-            ++ state_text standing.state standing.applied standing.is_down)) }
+            ++ state_text status.state status.applied status.is_down)) }
     {
-        let standing = self.desk.standing(self.rt, node)?;
-        Ok(push_state(text, &standing.state, standing.applied, standing.is_down)?)
+        let status = self.desk.node_status(self.rt, node)?;
+        Ok(push_state(text, &status.state, status.applied, status.is_down)?)
     }
 
     /// Appends the answer to a question about a label of a node's library.
@@ -71,7 +71,7 @@ impl<R: Wait> AnsweringDesk<'_, R> {
         text: &mut Vec<u8>,
     ) -> Result<(), Fault>
         ensures { OnOk result ((cell : Cell) × IsCellAt question.now.node cell × (answer : List ℕ)
-            × IsLabelAnswer cell.node.library.statements question.now.kind question.now.label answer
+            × IsLabelAnswer cell.replica.library.statements question.now.kind question.now.label answer
             × (text.new.items ≡ text.old.items ++ answer)) }
     {
         let alloc = self.alloc;
@@ -120,7 +120,7 @@ fn decision_at(alloc: Global, cell: &NodeCell, at: NodeEntryId) -> Result<Decisi
 
 /// Returns the statements of the library of a cell.
 fn export_of(alloc: Global, cell: &NodeCell) -> Result<Vec<u8>, AllocError>
-    ensures { IfOk result (λ text. text.items ≡ export_text cell.now.node.library.statements) }
+    ensures { IfOk result (λ text. text.items ≡ export_text cell.now.replica.library.statements) }
 {
     let mut text = Vec::new(alloc);
     push_export(&mut text, cell.library())?;

@@ -1,18 +1,18 @@
 -- One event more is one step more.
-use Rattle.run_pictures.proofs.Words.{◌≡◌, ℕ, suc, ◌+◌, true, false, List, [], ◌∷◌, ◌++◌, Result, Ok, Err, length, filter, refl, sym, ◌∙◌, ap, arith, append-nil, filter-append, Event, Offer, Begin, Deliver, Restart, StepFault, all_happen, Taken, with_event, world_of, Carried, carried_size, Step, Reached, reached_after, step_of, steps_from, steps_of, act_of, is_event, is_event_act}
+use Rattle.run_pictures.proofs.Words.{◌≡◌, ℕ, suc, ◌+◌, true, false, List, [], ◌∷◌, ◌++◌, Result, Ok, Err, length, filter, refl, sym, ◌∙◌, ap, arith, append-nil, filter-append, Event, Offer, Begin, Deliver, Restart, StepFault, events_result, History, with_event, world_of, Carried, carried_size, Step, Reached, reached_after, step_of, steps_from, steps_of, act_of, is_event, is_event_act}
 
 -- a fault stays
-fault_stays : (es : List (Event Carried)) (fault : StepFault) → all_happen carried_size es (Err fault) ≡ Err fault
+fault_stays : (es : List (Event Carried)) (fault : StepFault) → events_result carried_size es (Err fault) ≡ Err fault
 fault_stays [] fault = refl
 fault_stays (e ∷ es) fault = refl
 
 -- the first event, and then the others
-first_happens : (e : Event Carried) (es : List (Event Carried)) (r : Reached) → all_happen carried_size es (reached_after r e) ≡ all_happen carried_size (e ∷ es) r
+first_happens : (e : Event Carried) (es : List (Event Carried)) (r : Reached) → events_result carried_size es (reached_after r e) ≡ events_result carried_size (e ∷ es) r
 first_happens e es (Ok w) = refl
 first_happens e es (Err fault) = fault_stays es fault
 
 -- the last event, after the others
-last_happens : (es : List (Event Carried)) (e : Event Carried) (r : Reached) → all_happen carried_size (es ++ e ∷ []) r ≡ reached_after (all_happen carried_size es r) e
+last_happens : (es : List (Event Carried)) (e : Event Carried) (r : Reached) → events_result carried_size (es ++ e ∷ []) r ≡ reached_after (events_result carried_size es r) e
 last_happens [] e r = refl
 last_happens (x ∷ es) e (Ok w) = last_happens es e (reached_after (Ok w) x)
 last_happens (x ∷ es) e (Err fault) = refl
@@ -20,11 +20,11 @@ last_happens (x ∷ es) e (Err fault) = refl
 -- the steps of the events, and the step of the last one
 steps_from-append : (index : ℕ) (r : Reached) (es : List (Event Carried)) (e : Event Carried)
     → steps_from index r (es ++ e ∷ [])
-    ≡ steps_from index r es ++ step_of (index + length es) (all_happen carried_size es r) e (reached_after (all_happen carried_size es r) e) ∷ []
+    ≡ steps_from index r es ++ step_of (index + length es) (events_result carried_size es r) e (reached_after (events_result carried_size es r) e) ∷ []
 steps_from-append index r [] e = ap (λ n. step_of n r e (reached_after r e) ∷ []) (omega arith)
 steps_from-append index r (x ∷ es) e =
     ap (λ steps. step_of index r x (reached_after r x) ∷ steps) (steps_from-append (suc index) (reached_after r x) es e
-    ∙ ap (λ n. steps_from (suc index) (reached_after r x) es ++ step_of n (all_happen carried_size es (reached_after r x)) e (reached_after (all_happen carried_size es (reached_after r x)) e) ∷ []) (omega arith)
+    ∙ ap (λ n. steps_from (suc index) (reached_after r x) es ++ step_of n (events_result carried_size es (reached_after r x)) e (reached_after (events_result carried_size es (reached_after r x)) e) ∷ []) (omega arith)
     ∙ ap (λ s. steps_from (suc index) (reached_after r x) es ++ step_of (index + length (x ∷ es)) s e (reached_after s e) ∷ []) (first_happens x es r))
 
 -- the act of an event is that of an event
@@ -35,35 +35,35 @@ is_event-act_of index (Deliver number) = refl
 is_event-act_of index (Restart k) = refl
 
 -- the step of one event more of the history
-pub next_step : Taken Carried → Event Carried → Step
-next_step taken e = step_of (length taken.events) (world_of carried_size taken) e (world_of carried_size (with_event taken e))
+pub next_step : History Carried → Event Carried → Step
+next_step history e = step_of (length history.events) (world_of carried_size history) e (world_of carried_size (with_event history e))
 
 -- its parts
-pub next_is : (taken : Taken Carried) (e : Event Carried) → next_step taken e ≡ step_of (length taken.events) (world_of carried_size taken) e (world_of carried_size (with_event taken e))
+pub next_is : (history : History Carried) (e : Event Carried) → next_step history e ≡ step_of (length history.events) (world_of carried_size history) e (world_of carried_size (with_event history e))
 unfolding next_step
-next_is taken e = refl
+next_is history e = refl
 
-steps_of-with_event : (taken : Taken Carried) (e : Event Carried) → steps_of (with_event taken e) ≡ steps_of taken ++ next_step taken e ∷ []
+steps_of-with_event : (history : History Carried) (e : Event Carried) → steps_of (with_event history e) ≡ steps_of history ++ next_step history e ∷ []
 unfolding next_step
-steps_of-with_event taken e =
-    steps_from-append 0 (all_happen carried_size [] (world_of carried_size (record { weights = taken.weights; events = [] }))) taken.events e
-    ∙ ap (λ n. steps_of taken ++ step_of n (world_of carried_size taken) e (reached_after (world_of carried_size taken) e) ∷ []) (omega arith)
-    ∙ ap (λ s. steps_of taken ++ step_of (length taken.events) (world_of carried_size taken) e s ∷ []) (sym (last_happens taken.events e (world_of carried_size (record { weights = taken.weights; events = [] }))))
+steps_of-with_event history e =
+    steps_from-append 0 (events_result carried_size [] (world_of carried_size (record { weights = history.weights; events = [] }))) history.events e
+    ∙ ap (λ n. steps_of history ++ step_of n (world_of carried_size history) e (reached_after (world_of carried_size history) e) ∷ []) (omega arith)
+    ∙ ap (λ s. steps_of history ++ step_of (length history.events) (world_of carried_size history) e s ∷ []) (sym (last_happens history.events e (world_of carried_size (record { weights = history.weights; events = [] }))))
 
 -- a step that is an event is kept by the filter
 kept_one : (s : Step) → is_event s ≡ true → filter is_event (s ∷ []) ≡ s ∷ []
 kept_one s e = rw e refl
 
 -- the recorded steps are those of the history with one event more
-pub with_event_step : (steps : List Step) (taken : Taken Carried) (e : Event Carried) (step : Step)
-    → filter is_event steps ≡ steps_of taken → step ≡ next_step taken e → filter is_event (steps ++ step ∷ []) ≡ steps_of (with_event taken e)
+pub with_event_step : (steps : List Step) (history : History Carried) (e : Event Carried) (step : Step)
+    → filter is_event steps ≡ steps_of history → step ≡ next_step history e → filter is_event (steps ++ step ∷ []) ≡ steps_of (with_event history e)
 unfolding next_step
-with_event_step steps taken e step recorded is =
+with_event_step steps history e step recorded is =
     filter-append is_event steps (step ∷ [])
-    ∙ ap (λ more. filter is_event steps ++ more) (kept_one step (ap (λ s. is_event s) is ∙ is_event-act_of (length taken.events) e))
+    ∙ ap (λ more. filter is_event steps ++ more) (kept_one step (ap (λ s. is_event s) is ∙ is_event-act_of (length history.events) e))
     ∙ ap (λ done. done ++ step ∷ []) recorded
-    ∙ ap (λ s. steps_of taken ++ s ∷ []) is
-    ∙ sym (steps_of-with_event taken e)
+    ∙ ap (λ s. steps_of history ++ s ∷ []) is
+    ∙ sym (steps_of-with_event history e)
 
 -- an application of an entry is not kept by the filter
 pub with_application_step : (steps : List Step) (step : Step) (all : List Step)

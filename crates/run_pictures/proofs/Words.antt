@@ -1,8 +1,8 @@
 -- The words in which this crate is proved, passed on from one place.
 pub use Rattle.library.specs.declared.entry.Entry.{Entry}
 pub use Rattle.library.specs.declared.verdict.Verdict.{Verdict}
-pub use Rattle.net.specs.Taken.{Taken, with_event, world_of}
-pub use Rattle.net.specs.World.{all_happen, packets_after}
+pub use Rattle.net.specs.History.{History, with_event, world_of}
+pub use Rattle.net.specs.World.{events_result, packets_after}
 pub use Rattle.net.specs.declared.event.Event.{Event}
 pub use Rattle.net.specs.declared.event.Event.TheVariants.{Begin, Deliver, Offer, Restart}
 pub use Rattle.net.specs.declared.fault.StepFault.{StepFault}
@@ -16,6 +16,6 @@ pub use Rattle.run_pictures.specs.declared.step.Step.{Step}
 pub use Rattle.std.proofs.Common.{ap, append-nil, append_assoc, arith, sym, ◌++◌, ◌-◌, ◌∙◌}
 pub use Rattle.std.proofs.lemmas.List.Elements.{filter-append}
 pub use Rattle.std.specs.Prelude.{Err, IfOk, IfSome, IsSomeAnd, List, None, Ok, OnErr, Option, Result, Some, [], false, filter, length, refl, suc, true, zero, ℕ, ◌+◌, ◌<◌, ◌∷◌, ◌≡◌, ◌≤◌}
-pub use Rattle.world.specs.Carried.{carried, carried_size}
-pub use Rattle.world.specs.Replicas.{IsApplied, Replicas, new_replicas, next_entry}
+pub use Rattle.world.specs.Carried.{value_event, carried_size}
+pub use Rattle.world.specs.WorldView.{IsApplied, WorldView, new_world, next_entry}
 pub use Rattle.world.specs.declared.carried.Carried.{Carried}

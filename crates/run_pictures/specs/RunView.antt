@@ -3,22 +3,22 @@
 -- The code also keeps how many packets have been posted.
 use Rattle.std.specs.Prelude.{◌≡◌, ℕ, List, length, filter}
 use Rattle.net.specs.World.{packets_after}
-use Rattle.net.specs.Taken.{world_of}
-use Rattle.world.specs.Replicas.{Replicas}
+use Rattle.net.specs.History.{world_of}
+use Rattle.world.specs.WorldView.{WorldView}
 use Rattle.world.specs.Carried.{carried_size}
 use Rattle.run_pictures.specs.declared.step.Step.{Step}
 use Rattle.run_pictures.specs.Steps.{steps_of, is_event}
 use Rattle.run_pictures.specs.Marks.{Packets}
 
 pub record RunView : Type 0 where
-  pub world : Replicas
+  pub world : WorldView
   pub steps : List Step
 
 -- all packets of a world
-abbrev pub packets_of : Replicas → Packets
-packets_of world = packets_after (world_of carried_size world.taken)
+abbrev pub packets_of : WorldView → Packets
+packets_of world = packets_after (world_of carried_size world.history)
 
 -- the steps are those of the history, in order, with applications of entries between them
-pub record IsRecorded (world : Replicas) (steps : List Step) (posted : ℕ) : Type 0 where
-  pub events : filter is_event steps ≡ steps_of world.taken
+pub record IsRecorded (world : WorldView) (steps : List Step) (posted : ℕ) : Type 0 where
+  pub events : filter is_event steps ≡ steps_of world.history
   pub count : posted ≡ length (packets_of world)

@@ -7,9 +7,9 @@ use Rattle.synod.specs.declared.packet.Packet.{Packet}
 use Rattle.net.specs.declared.event.Event.{Event}
 use Rattle.net.specs.declared.event.Event.TheVariants.{Offer, Begin, Deliver, Restart}
 use Rattle.net.specs.declared.fault.StepFault.{StepFault}
-use Rattle.net.specs.World.{World, after, all_happen, packets_after}
+use Rattle.net.specs.World.{World, after, events_result, packets_after}
 use Rattle.net.specs.NodeStates.{state_after}
-use Rattle.net.specs.Taken.{Taken}
+use Rattle.net.specs.History.{History}
 use Rattle.world.specs.declared.carried.Carried.{Carried}
 use Rattle.world.specs.Carried.{carried_size}
 use Rattle.run_pictures.specs.declared.step.Step.{Step}
@@ -24,7 +24,7 @@ Reached = Result (World Carried) StepFault
 
 -- the world after one more event
 abbrev pub reached_after : Reached → Event Carried → Reached
-reached_after r e = all_happen carried_size (e ∷ []) r
+reached_after r e = events_result carried_size (e ∷ []) r
 
 -- the receiver of a packet, or 0 if there is none
 abbrev pub receiver_of : Option (Packet Carried) → ℕ
@@ -70,8 +70,8 @@ steps_from index r [] = []
 steps_from index r (e ∷ es) = step_of index r e (reached_after r e) ∷ steps_from (suc index) (reached_after r e) es
 
 -- the steps of a history, in order, one for each event
-abbrev pub steps_of : Taken Carried → List Step
-steps_of taken = steps_from 0 (after carried_size taken.weights []) taken.events
+abbrev pub steps_of : History Carried → List Step
+steps_of history = steps_from 0 (after carried_size history.weights []) history.events
 
 -- the act is an event of the history, not the application of an entry
 abbrev pub is_event_act : Act → Bool

@@ -1,10 +1,10 @@
 //! A world whose steps are recorded.
 ghost use Rattle.std.specs.Prelude.{◌≡◌, ◌≤◌, ◌<◌, [], false, length, slice_get, filter, IfOk, IfErr, IsErr, OnOk, OnErr, IsOkUnless};
-ghost use Rattle.net.specs.Taken.{with_event, world_of};
+ghost use Rattle.net.specs.History.{with_event, world_of};
 ghost use Rattle.net.specs.World.{packets_after};
 ghost use Rattle.net.specs.declared.fault.StepFault.TheVariants.{Memory};
-ghost use Rattle.world.specs.Carried.{carried as carried_event, carried_size};
-ghost use Rattle.world.specs.Replicas.{new_replicas};
+ghost use Rattle.world.specs.Carried.{value_event, carried_size};
+ghost use Rattle.world.specs.WorldView.{new_world};
 ghost use Rattle.timelines.specs.declared.grid.TheConstants.{MOST_ROWS};
 ghost use Rattle.run_pictures.specs.Steps.{act_of, step_start_of, is_event, learned_in, node_in, receiver_of, steps_of};
 
@@ -40,7 +40,7 @@ impl Model for Run {
 }
 
 impl Run {
-    ghost use Rattle.world.specs.Replicas.{then_event};
+    ghost use Rattle.world.specs.WorldView.{after_event};
     ghost use Rattle.run_pictures.specs.RunView.{RunView, packets_of};
     ghost use Rattle.run_pictures.specs.Marks.{marks_of as marks_shown, shown_of};
 
@@ -48,7 +48,7 @@ impl Run {
     #[tactic(auto, using(crate::proofs::RunLemmas::new_recorded))]
     pub fn new(alloc: Global, weights: Weights) -> Result<Run, StepFault>
         ensures new { IfOk result
-            (λ run. run ≡ record { world = new_replicas weights; steps = [] }) }
+            (λ run. run ≡ record { world = new_world weights; steps = [] }) }
         ensures only_memory { IsOkUnless result Memory }
     {
         Ok(Run {
@@ -64,9 +64,9 @@ impl Run {
     #[tactic(auto, using(crate::proofs::RunLemmas::event_recorded, crate::proofs::RunLemmas::same_recorded))]
     pub fn step(&mut self, event: Event<Entry>) -> Result<(), StepFault>
         ensures taken { OnOk result
-            (self.new.world ≡ then_event self.old.world (carried_event event)) }
+            (self.new.world ≡ after_event self.old.world (value_event event)) }
         ensures refused { IfErr
-            (world_of carried_size (with_event self.old.world.taken (carried_event event)))
+            (world_of carried_size (with_event self.old.world.history (value_event event)))
             (λ fault. IsErr result) }
         ensures same { OnErr result (self.new ≡ self.old) }
     {
@@ -85,7 +85,7 @@ impl Run {
     #[tactic(auto, using(crate::proofs::RunLemmas::application_recorded, crate::proofs::RunLemmas::same_recorded))]
     pub fn apply_next(&mut self, k: u8) -> Result<(), StepFault>
         ensures same { OnErr result (self.new ≡ self.old) }
-        ensures taken { self.new.world.taken ≡ self.old.world.taken }
+        ensures taken { self.new.world.history ≡ self.old.world.history }
     {
         self.steps.reserve(1)?;
         let slot = self.world.applied(k)?;
@@ -120,7 +120,7 @@ impl Run {
         requires { length (shown_of self.now.steps part.from part.count) ≤ MOST_ROWS }
         ensures marks { IfOk result (λ marks. marks.items ≡ marks_shown
             (packets_of self.now.world) (shown_of self.now.steps part.from part.count)) }
-        ensures events { filter is_event self.now.steps ≡ steps_of self.now.world.taken }
+        ensures events { filter is_event self.now.steps ≡ steps_of self.now.world.history }
     {
         marks_of(alloc, &self.world, self.shown(part))
     }
@@ -130,10 +130,10 @@ impl Run {
 ///
 /// Errors: `NoNode` if there is no such node.
 fn step_start(world: &World, posted: u64, event: &Event<Entry>) -> Result<StepStart, StepFault>
-    requires { posted ≡ length (packets_after (world_of carried_size world.now.taken)) }
+    requires { posted ≡ length (packets_after (world_of carried_size world.now.history)) }
     ensures start { IfOk result (λ start. start
-        ≡ step_start_of (length world.now.taken.events) (world_of carried_size world.now.taken) (carried_event event.now)) }
-    ensures node { IfOk result (λ start. start.node < length world.now.taken.weights) }
+        ≡ step_start_of (length world.now.history.events) (world_of carried_size world.now.history) (value_event event.now)) }
+    ensures node { IfOk result (λ start. start.node < length world.now.history.weights) }
 {
     let node = node_of(world, event);
     let learned_before = world.state(node)?.learned;
@@ -147,7 +147,7 @@ fn step_start(world: &World, posted: u64, event: &Event<Entry>) -> Result<StepSt
 
 /// Returns the node of an event, or 0 for the delivery of a packet that does not exist.
 fn node_of(world: &World, event: &Event<Entry>) -> u8
-    ensures { result ≡ node_in (world_of carried_size world.now.taken) (carried_event event.now) }
+    ensures { result ≡ node_in (world_of carried_size world.now.history) (value_event event.now) }
 {
     match event {
         Event::Offer(k, _) => *k,
@@ -159,7 +159,7 @@ fn node_of(world: &World, event: &Event<Entry>) -> u8
 
 /// Returns the receiver of a packet, or 0 if there is no such packet.
 fn receiver(world: &World, number: u64) -> u8
-    ensures { result ≡ receiver_of (slice_get (packets_after (world_of carried_size world.now.taken)) number) }
+    ensures { result ≡ receiver_of (slice_get (packets_after (world_of carried_size world.now.history)) number) }
 {
     match world.packet(number) {
         Ok(packet) => packet.to,
@@ -169,7 +169,7 @@ fn receiver(world: &World, number: u64) -> u8
 
 /// Returns the act of an event at an index of the history.
 fn act(event: &Event<Entry>, index: u64) -> Act
-    ensures { result ≡ act_of index (carried_event event.now) }
+    ensures { result ≡ act_of index (value_event event.now) }
 {
     match event {
         Event::Offer(_, _) => Act::Offer { event: index },
@@ -181,8 +181,8 @@ fn act(event: &Event<Entry>, index: u64) -> Act
 
 /// Returns how many entries the log of node `k` has.
 fn learned_at(world: &World, k: u8) -> u32
-    requires { k < length world.now.taken.weights }
-    ensures { result ≡ learned_in (world_of carried_size world.now.taken) k }
+    requires { k < length world.now.history.weights }
+    ensures { result ≡ learned_in (world_of carried_size world.now.history) k }
 {
     match world.state(k) {
         Ok(state) => state.learned,
@@ -192,7 +192,7 @@ fn learned_at(world: &World, k: u8) -> u32
 
 /// Applies the next entry of the log of node `k`, if there is one.
 fn apply_on(world: &mut World, k: u8) -> Result<Option<Verdict>, StepFault>
-    ensures taken { world.new.taken ≡ world.old.taken }
+    ensures taken { world.new.history ≡ world.old.history }
     ensures same { OnErr result (world.new ≡ world.old) }
 {
     world.apply_next(k)

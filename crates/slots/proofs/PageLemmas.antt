@@ -37,8 +37,8 @@ entry_at-past (x ∷ xs) n zero past = absurd (omega arith)
 entry_at-past (x ∷ xs) n (suc s) past = entry_at-past xs n s (le_of_suc-le-suc past)
 
 -- with more slots stored it is the same page
-pub padded-fill : {T : Type 0} (xs : List (Option T)) (s : ℕ) → s < PAGE_SLOTS → padded (xs ++ replicate (s + 1 - length xs) None) ≡ padded xs
-padded-fill {T} xs s low =
+pub padded-pad_to : {T : Type 0} (xs : List (Option T)) (s : ℕ) → s < PAGE_SLOTS → padded (xs ++ replicate (s + 1 - length xs) None) ≡ padded xs
+padded-pad_to {T} xs s low =
     let none : Option T = None in
     let k : ℕ = s + 1 - length xs in
     let count : length (xs ++ replicate k none) ≡ length xs + k = length-append xs (replicate k none) ∙ ap (λ (n : ℕ). length xs + n) (length-replicate k none) in
@@ -55,7 +55,7 @@ module _ {T : Type 0} (xs ys : List (Option T)) (s : ℕ) (low : s < PAGE_SLOTS)
       omega (arith, count)
 
   same_page : padded ys ≡ padded xs
-  same_page = ap padded filled ∙ padded-fill xs s low
+  same_page = ap padded filled ∙ padded-pad_to xs s low
 
   -- an entry is put there
   pub padded-put : (v : Option T) → padded (set ys s v) ≡ set (padded xs) s v
@@ -65,5 +65,5 @@ module _ {T : Type 0} (xs ys : List (Option T)) (s : ℕ) (low : s < PAGE_SLOTS)
       ∙ ap (λ (zs : List (Option T)). set zs s v) same_page
 
   -- the entry that was there
-  pub padded-had : (d : Option T) → get_or ys s d ≡ entry_at (padded xs) s
-  padded-had d = sym (entry_at-stored ys (replicate (PAGE_SLOTS - length ys) None) s d stored) ∙ ap (λ (zs : List (Option T)). entry_at zs s) same_page
+  pub padded-get : (d : Option T) → get_or ys s d ≡ entry_at (padded xs) s
+  padded-get d = sym (entry_at-stored ys (replicate (PAGE_SLOTS - length ys) None) s d stored) ∙ ap (λ (zs : List (Option T)). entry_at zs s) same_page

@@ -16,13 +16,13 @@ pub struct Page<T> {
 
 impl<T> Model for Page<T> {
     ghost use Rattle.std.specs.Prelude.{List, Option, vec_capacity};
-    ghost use Rattle.slots.specs.Stored.Pages.{padded, IsPage};
+    ghost use Rattle.slots.specs.Stored.Pages.{padded, IsStoredPage};
 
     ghost Value = { List (Option T) };
 
     ghost view = { λ p. padded p.slots.items };
 
-    ghost invariant = { λ p. IsPage p.slots.items (vec_capacity p.slots) };
+    ghost invariant = { λ p. IsStoredPage p.slots.items (vec_capacity p.slots) };
 }
 
 impl<T: Drop> Page<T> {
@@ -51,13 +51,13 @@ impl<T: Drop> Page<T> {
         ensures put { self.new ≡ slice_set self.old slot (Some entry) }
         ensures before { result ≡ entry_at self.old slot }
     {
-        fill(&mut self.slots, slot + 1);
+        pad_to(&mut self.slots, slot + 1);
         self.slots[slot].replace(entry)
     }
 }
 
 /// Appends empty slots until there are `count`. It does not allocate.
-fn fill<T: Drop>(slots: &mut Vec<Option<T>>, count: usize)
+fn pad_to<T: Drop>(slots: &mut Vec<Option<T>>, count: usize)
     requires { count ≤ vec_capacity slots.old }
     ensures items { slots.new.items ≡ slots.old.items ++ replicate (count - length slots.old.items) None }
     ensures capacity { vec_capacity slots.new ≡ vec_capacity slots.old }

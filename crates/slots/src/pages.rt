@@ -1,7 +1,7 @@
 //! A list of pages, seen as one list of slots.
 ghost use Rattle.std.specs.Prelude.{◌≡◌, ◌<◌, ◌*◌, ◌++◌, [], Some, None, IfOk, OnOk, OnErr, length, slice_set, replicate, MatchOption};
 ghost use Rattle.slots.specs.FiniteMap.{entry_at};
-ghost use Rattle.slots.specs.Stored.Pages.{joined, AreWhole};
+ghost use Rattle.slots.specs.Stored.Pages.{joined, AreFullSize};
 
 use crate::page::{PAGE_SLOTS, Page};
 use std::alloc::{AllocError, Global};
@@ -16,13 +16,13 @@ pub struct Pages<T> {
 
 impl<T> Model for Pages<T> {
     ghost use Rattle.std.specs.Prelude.{List, Option};
-    ghost use Rattle.slots.specs.Stored.Pages.{joined, AreWhole};
+    ghost use Rattle.slots.specs.Stored.Pages.{joined, AreFullSize};
 
     ghost Value = { List (Option T) };
 
     ghost view = { λ p. joined p.pages.items };
 
-    ghost invariant = { λ p. AreWhole p.pages.items };
+    ghost invariant = { λ p. AreFullSize p.pages.items };
 }
 
 impl<T: Drop> Pages<T> {
@@ -82,7 +82,7 @@ impl<T: Drop> Pages<T> {
 
 /// Creates `count` empty pages.
 fn empty_pages<T: Drop>(alloc: Global, count: usize) -> Result<Vec<Page<T>>, AllocError>
-    ensures whole { IfOk result (λ pages. AreWhole pages.items) }
+    ensures full_size { IfOk result (λ pages. AreFullSize pages.items) }
     ensures empty { IfOk result (λ pages. joined pages.items ≡ replicate (PAGE_SLOTS * count) None) }
 {
     let mut pages = Vec::new(alloc);

@@ -49,17 +49,17 @@ impl<T: Drop> Slots<T> {
     pub fn room(&mut self, slot: u32) -> Result<(), AllocError>
         requires { slot < SLOTS }
         ensures ok { OnOk result (slot < self.new.room) }
-        ensures had { slot < self.old.room → IsOk result }
+        ensures reserved { slot < self.old.room → IsOk result }
         ensures entries { self.new.entries ≡ self.old.entries }
         ensures room { self.old.room ≤ self.new.room }
         ensures same { OnErr result (self.new ≡ self.old) }
     {
         let pages = slot as usize / PAGE_SLOTS + 1;
-        let had = self.pages.count();
-        if had >= pages {
+        let old_count = self.pages.count();
+        if old_count >= pages {
             return Ok(());
         }
-        self.pages.add(pages - had)?;
+        self.pages.add(pages - old_count)?;
         Ok(())
     }
 
@@ -81,7 +81,7 @@ impl<T: Drop> Slots<T> {
         ensures before { result ≡ entry_at self.old.entries slot }
     {
         let before = self.pages.put(slot as usize, entry);
-        self.front = gap_from(&self.pages, self.front);
+        self.front = first_empty_from(&self.pages, self.front);
         self.top = top_with(self.top, slot);
         before
     }
@@ -117,7 +117,7 @@ impl<T: Drop> Slots<T> {
             return self.front;
         }
         if self.has_room(slot) {
-            gap_from(&self.pages, slot + 1)
+            first_empty_from(&self.pages, slot + 1)
         } else {
             slot + 1
         }
@@ -142,7 +142,7 @@ impl<T: Drop> Slots<T> {
 }
 
 /// Returns the first empty slot from `from` on, or the number of slots of all pages if there is none.
-fn gap_from<T: Drop>(pages: &Pages<T>, from: u32) -> u32
+fn first_empty_from<T: Drop>(pages: &Pages<T>, from: u32) -> u32
     requires pages { length pages.now ≤ SLOTS }
     requires from { from ≤ length pages.now }
     ensures { result ≡ from + front_of (drop from pages.now) }

@@ -1,5 +1,5 @@
 -- A prefix of a node's log stays one, whatever event comes, but for a restart of that node.
-use Rattle.switch.proofs.Words.{◌≡◌, ◌≢◌, ℕ, ◌<◌, ◌==◌, Bool, true, false, List, [], ◌∷◌, ◌++◌, length, slice_get, inl, inr, Option, Some, None, Result, Ok, Err, refl, ap, sym, ◌∙◌, subst, arith, nat_lt, ◌+◌, IsSome, OnErr, option_map, nat_tests, length-set, Packet, Change, Refusal, Node, Stepped, offered, begun, on_packet, restarted, MOST_EVENTS, Event, Offer, Begin, Deliver, Restart, StepFault, World, at_node, delivered, happens_at, happens, log, log_after, all_happen, start, IsAfter, IsPrefixOf, node_of, change_of, IfTaken, if_taken, spent_or, all_happen-append, after-push, log_grows, then_begins, Standing, up, down, StoreView, SwitchView, world_of, with_store, IsViewOf, AreStores, is_down, is_down_view, is_down_at, due, change_due, events_due, FailsAt, TakesAt, ActsUp, RevivesAt, Revives, ActsDown, Acts, BeginsLog, StaysBelonging, KeepsLogs, append-nil}
+use Rattle.switch.proofs.Words.{◌≡◌, ◌≢◌, ℕ, ◌<◌, ◌==◌, Bool, true, false, List, [], ◌∷◌, ◌++◌, length, slice_get, inl, inr, Option, Some, None, Result, Ok, Err, refl, ap, sym, ◌∙◌, subst, arith, nat_lt, ◌+◌, IsSome, OnErr, option_map, nat_tests, length-set, Packet, Change, Refusal, Node, StepResult, offered, begun, on_packet, restarted, MOST_EVENTS, Event, Offer, Begin, Deliver, Restart, StepFault, World, at_node, delivered, event_result_without_limit, event_result, log, log_after, events_result, start, IsAfter, IsPrefixOf, node_of, change_of, IfTaken, if_taken, spent_or, events_result-append, after-push, log_grows, then_begins, Status, up, down, StoreView, SwitchView, world_of, with_store, IsViewOf, AreStores, is_down, is_down_view, is_down_at, owed_on_failure, change_of_owed, owed_events, FailsAt, TakesAt, IsEffectAtUpNode, RevivesAt, Revives, IsEffectAtDownNode, IsEffect, IsLogPrefix, StaysBelonging, KeepsLogs, append-nil}
 use Rattle.switch.specs.Switch.{with_event}
 
 -- The node of an event that is taken is there.
@@ -11,7 +11,7 @@ pub record IsOfNode {V : Type 0} (w : World V) (e : Event V) : Type 0 where
 
 module _ {V : Type 0} (size : V → ℕ) (w : World V) where
   -- where an event of node k is taken, node k is there
-  there_at : (e : Event V) (k : ℕ) → node_of w e ≡ Some k → (make : Node V → Result (Stepped V) Refusal) (o : Option (Node V)) → slice_get w.nodes k ≡ o → IfTaken (at_node w k make o) (λ x. IsOfNode w e)
+  there_at : (e : Event V) (k : ℕ) → node_of w e ≡ Some k → (make : Node V → Result (StepResult V) Refusal) (o : Option (Node V)) → slice_get w.nodes k ≡ o → IfTaken (at_node w k make o) (λ x. IsOfNode w e)
   there_at e k is make None none = tt
   there_at e k is make (Some n) some = anyway (at_node w k make (Some n)) where
     anyway : (r : Result (World V) StepFault) → IfTaken r (λ x. IsOfNode w e)
@@ -24,37 +24,37 @@ module _ {V : Type 0} (size : V → ℕ) (w : World V) where
   there_delivered number (Some p) some = there_at (Deliver number) p.to (ap (λ (o : Option (Packet V)). option_map (λ p. p.to) o) some) (λ n. Ok (on_packet n p)) (slice_get w.nodes p.to) refl
 
   -- the same for each event, the limit of events aside
-  there_happens_at : (e : Event V) → IfTaken (happens_at size w e) (λ x. IsOfNode w e)
+  there_happens_at : (e : Event V) → IfTaken (event_result_without_limit size w e) (λ x. IsOfNode w e)
   there_happens_at (Offer k v) = there_at (Offer k v) k refl (λ n. offered size n v) (slice_get w.nodes k) refl
   there_happens_at (Begin k) = there_at (Begin k) k refl begun (slice_get w.nodes k) refl
   there_happens_at (Deliver number) = there_delivered number (slice_get w.packets number) refl
   there_happens_at (Restart k) = there_at (Restart k) k refl (λ n. Ok (restarted n)) (slice_get w.nodes k) refl
 
   -- the node of an event that happens is there
-  pub node_there : (e : Event V) (x : World V) → happens size w e ≡ Ok x → IsOfNode w e
-  node_there e x happened = if_taken (λ (y : World V). IsOfNode w e) (happens size w e) x happened (spent_or (λ (y : World V). IsOfNode w e) (happens_at size w e) (w.taken == MOST_EVENTS) (there_happens_at e))
+  pub node_there : (e : Event V) (x : World V) → event_result size w e ≡ Ok x → IsOfNode w e
+  node_there e x happened = if_taken (λ (y : World V). IsOfNode w e) (event_result size w e) x happened (spent_or (λ (y : World V). IsOfNode w e) (event_result_without_limit size w e) (w.event_count == MOST_EVENTS) (there_happens_at e))
 
 -- an event that is no restart of node j leaves its log a beginning of the new one
-log_goes_on : {V : Type 0} (size : V → ℕ) (w : World V) (e : Event V) (x : World V) → happens size w e ≡ Ok x → (j : ℕ) → e ≢ Restart j → IsPrefixOf (log w j) (log x j)
-log_goes_on {V} size w e x happened j other = if_taken (λ (y : World V). IsPrefixOf (log w j) (log y j)) (happens size w e) x happened (log_grows size w j e other)
+log_goes_on : {V : Type 0} (size : V → ℕ) (w : World V) (e : Event V) (x : World V) → event_result size w e ≡ Ok x → (j : ℕ) → e ≢ Restart j → IsPrefixOf (log w j) (log x j)
+log_goes_on {V} size w e x happened j other = if_taken (λ (y : World V). IsPrefixOf (log w j) (log y j)) (event_result size w e) x happened (log_grows size w j e other)
 
 -- The logs after a call.
 
 module _ {V : Type 0} (size : V → ℕ) (old : SwitchView V) where
   -- where nothing has changed, what begins a log still begins it
   pub same_stays : (new : SwitchView V) → new ≡ old → StaysBelonging size old new
-  same_stays new is k entries h = subst (λ (s : SwitchView V). BeginsLog size s k entries) (sym is) h
+  same_stays new is k entries h = subst (λ (s : SwitchView V). IsLogPrefix size s k entries) (sym is) h
 
   -- only a store changes
   view_stays : (new : SwitchView V) (k : ℕ) (view : StoreView V) → new ≡ with_store old k view → StaysBelonging size old new
-  view_stays new k view is j entries h = subst (λ (s : SwitchView V). BeginsLog size s j entries) (sym is) record {
+  view_stays new k view is j entries h = subst (λ (s : SwitchView V). IsLogPrefix size s j entries) (sym is) record {
     node = subst (λ (n : ℕ). j < n) (sym (length-set old.stores k view)) h.node;
     begins = h.begins;
   }
 
   module _ (w : World V) (was : world_of size old ≡ Ok w) where
     -- a history of which x is the world
-    longer_stays : (new : SwitchView V) (x : World V) → world_of size new ≡ Ok x → length new.stores ≡ length old.stores → (j : ℕ) (entries : List (Option V)) → IsPrefixOf (log w j) (log x j) → BeginsLog size old j entries → BeginsLog size new j entries
+    longer_stays : (new : SwitchView V) (x : World V) → world_of size new ≡ Ok x → length new.stores ≡ length old.stores → (j : ℕ) (entries : List (Option V)) → IsPrefixOf (log w j) (log x j) → IsLogPrefix size old j entries → IsLogPrefix size new j entries
     longer_stays new x is count j entries grows h = record {
       node = subst (λ (n : ℕ). j < n) (sym count) h.node;
       begins =
@@ -64,8 +64,8 @@ module _ {V : Type 0} (size : V → ℕ) (old : SwitchView V) where
     }
 
     -- where the event is taken, and is no restart of node j, what begins the log of j begins the longer one
-    taken_stays : (new : SwitchView V) (k : ℕ) (view : StoreView V) (change : Option (Change V)) (e : Event V) (x : World V) → happens size w e ≡ Ok x → new ≡ with_event old k view change e
-        → (j : ℕ) (entries : List (Option V)) → e ≢ Restart j → BeginsLog size old j entries → BeginsLog size new j entries
+    taken_stays : (new : SwitchView V) (k : ℕ) (view : StoreView V) (change : Option (Change V)) (e : Event V) (x : World V) → event_result size w e ≡ Ok x → new ≡ with_event old k view change e
+        → (j : ℕ) (entries : List (Option V)) → e ≢ Restart j → IsLogPrefix size old j entries → IsLogPrefix size new j entries
     taken_stays new k view change e x happened is j entries other h =
         longer_stays new x
         (ap (λ (s : SwitchView V). world_of size s) is ∙ after-push size old.weights old.history w e was ∙ happened)
@@ -92,12 +92,12 @@ on_err (Err e) p = p
 record Before {V : Type 0} (size : V → ℕ) (ws : List ℕ) (es : List (Event V)) (e : Event V) (x : World V) : Type 0 where
   mid : World V
   is_after : IsAfter size ws es mid
-  happened : happens size mid e ≡ Ok x
+  happened : event_result size mid e ≡ Ok x
 
 -- a history that ends in an event has a world before it, in which the event happens
 before : {V : Type 0} (size : V → ℕ) (ws : List ℕ) (es : List (Event V)) (e : Event V) (x : World V) → IsAfter size ws (es ++ e ∷ []) x → Before size ws es e x
-before {V} size ws es e x is = from (all_happen size es (Ok (start ws))) refl (sym (all_happen-append size es (e ∷ []) (Ok (start ws))) ∙ is) where
-  from : (r : Result (World V) StepFault) → all_happen size es (Ok (start ws)) ≡ r → all_happen size (e ∷ []) r ≡ Ok x → Before size ws es e x
+before {V} size ws es e x is = from (events_result size es (Ok (start ws))) refl (sym (events_result-append size es (e ∷ []) (Ok (start ws))) ∙ is) where
+  from : (r : Result (World V) StepFault) → events_result size es (Ok (start ws)) ≡ r → events_result size (e ∷ []) r ≡ Ok x → Before size ws es e x
   from (Ok m) at last = record { mid = m; is_after = at; happened = last }
   from (Err fault) at last = let no : Err fault ≡ Ok x = last in cc
 
@@ -119,38 +119,38 @@ module _ {V : Type 0} (size : V → ℕ) (old : SwitchView V) (e : Event V) (new
   }
 
   -- an event at which a call of the keep failed leaves each log
-  logs_fail : (j : ℕ) (view : StoreView V) (change : Option (Change V)) (left : Standing (Event V)) → FailsAt old new j view change left → KeepsLogs size e old new result
-  logs_fail j view change left h = logs_store j (record { kept = h.kept; failures = view.failures + 1; standing = left }) h.rest
+  logs_fail : (j : ℕ) (view : StoreView V) (change : Option (Change V)) (left : Status (Event V)) → FailsAt old new j view change left → KeepsLogs size e old new result
+  logs_fail j view change left h = logs_store j (record { kept = h.kept; failures = view.failures + 1; status = left }) h.rest
 
 module _ {V : Type 0} (size : V → ℕ) (old : SwitchView V) (w : World V) (was : world_of size old ≡ Ok w) (stores : AreStores size w old.stores) (new : SwitchView V) where
   -- an event that happens at a node that is up
-  takes_logs : (e : Event V) (x : World V) → happens size w e ≡ Ok x → (k : ℕ) (view : StoreView V) (r : Result ℕ StepFault) → TakesAt old new e k view (change_of size w e) x r → KeepsLogs size e old new r
+  takes_logs : (e : Event V) (x : World V) → event_result size w e ≡ Ok x → (k : ℕ) (view : StoreView V) (r : Result ℕ StepFault) → TakesAt old new e k view (change_of size w e) x r → KeepsLogs size e old new r
   takes_logs e x happened k view (Ok count) h = record {
     others = λ i entries other b. taken_stays size old w was new k view (change_of size w e) e x happened h.0 i entries other b;
     refused = tt;
     nodes = ap (λ (s : SwitchView V). length s.stores) h.0 ∙ length-set old.stores k _;
   }
   takes_logs e x happened k view (Err fault) (inl h) = logs_same size old e new (Err fault) h.1
-  takes_logs e x happened k view (Err fault) (inr h) = logs_fail size old e new (Err fault) k view (change_of size w e) (down (due e)) h.1
+  takes_logs e x happened k view (Err fault) (inr h) = logs_fail size old e new (Err fault) k view (change_of size w e) (down (owed_on_failure e)) h.1
 
   -- an event whose node is up, whether it happens or meets a fault
-  up_logs : (e : Event V) (result : Result ℕ StepFault) → ActsUp size w old new e result → KeepsLogs size e old new result
-  up_logs e result acts = by_world (happens size w e) refl where
-    by_world : (r : Result (World V) StepFault) → happens size w e ≡ r → KeepsLogs size e old new result
-    by_world (Err fault) meets = logs_same size old e new result (acts.refused fault meets).1
+  up_logs : (e : Event V) (result : Result ℕ StepFault) → IsEffectAtUpNode size w old new e result → KeepsLogs size e old new result
+  up_logs e result effect = by_world (event_result size w e) refl where
+    by_world : (r : Result (World V) StepFault) → event_result size w e ≡ r → KeepsLogs size e old new result
+    by_world (Err fault) meets = logs_same size old e new result (effect.refused fault meets).1
     by_world (Ok x) happened =
         let of = node_there size w e x happened in
         let view = view_there size old w was stores of.k of.there in
-        takes_logs e x happened of.k view.0 result (acts.taken x happened of.k of.node view.0 view.1)
+        takes_logs e x happened of.k view.0 result (effect.taken x happened of.k of.node view.0 view.1)
 
   -- the logs of other nodes go on where the event that node j owes is taken
-  owed_goes_on : (j : ℕ) (e : Option (Event V)) → ((ev : Event V) → e ≡ Some ev → node_of w ev ≡ Some j) → (m : World V) → IsAfter size old.weights (old.history ++ events_due e) m → (k : ℕ) → k ≢ j → IsPrefixOf (log w k) (log m k)
+  owed_goes_on : (j : ℕ) (e : Option (Event V)) → ((ev : Event V) → e ≡ Some ev → node_of w ev ≡ Some j) → (m : World V) → IsAfter size old.weights (old.history ++ owed_events e) m → (k : ℕ) → k ≢ j → IsPrefixOf (log w k) (log m k)
   owed_goes_on j None owed m is k other =
       let both : Ok w ≡ Ok m = sym was ∙ ap (λ (es : List (Event V)). world_of size (record { weights = old.weights; history = es; stores = old.stores })) (sym (append-nil old.history)) ∙ is in
       let same : w ≡ m = cc in
       ([], append-nil (log w k) ∙ ap (λ (x : World V). log x k) same)
   owed_goes_on j (Some ev) owed m is k other =
-      let happened : happens size w ev ≡ Ok m = sym (after-push size old.weights old.history w ev was) ∙ is in
+      let happened : event_result size w ev ≡ Ok m = sym (after-push size old.weights old.history w ev was) ∙ is in
       let not : ev ≢ Restart k = λ same. (let both : Some j ≡ Some k = sym (owed ev refl) ∙ ap (λ (e : Event V). node_of w e) same in let number : j ≡ k = cc in other (sym number)) in
       log_goes_on size w ev m happened k not
 
@@ -159,7 +159,7 @@ module _ {V : Type 0} (size : V → ℕ) (old : SwitchView V) (w : World V) (was
   revived_logs j view e owed (Ok count) h = record {
     others = λ k entries other b.
         (let apart : k ≢ j = λ same. other (ap (λ (i : ℕ). let r : Event V = Restart i in r) (sym same)) in
-        let mid = before size old.weights (old.history ++ events_due e) (Restart j) h.world h.is_after in
+        let mid = before size old.weights (old.history ++ owed_events e) (Restart j) h.world h.is_after in
         longer_stays size old w was new h.world (ap (λ (s : SwitchView V). world_of size s) h.rest ∙ h.is_after) counted k entries
         (then_begins (log w k) (log mid.mid k) (log h.world k) (owed_goes_on j e owed mid.mid mid.is_after k apart) (log_goes_on size mid.mid (Restart j) h.world mid.happened k other)) b);
     refused = tt;
@@ -167,33 +167,33 @@ module _ {V : Type 0} (size : V → ℕ) (old : SwitchView V) (w : World V) (was
   } where
     counted : length new.stores ≡ length old.stores
     counted = ap (λ (s : SwitchView V). length s.stores) h.rest ∙ length-set old.stores j _
-  revived_logs j view e owed (Err fault) (inl h) = logs_store size old (Restart j) new (Err fault) j (record { kept = h.1.kept; failures = view.failures; standing = view.standing }) h.1.rest
-  revived_logs j view e owed (Err fault) (inr h) = logs_fail size old (Restart j) new (Err fault) j view (change_due size w e) view.standing h.1
+  revived_logs j view e owed (Err fault) (inl h) = logs_store size old (Restart j) new (Err fault) j (record { kept = h.1.kept; failures = view.failures; status = view.status }) h.1.rest
+  revived_logs j view e owed (Err fault) (inr h) = logs_fail size old (Restart j) new (Err fault) j view (change_of_owed size w e) view.status h.1
 
-  -- What a node owes is an event of its own.
-  module _ (owed : (j : ℕ) (view : StoreView V) → slice_get old.stores j ≡ Some view → (ev : Event V) → view.standing ≡ down (Some ev) → node_of w ev ≡ Some j) where
+  -- An event that a node owes is one of its own events.
+  module _ (owed : (j : ℕ) (view : StoreView V) → slice_get old.stores j ≡ Some view → (ev : Event V) → view.status ≡ down (Some ev) → node_of w ev ≡ Some j) where
     -- an event whose node is down
-    down_logs : (e : Event V) (result : Result ℕ StepFault) → is_down_at old.stores (node_of w e) ≡ true → ActsDown size w old new e result → KeepsLogs size e old new result
-    down_logs (Offer k v) result test acts = logs_same size old (Offer k v) new result acts.1
-    down_logs (Begin k) result test acts = logs_same size old (Begin k) new result acts.1
-    down_logs (Deliver number) result test acts = logs_same size old (Deliver number) new result acts.1
-    down_logs (Restart j) result test acts = by_view (slice_get old.stores j) refl where
+    down_logs : (e : Event V) (result : Result ℕ StepFault) → is_down_at old.stores (node_of w e) ≡ true → IsEffectAtDownNode size w old new e result → KeepsLogs size e old new result
+    down_logs (Offer k v) result test effect = logs_same size old (Offer k v) new result effect.1
+    down_logs (Begin k) result test effect = logs_same size old (Begin k) new result effect.1
+    down_logs (Deliver number) result test effect = logs_same size old (Deliver number) new result effect.1
+    down_logs (Restart j) result test effect = by_view (slice_get old.stores j) refl where
       by_room : (view : StoreView V) (e : Option (Event V)) → ((ev : Event V) → e ≡ Some ev → node_of w ev ≡ Some j) → Revives size w old new j view e result → (t : Bool) → nat_lt MOST_EVENTS (length old.history + 2) ≡ t → KeepsLogs size (Restart j) old new result
       by_room view e own revives true test = logs_same size old (Restart j) new result (revives.spent (grind (arith, nat_tests))).1
       by_room view e own revives false test = revived_logs j view e own result (revives.revived (grind (arith, nat_tests)))
 
-      by_standing : (view : StoreView V) → slice_get old.stores j ≡ Some view → (s : Standing (Event V)) → view.standing ≡ s → KeepsLogs size (Restart j) old new result
+      by_standing : (view : StoreView V) → slice_get old.stores j ≡ Some view → (s : Status (Event V)) → view.status ≡ s → KeepsLogs size (Restart j) old new result
       by_standing view at up stands =
-          let no : false ≡ true = sym (ap (λ (o : Option (StoreView V)). is_down_view o) at ∙ ap (λ (s : Standing (Event V)). is_down s) stands) ∙ test in cc
-      by_standing view at (down e) stands = by_room view e (λ ev is. owed j view at ev (stands ∙ ap (λ (o : Option (Event V)). let s : Standing (Event V) = down o in s) is)) (acts view at e stands) (nat_lt MOST_EVENTS (length old.history + 2)) refl
+          let no : false ≡ true = sym (ap (λ (o : Option (StoreView V)). is_down_view o) at ∙ ap (λ (s : Status (Event V)). is_down s) stands) ∙ test in cc
+      by_standing view at (down e) stands = by_room view e (λ ev is. owed j view at ev (stands ∙ ap (λ (o : Option (Event V)). let s : Status (Event V) = down o in s) is)) (effect view at e stands) (nat_lt MOST_EVENTS (length old.history + 2)) refl
 
       by_view : (o : Option (StoreView V)) → slice_get old.stores j ≡ o → KeepsLogs size (Restart j) old new result
       by_view None none = let no : false ≡ true = sym (ap (λ (o : Option (StoreView V)). is_down_view o) none) ∙ test in cc
-      by_view (Some view) at = by_standing view at view.standing refl
+      by_view (Some view) at = by_standing view at view.status refl
 
     -- every event
-    pub acts_logs : (e : Event V) (result : Result ℕ StepFault) → Acts size w old new e result → KeepsLogs size e old new result
-    acts_logs e result acts = by_test (is_down_at old.stores (node_of w e)) refl where
+    pub acts_logs : (e : Event V) (result : Result ℕ StepFault) → IsEffect size w old new e result → KeepsLogs size e old new result
+    acts_logs e result effect = by_test (is_down_at old.stores (node_of w e)) refl where
       by_test : (t : Bool) → is_down_at old.stores (node_of w e) ≡ t → KeepsLogs size e old new result
-      by_test true test = down_logs e result test (acts.is_down test)
-      by_test false test = up_logs e result (acts.is_up test)
+      by_test true test = down_logs e result test (effect.is_down test)
+      by_test false test = up_logs e result (effect.is_up test)

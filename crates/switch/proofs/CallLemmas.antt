@@ -1,5 +1,5 @@
 -- The answer of a call on one node: contracts see the fields, and the world is the one after the history.
-use Rattle.switch.proofs.Words.{◌≡◌, ℕ, ◌+◌, ◌<◌, false, List, [], ◌∷◌, ◌++◌, length, set, slice_get, inl, inr, Option, Some, None, Result, Ok, Err, refl, ap, sym, ◌∙◌, subst, arith, IfErr, OnOk, IsOkUnless, ForOk, slice_get_within, Packet, Change, Kept, changed_by, Node, Stepped, kept_of, MOST_EVENTS, Event, StepFault, Memory, Device, World, stepped, happens, packets_after, Taken, world_of_taken, addressed, node_of, change_of, StagedEvent, NetView, IsStaged, IsEventAt, IsStill, IsTaken, change_in, step_of, after-push, length-nodes_of, Standing, up, down, StoreState, IsRecordOf, IsWithOrWithout, Fails, change_owed, StoreView, SwitchView, event_owed, standing_seen, view_of, views_of, IsOwing, IsSwitch, world_of, IsRecordIn, IsViewOf, AreStores, is_down_at, with_store, due, TakesAt, ActsUp, with_event}
+use Rattle.switch.proofs.Words.{◌≡◌, ℕ, ◌+◌, ◌<◌, false, List, [], ◌∷◌, ◌++◌, length, set, slice_get, inl, inr, Option, Some, None, Result, Ok, Err, refl, ap, sym, ◌∙◌, subst, arith, IfErr, OnOk, IsOkUnless, ForOk, slice_get_within, Packet, Change, Kept, changed_by, Node, StepResult, kept_of, MOST_EVENTS, Event, StepFault, Memory, Device, World, after_step, event_result, packets_after, History, world_of_taken, node_of_event, node_of, change_of, StagedEvent, NetView, IsStaged, IsEventAt, ChangesOnlyRoom, IsTaken, change_in, step_of, after-push, length-nodes_of, Status, up, down, StoreState, IsRecordOf, IsWithOrWithout, Fails, change_owed, StoreView, SwitchView, event_owed, status_seen, view_of, views_of, IsOwing, IsSwitch, world_of, IsRecordIn, IsViewOf, AreStores, is_down_at, with_store, owed_on_failure, TakesAt, IsEffectAtUpNode, with_event}
 use Rattle.switch.proofs.StoresLemmas.{views_of-set, view_at, view_past, item_at, up_at}
 use Rattle.switch.proofs.SwitchLemmas.{switch_view, other_store, committed, node_is, at, happens_is, change_is, change_told, changes}
 
@@ -9,8 +9,8 @@ pub view_is_same : {V : Type 0} (ws us : List ℕ) (hs gs : List (Event V)) (som
 view_is_same ws us hs gs some others weights history stores = cc
 
 -- a net that is changed in its rooms alone shows the same
-pub still_view : {V : Type 0} (a b : NetView V) (stores : List (StoreState V)) → IsStill a b → switch_view b stores ≡ switch_view a stores
-still_view {V} a b stores still = ap (λ (t : Taken V). let s : SwitchView V = record { weights = t.weights; history = t.events; stores = views_of stores } in s) still.taken
+pub still_view : {V : Type 0} (a b : NetView V) (stores : List (StoreState V)) → ChangesOnlyRoom a b → switch_view b stores ≡ switch_view a stores
+still_view {V} a b stores only_room = ap (λ (t : History V). let s : SwitchView V = record { weights = t.weights; history = t.events; stores = views_of stores } in s) only_room.history
 
 module _ {V : Type 0} (size : V → ℕ) (net : NetView V) (stores : List (StoreState V)) (h : IsSwitch size net stores) (now : SwitchView V) (seen : switch_view net stores ≡ now) where
   abbrev w : World V
@@ -31,12 +31,12 @@ module _ {V : Type 0} (size : V → ℕ) (net : NetView V) (stores : List (Store
   after_is = ap (λ (s : SwitchView V). world_of size s) (sym seen) ∙ h.world.is_after
 
   -- the world after one event more is what the event makes of this one
-  next_is : (e : Event V) → world_of_taken size (with_event net.taken e) ≡ happens size w e
-  next_is e = after-push size net.taken.weights net.taken.events w e h.world.is_after
+  next_is : (e : Event V) → world_of_taken size (with_event net.history e) ≡ event_result size w e
+  next_is e = after-push size net.history.weights net.history.events w e h.world.is_after
 
   -- the node of an event
-  pub node_seen : (e : Event V) (o : Option ℕ) → o ≡ addressed net.packets e → ForOk (world_of size now) (λ x. node_of x e ≡ o)
-  node_seen e o is = of_world (λ s x. node_of x e ≡ o) (ap (λ (ps : List (Packet V)). addressed ps e) h.world.posted ∙ sym is)
+  pub node_seen : (e : Event V) (o : Option ℕ) → o ≡ node_of_event net.packets e → ForOk (world_of size now) (λ x. node_of x e ≡ o)
+  node_seen e o is = of_world (λ s x. node_of x e ≡ o) (ap (λ (ps : List (Packet V)). node_of_event ps e) h.world.posted ∙ sym is)
 
   -- Each node has its store.
 
@@ -59,7 +59,7 @@ module _ {V : Type 0} (size : V → ℕ) (net : NetView V) (stores : List (Store
       omega (arith, low, count, nodes, cores))
 
   -- a keep that fits its node fits it with the change that the world tells of the event owed
-  record_in : (n : Node V) (k : ℕ) (s : Standing (StagedEvent V)) (kept : Kept V) → IsRecordOf n s kept → IsOwing size net k s → IsRecordIn size w n (standing_seen s) kept
+  record_in : (n : Node V) (k : ℕ) (s : Status (StagedEvent V)) (kept : Kept V) → IsRecordOf n s kept → IsOwing size net k s → IsRecordIn size w n (status_seen s) kept
   record_in n k up kept fits owing = fits
   record_in n k (down None) kept fits owing = fits
   record_in n k (down (Some o)) kept fits owing = subst (λ (c : Option (Change V)). IsWithOrWithout (kept_of n) c kept) (change_told size net stores h o owing.1) fits
@@ -69,7 +69,7 @@ module _ {V : Type 0} (size : V → ℕ) (net : NetView V) (stores : List (Store
   store_seen k (Some n) node (Some store) is =
       subst (λ (o : Option (Node V)). IsViewOf size w o (slice_get (views_of stores) k)) (sym node)
       (subst (λ (o : Option (StoreView V)). IsViewOf size w (Some n) o) (sym (view_at stores k store is))
-      (let mine = h.each k n store node is in record_in n k store.standing store.kept mine.fits mine.owing))
+      (let mine = h.each k n store node is in record_in n k store.status store.kept mine.fits mine.owing))
   store_seen k None none (Some store) is = let n = node_there k store is in let no : None ≡ Some n.0 = sym none ∙ n.1 in cc
   store_seen k (Some n) node None none = let store = store_there k n node in let no : None ≡ Some store.0 = sym none ∙ store.1 in cc
   store_seen k None nowhere None none =
@@ -84,7 +84,7 @@ module _ {V : Type 0} (size : V → ℕ) (net : NetView V) (stores : List (Store
 
   module _ (e : Event V) (fault : StepFault) (r : Result (StagedEvent V) StepFault) (is_err : r ≡ Err fault) (new : SwitchView V) (same : new ≡ old) where
     -- what is answered is the fault that the event meets, or Memory where it meets none
-    not_ready : (x : Result (World V) StepFault) → happens size w e ≡ x → IfErr x (λ met. r ≡ Err met) → OnOk x (IsOkUnless r Memory) → ActsUp size w old new e (Err fault)
+    not_ready : (x : Result (World V) StepFault) → event_result size w e ≡ x → IfErr x (λ met. r ≡ Err met) → OnOk x (IsOkUnless r Memory) → IsEffectAtUpNode size w old new e (Err fault)
     not_ready (Err met) happened refused memory =
         let both : Err met ≡ Err fault = sym refused ∙ is_err in
         let is_met : met ≡ fault = cc in
@@ -100,14 +100,14 @@ module _ {V : Type 0} (size : V → ℕ) (net : NetView V) (stores : List (Store
         }
 
     -- the same, as the net answers it: by the world after the events taken and this one
-    pub ready_fails : IfErr (world_of_taken size (with_event net.taken e)) (λ met. r ≡ Err met) → OnOk (world_of_taken size (with_event net.taken e)) (IsOkUnless r Memory) → ForOk (world_of size now) (λ x. ActsUp size x now new e (Err fault))
-    ready_fails refused memory = of_world (λ s x. ActsUp size x s new e (Err fault))
-        (not_ready (happens size w e) refl (subst (λ (x : Result (World V) StepFault). IfErr x (λ met. r ≡ Err met)) (next_is e) refused) (subst (λ (x : Result (World V) StepFault). OnOk x (IsOkUnless r Memory)) (next_is e) memory))
+    pub ready_fails : IfErr (world_of_taken size (with_event net.history e)) (λ met. r ≡ Err met) → OnOk (world_of_taken size (with_event net.history e)) (IsOkUnless r Memory) → ForOk (world_of size now) (λ x. IsEffectAtUpNode size x now new e (Err fault))
+    ready_fails refused memory = of_world (λ s x. IsEffectAtUpNode size x s new e (Err fault))
+        (not_ready (event_result size w e) refl (subst (λ (x : Result (World V) StepFault). IfErr x (λ met. r ≡ Err met)) (next_is e) refused) (subst (λ (x : Result (World V) StepFault). OnOk x (IsOkUnless r Memory)) (next_is e) memory))
 
-  -- An event that is due, at a node that is up.
+  -- An event that is staged, at a node that is up.
 
-  module _ (d1 : StagedEvent V) (d : IsStaged size net d1) (low : length net.taken.events < MOST_EVENTS) (e : Event V) (is_e : d1.event ≡ e) (store : StoreState V) (is : slice_get stores d1.at ≡ Some store) where
-    abbrev step : Stepped V
+  module _ (d1 : StagedEvent V) (d : IsStaged size net d1) (low : length net.history.events < MOST_EVENTS) (e : Event V) (is_e : d1.event ≡ e) (store : StoreState V) (is : slice_get stores d1.at ≡ Some store) where
+    abbrev step : StepResult V
     step = step_of d1.work d.core.node
 
     -- what the event comes to at its node is the step
@@ -115,74 +115,74 @@ module _ {V : Type 0} (size : V → ℕ) (net : NetView V) (stores : List (Store
     at_e = subst (λ (f : Event V). IsEventAt size w d1.at f (Ok step)) is_e (at size net stores h d1 d)
 
     -- the world after the event is this one with the step made
-    happens_e : happens size w e ≡ Ok (stepped w d1.at step)
-    happens_e = ap (λ (f : Event V). happens size w f) (sym is_e) ∙ happens_is size net stores h d1 d low
+    happens_e : event_result size w e ≡ Ok (after_step w d1.at step)
+    happens_e = ap (λ (f : Event V). event_result size w f) (sym is_e) ∙ happens_is size net stores h d1 d low
 
     -- where the node of the event is not seen as down, its store is up
-    pub is_up_at : is_down_at now.stores (node_of w e) ≡ false → store.standing ≡ up
+    pub is_up_at : is_down_at now.stores (node_of w e) ≡ false → store.status ≡ up
     is_up_at test = up_at stores d1.at store is (ap (λ (o : Option ℕ). is_down_at (views_of stores) o) (sym at_e.node) ∙ ap (λ (s : SwitchView V). is_down_at s.stores (node_of w e)) seen ∙ test)
 
-    module _ (is_up : store.standing ≡ up) where
+    module _ (is_up : store.status ≡ up) where
       -- the record of its keep is the kept part of the node
       pub kept_up : store.kept ≡ kept_of d.core.node
-      kept_up = subst (λ (s : Standing (StagedEvent V)). IsRecordOf d.core.node s store.kept) is_up (h.each d1.at d.core.node store (node_is size net stores h d1 d) is).fits
+      kept_up = subst (λ (s : Status (StagedEvent V)). IsRecordOf d.core.node s store.kept) is_up (h.each d1.at d.core.node store (node_is size net stores h d1 d) is).fits
 
       -- what is told of the step by its own number, view and world is told by those that are found
-      told : (new : SwitchView V) (result : Result ℕ StepFault) → TakesAt old new e d1.at (view_of store) (change_in d1.work) (stepped w d1.at step) result → ActsUp size w old new e result
+      told : (new : SwitchView V) (result : Result ℕ StepFault) → TakesAt old new e d1.at (view_of store) (change_in d1.work) (after_step w d1.at step) result → IsEffectAtUpNode size w old new e result
       told new result takes = record {
-        refused = λ fault f. let no : Ok (stepped w d1.at step) ≡ Err fault = sym happens_e ∙ f in cc;
+        refused = λ fault f. let no : Ok (after_step w d1.at step) ≡ Err fault = sym happens_e ∙ f in cc;
         taken = λ x f j node view found.
-            let both : Ok (stepped w d1.at step) ≡ Ok x = sym happens_e ∙ f in
-            let is_x : stepped w d1.at step ≡ x = cc in
+            let both : Ok (after_step w d1.at step) ≡ Ok x = sym happens_e ∙ f in
+            let is_x : after_step w d1.at step ≡ x = cc in
             let nodes : Some d1.at ≡ Some j = sym at_e.node ∙ node in
             let is_j : d1.at ≡ j = cc in
             let views : Some (view_of store) ≡ Some view = sym (view_at stores d1.at store is) ∙ ap (λ (i : ℕ). slice_get (views_of stores) i) is_j ∙ found in
             let is_view : view_of store ≡ view = cc in
             subst (λ (y : World V). TakesAt old new e j view (change_of size w e) y result) is_x
-            (subst (λ (c : Option (Change V)). TakesAt old new e j view c (stepped w d1.at step) result) (change_is size net stores h d1 d ∙ sym at_e.change)
-            (subst (λ (p : StoreView V). TakesAt old new e j p (change_in d1.work) (stepped w d1.at step) result) is_view
-            (subst (λ (i : ℕ). TakesAt old new e i (view_of store) (change_in d1.work) (stepped w d1.at step) result) is_j takes)));
+            (subst (λ (c : Option (Change V)). TakesAt old new e j view c (after_step w d1.at step) result) (change_is size net stores h d1 d ∙ sym at_e.change)
+            (subst (λ (p : StoreView V). TakesAt old new e j p (change_in d1.work) (after_step w d1.at step) result) is_view
+            (subst (λ (i : ℕ). TakesAt old new e i (view_of store) (change_in d1.work) (after_step w d1.at step) result) is_j takes)));
       }
 
       -- a call of the keep failed, and o is owed
-      module _ (o : Option (StagedEvent V)) (change : Option (Change V)) (is_change : change ≡ change_in d1.work) (owes : change_owed o ≡ change) (is_due : event_owed o ≡ due e) (owing : IsOwing size net d1.at (down o)) (new : StoreState V) (fails : Fails store change (down o) new) where
+      module _ (o : Option (StagedEvent V)) (change : Option (Change V)) (is_change : change ≡ change_in d1.work) (owes : change_owed o ≡ change) (is_staged : event_owed o ≡ owed_on_failure e) (owing : IsOwing size net d1.at (down o)) (new : StoreState V) (fails : Fails store change (down o) new) where
         -- the stores still make a switch
         pub failed : IsSwitch size net (set stores d1.at new)
         failed = other_store size net stores h d1.at d.core.node store new (node_is size net stores h d1 d) is record {
-          fits = subst (λ (s : Standing (StagedEvent V)). IsRecordOf d.core.node s new.kept) (sym (ap (λ (s : StoreState V). s.standing) fails.rest))
+          fits = subst (λ (s : Status (StagedEvent V)). IsRecordOf d.core.node s new.kept) (sym (ap (λ (s : StoreState V). s.status) fails.rest))
               (subst (λ (c : Option (Change V)). IsWithOrWithout (kept_of d.core.node) c new.kept) (sym owes) (subst (λ (k : Kept V). IsWithOrWithout k change new.kept) kept_up fails.kept));
-          owing = subst (λ (s : Standing (StagedEvent V)). IsOwing size net d1.at s) (sym (ap (λ (s : StoreState V). s.standing) fails.rest)) owing;
+          owing = subst (λ (s : Status (StagedEvent V)). IsOwing size net d1.at s) (sym (ap (λ (s : StoreState V). s.status) fails.rest)) owing;
         }
 
         -- Device is what an event answers there, and its node is down with what it owes
-        pub failed_acts : ForOk (world_of size now) (λ x. ActsUp size x now (switch_view net (set stores d1.at new)) e (Err Device))
-        failed_acts = of_world (λ s x. ActsUp size x s (switch_view net (set stores d1.at new)) e (Err Device)) (told (switch_view net (set stores d1.at new)) (Err Device) (inr (
+        pub failed_acts : ForOk (world_of size now) (λ x. IsEffectAtUpNode size x now (switch_view net (set stores d1.at new)) e (Err Device))
+        failed_acts = of_world (λ s x. IsEffectAtUpNode size x s (switch_view net (set stores d1.at new)) e (Err Device)) (told (switch_view net (set stores d1.at new)) (Err Device) (inr (
           refl,
           record {
             kept = new.kept;
             either = subst (λ (c : Option (Change V)). IsWithOrWithout store.kept c new.kept) is_change fails.kept;
-            rest = ap (λ (ps : List (StoreView V)). let s : SwitchView V = record { weights = net.taken.weights; history = net.taken.events; stores = ps } in s) (views_of-set stores d1.at new)
+            rest = ap (λ (ps : List (StoreView V)). let s : SwitchView V = record { weights = net.history.weights; history = net.history.events; stores = ps } in s) (views_of-set stores d1.at new)
                 ∙ ap (λ (s : StoreState V). with_store old d1.at (view_of s)) fails.rest
-                ∙ ap (λ (f : Option (Event V)). with_store old d1.at record { kept = new.kept; failures = store.failures + 1; standing = down f }) is_due;
+                ∙ ap (λ (f : Option (Event V)). with_store old d1.at record { kept = new.kept; failures = store.failures + 1; status = down f }) is_staged;
           },
         )))
 
       -- the keep has made the change, and the event is taken
-      module _ (new : StoreState V) (stored : new ≡ record { kept = changed_by store.kept (change_in d1.work); failures = store.failures; standing = store.standing }) (b : NetView V) (t : IsTaken net b d1) where
+      module _ (new : StoreState V) (stored : new ≡ record { kept = changed_by store.kept (change_in d1.work); failures = store.failures; status = store.status }) (b : NetView V) (t : IsTaken net b d1) where
         -- the net and the stores make a switch again
         pub played : IsSwitch size b (set stores d1.at new)
         played = committed size net stores h d1 d low b t store new is
             (ap (λ (s : StoreState V). s.kept) stored ∙ ap (λ (k : Kept V). changed_by k (change_in d1.work)) kept_up ∙ sym (changes size net stores h d1 d low))
-            (ap (λ (s : StoreState V). s.standing) stored ∙ is_up)
+            (ap (λ (s : StoreState V). s.status) stored ∙ is_up)
 
         -- its world is the one before with the step made
-        world_then : world_of_taken size b.taken ≡ Ok (stepped w d1.at step)
-        world_then = ap (λ (x : Taken V). world_of_taken size x) t.taken ∙ next_is d1.event ∙ happens_is size net stores h d1 d low
+        world_then : world_of_taken size b.history ≡ Ok (after_step w d1.at step)
+        world_then = ap (λ (x : History V). world_of_taken size x) t.history ∙ next_is d1.event ∙ happens_is size net stores h d1 d low
 
         -- the count of its packets is what an event answers there
-        pub played_acts : (count : ℕ) → count ≡ length (packets_after (world_of_taken size b.taken)) → ForOk (world_of size now) (λ x. ActsUp size x now (switch_view b (set stores d1.at new)) e (Ok count))
-        played_acts count counted = of_world (λ s x. ActsUp size x s (switch_view b (set stores d1.at new)) e (Ok count)) (told (switch_view b (set stores d1.at new)) (Ok count) (
-          view_is_same _ _ _ _ _ _ (ap (λ (x : Taken V). x.weights) t.taken) (ap (λ (x : Taken V). x.events) t.taken ∙ ap (λ (f : Event V). net.taken.events ++ f ∷ []) is_e)
+        pub played_acts : (count : ℕ) → count ≡ length (packets_after (world_of_taken size b.history)) → ForOk (world_of size now) (λ x. IsEffectAtUpNode size x now (switch_view b (set stores d1.at new)) e (Ok count))
+        played_acts count counted = of_world (λ s x. IsEffectAtUpNode size x s (switch_view b (set stores d1.at new)) e (Ok count)) (told (switch_view b (set stores d1.at new)) (Ok count) (
+          view_is_same _ _ _ _ _ _ (ap (λ (x : History V). x.weights) t.history) (ap (λ (x : History V). x.events) t.history ∙ ap (λ (f : Event V). net.history.events ++ f ∷ []) is_e)
               (views_of-set stores d1.at new ∙ ap (λ (s : StoreState V). set (views_of stores) d1.at (view_of s)) stored),
           counted ∙ ap (λ (r : Result (World V) StepFault). length (packets_after r)) world_then,
         ))

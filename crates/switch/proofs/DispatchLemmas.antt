@@ -1,12 +1,12 @@
 -- How many nodes there are, the dispatch of an event by its node, and a call as its function has it.
-use Rattle.switch.proofs.Words.{◌≡◌, ℕ, ◌<◌, Bool, true, false, List, length, get_or, set, slice_get, Option, Some, Result, Ok, Err, refl, ap, sym, ◌∙◌, subst, arith, ForOk, slice_get_within, slice_get_read, Change, changed_by, kept_of, MOST_EVENTS, Event, Offer, Begin, Deliver, Restart, StepFault, Device, Down, World, packets_after, Taken, world_of_taken, node_of, StagedEvent, NetView, IsStaged, IsStill, IsTaken, change_in, count_shown, up, down, StoreState, Fails, change_owed, SwitchView, event_owed, IsOwing, IsSwitch, world_of, is_down_at, due, ActsUp, ActsDown, Acts}
+use Rattle.switch.proofs.Words.{◌≡◌, ℕ, ◌<◌, Bool, true, false, List, length, get_or, set, slice_get, Option, Some, Result, Ok, Err, refl, ap, sym, ◌∙◌, subst, arith, ForOk, slice_get_within, slice_get_read, Change, changed_by, kept_of, MOST_EVENTS, Event, Offer, Begin, Deliver, Restart, StepFault, Device, Down, World, packets_after, History, world_of_taken, node_of, StagedEvent, NetView, IsStaged, ChangesOnlyRoom, IsTaken, change_in, count_shown, up, down, StoreState, Fails, change_owed, SwitchView, event_owed, IsOwing, IsSwitch, world_of, is_down_at, owed_on_failure, IsEffectAtUpNode, IsEffectAtDownNode, IsEffect}
 use Rattle.switch.proofs.StoresLemmas.{count_views}
 use Rattle.switch.proofs.SwitchLemmas.{switch_view, still_switch}
 use Rattle.switch.proofs.CallLemmas.{still_view, after_is, is_up_at, kept_up, failed, failed_acts, played, played_acts}
 
 -- as many stores are seen as there are weights
-pub count_now : {V : Type 0} (size : V → ℕ) (net : NetView V) (stores : List (StoreState V)) (h : IsSwitch size net stores) (now : SwitchView V) (seen : switch_view net stores ≡ now) → length now.stores ≡ length net.taken.weights
-count_now {V} size net stores h now seen = ap (λ (s : SwitchView V). length s.stores) (sym seen) ∙ count_views stores ∙ h.count ∙ count_shown size net.taken net.taken net.cores net.packets h.world refl
+pub count_now : {V : Type 0} (size : V → ℕ) (net : NetView V) (stores : List (StoreState V)) (h : IsSwitch size net stores) (now : SwitchView V) (seen : switch_view net stores ≡ now) → length now.stores ≡ length net.history.weights
+count_now {V} size net stores h now seen = ap (λ (s : SwitchView V). length s.stores) (sym seen) ∙ count_views stores ∙ h.count ∙ count_shown size net.history net.history net.cores net.packets h.world refl
 
 -- The dispatch of an event by its node.
 
@@ -17,22 +17,22 @@ module _ {V : Type 0} (size : V → ℕ) (now : SwitchView V) (e : Event V) (o :
 
   module _ (new : SwitchView V) (result : Result ℕ StepFault) where
     -- an event whose node is down does what it does there
-    pub down_acts : is_down_at now.stores o ≡ true → ForOk (world_of size now) (λ x. ActsDown size x now new e result) → ForOk (world_of size now) (λ x. Acts size x now new e result)
-    down_acts test acts = λ x d. record { is_down = λ yes. acts x d; is_up = λ no. (let never : true ≡ false = sym (test_at true test x d) ∙ no in cc) }
+    pub down_acts : is_down_at now.stores o ≡ true → ForOk (world_of size now) (λ x. IsEffectAtDownNode size x now new e result) → ForOk (world_of size now) (λ x. IsEffect size x now new e result)
+    down_acts test effect = λ x d. record { is_down = λ yes. effect x d; is_up = λ no. (let never : true ≡ false = sym (test_at true test x d) ∙ no in cc) }
 
     -- an event whose node is not down does what it does at a node that is up
-    pub up_acts : is_down_at now.stores o ≡ false → ForOk (world_of size now) (λ x. ActsUp size x now new e result) → ForOk (world_of size now) (λ x. Acts size x now new e result)
-    up_acts test acts = λ x d. record { is_down = λ yes. (let never : false ≡ true = sym (test_at false test x d) ∙ yes in cc); is_up = λ no. acts x d }
+    pub up_acts : is_down_at now.stores o ≡ false → ForOk (world_of size now) (λ x. IsEffectAtUpNode size x now new e result) → ForOk (world_of size now) (λ x. IsEffect size x now new e result)
+    up_acts test effect = λ x d. record { is_down = λ yes. (let never : false ≡ true = sym (test_at false test x d) ∙ yes in cc); is_up = λ no. effect x d }
 
 -- an event that is no restart is itself what is owed where its store fails
-pub no_restart : {V : Type 0} (e : Event V) → ((k : ℕ) → e ≡ Restart k → ⊥) → due e ≡ Some e
+pub no_restart : {V : Type 0} (e : Event V) → ((k : ℕ) → e ≡ Restart k → ⊥) → owed_on_failure e ≡ Some e
 no_restart (Offer k v) other = refl
 no_restart (Begin k) other = refl
 no_restart (Deliver number) other = refl
 no_restart (Restart k) other = absurd (other k refl)
 
 -- an event that is no restart is refused at a node that is down
-pub refused_down : {V : Type 0} (size : V → ℕ) (now : SwitchView V) (e : Event V) → due e ≡ Some e → ForOk (world_of size now) (λ x. ActsDown size x now now e (Err Down))
+pub refused_down : {V : Type 0} (size : V → ℕ) (now : SwitchView V) (e : Event V) → owed_on_failure e ≡ Some e → ForOk (world_of size now) (λ x. IsEffectAtDownNode size x now now e (Err Down))
 refused_down size now (Offer k v) is = λ x d. (refl, refl)
 refused_down size now (Begin k) is = λ x d. (refl, refl)
 refused_down size now (Deliver number) is = λ x d. (refl, refl)
@@ -40,30 +40,30 @@ refused_down size now (Restart k) is = cc
 
 -- A call as its function has it: the net was made ready, and the store is found by its number.
 
-module _ {V : Type 0} (size : V → ℕ) (a b : NetView V) (still : IsStill a b) (stores : List (StoreState V)) (h : IsSwitch size a stores) (now : SwitchView V) (seen : switch_view a stores ≡ now) (d1 : StagedEvent V) (d : IsStaged size b d1) (k : ℕ) (is_at : k ≡ d1.at) where
+module _ {V : Type 0} (size : V → ℕ) (a b : NetView V) (only_room : ChangesOnlyRoom a b) (stores : List (StoreState V)) (h : IsSwitch size a stores) (now : SwitchView V) (seen : switch_view a stores ≡ now) (d1 : StagedEvent V) (d : IsStaged size b d1) (k : ℕ) (is_at : k ≡ d1.at) where
   -- the stores make a switch with the net as it is then
   hb : IsSwitch size b stores
-  hb = still_switch size a stores h b still
+  hb = still_switch size a stores h b only_room
 
   -- what is seen of it is what was seen before
   seen_b : switch_view b stores ≡ now
-  seen_b = still_view a b stores still ∙ seen
+  seen_b = still_view a b stores only_room ∙ seen
 
   -- there is a store of this number
   pub in_stores : k < length stores
   in_stores = let low = slice_get_within b.cores d1.at d.core d.at in let count = hb.count in omega (arith, low, count, is_at)
 
-  module _ (e : Event V) (is_e : d1.event ≡ e) (few : length a.taken.events < MOST_EVENTS) (store : StoreState V) (is : store ≡ get_or stores k store) (up_now : ForOk (world_of size now) (λ x. is_down_at now.stores (node_of x e) ≡ false)) where
-    -- the store that was read is the one of the node at which the event is due
+  module _ (e : Event V) (is_e : d1.event ≡ e) (few : length a.history.events < MOST_EVENTS) (store : StoreState V) (is : store ≡ get_or stores k store) (up_now : ForOk (world_of size now) (λ x. is_down_at now.stores (node_of x e) ≡ false)) where
+    -- the store that was read is the one of the node at which the event is staged
     found : slice_get stores d1.at ≡ Some store
     found = ap (λ (i : ℕ). slice_get stores i) (sym is_at) ∙ slice_get_read stores (length stores) k store refl in_stores is
 
     -- the history is still below the limit of events
-    low : length b.taken.events < MOST_EVENTS
-    low = let same = ap (λ (t : Taken V). length t.events) still.taken in omega (arith, same, few)
+    low : length b.history.events < MOST_EVENTS
+    low = let same = ap (λ (t : History V). length t.events) only_room.history in omega (arith, same, few)
 
     -- where the node of the event is not seen as down, this store is up
-    pub is_up : store.standing ≡ up
+    pub is_up : store.status ≡ up
     is_up = is_up_at size b stores hb now seen_b d1 d low e is_e store found (up_now hb.world.world (after_is size b stores hb now seen_b))
 
     -- its keep has the kept part of the node
@@ -71,19 +71,19 @@ module _ {V : Type 0} (size : V → ℕ) (a b : NetView V) (still : IsStill a b)
     kept_is = kept_up size b stores hb now seen_b d1 d low e is_e store found is_up
 
     -- a call of the keep failed: the stores still make a switch, and Device is what an event answers there
-    pub call_failed : (o : Option (StagedEvent V)) (change : Option (Change V)) → change ≡ change_in d1.work → change_owed o ≡ change → event_owed o ≡ due e → IsOwing size b d1.at (down o) → (new : StoreState V) → Fails store change (down o) new
-        → IsSwitch size b (set stores k new) × ForOk (world_of size now) (λ x. ActsUp size x now (switch_view b (set stores k new)) e (Err Device))
-    call_failed o change is_change owes is_due owing new fails =
-        subst (λ (i : ℕ). IsSwitch size b (set stores i new) × ForOk (world_of size now) (λ x. ActsUp size x now (switch_view b (set stores i new)) e (Err Device))) (sym is_at) (
-          failed size b stores hb now seen_b d1 d low e is_e store found is_up o change is_change owes is_due owing new fails,
-          failed_acts size b stores hb now seen_b d1 d low e is_e store found is_up o change is_change owes is_due owing new fails,
+    pub call_failed : (o : Option (StagedEvent V)) (change : Option (Change V)) → change ≡ change_in d1.work → change_owed o ≡ change → event_owed o ≡ owed_on_failure e → IsOwing size b d1.at (down o) → (new : StoreState V) → Fails store change (down o) new
+        → IsSwitch size b (set stores k new) × ForOk (world_of size now) (λ x. IsEffectAtUpNode size x now (switch_view b (set stores k new)) e (Err Device))
+    call_failed o change is_change owes is_staged owing new fails =
+        subst (λ (i : ℕ). IsSwitch size b (set stores i new) × ForOk (world_of size now) (λ x. IsEffectAtUpNode size x now (switch_view b (set stores i new)) e (Err Device))) (sym is_at) (
+          failed size b stores hb now seen_b d1 d low e is_e store found is_up o change is_change owes is_staged owing new fails,
+          failed_acts size b stores hb now seen_b d1 d low e is_e store found is_up o change is_change owes is_staged owing new fails,
         )
 
     -- the keep made the change and the event was taken: a switch again, and the count of its packets is what an event answers
-    pub call_played : (new : StoreState V) → new ≡ record { kept = changed_by store.kept (change_in d1.work); failures = store.failures; standing = store.standing } → (c : NetView V) → IsTaken b c d1 → (count : ℕ) → count ≡ length (packets_after (world_of_taken size c.taken))
-        → IsSwitch size c (set stores k new) × ForOk (world_of size now) (λ x. ActsUp size x now (switch_view c (set stores k new)) e (Ok count))
+    pub call_played : (new : StoreState V) → new ≡ record { kept = changed_by store.kept (change_in d1.work); failures = store.failures; status = store.status } → (c : NetView V) → IsTaken b c d1 → (count : ℕ) → count ≡ length (packets_after (world_of_taken size c.history))
+        → IsSwitch size c (set stores k new) × ForOk (world_of size now) (λ x. IsEffectAtUpNode size x now (switch_view c (set stores k new)) e (Ok count))
     call_played new stored c t count counted =
-        subst (λ (i : ℕ). IsSwitch size c (set stores i new) × ForOk (world_of size now) (λ x. ActsUp size x now (switch_view c (set stores i new)) e (Ok count))) (sym is_at) (
+        subst (λ (i : ℕ). IsSwitch size c (set stores i new) × ForOk (world_of size now) (λ x. IsEffectAtUpNode size x now (switch_view c (set stores i new)) e (Ok count))) (sym is_at) (
           played size b stores hb now seen_b d1 d low e is_e store found is_up new stored c t,
           played_acts size b stores hb now seen_b d1 d low e is_e store found is_up new stored c t count counted,
         )

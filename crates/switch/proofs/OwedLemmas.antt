@@ -1,5 +1,5 @@
--- What is owed at a node that is down: that it can be taken, and the switch once it is.
-use Rattle.switch.proofs.Words.{◌≡◌, ℕ, ◌+◌, ◌<◌, ◌≤◌, List, ◌++◌, length, set, slice_get, Option, Some, None, refl, ap, sym, ◌∙◌, subst, arith, changed_by, Node, kept_of, MOST_EVENTS, World, Taken, StagedEvent, NetView, HasRoom, step_of, Standing, up, down, StoreState, change_owed, posts_owed, IsRecordOf, event_owed, IsOwing, IsSwitch, CanTakeOwed, TakesOwed, change_due, events_due, append-nil}
+-- The event that a node which is down owes: that it can be taken, and the switch once it is.
+use Rattle.switch.proofs.Words.{◌≡◌, ℕ, ◌+◌, ◌<◌, ◌≤◌, List, ◌++◌, length, set, slice_get, Option, Some, None, refl, ap, sym, ◌∙◌, subst, arith, changed_by, Node, kept_of, MOST_EVENTS, World, History, StagedEvent, NetView, HasRoom, step_of, Status, up, down, StoreState, change_owed, posts_owed, IsRecordOf, event_owed, IsOwing, IsSwitch, CanTakeOwed, TakesOwed, change_of_owed, owed_events, append-nil}
 use Rattle.switch.proofs.KeepLemmas.{with_either}
 use Rattle.switch.proofs.SwitchLemmas.{other_store, node_is, committed, change_told, changes}
 
@@ -8,47 +8,47 @@ module _ {V : Type 0} (size : V → ℕ) (net : NetView V) (stores : List (Store
   w = h.world.world
 
   -- its change is the one that the world after the history tells of its event
-  pub owed_change : (o : Option (StagedEvent V)) → IsOwing size net k (down o) → change_owed o ≡ change_due size w (event_owed o)
+  pub owed_change : (o : Option (StagedEvent V)) → IsOwing size net k (down o) → change_owed o ≡ change_of_owed size w (event_owed o)
   owed_change None q = refl
-  owed_change (Some due) q = change_told size net stores h due q.1
+  owed_change (Some staged) q = change_told size net stores h staged q.1
 
-  module _ (room : length net.taken.events + 2 ≤ MOST_EVENTS) where
+  module _ (room : length net.history.events + 2 ≤ MOST_EVENTS) where
     -- it can be taken, where there is room for it and for the restart
     pub can_take : (o : Option (StagedEvent V)) → IsOwing size net k (down o) → (more : ℕ) → HasRoom net (length (posts_owed o) + more) 2 → CanTakeOwed size net o
     can_take None q more r = tt
-    can_take (Some due) q more r = (
+    can_take (Some staged) q more r = (
       q.1,
       record { for_packets = (let a = r.for_packets in omega (arith, a)); for_events = (let a = r.for_events in omega (arith, a)) },
       omega (arith, room),
     )
 
-  module _ (n : Node V) (store new : StoreState V) (node_k : slice_get w.nodes k ≡ Some n) (found : slice_get stores k ≡ Some store) (new_up : new.standing ≡ up) (room : length net.taken.events + 2 ≤ MOST_EVENTS) (m : NetView V) where
+  module _ (n : Node V) (store new : StoreState V) (node_k : slice_get w.nodes k ≡ Some n) (found : slice_get stores k ≡ Some store) (new_up : new.status ≡ up) (room : length net.history.events + 2 ≤ MOST_EVENTS) (m : NetView V) where
     -- the switch and the net once it is taken, the keep having made its change
     pub owed_taken : (p : Option (StagedEvent V)) → IsOwing size net k (down p) → IsRecordOf n (down p) store.kept → new.kept ≡ changed_by store.kept (change_owed p) → TakesOwed net m p
-        → (switch : IsSwitch size m (set stores k new)) × (m.taken.weights ≡ net.taken.weights) × (m.taken.events ≡ net.taken.events ++ events_due (event_owed p)) × (m.packets ≡ net.packets ++ posts_owed p)
+        → (switch : IsSwitch size m (set stores k new)) × (m.history.weights ≡ net.history.weights) × (m.history.events ≡ net.history.events ++ owed_events (event_owed p)) × (m.packets ≡ net.packets ++ posts_owed p)
         × (net.packet_room ≤ m.packet_room) × (net.event_room ≤ m.event_room)
     owed_taken None q f kept same =
         let base : IsSwitch size net (set stores k new) = other_store size net stores h k n store new node_k found record {
-          fits = subst (λ (s : Standing (StagedEvent V)). IsRecordOf n s new.kept) (sym new_up) (kept ∙ with_either (kept_of n) store.kept None f);
-          owing = subst (λ (s : Standing (StagedEvent V)). IsOwing size net k s) (sym new_up) tt;
+          fits = subst (λ (s : Status (StagedEvent V)). IsRecordOf n s new.kept) (sym new_up) (kept ∙ with_either (kept_of n) store.kept None f);
+          owing = subst (λ (s : Status (StagedEvent V)). IsOwing size net k s) (sym new_up) tt;
         } in (
           subst (λ (x : NetView V). IsSwitch size x (set stores k new)) (sym same) base,
-          ap (λ (x : NetView V). x.taken.weights) same,
-          ap (λ (x : NetView V). x.taken.events) same ∙ sym (append-nil net.taken.events),
+          ap (λ (x : NetView V). x.history.weights) same,
+          ap (λ (x : NetView V). x.history.events) same ∙ sym (append-nil net.history.events),
           ap (λ (x : NetView V). x.packets) same ∙ sym (append-nil net.packets),
           (let e = ap (λ (x : NetView V). x.packet_room) same in omega (arith, e)),
           (let e = ap (λ (x : NetView V). x.event_room) same in omega (arith, e)),
         )
-    owed_taken (Some due) q f kept t =
-        let low : length net.taken.events < MOST_EVENTS = omega (arith, room) in
-        let at_k : slice_get stores due.at ≡ Some store = ap (λ (i : ℕ). slice_get stores i) q.0 ∙ found in
+    owed_taken (Some staged) q f kept t =
+        let low : length net.history.events < MOST_EVENTS = omega (arith, room) in
+        let at_k : slice_get stores staged.at ≡ Some store = ap (λ (i : ℕ). slice_get stores i) q.0 ∙ found in
         let same_node : n ≡ q.1.core.node =
-        (let both : Some n ≡ Some q.1.core.node = sym node_k ∙ ap (λ (i : ℕ). slice_get w.nodes i) (sym q.0) ∙ node_is size net stores h due q.1 in cc) in
-        let stored : new.kept ≡ kept_of (step_of due.work q.1.core.node).node =
-        kept ∙ with_either (kept_of n) store.kept (change_owed (Some due)) f ∙ ap (λ (x : Node V). changed_by (kept_of x) (change_owed (Some due))) same_node ∙ sym (changes size net stores h due q.1 low) in (
-          subst (λ (i : ℕ). IsSwitch size m (set stores i new)) q.0 (committed size net stores h due q.1 low m t store new at_k stored new_up),
-          ap (λ (x : Taken V). x.weights) t.taken,
-          ap (λ (x : Taken V). x.events) t.taken,
+        (let both : Some n ≡ Some q.1.core.node = sym node_k ∙ ap (λ (i : ℕ). slice_get w.nodes i) (sym q.0) ∙ node_is size net stores h staged q.1 in cc) in
+        let stored : new.kept ≡ kept_of (step_of staged.work q.1.core.node).node =
+        kept ∙ with_either (kept_of n) store.kept (change_owed (Some staged)) f ∙ ap (λ (x : Node V). changed_by (kept_of x) (change_owed (Some staged))) same_node ∙ sym (changes size net stores h staged q.1 low) in (
+          subst (λ (i : ℕ). IsSwitch size m (set stores i new)) q.0 (committed size net stores h staged q.1 low m t store new at_k stored new_up),
+          ap (λ (x : History V). x.weights) t.history,
+          ap (λ (x : History V). x.events) t.history,
           t.packets,
           t.packet_room,
           t.event_room,

@@ -1,7 +1,7 @@
 -- The restart of a node that is down: what is owed is taken first.
-use Rattle.switch.proofs.Words.{◌≡◌, ℕ, ◌+◌, ◌<◌, ◌≤◌, true, List, [], ◌∷◌, ◌++◌, length, get_or, set, slice_get, inl, inr, Option, Some, None, Result, Ok, Err, refl, ap, sym, ◌∙◌, subst, arith, length-append, AllByRecursion, option_map, ForOk, length-set, slice_get_read, Packet, Ask, Change, IsPost, to_others, Kept, changed_by, Node, Stepped, kept_of, Core, reloaded, restarted, MOST_EVENTS, Event, Restart, StepFault, Memory, Device, World, packets_after, IsAfter, Taken, world_of_taken, kept_part, StagedWork, steps, restarts, StagedEvent, NetView, HasRoom, IsStaged, IsReadyAt, IsOfEvent, IsEventAt, ComesTo, IsTaken, posts_of, step_of, loads, with_record, at_set, set_twice, comes_restart, set_same, Standing, up, down, StoreState, owed_in, change_owed, posts_owed, IsRecordOf, IsWithOrWithout, Fails, StoreView, SwitchView, event_owed, standing_seen, view_of, views_of, IsOwing, IsStore, IsSwitch, CanTakeOwed, TakesOwed, world_of, is_down_at, events_due, with_store, RevivesAt, Revives}
+use Rattle.switch.proofs.Words.{◌≡◌, ℕ, ◌+◌, ◌<◌, ◌≤◌, true, List, [], ◌∷◌, ◌++◌, length, get_or, set, slice_get, inl, inr, Option, Some, None, Result, Ok, Err, refl, ap, sym, ◌∙◌, subst, arith, length-append, AllByRecursion, option_map, ForOk, length-set, slice_get_read, Packet, Ask, Change, IsPost, to_others, Kept, changed_by, Node, StepResult, kept_of, Core, reloaded, restarted, MOST_EVENTS, Event, Restart, StepFault, Memory, Device, World, packets_after, IsAfter, History, world_of_taken, kept_part, StagedWork, steps, restarts, StagedEvent, NetView, HasRoom, IsStaged, IsReadyAt, IsOfEvent, IsEventAt, HasResult, IsTaken, posts_of, step_of, with_loaded, with_record, at_set, set_twice, comes_restart, set_same, Status, up, down, StoreState, owed_in, change_owed, posts_owed, IsRecordOf, IsWithOrWithout, Fails, StoreView, SwitchView, event_owed, status_seen, view_of, views_of, IsOwing, IsStore, IsSwitch, CanTakeOwed, TakesOwed, world_of, is_down_at, owed_events, with_store, RevivesAt, Revives}
 use Rattle.switch.proofs.KeepLemmas.{either_twice}
-use Rattle.switch.proofs.StoresLemmas.{views_of-set, view_at, item_at, down_at, few_due}
+use Rattle.switch.proofs.StoresLemmas.{views_of-set, view_at, item_at, down_at, few_staged}
 use Rattle.switch.proofs.SwitchLemmas.{switch_view, core_node, own_number, own_weights, other_store, at, node_is, committed}
 use Rattle.switch.proofs.CallLemmas.{view_is_same, of_world}
 use Rattle.switch.proofs.LoadLemmas.{load_posts}
@@ -10,7 +10,7 @@ use Rattle.switch.proofs.OwedLemmas.{owed_change, can_take, owed_taken}
 -- The switch before, stores and net being as they are when the keep is called.
 module _ {V : Type 0} (size : V → ℕ) (net : NetView V) (stores : List (StoreState V)) (h : IsSwitch size net stores) (now : SwitchView V) (seen : switch_view net stores ≡ now)
     (d1 : StagedEvent V) (d : IsStaged size net d1) (j : ℕ) (is_e : d1.event ≡ Restart j) (kind : IsOfEvent (Restart j) d1.work) (k : ℕ) (is_at : k ≡ d1.at) (store : StoreState V) (is : store ≡ get_or stores k store) (low_k : k < length stores)
-    (test : is_down_at now.stores (Some j) ≡ true) (room : length net.taken.events + 2 ≤ MOST_EVENTS) where
+    (test : is_down_at now.stores (Some j) ≡ true) (room : length net.history.events + 2 ≤ MOST_EVENTS) where
   abbrev w : World V
   w = h.world.world
 
@@ -29,7 +29,7 @@ module _ {V : Type 0} (size : V → ℕ) (net : NetView V) (stores : List (Store
   found : slice_get stores k ≡ Some store
   found = slice_get_read stores (length stores) k store refl low_k is
 
-  -- the world has the node at which the restart is due
+  -- the world has the node at which the restart is staged
   node_k : slice_get w.nodes k ≡ Some d.core.node
   node_k = ap (λ (i : ℕ). slice_get w.nodes i) is_at ∙ node_is size net stores h d1 d
 
@@ -38,32 +38,32 @@ module _ {V : Type 0} (size : V → ℕ) (net : NetView V) (stores : List (Store
   own = h.each k d.core.node store node_k found
 
   -- the store is down, with an event that is owed or none
-  is_down : (o : Option (StagedEvent V)) × (store.standing ≡ down o)
+  is_down : (o : Option (StagedEvent V)) × (store.status ≡ down o)
   is_down = down_at stores k store found (ap (λ (i : ℕ). is_down_at (views_of stores) (Some i)) (sym is_j) ∙ ap (λ (s : SwitchView V). is_down_at s.stores (Some j)) seen ∙ test)
 
   abbrev o : Option (StagedEvent V)
   o = is_down.0
 
   -- that is what the store owes
-  owed_is : owed_in store.standing ≡ o
-  owed_is = ap (λ (s : Standing (StagedEvent V)). owed_in s) is_down.1
+  owed_is : owed_in store.status ≡ o
+  owed_is = ap (λ (s : Status (StagedEvent V)). owed_in s) is_down.1
 
   -- the record of the keep is that of the node, with or without the change that is owed
   fits : IsRecordOf d.core.node (down o) store.kept
-  fits = subst (λ (s : Standing (StagedEvent V)). IsRecordOf d.core.node s store.kept) is_down.1 own.fits
+  fits = subst (λ (s : Status (StagedEvent V)). IsRecordOf d.core.node s store.kept) is_down.1 own.fits
 
-  -- what is owed is due at the node
+  -- what is owed is staged at the node
   owing : IsOwing size net k (down o)
-  owing = subst (λ (s : Standing (StagedEvent V)). IsOwing size net k s) is_down.1 own.owing
+  owing = subst (λ (s : Status (StagedEvent V)). IsOwing size net k s) is_down.1 own.owing
 
   -- the view that is seen
   of_view : (new : SwitchView V) (result : Result ℕ StepFault) → RevivesAt size w old new j (view_of store) (event_owed o) result
-      → ForOk (world_of size now) (λ x. (view : StoreView V) → slice_get now.stores j ≡ Some view → (e : Option (Event V)) → view.standing ≡ down e → Revives size x now new j view e result)
-  of_view new result revives = of_world size net stores h now seen (λ s x. (view : StoreView V) → slice_get s.stores j ≡ Some view → (e : Option (Event V)) → view.standing ≡ down e → Revives size x s new j view e result)
+      → ForOk (world_of size now) (λ x. (view : StoreView V) → slice_get now.stores j ≡ Some view → (e : Option (Event V)) → view.status ≡ down e → Revives size x now new j view e result)
+  of_view new result revives = of_world size net stores h now seen (λ s x. (view : StoreView V) → slice_get s.stores j ≡ Some view → (e : Option (Event V)) → view.status ≡ down e → Revives size x s new j view e result)
       (λ view at_j e stands.
       let views : Some (view_of store) ≡ Some view = sym (view_at stores k store found) ∙ ap (λ (i : ℕ). slice_get (views_of stores) i) (sym is_j) ∙ at_j in
       let is_view : view_of store ≡ view = cc in
-      let stand : down (event_owed o) ≡ down e = sym (ap (λ (s : Standing (StagedEvent V)). standing_seen s) is_down.1) ∙ ap (λ (p : StoreView V). p.standing) is_view ∙ stands in
+      let stand : down (event_owed o) ≡ down e = sym (ap (λ (s : Status (StagedEvent V)). status_seen s) is_down.1) ∙ ap (λ (p : StoreView V). p.status) is_view ∙ stands in
       let is_f : event_owed o ≡ e = cc in
       record {
         spent = λ spent. absurd (omega (arith, spent, room));
@@ -71,69 +71,69 @@ module _ {V : Type 0} (size : V → ℕ) (net : NetView V) (stores : List (Store
       })
 
   -- there is no memory
-  pub no_memory : (new : SwitchView V) → new ≡ old → ForOk (world_of size now) (λ x. (view : StoreView V) → slice_get now.stores j ≡ Some view → (e : Option (Event V)) → view.standing ≡ down e → Revives size x now new j view e (Err Memory))
+  pub no_memory : (new : SwitchView V) → new ≡ old → ForOk (world_of size now) (λ x. (view : StoreView V) → slice_get now.stores j ≡ Some view → (e : Option (Event V)) → view.status ≡ down e → Revives size x now new j view e (Err Memory))
   no_memory new same = of_view new (Err Memory) (inl (
     refl,
     record {
       kept = store.kept;
       either = inl refl;
-      rest = same ∙ ap (λ (ps : List (StoreView V)). let s : SwitchView V = record { weights = net.taken.weights; history = net.taken.events; stores = ps } in s)
+      rest = same ∙ ap (λ (ps : List (StoreView V)). let s : SwitchView V = record { weights = net.history.weights; history = net.history.events; stores = ps } in s)
           (sym (set_same (views_of stores) j (view_of store) (ap (λ (i : ℕ). slice_get (views_of stores) i) is_j ∙ view_at stores k store found)));
     },
   ))
 
   -- a call of the keep failed
-  module _ (new : StoreState V) (fails : Fails store (change_owed (owed_in store.standing)) store.standing new) where
+  module _ (new : StoreState V) (fails : Fails store (change_owed (owed_in store.status)) store.status new) where
     -- its record is the one before, with or without the change that is owed
     either : IsWithOrWithout store.kept (change_owed o) new.kept
     either = subst (λ (p : Option (StagedEvent V)). IsWithOrWithout store.kept (change_owed p) new.kept) owed_is fails.kept
 
     -- the store is down as before
-    stands : new.standing ≡ down o
-    stands = ap (λ (s : StoreState V). s.standing) fails.rest ∙ is_down.1
+    stands : new.status ≡ down o
+    stands = ap (λ (s : StoreState V). s.status) fails.rest ∙ is_down.1
 
     -- the stores still make a switch
     pub stays_down : IsSwitch size net (set stores k new)
     stays_down = other_store size net stores h k d.core.node store new node_k found record {
-      fits = subst (λ (s : Standing (StagedEvent V)). IsRecordOf d.core.node s new.kept) (sym stands) (either_twice (kept_of d.core.node) store.kept new.kept (change_owed o) fits either);
-      owing = subst (λ (s : Standing (StagedEvent V)). IsOwing size net k s) (sym stands) owing;
+      fits = subst (λ (s : Status (StagedEvent V)). IsRecordOf d.core.node s new.kept) (sym stands) (either_twice (kept_of d.core.node) store.kept new.kept (change_owed o) fits either);
+      owing = subst (λ (s : Status (StagedEvent V)). IsOwing size net k s) (sym stands) owing;
     }
 
     -- Device is what the restart answers there, and the node stays down
-    pub stays_acts : ForOk (world_of size now) (λ x. (view : StoreView V) → slice_get now.stores j ≡ Some view → (e : Option (Event V)) → view.standing ≡ down e → Revives size x now (switch_view net (set stores k new)) j view e (Err Device))
+    pub stays_acts : ForOk (world_of size now) (λ x. (view : StoreView V) → slice_get now.stores j ≡ Some view → (e : Option (Event V)) → view.status ≡ down e → Revives size x now (switch_view net (set stores k new)) j view e (Err Device))
     stays_acts = of_view (switch_view net (set stores k new)) (Err Device) (inr (
       refl,
       record {
         kept = new.kept;
         either = subst (λ (c : Option (Change V)). IsWithOrWithout store.kept c new.kept) (owed_change size net stores h k o owing) either;
-        rest = ap (λ (ps : List (StoreView V)). let s : SwitchView V = record { weights = net.taken.weights; history = net.taken.events; stores = ps } in s) (views_of-set stores k new)
+        rest = ap (λ (ps : List (StoreView V)). let s : SwitchView V = record { weights = net.history.weights; history = net.history.events; stores = ps } in s) (views_of-set stores k new)
             ∙ ap (λ (s : StoreState V). with_store old k (view_of s)) fails.rest
-            ∙ ap (λ (i : ℕ). with_store old i record { kept = new.kept; failures = store.failures + 1; standing = standing_seen store.standing }) (sym is_j);
+            ∙ ap (λ (i : ℕ). with_store old i record { kept = new.kept; failures = store.failures + 1; status = status_seen store.status }) (sym is_j);
       },
     ))
 
   -- what the call found to be owed can be taken, where there is room for its posts and two events
-  pub can_take_owed : (owed : Option (StagedEvent V)) → owed ≡ owed_in store.standing → (posts more : ℕ) → posts ≡ length (posts_owed (owed_in store.standing)) → HasRoom net (posts + more) 2 → CanTakeOwed size net owed
+  pub can_take_owed : (owed : Option (StagedEvent V)) → owed ≡ owed_in store.status → (posts more : ℕ) → posts ≡ length (posts_owed (owed_in store.status)) → HasRoom net (posts + more) 2 → CanTakeOwed size net owed
   can_take_owed owed is_owed posts more count r =
       subst (λ (p : Option (StagedEvent V)). CanTakeOwed size net p) (sym (is_owed ∙ owed_is))
       (can_take size net stores h k room o owing more (subst (λ (i : ℕ). HasRoom net (i + more) 2) (count ∙ ap (λ (p : Option (StagedEvent V)). length (posts_owed p)) owed_is) r))
 
   -- The keep has made what is owed, and it is taken.
-  module _ (new : StoreState V) (repaired : new ≡ record { kept = changed_by store.kept (change_owed (owed_in store.standing)); failures = store.failures; standing = up }) (m : NetView V) (owed : Option (StagedEvent V)) (is_owed : owed ≡ owed_in store.standing)
+  module _ (new : StoreState V) (repaired : new ≡ record { kept = changed_by store.kept (change_owed (owed_in store.status)); failures = store.failures; status = up }) (m : NetView V) (owed : Option (StagedEvent V)) (is_owed : owed ≡ owed_in store.status)
       (takes : TakesOwed net m owed) where
     -- the record of the keep is the one before with the change that was owed
     new_kept_is : new.kept ≡ changed_by store.kept (change_owed o)
     new_kept_is = ap (λ (s : StoreState V). s.kept) repaired ∙ ap (λ (p : Option (StagedEvent V)). changed_by store.kept (change_owed p)) owed_is
 
     -- the store is up
-    new_up : new.standing ≡ up
-    new_up = ap (λ (s : StoreState V). s.standing) repaired
+    new_up : new.status ≡ up
+    new_up = ap (λ (s : StoreState V). s.status) repaired
 
     -- what was taken is what the store owed
     takes_o : TakesOwed net m o
     takes_o = subst (λ (p : Option (StagedEvent V)). TakesOwed net m p) (is_owed ∙ owed_is) takes
 
-    abbrev mid : (switch : IsSwitch size m (set stores k new)) × (m.taken.weights ≡ net.taken.weights) × (m.taken.events ≡ net.taken.events ++ events_due (event_owed o)) × (m.packets ≡ net.packets ++ posts_owed o)
+    abbrev mid : (switch : IsSwitch size m (set stores k new)) × (m.history.weights ≡ net.history.weights) × (m.history.events ≡ net.history.events ++ owed_events (event_owed o)) × (m.packets ≡ net.packets ++ posts_owed o)
         × (net.packet_room ≤ m.packet_room) × (net.event_room ≤ m.event_room)
     mid = owed_taken size net stores h k d.core.node store new node_k found new_up room m o owing fits new_kept_is takes_o
 
@@ -154,18 +154,18 @@ module _ {V : Type 0} (size : V → ℕ) (net : NetView V) (stores : List (Store
 
     -- the record of the keep is the kept part of this node
     kept_m : new.kept ≡ kept_of core_m.0.node
-    kept_m = subst (λ (s : Standing (StagedEvent V)). IsRecordOf core_m.0.node s new.kept) new_up (hm.each k core_m.0.node new node_m new_at).fits
+    kept_m = subst (λ (s : Status (StagedEvent V)). IsRecordOf core_m.0.node s new.kept) new_up (hm.each k core_m.0.node new node_m new_at).fits
 
     -- the history has room for the restart behind what was owed
-    pub low_m : length m.taken.events < MOST_EVENTS
+    pub low_m : length m.history.events < MOST_EVENTS
     low_m =
         let count = ap (λ (es : List (Event V)). length es) mid.2 in
-        let more = length-append net.taken.events (events_due (event_owed o)) in
-        let one = few_due (event_owed o) in
+        let more = length-append net.history.events (owed_events (event_owed o)) in
+        let one = few_staged (event_owed o) in
         omega (arith, count, more, one, room)
 
-    -- the restart is due there
-    asks : (work : StagedWork V) → IsOfEvent (Restart j) work → IsReadyAt d.core work → posts_of work ≡ to_others k m.taken.weights (Ask 0)
+    -- the restart is staged there
+    asks : (work : StagedWork V) → IsOfEvent (Restart j) work → IsReadyAt d.core work → posts_of work ≡ to_others k m.history.weights (Ask 0)
     asks (steps made) q r = elim q [ ]
     asks (restarts posts None) q r =
         r ∙ ap (λ (i : ℕ). to_others i d.core.node.weights (Ask 0)) (own_number size net stores h k d.core.node node_k)
@@ -173,20 +173,20 @@ module _ {V : Type 0} (size : V → ℕ) (net : NetView V) (stores : List (Store
     asks (restarts posts (Some x)) q r = cc
 
     -- the restart is ready at this node with the record of its keep loaded
-    ready_then : (work : StagedWork V) (kept : Kept V) → IsOfEvent (Restart j) work → posts_of work ≡ to_others k m.taken.weights (Ask 0) → kept ≡ new.kept → IsReadyAt core_m.0 (loads work kept)
+    ready_then : (work : StagedWork V) (kept : Kept V) → IsOfEvent (Restart j) work → posts_of work ≡ to_others k m.history.weights (Ask 0) → kept ≡ new.kept → IsReadyAt core_m.0 (with_loaded work kept)
     ready_then (steps made) kept q r same = elim q [ ]
     ready_then (restarts posts loaded) kept q r same = (
-      r ∙ ap (λ (i : ℕ). to_others i m.taken.weights (Ask 0)) (sym (own_number size m (set stores k new) hm k core_m.0.node node_m))
+      r ∙ ap (λ (i : ℕ). to_others i m.history.weights (Ask 0)) (sym (own_number size m (set stores k new) hm k core_m.0.node node_m))
           ∙ ap (λ (us : List ℕ). to_others core_m.0.node.me us (Ask 0)) (sym (own_weights size m (set stores k new) hm k core_m.0.node node_m)),
       same ∙ kept_m,
     )
 
     -- the step is that of a restart of this node
-    step_then : (work : StagedWork V) (kept : Kept V) → IsOfEvent (Restart j) work → kept ≡ new.kept → restarted core_m.0.node ≡ step_of (loads work kept) core_m.0.node
+    step_then : (work : StagedWork V) (kept : Kept V) → IsOfEvent (Restart j) work → kept ≡ new.kept → restarted core_m.0.node ≡ step_of (with_loaded work kept) core_m.0.node
     step_then (steps made) kept q same = elim q [ ]
     step_then (restarts posts loaded) kept q same = ap (λ (x : Kept V). reloaded core_m.0.node x) (sym (same ∙ kept_m))
 
-    module _ (kept : Kept V) (same_kept : kept ≡ changed_by store.kept (change_owed (owed_in store.standing))) where
+    module _ (kept : Kept V) (same_kept : kept ≡ changed_by store.kept (change_owed (owed_in store.status))) where
       -- the record that was loaded is the one that the keep has
       is_new_kept : kept ≡ new.kept
       is_new_kept = same_kept ∙ sym (ap (λ (s : StoreState V). s.kept) repaired)
@@ -194,27 +194,27 @@ module _ {V : Type 0} (size : V → ℕ) (net : NetView V) (stores : List (Store
       abbrev d2 : StagedEvent V
       d2 = with_record d1 kept
 
-      -- the restart with that record is due at this node
-      pub due_m : IsStaged size m d2
-      due_m = record {
+      -- the restart with that record is staged at this node
+      pub staged_m : IsStaged size m d2
+      staged_m = record {
         core = core_m.0;
         at = ap (λ (i : ℕ). slice_get m.cores i) (sym is_at) ∙ core_m.1;
         ready = ready_then d1.work kept kind (asks d1.work kind d.ready) is_new_kept;
-        comes = subst (λ (i : ℕ). ComesTo size m.packets i core_m.0.node d1.event (Ok (step_of (loads d1.work kept) core_m.0.node))) (is_j ∙ is_at)
-            (subst (λ (f : Event V). ComesTo size m.packets j core_m.0.node f (Ok (step_of (loads d1.work kept) core_m.0.node))) (sym is_e)
-            (subst (λ (s : Stepped V). ComesTo size m.packets j core_m.0.node (Restart j) (Ok s)) (step_then d1.work kept kind is_new_kept) (comes_restart size m.packets j core_m.0.node)));
-        posts = subst (λ (ps : List (Packet V)). AllByRecursion (IsPost (length m.taken.weights)) ps) (sym (load_posts d1.work kept)) (subst (λ (us : List ℕ). AllByRecursion (IsPost (length us)) (posts_of d1.work)) (sym mid.1) d.posts);
+        has_result = subst (λ (i : ℕ). HasResult size m.packets i core_m.0.node d1.event (Ok (step_of (with_loaded d1.work kept) core_m.0.node))) (is_j ∙ is_at)
+            (subst (λ (f : Event V). HasResult size m.packets j core_m.0.node f (Ok (step_of (with_loaded d1.work kept) core_m.0.node))) (sym is_e)
+            (subst (λ (s : StepResult V). HasResult size m.packets j core_m.0.node (Restart j) (Ok s)) (step_then d1.work kept kind is_new_kept) (comes_restart size m.packets j core_m.0.node)));
+        posts = subst (λ (ps : List (Packet V)). AllByRecursion (IsPost (length m.history.weights)) ps) (sym (load_posts d1.work kept)) (subst (λ (us : List ℕ). AllByRecursion (IsPost (length us)) (posts_of d1.work)) (sym mid.1) d.posts);
       }
 
       -- there is room for the posts of the restart and one event
-      pub room_m : (posts more : ℕ) → posts ≡ length (posts_owed (owed_in store.standing)) → more ≡ length (posts_of d1.work) → HasRoom net (posts + more) 2 → HasRoom m (length (posts_of d2.work)) 1
+      pub room_m : (posts more : ℕ) → posts ≡ length (posts_owed (owed_in store.status)) → more ≡ length (posts_of d1.work) → HasRoom net (posts + more) 2 → HasRoom m (length (posts_of d2.work)) 1
       room_m posts more count all r =
           let p = ap (λ (x : Option (StagedEvent V)). length (posts_owed x)) owed_is in
           let l = ap (λ (ps : List (Packet V)). length ps) mid.3 in
           let q = length-append net.packets (posts_owed o) in
           let e = ap (λ (es : List (Event V)). length es) mid.2 in
-          let g = length-append net.taken.events (events_due (event_owed o)) in
-          let one = few_due (event_owed o) in
+          let g = length-append net.history.events (owed_events (event_owed o)) in
+          let one = few_staged (event_owed o) in
           let then = ap (λ (ps : List (Packet V)). length ps) (load_posts d1.work kept) in
           let a = mid.4 in
           let b = mid.5 in
@@ -224,7 +224,7 @@ module _ {V : Type 0} (size : V → ℕ) (net : NetView V) (stores : List (Store
 
       module _ (z : NetView V) (t : IsTaken m z d2) where
         -- the restart leaves the node the record of its keep as kept part
-        kept_then : (work : StagedWork V) (n : Node V) → IsOfEvent (Restart j) work → new.kept ≡ kept_of (step_of (loads work kept) n).node
+        kept_then : (work : StagedWork V) (n : Node V) → IsOfEvent (Restart j) work → new.kept ≡ kept_of (step_of (with_loaded work kept) n).node
         kept_then (steps made) n q = elim q [ ]
         kept_then (restarts posts loaded) n q = sym is_new_kept
 
@@ -235,28 +235,28 @@ module _ {V : Type 0} (size : V → ℕ) (net : NetView V) (stores : List (Store
         -- once the restart is taken too, the net and the stores make a switch
         pub revived : IsSwitch size z (set stores k new)
         revived = subst (λ (us : List (StoreState V)). IsSwitch size z us) stores_same
-            (committed size m (set stores k new) hm d2 due_m low_m z t new new (ap (λ (i : ℕ). slice_get (set stores k new) i) (sym is_at) ∙ new_at) (kept_then d1.work due_m.core.node kind) new_up)
+            (committed size m (set stores k new) hm d2 staged_m low_m z t new new (ap (λ (i : ℕ). slice_get (set stores k new) i) (sym is_at) ∙ new_at) (kept_then d1.work staged_m.core.node kind) new_up)
 
         -- the count of its packets is what the restart answers there, and the node is up
-        pub revived_acts : (count : ℕ) → count ≡ length (packets_after (world_of_taken size z.taken))
-            → ForOk (world_of size now) (λ x. (view : StoreView V) → slice_get now.stores j ≡ Some view → (e : Option (Event V)) → view.standing ≡ down e → Revives size x now (switch_view z (set stores k new)) j view e (Ok count))
+        pub revived_acts : (count : ℕ) → count ≡ length (packets_after (world_of_taken size z.history))
+            → ForOk (world_of size now) (λ x. (view : StoreView V) → slice_get now.stores j ≡ Some view → (e : Option (Event V)) → view.status ≡ down e → Revives size x now (switch_view z (set stores k new)) j view e (Ok count))
         revived_acts count counted =
             let x = revived.world.world in
-            let weights : z.taken.weights ≡ net.taken.weights = ap (λ (y : Taken V). y.weights) t.taken ∙ mid.1 in
-            let history : z.taken.events ≡ net.taken.events ++ events_due (event_owed o) ++ Restart j ∷ [] =
-            ap (λ (y : Taken V). y.events) t.taken ∙ ap (λ (es : List (Event V)). es ++ d1.event ∷ []) mid.2 ∙ ap (λ (f : Event V). net.taken.events ++ events_due (event_owed o) ++ f ∷ []) is_e in
+            let weights : z.history.weights ≡ net.history.weights = ap (λ (y : History V). y.weights) t.history ∙ mid.1 in
+            let history : z.history.events ≡ net.history.events ++ owed_events (event_owed o) ++ Restart j ∷ [] =
+            ap (λ (y : History V). y.events) t.history ∙ ap (λ (es : List (Event V)). es ++ d1.event ∷ []) mid.2 ∙ ap (λ (f : Event V). net.history.events ++ owed_events (event_owed o) ++ f ∷ []) is_e in
             let low_z : k < length z.cores = (let c = revived.count in let l = length-set stores k new in let low = low_k in omega (arith, c, l, low)) in
             let c = item_at z.cores k low_z in
             let node_z = core_node size z (set stores k new) revived k c.0 c.1 in
-            let fits_z : new.kept ≡ kept_of c.0.node = subst (λ (s : Standing (StagedEvent V)). IsRecordOf c.0.node s new.kept) new_up (revived.each k c.0.node new node_z new_at).fits in
+            let fits_z : new.kept ≡ kept_of c.0.node = subst (λ (s : Status (StagedEvent V)). IsRecordOf c.0.node s new.kept) new_up (revived.each k c.0.node new node_z new_at).fits in
             of_view (switch_view z (set stores k new)) (Ok count) record {
               world = x;
-              is_after = subst (λ (us : List ℕ). IsAfter size us (net.taken.events ++ events_due (event_owed o) ++ Restart j ∷ []) x) weights (subst (λ (es : List (Event V)). IsAfter size z.taken.weights es x) history revived.world.is_after);
+              is_after = subst (λ (us : List ℕ). IsAfter size us (net.history.events ++ owed_events (event_owed o) ++ Restart j ∷ []) x) weights (subst (λ (es : List (Event V)). IsAfter size z.history.weights es x) history revived.world.is_after);
               counted = counted ∙ ap (λ (r : Result (World V) StepFault). length (packets_after r)) revived.world.is_after;
               kept = new.kept;
               is_kept = ap (λ (i : ℕ). kept_part x i) is_j ∙ ap (λ (n : Option (Node V)). option_map kept_of n) node_z ∙ ap (λ (y : Kept V). let p : Option (Kept V) = Some y in p) (sym fits_z);
               rest = view_is_same _ _ _ _ _ _ weights history
                   (views_of-set stores k new ∙ ap (λ (i : ℕ). set (views_of stores) i (view_of new)) (sym is_j)
-                  ∙ ap (λ (i : ℕ). set (views_of stores) j (let p : StoreView V = record { kept = new.kept; failures = i; standing = standing_seen new.standing } in p)) (ap (λ (s : StoreState V). s.failures) repaired)
-                  ∙ ap (λ (s : Standing (StagedEvent V)). set (views_of stores) j (let p : StoreView V = record { kept = new.kept; failures = store.failures; standing = standing_seen s } in p)) new_up);
+                  ∙ ap (λ (i : ℕ). set (views_of stores) j (let p : StoreView V = record { kept = new.kept; failures = i; status = status_seen new.status } in p)) (ap (λ (s : StoreState V). s.failures) repaired)
+                  ∙ ap (λ (s : Status (StagedEvent V)). set (views_of stores) j (let p : StoreView V = record { kept = new.kept; failures = store.failures; status = status_seen s } in p)) new_up);
             }

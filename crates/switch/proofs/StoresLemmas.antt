@@ -1,5 +1,5 @@
 -- Stores and their views, one after another and one by one.
-use Rattle.switch.proofs.Words.{◌≡◌, ◌≢◌, ℕ, zero, suc, ◌+◌, ◌<◌, ◌≤◌, ◌==◌, Bool, true, false, List, [], ◌∷◌, ◌++◌, length, get_or, set, slice_get, Option, Some, None, refl, ap, sym, ◌∙◌, subst, arith, le_of_suc-le-suc, AllByRecursion, nat_tests, Kept, new_kept, Node, Event, StagedEvent, at_set, at_set_other, Standing, up, down, StoreState, StoreView, standing_seen, view_of, views_of, new_views, new_stores, is_down, is_down_view, is_down_at, events_due}
+use Rattle.switch.proofs.Words.{◌≡◌, ◌≢◌, ℕ, zero, suc, ◌+◌, ◌<◌, ◌≤◌, ◌==◌, Bool, true, false, List, [], ◌∷◌, ◌++◌, length, get_or, set, slice_get, Option, Some, None, refl, ap, sym, ◌∙◌, subst, arith, le_of_suc-le-suc, AllByRecursion, nat_tests, Kept, new_kept, Node, Event, StagedEvent, at_set, at_set_other, Status, up, down, StoreState, StoreView, status_seen, view_of, views_of, new_views, new_stores, is_down, is_down_view, is_down_at, owed_events}
 
 pub views_of-set : {V : Type 0} (stores : List (StoreState V)) (k : ℕ) (store : StoreState V) → views_of (set stores k store) ≡ set (views_of stores) k (view_of store)
 views_of-set [] k store = refl
@@ -54,18 +54,18 @@ each_after {V} nodes stores P k store new is own others j m s at is_s = by_test 
 -- A node that is not down is up.
 
 -- what is not seen as down is up
-up_of : {V : Type 0} (s : Standing (StagedEvent V)) → is_down (standing_seen s) ≡ false → s ≡ up
+up_of : {V : Type 0} (s : Status (StagedEvent V)) → is_down (status_seen s) ≡ false → s ≡ up
 up_of up e = refl
 up_of (down o) e = cc
 
 -- a store whose view is not down is up
-pub up_at : {V : Type 0} (stores : List (StoreState V)) (k : ℕ) (store : StoreState V) → slice_get stores k ≡ Some store → is_down_at (views_of stores) (Some k) ≡ false → store.standing ≡ up
-up_at stores k store is e = up_of store.standing (sym (ap (λ o. is_down_view o) (view_at stores k store is)) ∙ e)
+pub up_at : {V : Type 0} (stores : List (StoreState V)) (k : ℕ) (store : StoreState V) → slice_get stores k ≡ Some store → is_down_at (views_of stores) (Some k) ≡ false → store.status ≡ up
+up_at stores k store is e = up_of store.status (sym (ap (λ o. is_down_view o) (view_at stores k store is)) ∙ e)
 
 -- a store whose view is down is down, with an event that is owed or none
-pub down_at : {V : Type 0} (stores : List (StoreState V)) (k : ℕ) (store : StoreState V) → slice_get stores k ≡ Some store → is_down_at (views_of stores) (Some k) ≡ true → (o : Option (StagedEvent V)) × (store.standing ≡ down o)
-down_at stores k store is e = down_owing store.standing (sym (ap (λ o. is_down_view o) (view_at stores k store is)) ∙ e) where
-  down_owing : {V : Type 0} (s : Standing (StagedEvent V)) → is_down (standing_seen s) ≡ true → (o : Option (StagedEvent V)) × (s ≡ down o)
+pub down_at : {V : Type 0} (stores : List (StoreState V)) (k : ℕ) (store : StoreState V) → slice_get stores k ≡ Some store → is_down_at (views_of stores) (Some k) ≡ true → (o : Option (StagedEvent V)) × (store.status ≡ down o)
+down_at stores k store is e = down_owing store.status (sym (ap (λ o. is_down_view o) (view_at stores k store is)) ∙ e) where
+  down_owing : {V : Type 0} (s : Status (StagedEvent V)) → is_down (status_seen s) ≡ true → (o : Option (StagedEvent V)) × (s ≡ down o)
   down_owing up d = cc
   down_owing (down o) d = (o, refl)
 
@@ -74,14 +74,14 @@ down_at stores k store is e = down_owing store.standing (sym (ap (λ o. is_down_
 -- one keep more
 pub new_stores-push : {V K : Type 0} (kept : K → Kept V) (failures : K → ℕ) (keeps : List K) (keep : K) → new_stores kept failures (keeps ++ keep ∷ []) ≡ new_stores kept failures keeps ++ new_stores kept failures (keep ∷ [])
 new_stores-push kept failures [] keep = refl
-new_stores-push {V} kept failures (k ∷ keeps) keep = ap (λ (ss : List (StoreState V)). (let s : StoreState V = record { kept = kept k; failures = failures k; standing = up } in s) ∷ ss) (new_stores-push kept failures keeps keep)
+new_stores-push {V} kept failures (k ∷ keeps) keep = ap (λ (ss : List (StoreState V)). (let s : StoreState V = record { kept = kept k; failures = failures k; status = up } in s) ∷ ss) (new_stores-push kept failures keeps keep)
 
 -- keeps that all have the record of a new node give the views of new nodes
 pub views_new : {V K : Type 0} (kept : K → Kept V) (failures : K → ℕ) (keeps : List K) → AllByRecursion (λ keep. kept keep ≡ new_kept) keeps → views_of (new_stores kept failures keeps) ≡ new_views failures keeps
 views_new kept failures [] h = refl
 views_new {V} kept failures (keep ∷ keeps) h =
-    ap (λ (x : Kept V). let p : StoreView V = record { kept = x; failures = failures keep; standing = up } in p ∷ views_of (new_stores kept failures keeps)) h.0
-    ∙ ap (λ (ps : List (StoreView V)). let p : StoreView V = record { kept = new_kept; failures = failures keep; standing = up } in p ∷ ps) (views_new kept failures keeps h.1)
+    ap (λ (x : Kept V). let p : StoreView V = record { kept = x; failures = failures keep; status = up } in p ∷ views_of (new_stores kept failures keeps)) h.0
+    ∙ ap (λ (ps : List (StoreView V)). let p : StoreView V = record { kept = new_kept; failures = failures keep; status = up } in p ∷ ps) (views_new kept failures keeps h.1)
 
 -- there are as many new stores as keeps
 pub count_stores : {V K : Type 0} (kept : K → Kept V) (failures : K → ℕ) (keeps : List K) → length (new_stores kept failures keeps) ≡ length keeps
@@ -90,15 +90,15 @@ count_stores kept failures (keep ∷ keeps) = ap suc (count_stores kept failures
 
 -- each new store is up, and its keep has the record of a new node
 pub new_at : {V K : Type 0} (kept : K → Kept V) (failures : K → ℕ) (keeps : List K) → AllByRecursion (λ keep. kept keep ≡ new_kept) keeps → (k : ℕ) (store : StoreState V) → slice_get (new_stores kept failures keeps) k ≡ Some store
-    → (store.kept ≡ new_kept) × (store.standing ≡ up)
+    → (store.kept ≡ new_kept) × (store.status ≡ up)
 new_at kept failures [] h k store at = cc
 new_at {V} kept failures (keep ∷ keeps) h zero store at =
-    let first : StoreState V = record { kept = kept keep; failures = failures keep; standing = up } in
+    let first : StoreState V = record { kept = kept keep; failures = failures keep; status = up } in
     let same : first ≡ store = cc in
-    (ap (λ (s : StoreState V). s.kept) (sym same) ∙ h.0, ap (λ (s : StoreState V). s.standing) (sym same))
+    (ap (λ (s : StoreState V). s.kept) (sym same) ∙ h.0, ap (λ (s : StoreState V). s.status) (sym same))
 new_at kept failures (keep ∷ keeps) h (suc k) store at = new_at kept failures keeps h.1 k store at
 
 -- at most one event is owed
-pub few_due : {V : Type 0} (x : Option (Event V)) → length (events_due x) ≤ 1
-few_due None = omega arith
-few_due (Some x) = omega arith
+pub few_staged : {V : Type 0} (x : Option (Event V)) → length (owed_events x) ≤ 1
+few_staged None = omega arith
+few_staged (Some x) = omega arith

@@ -1,18 +1,18 @@
 -- A switch after its net or one of its stores has changed.
-use Rattle.switch.proofs.Words.{◌≡◌, ◌≢◌, ℕ, zero, suc, ◌<◌, List, [], ◌∷◌, ◌++◌, length, set, slice_get, Option, Some, None, Ok, refl, ap, sym, ◌∙◌, subst, arith, append_assoc, AllByRecursion, option_map, length-set, Packet, Change, IsPost, Kept, changed_by, new_kept, Node, Stepped, kept_of, new_node, Core, MOST_EVENTS, Event, World, start, nodes_from, stepped, happens, happens_at, after, offers_of, IsAfter, Taken, nodes_of, AreOfWorld, change_of, kept_part, StagedWork, steps, restarts, StagedEvent, change_in, posts_of, step_of, IsEventAt, NetView, AreStill, IsStill, IsStaged, IsTaken, at_set, at_set_other, if_taken, node_at, holds_after, world_lasts, Happens, event_moves, taken_count, happens-not_spent, rooms_stay, makes, nodes_of-set, nodes_found, nodes_still, due_still, posts_same, Standing, up, down, StoreState, IsRecordOf, SwitchView, views_of, new_stores, IsOwing, IsStore, IsSwitch, all_append, append-nil, with_event}
+use Rattle.switch.proofs.Words.{◌≡◌, ◌≢◌, ℕ, zero, suc, ◌<◌, List, [], ◌∷◌, ◌++◌, length, set, slice_get, Option, Some, None, Ok, refl, ap, sym, ◌∙◌, subst, arith, append_assoc, AllByRecursion, option_map, length-set, Packet, Change, IsPost, Kept, changed_by, new_kept, Node, StepResult, kept_of, new_node, Core, MOST_EVENTS, Event, World, start, nodes_from, after_step, event_result, event_result_without_limit, after, offers_of, IsAfter, History, nodes_of, AreOfWorld, change_of, kept_part, StagedWork, steps, restarts, StagedEvent, change_in, posts_of, step_of, IsEventAt, NetView, ChangeOnlyRooms, ChangesOnlyRoom, IsStaged, IsTaken, at_set, at_set_other, if_taken, node_at, holds_after, world_lasts, Happens, event_moves, taken_count, event_result-not_spent, rooms_stay, makes, nodes_of-set, nodes_found, nodes_still, staged_still, posts_same, Status, up, down, StoreState, IsRecordOf, SwitchView, views_of, new_stores, IsOwing, IsStore, IsSwitch, all_append, append-nil, with_event}
 use Rattle.switch.proofs.StoresLemmas.{each_after, new_at, count_stores}
 
 abbrev pub switch_view : {V : Type 0} → NetView V → List (StoreState V) → SwitchView V
-switch_view net stores = record { weights = net.taken.weights; history = net.taken.events; stores = views_of stores }
+switch_view net stores = record { weights = net.history.weights; history = net.history.events; stores = views_of stores }
 
 -- the world stays, where only rooms change
-still_world : {V : Type 0} (size : V → ℕ) (a b : NetView V) → IsStill a b → AreOfWorld size a.taken a.cores a.packets → AreOfWorld size b.taken b.cores b.packets
-still_world {V} size a b still h =
-    subst (λ (t : Taken V). AreOfWorld size t b.cores b.packets) (sym still.taken)
-    (subst (λ (ps : List (Packet V)). AreOfWorld size a.taken b.cores ps) (sym still.packets) (rooms_stay size a.taken a.cores a.packets h b.cores (nodes_still a.cores b.cores still.cores)))
+still_world : {V : Type 0} (size : V → ℕ) (a b : NetView V) → ChangesOnlyRoom a b → AreOfWorld size a.history a.cores a.packets → AreOfWorld size b.history b.cores b.packets
+still_world {V} size a b only_room h =
+    subst (λ (t : History V). AreOfWorld size t b.cores b.packets) (sym only_room.history)
+    (subst (λ (ps : List (Packet V)). AreOfWorld size a.history b.cores ps) (sym only_room.packets) (rooms_stay size a.history a.cores a.packets h b.cores (nodes_still a.cores b.cores only_room.cores)))
 
 -- nodes that are changed in their rooms alone are as many as before
-still_count : {V : Type 0} (cs ds : List (Core V)) → AreStill cs ds → length ds ≡ length cs
+still_count : {V : Type 0} (cs ds : List (Core V)) → ChangeOnlyRooms cs ds → length ds ≡ length cs
 still_count [] [] h = refl
 still_count (c ∷ cs) (d ∷ ds) h = ap suc (still_count cs ds h.2)
 still_count [] (d ∷ ds) h = elim h [ ]
@@ -25,22 +25,22 @@ new_node_at {V} weights j zero (w ∷ ws) n at = let same : new_node j weights �
 new_node_at weights j (suc k) (w ∷ ws) n at = new_node_at weights (suc j) k ws n at
 
 -- a switch of new nodes
-pub starts : {V K : Type 0} (size : V → ℕ) (kept : K → Kept V) (failures : K → ℕ) (net : NetView V) (weights : List ℕ) (keeps : List K) (stores : List (StoreState V)) → AreOfWorld size net.taken net.cores net.packets
-    → net.taken ≡ record { weights = weights; events = [] } → length net.cores ≡ length net.taken.weights → length keeps ≡ length weights → AllByRecursion (λ keep. kept keep ≡ new_kept) keeps → stores ≡ new_stores kept failures keeps → IsSwitch size net stores
+pub starts : {V K : Type 0} (size : V → ℕ) (kept : K → Kept V) (failures : K → ℕ) (net : NetView V) (weights : List ℕ) (keeps : List K) (stores : List (StoreState V)) → AreOfWorld size net.history net.cores net.packets
+    → net.history ≡ record { weights = weights; events = [] } → length net.cores ≡ length net.history.weights → length keeps ≡ length weights → AllByRecursion (λ keep. kept keep ≡ new_kept) keeps → stores ≡ new_stores kept failures keeps → IsSwitch size net stores
 starts {V} size kept failures net weights keeps stores h is cores count new are = subst (λ (us : List (StoreState V)). IsSwitch size net us) (sym are) record {
   world = h;
-  count = count_stores kept failures keeps ∙ count ∙ sym (cores ∙ ap (λ (t : Taken V). length t.weights) is);
+  count = count_stores kept failures keeps ∙ count ∙ sym (cores ∙ ap (λ (t : History V). length t.weights) is);
   each = λ k n store at is_store.
       (let s = new_at kept failures keeps new k store is_store in
-      let begun : Ok (start weights) ≡ Ok h.world = sym (ap (λ (t : Taken V). after size t.weights t.events) is) ∙ h.is_after in
+      let begun : Ok (start weights) ≡ Ok h.world = sym (ap (λ (t : History V). after size t.weights t.events) is) ∙ h.is_after in
       let same : start weights ≡ h.world = cc in
       let fits : kept_of n ≡ new_kept = new_node_at weights 0 k weights n (ap (λ (w : World V). slice_get w.nodes k) same ∙ at) in
       subst (λ (x : StoreState V). IsStore size net k n x) refl (store_is s.0 s.1 fits));
 } where
-  store_is : {V : Type 0} {size : V → ℕ} {net : NetView V} {k : ℕ} {n : Node V} {store : StoreState V} → store.kept ≡ new_kept → store.standing ≡ up → kept_of n ≡ new_kept → IsStore size net k n store
+  store_is : {V : Type 0} {size : V → ℕ} {net : NetView V} {k : ℕ} {n : Node V} {store : StoreState V} → store.kept ≡ new_kept → store.status ≡ up → kept_of n ≡ new_kept → IsStore size net k n store
   store_is {V} {size} {net} {k} {n} {store} is_new is_up fits = record {
-    fits = subst (λ (s : Standing (StagedEvent V)). IsRecordOf n s store.kept) (sym is_up) (is_new ∙ sym fits);
-    owing = subst (λ (s : Standing (StagedEvent V)). IsOwing size net k s) (sym is_up) tt;
+    fits = subst (λ (s : Status (StagedEvent V)). IsRecordOf n s store.kept) (sym is_up) (is_new ∙ sym fits);
+    owing = subst (λ (s : Status (StagedEvent V)). IsOwing size net k s) (sym is_up) tt;
   }
 
 module _ {V : Type 0} (size : V → ℕ) (net : NetView V) (stores : List (StoreState V)) (h : IsSwitch size net stores) where
@@ -48,53 +48,53 @@ module _ {V : Type 0} (size : V → ℕ) (net : NetView V) (stores : List (Store
   w = h.world.world
 
   -- the world counts the events of the history
-  pub taken_is : w.taken ≡ length net.taken.events
-  taken_is = taken_count size net.taken.weights net.taken.events w h.world.is_after
+  pub taken_is : w.event_count ≡ length net.history.events
+  taken_is = taken_count size net.history.weights net.history.events w h.world.is_after
 
   -- below that limit an event is what its node makes of it
-  pub has_room : (e : Event V) → length net.taken.events < MOST_EVENTS → happens size w e ≡ happens_at size w e
-  has_room e low = happens-not_spent size w e (let c = taken_is in omega (arith, c, low))
+  pub has_room : (e : Event V) → length net.history.events < MOST_EVENTS → event_result size w e ≡ event_result_without_limit size w e
+  has_room e low = event_result-not_spent size w e (let c = taken_is in omega (arith, c, low))
 
   -- the node of the net at a number is the node of the world there
   pub core_node : (k : ℕ) (c : Core V) → slice_get net.cores k ≡ Some c → slice_get w.nodes k ≡ Some c.node
   core_node k c at = ap (λ (ns : List (Node V)). slice_get ns k) h.world.nodes ∙ nodes_found net.cores k c at
 
   -- there is one world after the history
-  pub same_world : (x : World V) → IsAfter size net.taken.weights net.taken.events x → w ≡ x
+  pub same_world : (x : World V) → IsAfter size net.history.weights net.history.events x → w ≡ x
   same_world x is = let both : Ok w ≡ Ok x = sym h.world.is_after ∙ is in cc
 
   -- the number and the weights of a node
-  pub own_weights : (k : ℕ) (n : Node V) → slice_get w.nodes k ≡ Some n → n.weights ≡ net.taken.weights
+  pub own_weights : (k : ℕ) (n : Node V) → slice_get w.nodes k ≡ Some n → n.weights ≡ net.history.weights
   own_weights k n at =
-      let holds = holds_after size net.taken.weights net.taken.events w h.world.is_after in
-      (node_at w.weights (offers_of net.taken.events) holds.ledger w.nodes 0 k n at holds.nodes).weights
-      ∙ (world_lasts size net.taken.weights [] net.taken.events (start net.taken.weights) w refl h.world.is_after).weights
+      let holds = holds_after size net.history.weights net.history.events w h.world.is_after in
+      (node_at w.weights (offers_of net.history.events) holds.ledger w.nodes 0 k n at holds.nodes).weights
+      ∙ (world_lasts size net.history.weights [] net.history.events (start net.history.weights) w refl h.world.is_after).weights
 
   -- the node at index k has the number k
   pub own_number : (k : ℕ) (n : Node V) → slice_get w.nodes k ≡ Some n → n.me ≡ k
   own_number k n at =
-      let holds = holds_after size net.taken.weights net.taken.events w h.world.is_after in
-      (node_at w.weights (offers_of net.taken.events) holds.ledger w.nodes 0 k n at holds.nodes).me ∙ omega arith
+      let holds = holds_after size net.history.weights net.history.events w h.world.is_after in
+      (node_at w.weights (offers_of net.history.events) holds.ledger w.nodes 0 k n at holds.nodes).me ∙ omega arith
 
   -- Only rooms change.
 
-  -- what is owed is still due
-  still_owing : (b : NetView V) → IsStill net b → (k : ℕ) (s : Standing (StagedEvent V)) → IsOwing size net k s → IsOwing size b k s
-  still_owing b still k up o = tt
-  still_owing b still k (down None) o = tt
-  still_owing b still k (down (Some due)) o = (o.0, due_still size net b due still o.1)
+  -- what is owed is still staged
+  still_owing : (b : NetView V) → ChangesOnlyRoom net b → (k : ℕ) (s : Status (StagedEvent V)) → IsOwing size net k s → IsOwing size b k s
+  still_owing b only_room k up o = tt
+  still_owing b only_room k (down None) o = tt
+  still_owing b only_room k (down (Some staged)) o = (o.0, staged_still size net b staged only_room o.1)
 
   -- the stores still make a switch with the net
-  pub still_switch : (b : NetView V) → IsStill net b → IsSwitch size b stores
-  still_switch b still =
-      let there = still_world size net b still h.world in
-      let same : w ≡ there.world = same_world there.world (ap (λ (t : Taken V). after size t.weights t.events) (sym still.taken) ∙ there.is_after) in
+  pub still_switch : (b : NetView V) → ChangesOnlyRoom net b → IsSwitch size b stores
+  still_switch b only_room =
+      let there = still_world size net b only_room h.world in
+      let same : w ≡ there.world = same_world there.world (ap (λ (t : History V). after size t.weights t.events) (sym only_room.history) ∙ there.is_after) in
       record {
         world = there;
-        count = h.count ∙ sym (still_count net.cores b.cores still.cores);
+        count = h.count ∙ sym (still_count net.cores b.cores only_room.cores);
         each = λ k n store at is.
             (let own = h.each k n store (ap (λ (x : World V). slice_get x.nodes k) same ∙ at) is in
-            record { fits = own.fits; owing = still_owing b still k store.standing own.owing });
+            record { fits = own.fits; owing = still_owing b only_room k store.status own.owing });
       }
 
   -- One store changes.
@@ -108,19 +108,19 @@ module _ {V : Type 0} (size : V → ℕ) (net : NetView V) (stores : List (Store
         (λ m there. (let both : Some n ≡ Some m = sym at ∙ there in let same : n ≡ m = cc in subst (λ (x : Node V). IsStore size net k x new) same own)) (λ j m s other there is_s. h.each j m s there is_s);
   }
 
-  -- A due event is taken.
+  -- A staged event is taken.
 
-  module _ (due : StagedEvent V) (d : IsStaged size net due) where
-    abbrev step : Stepped V
-    step = step_of due.work d.core.node
+  module _ (staged : StagedEvent V) (d : IsStaged size net staged) where
+    abbrev step : StepResult V
+    step = step_of staged.work d.core.node
 
-    -- the world has the node at which it is due
-    pub node_is : slice_get w.nodes due.at ≡ Some d.core.node
-    node_is = core_node due.at d.core d.at
+    -- the world has the node at which it is staged
+    pub node_is : slice_get w.nodes staged.at ≡ Some d.core.node
+    node_is = core_node staged.at d.core d.at
 
     -- what the event comes to at this node is the step
-    pub at : IsEventAt size w due.at due.event (Ok step)
-    at = d.comes w [] (h.world.posted ∙ sym (append-nil net.packets)) node_is
+    pub at : IsEventAt size w staged.at staged.event (Ok step)
+    at = d.has_result w [] (h.world.posted ∙ sym (append-nil net.packets)) node_is
 
     -- the change of what was made ready is that of its step at any node
     change_work : (work : StagedWork V) (n : Node V) → change_in work ≡ (step_of work n).change
@@ -128,87 +128,87 @@ module _ {V : Type 0} (size : V → ℕ) (net : NetView V) (stores : List (Store
     change_work (restarts posts None) n = refl
     change_work (restarts posts (Some kept)) n = refl
 
-    -- the change of the due event is that of the step
-    pub change_is : change_in due.work ≡ step.change
-    change_is = change_work due.work d.core.node
+    -- the change of the staged event is that of the step
+    pub change_is : change_in staged.work ≡ step.change
+    change_is = change_work staged.work d.core.node
 
     -- the change, as the world tells it
-    pub change_told : change_in due.work ≡ change_of size w due.event
+    pub change_told : change_in staged.work ≡ change_of size w staged.event
     change_told = change_is ∙ sym at.change
 
-    module _ (low : length net.taken.events < MOST_EVENTS) where
+    module _ (low : length net.history.events < MOST_EVENTS) where
       -- below the limit of events the event happens, and makes the step
-      pub happens_is : happens size w due.event ≡ Ok (stepped w due.at step)
-      happens_is = has_room due.event low ∙ at.happens
+      pub happens_is : event_result size w staged.event ≡ Ok (after_step w staged.at step)
+      happens_is = has_room staged.event low ∙ at.event_result
 
       -- the step leaves the kept part with this change
-      pub changes : kept_of step.node ≡ changed_by (kept_of d.core.node) (change_in due.work)
+      pub changes : kept_of step.node ≡ changed_by (kept_of d.core.node) (change_in staged.work)
       changes =
-          let k = due.at in
-          let moved : Happens size w k due.event (stepped w k step) = if_taken (Happens size w k due.event) (happens size w due.event) (stepped w k step) happens_is (event_moves size w k due.event) in
-          let left : kept_part (stepped w k step) k ≡ Some (kept_of step.node) = ap (λ (o : Option (Node V)). option_map kept_of o) (at_set w.nodes k step.node d.core.node node_is) in
-          let right : option_map (λ kept. changed_by kept (change_of size w due.event)) (kept_part w k) ≡ Some (changed_by (kept_of d.core.node) (change_in due.work)) =
-          ap (λ (o : Option (Node V)). option_map (λ kept. changed_by kept (change_of size w due.event)) (option_map kept_of o)) node_is
+          let k = staged.at in
+          let moved : Happens size w k staged.event (after_step w k step) = if_taken (Happens size w k staged.event) (event_result size w staged.event) (after_step w k step) happens_is (event_moves size w k staged.event) in
+          let left : kept_part (after_step w k step) k ≡ Some (kept_of step.node) = ap (λ (o : Option (Node V)). option_map kept_of o) (at_set w.nodes k step.node d.core.node node_is) in
+          let right : option_map (λ kept. changed_by kept (change_of size w staged.event)) (kept_part w k) ≡ Some (changed_by (kept_of d.core.node) (change_in staged.work)) =
+          ap (λ (o : Option (Node V)). option_map (λ kept. changed_by kept (change_of size w staged.event)) (option_map kept_of o)) node_is
           ∙ ap (λ (c : Option (Change V)). let o : Option (Kept V) = Some (changed_by (kept_of d.core.node) c) in o) (at.change ∙ sym change_is) in
-          let both : Some (kept_of step.node) ≡ Some (changed_by (kept_of d.core.node) (change_in due.work)) = sym left ∙ moved.own at.node ∙ right in
+          let both : Some (kept_of step.node) ≡ Some (changed_by (kept_of d.core.node) (change_in staged.work)) = sym left ∙ moved.own at.node ∙ right in
           cc
 
-      module _ (b : NetView V) (t : IsTaken net b due) where
-        -- the node that took the event is the one at which it was due
+      module _ (b : NetView V) (t : IsTaken net b staged) where
+        -- the node that took the event is the one at which it was staged
         was_core : t.was ≡ d.core
         was_core = let both : Some t.was ≡ Some d.core = sym t.at ∙ d.at in cc
 
         -- it is then the node that the step leaves
         node_then : t.core.node ≡ step.node
-        node_then = t.node ∙ ap (λ (c : Core V). (step_of due.work c.node).node) was_core
+        node_then = t.node ∙ ap (λ (c : Core V). (step_of staged.work c.node).node) was_core
 
         -- the posts of the step are added to the packets
         posts_are : b.packets ≡ net.packets ++ step.posts
-        posts_are = t.packets ∙ ap (λ (ps : List (Packet V)). net.packets ++ ps) (posts_same d.core due.work d.ready)
+        posts_are = t.packets ∙ ap (λ (ps : List (Packet V)). net.packets ++ ps) (posts_same d.core staged.work d.ready)
 
         -- the nodes and the packets are those of the world with the event
-        pub taken_world : AreOfWorld size b.taken b.cores b.packets
+        pub taken_world : AreOfWorld size b.history b.cores b.packets
         taken_world =
-            subst (λ (x : Taken V). AreOfWorld size x b.cores b.packets) (sym t.taken)
-            (subst (λ (cs : List (Core V)). AreOfWorld size (with_event net.taken due.event) cs b.packets) (sym t.cores)
-            (makes size net.taken net.cores net.packets h.world low due.event due.at t.core step at.happens b.packets node_then posts_are
-            (subst (λ (ps : List (Packet V)). AllByRecursion (IsPost (length net.taken.weights)) ps) (sym t.packets) (all_append (IsPost (length net.taken.weights)) net.packets (posts_of due.work) h.world.posts d.posts))))
+            subst (λ (x : History V). AreOfWorld size x b.cores b.packets) (sym t.history)
+            (subst (λ (cs : List (Core V)). AreOfWorld size (with_event net.history staged.event) cs b.packets) (sym t.cores)
+            (makes size net.history net.cores net.packets h.world low staged.event staged.at t.core step at.event_result b.packets node_then posts_are
+            (subst (λ (ps : List (Packet V)). AllByRecursion (IsPost (length net.history.weights)) ps) (sym t.packets) (all_append (IsPost (length net.history.weights)) net.packets (posts_of staged.work) h.world.posts d.posts))))
 
         -- the nodes of that world are those before, with one as the step leaves it
-        nodes_then : taken_world.world.nodes ≡ set w.nodes due.at step.node
-        nodes_then = taken_world.nodes ∙ ap (λ (cs : List (Core V)). nodes_of cs) t.cores ∙ nodes_of-set net.cores due.at t.core
-            ∙ ap (λ (n : Node V). set (nodes_of net.cores) due.at n) node_then ∙ ap (λ (ns : List (Node V)). set ns due.at step.node) (sym h.world.nodes)
+        nodes_then : taken_world.world.nodes ≡ set w.nodes staged.at step.node
+        nodes_then = taken_world.nodes ∙ ap (λ (cs : List (Core V)). nodes_of cs) t.cores ∙ nodes_of-set net.cores staged.at t.core
+            ∙ ap (λ (n : Node V). set (nodes_of net.cores) staged.at n) node_then ∙ ap (λ (ns : List (Node V)). set ns staged.at step.node) (sym h.world.nodes)
 
-        -- another node's due event is still due
-        other_due : (other : StagedEvent V) → due.at ≢ other.at → IsStaged size net other → IsStaged size b other
-        other_due other apart o = record {
+        -- another node's staged event is still staged
+        other_staged : (other : StagedEvent V) → staged.at ≢ other.at → IsStaged size net other → IsStaged size b other
+        other_staged other apart o = record {
           core = o.core;
-          at = ap (λ (cs : List (Core V)). slice_get cs other.at) t.cores ∙ at_set_other net.cores due.at other.at t.core apart ∙ o.at;
+          at = ap (λ (cs : List (Core V)). slice_get cs other.at) t.cores ∙ at_set_other net.cores staged.at other.at t.core apart ∙ o.at;
           ready = o.ready;
-          comes = λ x more e is. o.comes x (posts_of due.work ++ more) (e ∙ ap (λ (ps : List (Packet V)). ps ++ more) t.packets ∙ append_assoc net.packets (posts_of due.work) more) is;
-          posts = subst (λ (x : Taken V). AllByRecursion (IsPost (length x.weights)) (posts_of other.work)) (sym t.taken) o.posts;
+          has_result = λ x more e is. o.has_result x (posts_of staged.work ++ more) (e ∙ ap (λ (ps : List (Packet V)). ps ++ more) t.packets ∙ append_assoc net.packets (posts_of staged.work) more) is;
+          posts = subst (λ (x : History V). AllByRecursion (IsPost (length x.weights)) (posts_of other.work)) (sym t.history) o.posts;
         }
 
-        -- what another node owes is still due
-        other_owing : (j : ℕ) → due.at ≢ j → (s : Standing (StagedEvent V)) → IsOwing size net j s → IsOwing size b j s
+        -- what another node owes is still staged
+        other_owing : (j : ℕ) → staged.at ≢ j → (s : Status (StagedEvent V)) → IsOwing size net j s → IsOwing size b j s
         other_owing j apart up o = tt
         other_owing j apart (down None) o = tt
-        other_owing j apart (down (Some other)) o = (o.0, other_due other (λ e. apart (e ∙ o.0)) o.1)
+        other_owing j apart (down (Some other)) o = (o.0, other_staged other (λ e. apart (e ∙ o.0)) o.1)
 
         -- the node is up, and its keep has made the change
-        pub committed : (store new : StoreState V) → slice_get stores due.at ≡ Some store → new.kept ≡ kept_of step.node → new.standing ≡ up → IsSwitch size b (set stores due.at new)
+        pub committed : (store new : StoreState V) → slice_get stores staged.at ≡ Some store → new.kept ≡ kept_of step.node → new.status ≡ up → IsSwitch size b (set stores staged.at new)
         committed store new is kept is_up = record {
           world = taken_world;
-          count = length-set stores due.at new ∙ h.count ∙ sym (ap (λ (cs : List (Core V)). length cs) t.cores ∙ length-set net.cores due.at t.core);
-          each = each_after taken_world.world.nodes stores (λ j m s. IsStore size b j m s) due.at store new is
+          count = length-set stores staged.at new ∙ h.count ∙ sym (ap (λ (cs : List (Core V)). length cs) t.cores ∙ length-set net.cores staged.at t.core);
+          each = each_after taken_world.world.nodes stores (λ j m s. IsStore size b j m s) staged.at store new is
               (λ m there.
-              (let both : Some step.node ≡ Some m = sym (ap (λ (ns : List (Node V)). slice_get ns due.at) nodes_then ∙ at_set w.nodes due.at step.node d.core.node node_is) ∙ there in
+              (let both : Some step.node ≡ Some m = sym (ap (λ (ns : List (Node V)). slice_get ns staged.at) nodes_then ∙ at_set w.nodes staged.at step.node d.core.node node_is) ∙ there in
               let same : step.node ≡ m = cc in
               record {
-                fits = subst (λ (s : Standing (StagedEvent V)). IsRecordOf m s new.kept) (sym is_up) (kept ∙ ap (λ (n : Node V). kept_of n) same);
-                owing = subst (λ (s : Standing (StagedEvent V)). IsOwing size b due.at s) (sym is_up) tt;
+                fits = subst (λ (s : Status (StagedEvent V)). IsRecordOf m s new.kept) (sym is_up) (kept ∙ ap (λ (n : Node V). kept_of n) same);
+                owing = subst (λ (s : Status (StagedEvent V)). IsOwing size b staged.at s) (sym is_up) tt;
               }))
               (λ j m s other there is_s.
-              (let own = h.each j m s (sym (ap (λ (ns : List (Node V)). slice_get ns j) nodes_then ∙ at_set_other w.nodes due.at j step.node other) ∙ there) is_s in
-              record { fits = own.fits; owing = other_owing j other s.standing own.owing }));
+              (let own = h.each j m s (sym (ap (λ (ns : List (Node V)). slice_get ns j) nodes_then ∙ at_set_other w.nodes staged.at j step.node other) ∙ there) is_s in
+              record { fits = own.fits; owing = other_owing j other s.status own.owing }));
         }

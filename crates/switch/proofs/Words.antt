@@ -1,20 +1,20 @@
 -- The words in which this crate is proved, and the lemmas of std and of the layers below, passed on from one place.
 pub use Rattle.net.proofs.Beginnings.{then_begins}
-pub use Rattle.net.proofs.EventsStaged.{comes_restart, due_still, nodes_found, nodes_still}
+pub use Rattle.net.proofs.EventsStaged.{comes_restart, staged_still, nodes_found, nodes_still}
 pub use Rattle.net.proofs.EveryEvent.{IfTaken, holds_after, if_taken, node_at, spent_or}
 pub use Rattle.net.proofs.GrowingLists.{at_set, at_set_other, set_twice}
-pub use Rattle.net.proofs.HistoryLemmas.{taken_front}
+pub use Rattle.net.proofs.AgreementLemmas.{taken_front}
 pub use Rattle.net.proofs.KeptPartLemmas.{Happens, event_moves}
 pub use Rattle.net.proofs.LogsGrow.{log_grows}
 pub use Rattle.net.proofs.StagedTaken.{posts_same}
 pub use Rattle.net.proofs.StepsStaged.{still_more}
-pub use Rattle.net.proofs.TakenLemmas.{after-push, count_shown, happens-not_spent, length-nodes_of, makes, next_is, nodes_of-set, rooms_stay, set_same, taken_count}
-pub use Rattle.net.proofs.TwoMoments.{all_happen-append, world_lasts}
+pub use Rattle.net.proofs.HistoryLemmas.{after-push, count_shown, event_result-not_spent, length-nodes_of, makes, next_is, nodes_of-set, rooms_stay, set_same, taken_count}
+pub use Rattle.net.proofs.TwoMoments.{events_result-append, world_lasts}
 pub use Rattle.net.specs.Agree.{IsAfter, IsPrefixOf}
-pub use Rattle.net.specs.KeptPart.{addressed, change_of, kept_part, node_of}
-pub use Rattle.net.specs.Staged.{AreStill, ComesTo, HasRoom, IsEventAt, IsOfEvent, IsReadyAt, IsStaged, IsStill, IsTaken, NetView, StagedEvent, StagedWork, change_in, loads, posts_of, restarts, step_of, steps, with_record}
-pub use Rattle.net.specs.Taken.{AreOfWorld, Taken, nodes_of, with_event, world_of as world_of_taken}
-pub use Rattle.net.specs.World.{World, after, all_happen, at_node, delivered, happens, happens_at, log, log_after, nodes_from, offers_of, packets_after, start, stepped}
+pub use Rattle.net.specs.KeptPart.{node_of_event, change_of, kept_part, node_of}
+pub use Rattle.net.specs.Staged.{ChangeOnlyRooms, HasResult, HasRoom, IsEventAt, IsOfEvent, IsReadyAt, IsStaged, ChangesOnlyRoom, IsTaken, NetView, StagedEvent, StagedWork, change_in, with_loaded, posts_of, restarts, step_of, steps, with_record}
+pub use Rattle.net.specs.History.{AreOfWorld, History, nodes_of, with_event, world_of as world_of_taken}
+pub use Rattle.net.specs.World.{World, after, events_result, at_node, delivered, event_result, event_result_without_limit, log, log_after, nodes_from, offers_of, packets_after, start, after_step}
 pub use Rattle.net.specs.declared.event.Event.{Event}
 pub use Rattle.net.specs.declared.event.Event.TheVariants.{Begin, Deliver, Offer, Restart}
 pub use Rattle.net.specs.declared.event.TheConstants.{MOST_EVENTS}
@@ -30,12 +30,12 @@ pub use Rattle.std.specs.Option.{option_map}
 pub use Rattle.std.specs.Prelude.{IfErr, IsErrAnd, IsOkUnless, IsSome, OnErr, OnOk}
 pub use Rattle.std.specs.Result.{ForOk}
 pub use Rattle.std.specs.Vec.Iter.{into_iter_items}
-pub use Rattle.switch.specs.Belonging.{BeginsLog, KeepsLogs, StaysBelonging}
-pub use Rattle.switch.specs.NodeStore.{Fails, IsRecordOf, IsWithOrWithout, Standing, StoreState, change_owed, down, owed_in, posts_owed, up}
-pub use Rattle.switch.specs.Switch.{Acts, ActsDown, ActsUp, AreStores, CanTakeOwed, FailsAt, IsOwing, IsRecordIn, IsStore, IsSwitch, IsViewOf, Plays, Revives, RevivesAt, StoreView, SwitchView, TakesAt, TakesOwed, change_due, due, event_owed, events_due, is_down, is_down_at, is_down_view, new_stores, new_views, standing_seen, view_of, views_of, with_store, world_of}
-pub use Rattle.synod.proofs.NodeKeeps.{all_append}
+pub use Rattle.switch.specs.Belonging.{IsLogPrefix, KeepsLogs, StaysBelonging}
+pub use Rattle.switch.specs.NodeStore.{Fails, IsRecordOf, IsWithOrWithout, Status, StoreState, change_owed, down, owed_in, posts_owed, up}
+pub use Rattle.switch.specs.Switch.{IsEffect, IsEffectAtDownNode, IsEffectAtUpNode, AreStores, CanTakeOwed, FailsAt, IsOwing, IsRecordIn, IsStore, IsSwitch, IsViewOf, Plays, Revives, RevivesAt, StoreView, SwitchView, TakesAt, TakesOwed, change_of_owed, owed_on_failure, event_owed, owed_events, is_down, is_down_at, is_down_view, new_stores, new_views, status_seen, view_of, views_of, with_store, world_of}
+pub use Rattle.synod.proofs.NodeInvariant.{all_append}
 pub use Rattle.synod.specs.Core.{Core}
-pub use Rattle.synod.specs.Node.{Node, Stepped, kept_of, new_node}
+pub use Rattle.synod.specs.Node.{Node, StepResult, kept_of, new_node}
 pub use Rattle.synod.specs.Packets.{IsPost, to_others}
 pub use Rattle.synod.specs.Proposer.{begun, offered}
 pub use Rattle.synod.specs.Record.{Kept, changed_by, new_kept}

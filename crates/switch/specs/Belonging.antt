@@ -6,16 +6,16 @@ use Rattle.switch.specs.Words.{Event, Restart, StepFault, log_after, IsPrefixOf}
 use Rattle.switch.specs.Switch.{SwitchView, world_of}
 
 -- there is a node k, and these entries are a prefix of its log in the world after the history
-pub record BeginsLog {V : Type 0} (size : V → ℕ) (switch : SwitchView V) (k : ℕ) (entries : List (Option V)) : Type 0 where
+pub record IsLogPrefix {V : Type 0} (size : V → ℕ) (switch : SwitchView V) (k : ℕ) (entries : List (Option V)) : Type 0 where
   pub node : k < length switch.stores
   pub begins : IsPrefixOf entries (log_after (world_of size switch) k)
 
 -- at each node, a prefix of its log remains one
 abbrev pub StaysBelonging : {V : Type 0} → (V → ℕ) → SwitchView V → SwitchView V → Type 0
-StaysBelonging {V} size old new = (k : ℕ) (entries : List (Option V)) → BeginsLog size old k entries → BeginsLog size new k entries
+StaysBelonging {V} size old new = (k : ℕ) (entries : List (Option V)) → IsLogPrefix size old k entries → IsLogPrefix size new k entries
 
 -- a prefix of a node's log remains one, except at a restart of that node; after a refused event without exception
 pub record KeepsLogs {V : Type 0} (size : V → ℕ) (e : Event V) (old new : SwitchView V) (result : Result ℕ StepFault) : Type 0 where
-  pub others : (k : ℕ) (entries : List (Option V)) → e ≢ Restart k → BeginsLog size old k entries → BeginsLog size new k entries
+  pub others : (k : ℕ) (entries : List (Option V)) → e ≢ Restart k → IsLogPrefix size old k entries → IsLogPrefix size new k entries
   pub refused : OnErr result (StaysBelonging size old new)
   pub nodes : length new.stores ≡ length old.stores

@@ -3,36 +3,36 @@
 -- The code has the keep itself. Contracts see the record that it would load, how often it failed, and the event that the node owes, whose store failed.
 use Rattle.std.specs.Prelude.{◌≡◌, ◌⊎◌, ◌+◌, ℕ, List, [], Option, Some, None}
 use Rattle.switch.specs.Words.{Packet, Change, Kept, changed_by, Node, kept_of, StagedEvent, change_in, posts_of}
-use Rattle.switch.specs.declared.node_store.Standing.{Standing as Stands}
-use Rattle.switch.specs.declared.node_store.Standing.TheVariants.{Up, Down}
+use Rattle.switch.specs.declared.node_store.Status.{Status as RustStatus}
+use Rattle.switch.specs.declared.node_store.Status.TheVariants.{Up, Down}
 
 -- up; or down, with the event that the node owes, if there is one
-pub data Standing (A : Type 0) : Type 0 where
-  up : Standing A
-  down : Option A → Standing A
+pub data Status (A : Type 0) : Type 0 where
+  up : Status A
+  down : Option A → Status A
 
-abbrev pub standing_of : {V : Type 0} → Stands V → Standing (StagedEvent V)
-standing_of Up = up
-standing_of (Down due) = down due
+abbrev pub status_of : {V : Type 0} → RustStatus V → Status (StagedEvent V)
+status_of Up = up
+status_of (Down staged) = down staged
 
 pub record StoreState (V : Type 0) : Type 0 where
   pub kept : Kept V  -- the record that the keep would load
   pub failures : ℕ  -- how many calls of the keep failed
-  pub standing : Standing (StagedEvent V)
+  pub status : Status (StagedEvent V)
 
 -- The event that is owed, its change, and the packets that it posts.
 
-abbrev pub owed_in : {V : Type 0} → Standing (StagedEvent V) → Option (StagedEvent V)
+abbrev pub owed_in : {V : Type 0} → Status (StagedEvent V) → Option (StagedEvent V)
 owed_in up = None
 owed_in (down o) = o
 
 abbrev pub change_owed : {V : Type 0} → Option (StagedEvent V) → Option (Change V)
 change_owed None = None
-change_owed (Some due) = change_in due.work
+change_owed (Some staged) = change_in staged.work
 
 abbrev pub posts_owed : {V : Type 0} → Option (StagedEvent V) → List (Packet V)
 posts_owed None = []
-posts_owed (Some due) = posts_of due.work
+posts_owed (Some staged) = posts_of staged.work
 
 -- The record of the keep is that of the node, with or without the change that is owed.
 
@@ -40,11 +40,11 @@ posts_owed (Some due) = posts_of due.work
 abbrev pub IsWithOrWithout : {V : Type 0} → Kept V → Option (Change V) → Kept V → Type 0
 IsWithOrWithout old change new = (new ≡ old) ⊎ (new ≡ changed_by old change)
 
-abbrev pub IsRecordOf : {V : Type 0} → Node V → Standing (StagedEvent V) → Kept V → Type 0
+abbrev pub IsRecordOf : {V : Type 0} → Node V → Status (StagedEvent V) → Kept V → Type 0
 IsRecordOf n up kept = kept ≡ kept_of n
 IsRecordOf n (down o) kept = IsWithOrWithout (kept_of n) (change_owed o) kept
 
 -- the effect of a failed call of the keep
-pub record Fails {V : Type 0} (old : StoreState V) (change : Option (Change V)) (left : Standing (StagedEvent V)) (new : StoreState V) : Type 0 where
+pub record Fails {V : Type 0} (old : StoreState V) (change : Option (Change V)) (left : Status (StagedEvent V)) (new : StoreState V) : Type 0 where
   pub kept : IsWithOrWithout old.kept change new.kept
-  pub rest : new ≡ record { kept = new.kept; failures = old.failures + 1; standing = left }
+  pub rest : new ≡ record { kept = new.kept; failures = old.failures + 1; status = left }

@@ -2,8 +2,8 @@
 -- Source: Lamport, Paxos Made Simple, section 3; that a node with a failed store is down is this project's choice.
 -- The code has a net and the keeps; by the invariant of the type, the state of the net is that of the world after the history.
 use Rattle.std.specs.Prelude.{◌≡◌, ◌⊎◌, ◌+◌, ◌≤◌, ◌<◌, ℕ, Bool, true, false, List, [], ◌∷◌, ◌++◌, Option, Some, None, Result, Ok, Err, length, slice_get, slice_set}
-use Rattle.switch.specs.Words.{Change, Kept, changed_by, new_kept, Node, kept_of, MOST_EVENTS, Event, Offer, Begin, Deliver, Restart, StepFault, Memory, Device, Down, EventsSpent, World, happens, after, IsAfter, AreOfWorld, node_of, change_of, kept_part, StagedEvent, NetView, IsStaged, HasRoom, IsTaken, posts_of}
-use Rattle.switch.specs.NodeStore.{Standing, up, down, StoreState, IsRecordOf, IsWithOrWithout}
+use Rattle.switch.specs.Words.{Change, Kept, changed_by, new_kept, Node, kept_of, MOST_EVENTS, Event, Offer, Begin, Deliver, Restart, StepFault, Memory, Device, Down, EventsSpent, World, event_result, after, IsAfter, AreOfWorld, node_of, change_of, kept_part, StagedEvent, NetView, IsStaged, HasRoom, IsTaken, posts_of}
+use Rattle.switch.specs.NodeStore.{Status, up, down, StoreState, IsRecordOf, IsWithOrWithout}
 
 -- The switch as contracts see it.
 
@@ -12,7 +12,7 @@ use Rattle.switch.specs.NodeStore.{Standing, up, down, StoreState, IsRecordOf, I
 pub record StoreView (V : Type 0) : Type 0 where
   pub kept : Kept V
   pub failures : ℕ
-  pub standing : Standing (Event V)
+  pub status : Status (Event V)
 
 pub record SwitchView (V : Type 0) : Type 0 where
   pub weights : List ℕ
@@ -21,14 +21,14 @@ pub record SwitchView (V : Type 0) : Type 0 where
 
 abbrev pub event_owed : {V : Type 0} → Option (StagedEvent V) → Option (Event V)
 event_owed None = None
-event_owed (Some due) = Some due.event
+event_owed (Some staged) = Some staged.event
 
-abbrev pub standing_seen : {V : Type 0} → Standing (StagedEvent V) → Standing (Event V)
-standing_seen up = up
-standing_seen (down o) = down (event_owed o)
+abbrev pub status_seen : {V : Type 0} → Status (StagedEvent V) → Status (Event V)
+status_seen up = up
+status_seen (down o) = down (event_owed o)
 
 abbrev pub view_of : {V : Type 0} → StoreState V → StoreView V
-view_of store = record { kept = store.kept; failures = store.failures; standing = standing_seen store.standing }
+view_of store = record { kept = store.kept; failures = store.failures; status = status_seen store.status }
 
 abbrev pub views_of : {V : Type 0} → List (StoreState V) → List (StoreView V)
 views_of [] = []
@@ -37,29 +37,29 @@ views_of (store ∷ stores) = view_of store ∷ views_of stores
 -- the stores of new nodes as contracts see them, with these keeps; `failures` counts the failed calls of a keep
 abbrev pub new_views : {V K : Type 0} → (K → ℕ) → List K → List (StoreView V)
 new_views failures [] = []
-new_views failures (keep ∷ keeps) = record { kept = new_kept; failures = failures keep; standing = up } ∷ new_views failures keeps
+new_views failures (keep ∷ keeps) = record { kept = new_kept; failures = failures keep; status = up } ∷ new_views failures keeps
 
 -- the stores of new nodes
 abbrev pub new_stores : {V K : Type 0} → (K → Kept V) → (K → ℕ) → List K → List (StoreState V)
 new_stores kept failures [] = []
-new_stores kept failures (keep ∷ keeps) = record { kept = kept keep; failures = failures keep; standing = up } ∷ new_stores kept failures keeps
+new_stores kept failures (keep ∷ keeps) = record { kept = kept keep; failures = failures keep; status = up } ∷ new_stores kept failures keeps
 
 -- The invariant of the type.
 
 -- the event that is owed is staged at the node
-abbrev pub IsOwing : {V : Type 0} → (V → ℕ) → NetView V → ℕ → Standing (StagedEvent V) → Type 0
+abbrev pub IsOwing : {V : Type 0} → (V → ℕ) → NetView V → ℕ → Status (StagedEvent V) → Type 0
 IsOwing size net k up = Unit {0}
 IsOwing size net k (down None) = Unit {0}
-IsOwing size net k (down (Some due)) = (due.at ≡ k) × IsStaged size net due
+IsOwing size net k (down (Some staged)) = (staged.at ≡ k) × IsStaged size net staged
 
 -- the record of the keep and the event that is owed fit the node
 pub record IsStore {V : Type 0} (size : V → ℕ) (net : NetView V) (k : ℕ) (n : Node V) (store : StoreState V) : Type 0 where
-  pub fits : IsRecordOf n store.standing store.kept
-  pub owing : IsOwing size net k store.standing
+  pub fits : IsRecordOf n store.status store.kept
+  pub owing : IsOwing size net k store.status
 
 -- the net is that of a world, and each node has a store that fits it
 pub record IsSwitch {V : Type 0} (size : V → ℕ) (net : NetView V) (stores : List (StoreState V)) : Type 0 where
-  pub world : AreOfWorld size net.taken net.cores net.packets
+  pub world : AreOfWorld size net.history net.cores net.packets
   pub count : length stores ≡ length net.cores
   pub each : (k : ℕ) (n : Node V) (store : StoreState V) → slice_get world.world.nodes k ≡ Some n → slice_get stores k ≡ Some store → IsStore size net k n store
 
@@ -70,18 +70,18 @@ abbrev pub world_of : {V : Type 0} → (V → ℕ) → SwitchView V → Result (
 world_of size switch = after size switch.weights switch.history
 
 -- the change of the event that is owed, in a world
-abbrev pub change_due : {V : Type 0} → (V → ℕ) → World V → Option (Event V) → Option (Change V)
-change_due size w None = None
-change_due size w (Some e) = change_of size w e
+abbrev pub change_of_owed : {V : Type 0} → (V → ℕ) → World V → Option (Event V) → Option (Change V)
+change_of_owed size w None = None
+change_of_owed size w (Some e) = change_of size w e
 
 -- the record of the keep is the kept part of its node; while the node is down, with or without the change whose store failed
-abbrev pub IsRecordIn : {V : Type 0} → (V → ℕ) → World V → Node V → Standing (Event V) → Kept V → Type 0
+abbrev pub IsRecordIn : {V : Type 0} → (V → ℕ) → World V → Node V → Status (Event V) → Kept V → Type 0
 IsRecordIn size w n up kept = kept ≡ kept_of n
-IsRecordIn size w n (down e) kept = IsWithOrWithout (kept_of n) (change_due size w e) kept
+IsRecordIn size w n (down e) kept = IsWithOrWithout (kept_of n) (change_of_owed size w e) kept
 
 abbrev pub IsViewOf : {V : Type 0} → (V → ℕ) → World V → Option (Node V) → Option (StoreView V) → Type 0
 IsViewOf size w None None = Unit {0}
-IsViewOf size w (Some n) (Some view) = IsRecordIn size w n view.standing view.kept
+IsViewOf size w (Some n) (Some view) = IsRecordIn size w n view.status view.kept
 IsViewOf size w None (Some view) = ⊥
 IsViewOf size w (Some n) None = ⊥
 
@@ -91,13 +91,13 @@ AreStores size w stores = (k : ℕ) → IsViewOf size w (slice_get w.nodes k) (s
 
 -- Events.
 
-abbrev pub is_down : {V : Type 0} → Standing (Event V) → Bool
+abbrev pub is_down : {V : Type 0} → Status (Event V) → Bool
 is_down up = false
 is_down (down e) = true
 
 abbrev pub is_down_view : {V : Type 0} → Option (StoreView V) → Bool
 is_down_view None = false
-is_down_view (Some view) = is_down view.standing
+is_down_view (Some view) = is_down view.status
 
 -- the node of the event is down
 abbrev pub is_down_at : {V : Type 0} → List (StoreView V) → Option ℕ → Bool
@@ -114,56 +114,56 @@ with_store old k view = record { weights = old.weights; history = old.history; s
 -- the keep has made the change, and the event is taken
 abbrev pub with_event : {V : Type 0} → SwitchView V → ℕ → StoreView V → Option (Change V) → Event V → SwitchView V
 with_event old k view change e =
-    record (with_store old k record { kept = changed_by view.kept change; failures = view.failures; standing = view.standing }) { history = old.history ++ e ∷ [] }
+    record (with_store old k record { kept = changed_by view.kept change; failures = view.failures; status = view.status }) { history = old.history ++ e ∷ [] }
 
 -- the event that a node owes if its keep fails at this event; none for a restart, which stores nothing
-abbrev pub due : {V : Type 0} → Event V → Option (Event V)
-due (Offer k v) = Some (Offer k v)
-due (Begin k) = Some (Begin k)
-due (Deliver number) = Some (Deliver number)
-due (Restart k) = None
+abbrev pub owed_on_failure : {V : Type 0} → Event V → Option (Event V)
+owed_on_failure (Offer k v) = Some (Offer k v)
+owed_on_failure (Begin k) = Some (Begin k)
+owed_on_failure (Deliver number) = Some (Deliver number)
+owed_on_failure (Restart k) = None
 
 -- a call of the keep of node k failed: it counts one failure more, its record is old or new, the node is left as `left` says, and the rest is as before
-pub record FailsAt {V : Type 0} (old new : SwitchView V) (k : ℕ) (view : StoreView V) (change : Option (Change V)) (left : Standing (Event V)) : Type 0 where
+pub record FailsAt {V : Type 0} (old new : SwitchView V) (k : ℕ) (view : StoreView V) (change : Option (Change V)) (left : Status (Event V)) : Type 0 where
   pub kept : Kept V
   pub either : IsWithOrWithout view.kept change kept
-  pub rest : new ≡ with_store old k record { kept = kept; failures = view.failures + 1; standing = left }
+  pub rest : new ≡ with_store old k record { kept = kept; failures = view.failures + 1; status = left }
 
 -- an event that meets no fault is taken, and x is the world after it; or an allocation failed, or the keep failed
 abbrev pub TakesAt : {V : Type 0} → SwitchView V → SwitchView V → Event V → ℕ → StoreView V → Option (Change V) → World V → Result ℕ StepFault → Type 0
 TakesAt old new e k view change x (Ok count) = (new ≡ with_event old k view change e) × (count ≡ length x.packets)
-TakesAt old new e k view change x (Err fault) = ((fault ≡ Memory) × (new ≡ old)) ⊎ ((fault ≡ Device) × FailsAt old new k view change (down (due e)))
+TakesAt old new e k view change x (Err fault) = ((fault ≡ Memory) × (new ≡ old)) ⊎ ((fault ≡ Device) × FailsAt old new k view change (down (owed_on_failure e)))
 
 -- the effect of an event whose node is not down; w is the world after the old history
-pub record ActsUp {V : Type 0} (size : V → ℕ) (w : World V) (old new : SwitchView V) (e : Event V) (result : Result ℕ StepFault) : Type 0 where
-  pub refused : (fault : StepFault) → happens size w e ≡ Err fault → Refuses old new result fault
-  pub taken : (x : World V) → happens size w e ≡ Ok x → (k : ℕ) → node_of w e ≡ Some k → (view : StoreView V) → slice_get old.stores k ≡ Some view → TakesAt old new e k view (change_of size w e) x result
+pub record IsEffectAtUpNode {V : Type 0} (size : V → ℕ) (w : World V) (old new : SwitchView V) (e : Event V) (result : Result ℕ StepFault) : Type 0 where
+  pub refused : (fault : StepFault) → event_result size w e ≡ Err fault → Refuses old new result fault
+  pub taken : (x : World V) → event_result size w e ≡ Ok x → (k : ℕ) → node_of w e ≡ Some k → (view : StoreView V) → slice_get old.stores k ≡ Some view → TakesAt old new e k view (change_of size w e) x result
 
 -- Restarts of a node that is down.
 
-abbrev pub events_due : {V : Type 0} → Option (Event V) → List (Event V)
-events_due None = []
-events_due (Some e) = e ∷ []
+abbrev pub owed_events : {V : Type 0} → Option (Event V) → List (Event V)
+owed_events None = []
+owed_events (Some e) = e ∷ []
 
 -- node k is up again with the record that its keep loaded: the event whose store failed, if there is one, and then the restart are taken
 pub record IsRevived {V : Type 0} (size : V → ℕ) (old new : SwitchView V) (k : ℕ) (view : StoreView V) (e : Option (Event V)) (count : ℕ) : Type 0 where
   pub world : World V
-  pub is_after : IsAfter size old.weights (old.history ++ events_due e ++ Restart k ∷ []) world
+  pub is_after : IsAfter size old.weights (old.history ++ owed_events e ++ Restart k ∷ []) world
   pub counted : count ≡ length world.packets
   pub kept : Kept V
   pub is_kept : kept_part world k ≡ Some kept
-  pub rest : new ≡ record { weights = old.weights; history = old.history ++ events_due e ++ Restart k ∷ []; stores = slice_set old.stores k record { kept = kept; failures = view.failures; standing = up } }
+  pub rest : new ≡ record { weights = old.weights; history = old.history ++ owed_events e ++ Restart k ∷ []; stores = slice_set old.stores k record { kept = kept; failures = view.failures; status = up } }
 
 -- an allocation failed: everything but the record is as before
 pub record StaysDownAt {V : Type 0} (old new : SwitchView V) (k : ℕ) (view : StoreView V) (change : Option (Change V)) : Type 0 where
   pub kept : Kept V
   pub either : IsWithOrWithout view.kept change kept
-  pub rest : new ≡ with_store old k record { kept = kept; failures = view.failures; standing = view.standing }
+  pub rest : new ≡ with_store old k record { kept = kept; failures = view.failures; status = view.status }
 
 abbrev pub RevivesAt : {V : Type 0} → (V → ℕ) → World V → SwitchView V → SwitchView V → ℕ → StoreView V → Option (Event V) → Result ℕ StepFault → Type 0
 RevivesAt size w old new k view e (Ok count) = IsRevived size old new k view e count
 RevivesAt size w old new k view e (Err fault) =
-    ((fault ≡ Memory) × StaysDownAt old new k view (change_due size w e)) ⊎ ((fault ≡ Device) × FailsAt old new k view (change_due size w e) view.standing)
+    ((fault ≡ Memory) × StaysDownAt old new k view (change_of_owed size w e)) ⊎ ((fault ≡ Device) × FailsAt old new k view (change_of_owed size w e) view.status)
 
 -- the effect of a restart at a node that is down and owes e
 pub record Revives {V : Type 0} (size : V → ℕ) (w : World V) (old new : SwitchView V) (k : ℕ) (view : StoreView V) (e : Option (Event V)) (result : Result ℕ StepFault) : Type 0 where
@@ -173,30 +173,30 @@ pub record Revives {V : Type 0} (size : V → ℕ) (w : World V) (old new : Swit
 -- Events in general.
 
 -- the effect of an event whose node is down: a restart may bring it up again, and every other event is refused
-abbrev pub ActsDown : {V : Type 0} → (V → ℕ) → World V → SwitchView V → SwitchView V → Event V → Result ℕ StepFault → Type 0
-ActsDown size w old new (Offer k v) result = Refuses old new result Down
-ActsDown size w old new (Begin k) result = Refuses old new result Down
-ActsDown size w old new (Deliver number) result = Refuses old new result Down
-ActsDown {V} size w old new (Restart k) result = (view : StoreView V) → slice_get old.stores k ≡ Some view → (e : Option (Event V)) → view.standing ≡ down e → Revives size w old new k view e result
+abbrev pub IsEffectAtDownNode : {V : Type 0} → (V → ℕ) → World V → SwitchView V → SwitchView V → Event V → Result ℕ StepFault → Type 0
+IsEffectAtDownNode size w old new (Offer k v) result = Refuses old new result Down
+IsEffectAtDownNode size w old new (Begin k) result = Refuses old new result Down
+IsEffectAtDownNode size w old new (Deliver number) result = Refuses old new result Down
+IsEffectAtDownNode {V} size w old new (Restart k) result = (view : StoreView V) → slice_get old.stores k ≡ Some view → (e : Option (Event V)) → view.status ≡ down e → Revives size w old new k view e result
 
 -- the effect of an event; w is the world after the old history
-pub record Acts {V : Type 0} (size : V → ℕ) (w : World V) (old new : SwitchView V) (e : Event V) (result : Result ℕ StepFault) : Type 0 where
-  pub is_down : is_down_at old.stores (node_of w e) ≡ true → ActsDown size w old new e result
-  pub is_up : is_down_at old.stores (node_of w e) ≡ false → ActsUp size w old new e result
+pub record IsEffect {V : Type 0} (size : V → ℕ) (w : World V) (old new : SwitchView V) (e : Event V) (result : Result ℕ StepFault) : Type 0 where
+  pub is_down : is_down_at old.stores (node_of w e) ≡ true → IsEffectAtDownNode size w old new e result
+  pub is_up : is_down_at old.stores (node_of w e) ≡ false → IsEffectAtUpNode size w old new e result
 
 -- the history before the event is taken, each node of the world after it has its store, and the event has its effect in that world
 pub record Plays {V : Type 0} (size : V → ℕ) (old new : SwitchView V) (e : Event V) (result : Result ℕ StepFault) : Type 0 where
   pub world : World V
   pub is_after : world_of size old ≡ Ok world
   pub stores : AreStores size world old.stores
-  pub acts : Acts size world old new e result
+  pub effect : IsEffect size world old new e result
 
 -- At the restart of a node that is down, the event that it owes is taken first.
 
 abbrev pub CanTakeOwed : {V : Type 0} → (V → ℕ) → NetView V → Option (StagedEvent V) → Type 0
 CanTakeOwed size net None = Unit {0}
-CanTakeOwed size net (Some due) = IsStaged size net due × HasRoom net (length (posts_of due.work)) 1 × (length net.taken.events < MOST_EVENTS)
+CanTakeOwed size net (Some staged) = IsStaged size net staged × HasRoom net (length (posts_of staged.work)) 1 × (length net.history.events < MOST_EVENTS)
 
 abbrev pub TakesOwed : {V : Type 0} → NetView V → NetView V → Option (StagedEvent V) → Type 0
 TakesOwed old new None = new ≡ old
-TakesOwed old new (Some due) = IsTaken old new due
+TakesOwed old new (Some staged) = IsTaken old new staged

@@ -2,8 +2,8 @@
 pub use Rattle.net.specs.Agree.{IsAfter, IsPrefixOf}
 pub use Rattle.net.specs.Staged.{StagedEvent, HasRoom, IsStaged, IsTaken, NetView, change_in, posts_of}
 pub use Rattle.net.specs.KeptPart.{change_of, kept_part, node_of}
-pub use Rattle.net.specs.Taken.{AreOfWorld}
-pub use Rattle.net.specs.World.{World, after, happens, log_after}
+pub use Rattle.net.specs.History.{AreOfWorld}
+pub use Rattle.net.specs.World.{World, after, event_result, log_after}
 pub use Rattle.net.specs.declared.event.Event.{Event}
 pub use Rattle.net.specs.declared.event.Event.TheVariants.{Begin, Deliver, Offer, Restart}
 pub use Rattle.net.specs.declared.event.TheConstants.{MOST_EVENTS}

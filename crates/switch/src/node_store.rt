@@ -2,8 +2,8 @@
 ghost use Rattle.std.specs.Prelude.{◌≡◌, ◌+◌, Ok, Some, None, length, IfOk, OnOk, OnErr, is_ok, if◌then◌else◌};
 ghost use Rattle.synod.specs.Record.{changed_by};
 ghost use Rattle.net.specs.Staged.{change_in, posts_of};
-ghost use Rattle.switch.specs.NodeStore.{Fails, IsWithOrWithout, change_owed, owed_in, posts_owed, standing_of, up, down};
-ghost use Rattle.switch.specs.Switch.{is_down, standing_seen};
+ghost use Rattle.switch.specs.NodeStore.{Fails, IsWithOrWithout, change_owed, owed_in, posts_owed, status_of, up, down};
+ghost use Rattle.switch.specs.Switch.{is_down, status_seen};
 
 use net::StagedEvent;
 use std::marker::Model;
@@ -12,7 +12,7 @@ use synod::{Failed, Keep, Record, Value};
 
 /// Whether a node takes events.
 #[derive(Drop)]
-pub(crate) enum Standing<V> {
+pub(crate) enum Status<V> {
     Up,
     /// A call of the keep failed: a load, or the store of this event.
     Down(Option<StagedEvent<V>>),
@@ -22,48 +22,48 @@ pub(crate) enum Standing<V> {
 #[derive(Drop)]
 pub(crate) struct NodeStore<V: Value, K: Keep<V>> {
     keep: K,
-    standing: Standing<V>,
+    status: Status<V>,
 }
 
 impl<V: Value, K: Keep<V>> Model for NodeStore<V, K> {
-    ghost use Rattle.switch.specs.NodeStore.{StoreState, standing_of};
+    ghost use Rattle.switch.specs.NodeStore.{StoreState, status_of};
 
     ghost Value = { StoreState V };
 
-    ghost view = { λ s. record { kept = K.kept s.keep; failures = K.failures s.keep; standing = standing_of s.standing } };
+    ghost view = { λ s. record { kept = K.kept s.keep; failures = K.failures s.keep; status = status_of s.status } };
 }
 
 impl<V: Value, K: Keep<V>> NodeStore<V, K> {
     /// Creates the store of a node that is up.
     pub fn new(keep: K) -> Self
-        ensures { result ≡ record { kept = K.kept keep; failures = K.failures keep; standing = up } }
+        ensures { result ≡ record { kept = K.kept keep; failures = K.failures keep; status = up } }
     {
         NodeStore {
             keep,
-            standing: Standing::Up,
+            status: Status::Up,
         }
     }
 
     /// Returns whether the node is down.
     pub fn is_down(&self) -> bool
-        ensures { result ≡ is_down (standing_seen self.now.standing) }
+        ensures { result ≡ is_down (status_seen self.now.status) }
     {
-        match &self.standing {
-            Standing::Up => false,
-            Standing::Down(_) => true,
+        match &self.status {
+            Status::Up => false,
+            Status::Down(_) => true,
         }
     }
 
     /// Stores the change of a staged event and returns the event. If the keep fails, the node is down and owes the event.
-    pub fn store(&mut self, due: StagedEvent<V>) -> Result<StagedEvent<V>, Failed>
-        ensures stored { OnOk result (self.new ≡ record { kept = changed_by self.old.kept (change_in due.work); failures = self.old.failures; standing = self.old.standing }) }
-        ensures due { IfOk result (λ same. same ≡ due) }
-        ensures failed { OnErr result (Fails self.old (change_in due.work) (down (Some due)) self.new) }
+    pub fn store(&mut self, staged: StagedEvent<V>) -> Result<StagedEvent<V>, Failed>
+        ensures stored { OnOk result (self.new ≡ record { kept = changed_by self.old.kept (change_in staged.work); failures = self.old.failures; status = self.old.status }) }
+        ensures staged { IfOk result (λ same. same ≡ staged) }
+        ensures failed { OnErr result (Fails self.old (change_in staged.work) (down (Some staged)) self.new) }
     {
-        match store_change(&mut self.keep, &due) {
-            Ok(()) => Ok(due),
+        match store_change(&mut self.keep, &staged) {
+            Ok(()) => Ok(staged),
             Err(failed) => {
-                self.standing = Standing::Down(Some(due));
+                self.status = Status::Down(Some(staged));
                 Err(failed)
             }
         }
@@ -78,7 +78,7 @@ impl<V: Value, K: Keep<V>> NodeStore<V, K> {
         match self.keep.load() {
             Ok(record) => Ok(record),
             Err(failed) => {
-                self.standing = Standing::Down(None);
+                self.status = Status::Down(None);
                 Err(failed)
             }
         }
@@ -86,22 +86,22 @@ impl<V: Value, K: Keep<V>> NodeStore<V, K> {
 
     /// Returns the number of packets that the owed event posts.
     pub fn count_owed(&self) -> usize
-        ensures { result ≡ length (posts_owed (owed_in self.now.standing)) }
+        ensures { result ≡ length (posts_owed (owed_in self.now.status)) }
     {
-        match &self.standing {
-            Standing::Down(Some(due)) => due.posts().len(),
-            Standing::Down(None) => 0,
-            Standing::Up => 0,
+        match &self.status {
+            Status::Down(Some(staged)) => staged.posts().len(),
+            Status::Down(None) => 0,
+            Status::Up => 0,
         }
     }
 
     /// Stores the owed change, if there is one, loads the record, and marks the node as up. Returns the event that the node
     /// owed, and the record. If a call of the keep fails, the node stays down.
     pub fn repair(&mut self) -> Result<(Option<StagedEvent<V>>, Record<V>), Failed>
-        ensures owed { IfOk result (λ made. made.0 ≡ owed_in self.old.standing) }
-        ensures loaded { IfOk result (λ made. made.1.kept ≡ changed_by self.old.kept (change_owed (owed_in self.old.standing))) }
-        ensures up { OnOk result (self.new ≡ record { kept = changed_by self.old.kept (change_owed (owed_in self.old.standing)); failures = self.old.failures; standing = up }) }
-        ensures failed { OnErr result (Fails self.old (change_owed (owed_in self.old.standing)) self.old.standing self.new) }
+        ensures owed { IfOk result (λ made. made.0 ≡ owed_in self.old.status) }
+        ensures loaded { IfOk result (λ made. made.1.kept ≡ changed_by self.old.kept (change_owed (owed_in self.old.status))) }
+        ensures up { OnOk result (self.new ≡ record { kept = changed_by self.old.kept (change_owed (owed_in self.old.status)); failures = self.old.failures; status = up }) }
+        ensures failed { OnErr result (Fails self.old (change_owed (owed_in self.old.status)) self.old.status self.new) }
     {
         self.store_owed()?;
         let record = self.keep.load()?;
@@ -110,35 +110,35 @@ impl<V: Value, K: Keep<V>> NodeStore<V, K> {
 
     /// Stores the owed change, if there is one.
     fn store_owed(&mut self) -> Result<(), Failed>
-        ensures stored { OnOk result (self.new ≡ record { kept = changed_by self.old.kept (change_owed (owed_in self.old.standing)); failures = self.old.failures; standing = self.old.standing }) }
-        ensures failed { OnErr result (Fails self.old (change_owed (owed_in self.old.standing)) self.old.standing self.new) }
+        ensures stored { OnOk result (self.new ≡ record { kept = changed_by self.old.kept (change_owed (owed_in self.old.status)); failures = self.old.failures; status = self.old.status }) }
+        ensures failed { OnErr result (Fails self.old (change_owed (owed_in self.old.status)) self.old.status self.new) }
     {
-        match &self.standing {
-            Standing::Down(Some(due)) => store_change(&mut self.keep, due),
-            Standing::Down(None) => Ok(()),
-            Standing::Up => Ok(()),
+        match &self.status {
+            Status::Down(Some(staged)) => store_change(&mut self.keep, staged),
+            Status::Down(None) => Ok(()),
+            Status::Up => Ok(()),
         }
     }
 
     /// Marks the node as up, and returns the event that it owed.
     fn take_owed(&mut self) -> Option<StagedEvent<V>>
-        ensures owed { result ≡ owed_in self.old.standing }
-        ensures up { self.new ≡ record { kept = self.old.kept; failures = self.old.failures; standing = up } }
+        ensures owed { result ≡ owed_in self.old.status }
+        ensures up { self.new ≡ record { kept = self.old.kept; failures = self.old.failures; status = up } }
     {
-        match mem::replace(&mut self.standing, Standing::Up) {
-            Standing::Down(owed) => owed,
-            Standing::Up => None,
+        match mem::replace(&mut self.status, Status::Up) {
+            Status::Down(owed) => owed,
+            Status::Up => None,
         }
     }
 }
 
 /// Stores the change of a staged event, if it makes one.
-fn store_change<V: Value, K: Keep<V>>(keep: &mut K, due: &StagedEvent<V>) -> Result<(), Failed>
-    ensures stored { OnOk result (K.kept keep.new ≡ changed_by (K.kept keep.old) (change_in due.now.work)) }
-    ensures failed { OnErr result (IsWithOrWithout (K.kept keep.old) (change_in due.now.work) (K.kept keep.new)) }
+fn store_change<V: Value, K: Keep<V>>(keep: &mut K, staged: &StagedEvent<V>) -> Result<(), Failed>
+    ensures stored { OnOk result (K.kept keep.new ≡ changed_by (K.kept keep.old) (change_in staged.now.work)) }
+    ensures failed { OnErr result (IsWithOrWithout (K.kept keep.old) (change_in staged.now.work) (K.kept keep.new)) }
     ensures counted { K.failures keep.new ≡ (if is_ok result then K.failures keep.old else K.failures keep.old + 1) }
 {
-    match due.change() {
+    match staged.change() {
         Some(change) => keep.store(change),
         None => Ok(()),
     }

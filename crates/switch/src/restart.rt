@@ -4,7 +4,7 @@ ghost use Rattle.std.specs.Result.{ForOk};
 ghost use Rattle.net.specs.declared.event.Event.{Event};
 ghost use Rattle.net.specs.declared.event.Event.TheVariants.{Restart};
 ghost use Rattle.switch.specs.NodeStore.{down};
-ghost use Rattle.switch.specs.Switch.{StoreView, is_down_at, world_of, ActsUp, Revives, CanTakeOwed, TakesOwed};
+ghost use Rattle.switch.specs.Switch.{StoreView, is_down_at, world_of, IsEffectAtUpNode, Revives, CanTakeOwed, TakesOwed};
 
 use crate::switch::Switch;
 use net::{Event, MOST_EVENTS, Net, StagedEvent, StepFault};
@@ -14,34 +14,37 @@ impl<V: Value, K: Keep<V>> Switch<V, K> {
     /// Restarts a node that is up from the record that its keep loads, or returns `NoNode` if there is no such node.
     pub(crate) fn reload(&mut self, k: u8) -> Result<u64, StepFault>
         requires { is_down_at self.old.stores (Some k) ≡ false }
-        ensures { ForOk (world_of V.bytes self.old) (λ world. ActsUp V.bytes world self.old self.new (Restart k) result) }
+        ensures { ForOk (world_of V.bytes self.old) (λ world. IsEffectAtUpNode V.bytes world self.old self.new (Restart k) result) }
     {
-        let mut due = self.net.ready(Event::Restart(k))?;
-        let at = due.at() as usize;
+        let mut staged = self.net.stage(Event::Restart(k))?;
+        let at = staged.at() as usize;
         let record = self.stores[at].load()?;
-        due.load(record);
-        Ok(self.net.commit(due))
+        staged.load(record);
+        Ok(self.net.commit(staged))
     }
 
     /// Restarts a node that is down: stores the change of the event that it owes, and commits that event before the restart.
     pub(crate) fn revive(&mut self, k: u8) -> Result<u64, StepFault>
         requires { is_down_at self.old.stores (Some k) ≡ true }
-        ensures { ForOk (world_of V.bytes self.old) (λ world. (view : StoreView V) → slice_get self.old.stores k ≡ Some view → (e : Option (Event V)) → view.standing ≡ down e → Revives V.bytes world self.old self.new k view e result) }
+        ensures { ForOk (world_of V.bytes self.old) (λ world. (view : StoreView V) → slice_get self.old.stores k ≡ Some view → (e : Option (Event V)) → view.status ≡ down e → Revives V.bytes world self.old self.new k view e result) }
     {
         if self.net.history().len() as u64 + 2 > MOST_EVENTS {
             return Err(StepFault::EventsSpent);
         }
-        let mut due = self.net.ready(Event::Restart(k))?;
-        let at = due.at() as usize;
+        let mut staged = self.net.stage(Event::Restart(k))?;
+        let at = staged.at() as usize;
         // No memory has room for so many packets.
-        let Some(room) = self.stores[at].count_owed().checked_add(due.posts().len()) else {
+        let Some(room) = self.stores[at]
+            .count_owed()
+            .checked_add(staged.posts().len())
+        else {
             return Err(StepFault::Memory);
         };
         self.net.room(room, 2)?;
         let (owed, record) = self.stores[at].repair()?;
         take_owed(&mut self.net, owed);
-        due.load(record);
-        Ok(self.net.commit(due))
+        staged.load(record);
+        Ok(self.net.commit(staged))
     }
 }
 
@@ -50,7 +53,7 @@ fn take_owed<V: Value>(net: &mut Net<V>, owed: Option<StagedEvent<V>>)
     requires { CanTakeOwed V.bytes net.old owed }
     ensures { TakesOwed net.old net.new owed }
 {
-    if let Some(due) = owed {
-        net.commit(due);
+    if let Some(staged) = owed {
+        net.commit(staged);
     }
 }

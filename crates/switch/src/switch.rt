@@ -29,7 +29,7 @@ impl<V: Value, K: Keep<V>> Model for Switch<V, K> {
 
     ghost Value = { SwitchView V };
 
-    ghost view = { λ s. record { weights = s.net.taken.weights; history = s.net.taken.events; stores = views_of s.stores.items } };
+    ghost view = { λ s. record { weights = s.net.history.weights; history = s.net.history.events; stores = views_of s.stores.items } };
 
     ghost invariant = { λ s. IsSwitch V.bytes s.net s.stores.items };
 }

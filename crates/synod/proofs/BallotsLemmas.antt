@@ -1,5 +1,5 @@
 -- The order of ballots, as facts.
-use Rattle.synod.proofs.Words.{◌≡◌, ℕ, ◌<◌, ◌≤◌, true, false, ◌⊎◌, inl, inr, refl, arith, ap₂, eq-or-lt_of_le, nat_tests, Ballot, is_under, is_same}
+use Rattle.synod.proofs.Words.{◌≡◌, ℕ, ◌<◌, ◌≤◌, true, false, ◌⊎◌, inl, inr, refl, arith, ap₂, eq-or-lt_of_le, nat_tests, Ballot, is_below, is_same}
 
 abbrev pub Under : Ballot → Ballot → Type 0
 Under a b = (a.round < b.round) ⊎ ((a.round ≡ b.round) × (a.node < b.node))
@@ -9,11 +9,11 @@ abbrev pub Upto : Ballot → Ballot → Type 0
 Upto a b = (a.round < b.round) ⊎ ((a.round ≡ b.round) × (a.node ≤ b.node))
 
 -- the test says that a is under b
-pub under_true : (a b : Ballot) → is_under a b ≡ true → Under a b
+pub under_true : (a b : Ballot) → is_below a b ≡ true → Under a b
 under_true a b h = grind (arith, nat_tests)
 
 -- the test says that a is not under b, and so b is up to a
-pub under_false : (a b : Ballot) → is_under a b ≡ false → Upto b a
+pub under_false : (a b : Ballot) → is_below a b ≡ false → Upto b a
 under_false a b h = grind (arith, nat_tests)
 
 -- up to a ballot that is under another is under the other

@@ -1,5 +1,5 @@
 -- A page that is new is kept, and its sender may be heard with it.
-use Rattle.synod.proofs.Words.{◌≡◌, ◌∙◌, ◌<◌, ◌≤◌, ◌-◌, ◌&&◌, not, ℕ, Bool, true, false, List, [], ◌∷◌, ◌++◌, Option, None, length, ap, sym, arith, if◌then◌else◌, nat_tests, get_or_past, set_past, entry_at, put_at, front_of, Ballot, Role, Preparing, is_same, is_quorum, all_had, SlotReport, Packet, Heard, Page, CompletePromise, Node, Stepped, unchanged, answers, kept_of, pages_from, page_of, with_page, is_heard, ProposerState, assembled, proposer_state, learner_state, keeps_page, keeps_promise, hears, leads_with, gathers, on_promise_as, on_promise, with_proposer_update}
+use Rattle.synod.proofs.Words.{◌≡◌, ◌∙◌, ◌<◌, ◌≤◌, ◌-◌, ◌&&◌, not, ℕ, Bool, true, false, List, [], ◌∷◌, ◌++◌, Option, None, length, ap, sym, arith, if◌then◌else◌, nat_tests, get_or_past, set_past, entry_at, put_at, front_of, Ballot, Role, Preparing, is_same, is_quorum, are_received, SlotReport, Packet, Heard, Page, CompletePromise, Node, StepResult, unchanged, volatile_step, kept_of, pages_from, page_of, with_page, is_heard, ProposerState, assembled, proposer_state, learner_state, adds_page, completes_promise, on_complete_promise, leads_with, on_promise_page, on_promise_as, on_promise, with_proposer_update}
 use Rattle.synod.proofs.PagesWithDeliveredLemmas.{with_new}
 
 abbrev pub with_proposing : {V : Type 0} → Node V → ProposerState V → Node V
@@ -8,51 +8,51 @@ with_proposing n p = assembled n.me n.weights (kept_of n) p (learner_state n)
 module _ {V : Type 0} (m n : Node V) (same : m ≡ n) (p : ProposerState V) (room : p ≡ proposer_state m) (i : ℕ) (reports copy : List (SlotReport V)) (copied : copy ≡ reports)
     (posts : List (Packet V)) (no_posts : posts ≡ []) where
   -- the page is kept, and the promise of its sender has more
-  pub keep_step : (k : ℕ) → page_of m.pages k i ≡ None → keeps_page n (with_page n.pages k i reports) ≡ answers (with_proposer_update (with_proposing m p) (Page k i copy)) posts
+  pub keep_step : (k : ℕ) → page_of m.pages k i ≡ None → adds_page n (with_page n.pages k i reports) ≡ volatile_step (with_proposer_update (with_proposing m p) (Page k i copy)) posts
   keep_step k none =
-      ap (λ (x : Node V). keeps_page x (with_page x.pages k i reports)) (sym same)
-      ∙ ap (λ (ps : List (List (Option (List (SlotReport V))))). keeps_page m ps) (with_new m.pages k i reports none)
-      ∙ (λ j. answers (with_proposer_update (with_proposing m (sym room j)) (Page k i (sym copied j))) (sym no_posts j))
+      ap (λ (x : Node V). adds_page x (with_page x.pages k i reports)) (sym same)
+      ∙ ap (λ (ps : List (List (Option (List (SlotReport V))))). adds_page m ps) (with_new m.pages k i reports none)
+      ∙ (λ j. volatile_step (with_proposer_update (with_proposing m (sym room j)) (Page k i (sym copied j))) (sym no_posts j))
 
   -- the page is kept and its sender is heard, and no quorum yet
   pub hear_step : (h : Heard) → page_of m.pages h.node i ≡ None
-      → keeps_promise n (with_page n.pages h.node i reports) (n.heard ++ h ∷ []) ≡ answers (with_proposer_update (with_proposing m p) (CompletePromise h i copy)) posts
+      → completes_promise n (with_page n.pages h.node i reports) (n.heard ++ h ∷ []) ≡ volatile_step (with_proposer_update (with_proposing m p) (CompletePromise h i copy)) posts
   hear_step h none =
-      ap (λ (x : Node V). keeps_promise x (with_page x.pages h.node i reports) (x.heard ++ h ∷ [])) (sym same)
-      ∙ ap (λ (ps : List (List (Option (List (SlotReport V))))). keeps_promise m ps (m.heard ++ h ∷ [])) (with_new m.pages h.node i reports none)
-      ∙ (λ j. answers (with_proposer_update (with_proposing m (sym room j)) (CompletePromise h i (sym copied j))) (sym no_posts j))
+      ap (λ (x : Node V). completes_promise x (with_page x.pages h.node i reports) (x.heard ++ h ∷ [])) (sym same)
+      ∙ ap (λ (ps : List (List (Option (List (SlotReport V))))). completes_promise m ps (m.heard ++ h ∷ [])) (with_new m.pages h.node i reports none)
+      ∙ (λ j. volatile_step (with_proposer_update (with_proposing m (sym room j)) (CompletePromise h i (sym copied j))) (sym no_posts j))
 
 -- Which branch a page takes.
 
 module _ {V : Type 0} (n : Node V) (k : ℕ) (b : Ballot) (first count : ℕ) (pages : List (List (Option (List (SlotReport V))))) where
-  abbrev had_if : Bool → Stepped V
-  had_if t = if t then hears n b first pages (n.heard ++ record { node = k; count = count } ∷ []) else keeps_page n pages
+  abbrev had_if : Bool → StepResult V
+  had_if t = if t then on_complete_promise n b first pages (n.heard ++ record { node = k; count = count } ∷ []) else adds_page n pages
 
   -- where a page of the promise is still missing, the pages are kept
-  pub gathers_not_all : front_of (pages_from pages k) < count → gathers n k b first count pages ≡ keeps_page n pages
-  gathers_not_all few = let t : all_had (pages_from pages k) count ≡ false = grind (arith, nat_tests) in ap had_if t
+  pub gathers_not_all : front_of (pages_from pages k) < count → on_promise_page n k b first count pages ≡ adds_page n pages
+  gathers_not_all few = let t : are_received (pages_from pages k) count ≡ false = grind (arith, nat_tests) in ap had_if t
 
   -- where all pages of the promise are had, the sender is heard, and a quorum makes the node lead
   pub gathers_all : count ≤ front_of (pages_from pages k) → (q : Bool) → is_quorum n.weights (is_heard (n.heard ++ record { node = k; count = count } ∷ [])) ≡ q
-      → gathers n k b first count pages ≡ (if q then leads_with n b first pages (n.heard ++ record { node = k; count = count } ∷ []) else keeps_promise n pages (n.heard ++ record { node = k; count = count } ∷ []))
+      → on_promise_page n k b first count pages ≡ (if q then leads_with n b first pages (n.heard ++ record { node = k; count = count } ∷ []) else completes_promise n pages (n.heard ++ record { node = k; count = count } ∷ []))
   gathers_all all q quorum =
-      let t : all_had (pages_from pages k) count ≡ true = grind (arith, nat_tests) in
+      let t : are_received (pages_from pages k) count ≡ true = grind (arith, nat_tests) in
       ap had_if t
-      ∙ ap (λ (q : Bool). if q then leads_with n b first pages (n.heard ++ record { node = k; count = count } ∷ []) else keeps_promise n pages (n.heard ++ record { node = k; count = count } ∷ [])) quorum
+      ∙ ap (λ (q : Bool). if q then leads_with n b first pages (n.heard ++ record { node = k; count = count } ∷ []) else completes_promise n pages (n.heard ++ record { node = k; count = count } ∷ [])) quorum
 
 -- a page of no node comes to nothing
-pub gathers_none : {V : Type 0} (n : Node V) (k i : ℕ) (b : Ballot) (first count : ℕ) (reports : List (SlotReport V)) → length n.pages ≤ k → 1 ≤ count → gathers n k b first count (with_page n.pages k i reports) ≡ unchanged n
+pub gathers_none : {V : Type 0} (n : Node V) (k i : ℕ) (b : Ballot) (first count : ℕ) (reports : List (SlotReport V)) → length n.pages ≤ k → 1 ≤ count → on_promise_page n k b first count (with_page n.pages k i reports) ≡ unchanged n
 gathers_none {V} n k i b first count reports past some =
     let none : pages_from n.pages k ≡ [] = get_or_past n.pages k [] past in
     let no_page : page_of n.pages k i ≡ None = ap (λ (m : List (Option (List (SlotReport V)))). entry_at m i) none in
     let same : with_page n.pages k i reports ≡ n.pages = with_new n.pages k i reports no_page ∙ set_past n.pages k (put_at (pages_from n.pages k) i reports) past in
     let front : front_of (pages_from n.pages k) ≡ 0 = ap (λ (m : List (Option (List (SlotReport V)))). front_of m) none in
-    ap (λ (ps : List (List (Option (List (SlotReport V))))). gathers n k b first count ps) same
+    ap (λ (ps : List (List (Option (List (SlotReport V))))). on_promise_page n k b first count ps) same
     ∙ gathers_not_all n k b first count n.pages (omega (arith, front, some))
 
-abbrev asked : {V : Type 0} → Node V → ℕ → Ballot → ℕ → ℕ → ℕ → List (SlotReport V) → Bool → Bool → Stepped V
+abbrev asked : {V : Type 0} → Node V → ℕ → Ballot → ℕ → ℕ → ℕ → List (SlotReport V) → Bool → Bool → StepResult V
 asked n k c first page count reports same heard =
-    if same && not heard then gathers n k c first count (with_page n.pages k (page - 1) reports) else unchanged n
+    if same && not heard then on_promise_page n k c first count (with_page n.pages k (page - 1) reports) else unchanged n
 
 -- a page of a promise from a number that no node has comes to nothing
 pub promise_of_none : {V : Type 0} (n : Node V) (c : Ballot) (first : ℕ) → n.role ≡ Preparing c first → (k : ℕ) (b : Ballot) (page count : ℕ) (reports : List (SlotReport V)) → length n.pages ≤ k → 1 ≤ count

@@ -1,22 +1,22 @@
 -- Each step makes of the kept part its one change, or leaves it.
-use Rattle.synod.proofs.Words.{◌≡◌, ℕ, ◌-◌, ◌^◌, ◌==◌, ◌&&◌, not, nat_lt, Bool, true, false, List, [], ◌∷◌, ◌++◌, length, Option, Some, None, Result, Ok, Err, refl, if◌then◌else◌, entry_at, Ballot, SlotReport, Body, Prepare, Promise, Accept, Accepted, Nack, Ask, Told, Heard, Role, Idle, Preparing, Leading, Refusal, Busy, LogFull, RoundsSpent, TooLong, MOST_BYTES, MOST_WAITING, SLOTS, is_under, is_same, is_quorum, all_had, changed_by, Node, Stepped, kept_of, unchanged, pages_from, with_page, is_heard, promises, refuses, takes_value, waits, takes_slot, offer_waits, offer_as, offered, next_round, begins, begun, top_reported, all_reports, leads, keeps_page, keeps_promise, hears, gathers, on_promise_as, is_at, idles, has_voter, counted, chooses, on_accepted_at, on_ask_at, on_told_at, log_length, on_body, restarted}
+use Rattle.synod.proofs.Words.{◌≡◌, ℕ, ◌-◌, ◌^◌, ◌==◌, ◌&&◌, not, nat_lt, Bool, true, false, List, [], ◌∷◌, ◌++◌, length, Option, Some, None, Result, Ok, Err, refl, if◌then◌else◌, entry_at, Ballot, SlotReport, Body, Prepare, Promise, Accept, Accepted, Nack, Ask, Told, Heard, Role, Idle, Preparing, Leading, Refusal, Busy, LogFull, RoundsSpent, TooLong, MOST_BYTES, MOST_WAITING, SLOTS, is_below, is_same, is_quorum, are_received, changed_by, Node, StepResult, kept_of, unchanged, pages_from, with_page, is_heard, promises, refuses, accepts_value, waits, proposes_value, offer_waits, offer_as, offered, next_round, begins, begun, top_or_first, all_reports, leads, adds_page, completes_promise, on_complete_promise, on_promise_page, on_promise_as, is_at, idles, has_voter, counted, chooses, on_accepted_at, on_ask_at, on_told_at, log_length, on_body, restarted}
 
 -- the step changes the kept part as it says
-abbrev pub ChangesKept : {V : Type 0} → Node V → Stepped V → Type 0
+abbrev pub ChangesKept : {V : Type 0} → Node V → StepResult V → Type 0
 ChangesKept n step = kept_of step.node ≡ changed_by (kept_of n) step.change
 
 -- the same, where the step is not refused
-abbrev pub ChangesKeptOnOk : {V : Type 0} → Node V → Result (Stepped V) Refusal → Type 0
+abbrev pub ChangesKeptOnOk : {V : Type 0} → Node V → Result (StepResult V) Refusal → Type 0
 ChangesKeptOnOk n (Ok step) = ChangesKept n step
 ChangesKeptOnOk n (Err refusal) = Unit {0}
 
 -- a step of two by a test, each of which changes the kept part as it says
-either : {V : Type 0} (n : Node V) (one other : Stepped V) (t : Bool) → ChangesKept n one → ChangesKept n other → ChangesKept n (if t then one else other)
+either : {V : Type 0} (n : Node V) (one other : StepResult V) (t : Bool) → ChangesKept n one → ChangesKept n other → ChangesKept n (if t then one else other)
 either n one other true h k = h
 either n one other false h k = k
 
 -- the same where either may be refused
-either_ok : {V : Type 0} (n : Node V) (one other : Result (Stepped V) Refusal) (t : Bool) → ChangesKeptOnOk n one → ChangesKeptOnOk n other → ChangesKeptOnOk n (if t then one else other)
+either_ok : {V : Type 0} (n : Node V) (one other : Result (StepResult V) Refusal) (t : Bool) → ChangesKeptOnOk n one → ChangesKeptOnOk n other → ChangesKeptOnOk n (if t then one else other)
 either_ok n one other true h k = h
 either_ok n one other false h k = k
 
@@ -30,7 +30,7 @@ module _ {V : Type 0} (n : Node V) where
   offer_as_kept : (role : Role) (v : V) → ChangesKeptOnOk n (offer_as role n v)
   offer_as_kept Idle v = offer_waits_kept v
   offer_as_kept (Preparing b first) v = offer_waits_kept v
-  offer_as_kept (Leading b next) v = either_ok n (Err LogFull) (Ok (takes_slot n b next v)) (next == SLOTS) tt refl
+  offer_as_kept (Leading b next) v = either_ok n (Err LogFull) (Ok (proposes_value n b next v)) (next == SLOTS) tt refl
 
   -- an offer, by the length of the value
   pub offered_kept : (size : V → ℕ) (v : V) → ChangesKeptOnOk n (offered size n v)
@@ -44,20 +44,20 @@ module _ {V : Type 0} (n : Node V) where
   heard_with p count = n.heard ++ record { node = p; count = count } ∷ []
 
   -- a sender is heard, with or without a quorum
-  hears_kept : (b : Ballot) (first : ℕ) (pages : List (List (Option (List (SlotReport V))))) (heard : List Heard) → ChangesKept n (hears n b first pages heard)
-  hears_kept b first pages heard = either n (leads n b first (all_reports pages heard) (top_reported first (all_reports pages heard))) (keeps_promise n pages heard) (is_quorum n.weights (is_heard heard)) refl refl
+  complete_promise_kept : (b : Ballot) (first : ℕ) (pages : List (List (Option (List (SlotReport V))))) (heard : List Heard) → ChangesKept n (on_complete_promise n b first pages heard)
+  complete_promise_kept b first pages heard = either n (leads n b first (all_reports pages heard) (top_or_first first (all_reports pages heard))) (completes_promise n pages heard) (is_quorum n.weights (is_heard heard)) refl refl
 
   -- a page that was asked for, whether or not pages of its promise are missing
-  gathers_kept : (p : ℕ) (b : Ballot) (first count : ℕ) (pages : List (List (Option (List (SlotReport V))))) → ChangesKept n (gathers n p b first count pages)
-  gathers_kept p b first count pages = either n (hears n b first pages (heard_with p count)) (keeps_page n pages) (all_had (pages_from pages p) count)
-      (hears_kept b first pages (heard_with p count)) refl
+  promise_page_kept : (p : ℕ) (b : Ballot) (first count : ℕ) (pages : List (List (Option (List (SlotReport V))))) → ChangesKept n (on_promise_page n p b first count pages)
+  promise_page_kept p b first count pages = either n (on_complete_promise n b first pages (heard_with p count)) (adds_page n pages) (are_received (pages_from pages p) count)
+      (complete_promise_kept b first pages (heard_with p count)) refl
 
   -- a Promise comes, by the role of the node
   promise_kept : (role : Role) (p : ℕ) (b : Ballot) (page count : ℕ) (reports : List (SlotReport V)) → ChangesKept n (on_promise_as role n p b page count reports)
   promise_kept Idle p b page count reports = refl
   promise_kept (Leading c next) p b page count reports = refl
-  promise_kept (Preparing c first) p b page count reports = either n (gathers n p c first count (with_page n.pages p (page - 1) reports)) (unchanged n) (is_same b c && not (is_heard n.heard p))
-      (gathers_kept p c first count (with_page n.pages p (page - 1) reports)) refl
+  promise_kept (Preparing c first) p b page count reports = either n (on_promise_page n p c first count (with_page n.pages p (page - 1) reports)) (unchanged n) (is_same b c && not (is_heard n.heard p))
+      (promise_page_kept p c first count (with_page n.pages p (page - 1) reports)) refl
 
   -- an Accepted comes, by what is learned at the slot
   accepted_kept : (o : Option (Option V)) (p : ℕ) (b : Ballot) (s : ℕ) (v : Option V) → ChangesKept n (on_accepted_at o n p b s v)
@@ -77,11 +77,11 @@ module _ {V : Type 0} (n : Node V) where
 
   -- any packet comes
   pub body_kept : (p : ℕ) (body : Body V) → ChangesKept n (on_body n p body)
-  body_kept p (Prepare b first) = either n (promises n p b first) (refuses n p b) (is_under n.promise b) refl refl
+  body_kept p (Prepare b first) = either n (promises n p b first) (refuses n p b) (is_below n.promise b) refl refl
   body_kept p (Promise b page count reports) = promise_kept n.role p b page count reports
-  body_kept p (Accept b s v) = either n (refuses n p b) (takes_value n b s v) (is_under b n.promise) refl refl
+  body_kept p (Accept b s v) = either n (refuses n p b) (accepts_value n b s v) (is_below b n.promise) refl refl
   body_kept p (Accepted b s v) = accepted_kept (entry_at n.learned s) p b s v
-  body_kept p (Nack b c) = either n (idles n) (unchanged n) (is_at n.role b && is_under b c) refl refl
+  body_kept p (Nack b c) = either n (idles n) (unchanged n) (is_at n.role b && is_below b c) refl refl
   body_kept p (Ask s) = ask_kept (entry_at n.learned s) p s
   body_kept p (Told s v) = told_kept (entry_at n.learned s) p s v
 

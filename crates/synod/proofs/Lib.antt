@@ -6,12 +6,12 @@ pub mod PromisePages
 pub mod ReportsLemmas
 pub mod KnownVoteLemmas
 pub mod PostsLemmas
-pub mod LaterTalliesLemmas
+pub mod OtherTalliesLemmas
 pub mod ReceivedPagesLemmas
 pub mod KeptPartLemmas
-pub mod NodeKeeps
-pub mod PageKeeps
-pub mod StepKeeps
+pub mod NodeInvariant
+pub mod PageInvariant
+pub mod StepInvariant
 pub mod RoomLemmas
 pub mod NodeLemmas
 pub mod AcceptedLemmas
@@ -19,6 +19,6 @@ pub mod LogLemmas
 pub mod ReportPages
 pub mod PagesWithDeliveredLemmas
 pub mod GatheredPages
-pub mod HeightsLemmas
+pub mod HighestReportsLemmas
 pub mod LeadLemmas
 pub mod Rows

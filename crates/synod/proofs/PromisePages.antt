@@ -1,5 +1,5 @@
 -- Pages that are all there are the whole list.
-use Rattle.synod.proofs.Words.{◌≡◌, ℕ, zero, suc, ◌+◌, ◌-◌, ◌*◌, ◌<◌, ◌≤◌, List, [], ◌∷◌, ◌++◌, length, take, drop, Option, Some, None, ◌⊎◌, inl, inr, refl, ap, sym, ◌∙◌, arith, le_of_suc-le-suc, length-drop, drop-drop, eq-zero-or-pos, ap₂, true, nat_tests, entry_at, front_of, onto_first, cut, pages_of, joined_pages, all_had}
+use Rattle.synod.proofs.Words.{◌≡◌, ℕ, zero, suc, ◌+◌, ◌-◌, ◌*◌, ◌<◌, ◌≤◌, List, [], ◌∷◌, ◌++◌, length, take, drop, Option, Some, None, ◌⊎◌, inl, inr, refl, ap, sym, ◌∙◌, arith, le_of_suc-le-suc, length-drop, drop-drop, eq-zero-or-pos, ap₂, true, nat_tests, entry_at, front_of, onto_first, pages_with_room, pages_of, joined_pages, are_received}
 use Rattle.std.proofs.Common.{slice_get}
 
 abbrev pub append_all : {T : Type 0} → List (List T) → List T
@@ -10,15 +10,15 @@ onto_first-all : {T : Type 0} (x : T) (pages : List (List T)) → append_all (on
 onto_first-all x [] = refl
 onto_first-all x (page ∷ pages) = refl
 
-cut-all : {T : Type 0} (xs : List T) (room : ℕ) → append_all (cut room xs) ≡ xs
-cut-all [] room = refl
-cut-all (x ∷ xs) zero = onto_first-all x (cut 255 xs) ∙ ap (λ ys. x ∷ ys) (cut-all xs 255)
-cut-all (x ∷ xs) (suc room) = onto_first-all x (cut room xs) ∙ ap (λ ys. x ∷ ys) (cut-all xs room)
+pages_with_room-all : {T : Type 0} (xs : List T) (room : ℕ) → append_all (pages_with_room room xs) ≡ xs
+pages_with_room-all [] room = refl
+pages_with_room-all (x ∷ xs) zero = onto_first-all x (pages_with_room 255 xs) ∙ ap (λ ys. x ∷ ys) (pages_with_room-all xs 255)
+pages_with_room-all (x ∷ xs) (suc room) = onto_first-all x (pages_with_room room xs) ∙ ap (λ ys. x ∷ ys) (pages_with_room-all xs room)
 
 pub pages-all : {T : Type 0} (xs : List T) → append_all (pages_of xs) ≡ xs
-pages-all xs = cut-all xs 256
+pages-all xs = pages_with_room-all xs 256
 
--- where as many pages were had as there are, and each is one of these, they join to all
+-- where as many pages are received as there are, and each is one of these, they join to all
 pub joined-all : {T : Type 0} (pages : List (List T)) (had : List (Option (List T))) → ((i : ℕ) (page : List T) → entry_at had i ≡ Some page → slice_get pages i ≡ Some page)
     → length pages ≤ front_of had → joined_pages had (length pages) ≡ append_all pages
 joined-all [] had each all = refl
@@ -29,8 +29,8 @@ joined-all (page ∷ pages) (Some x ∷ had) each all =
     let same : x ≡ page = cc in
     ap₂ (λ y z. y ++ z) same (joined-all pages had (λ i y e. each (suc i) y e) (le_of_suc-le-suc all))
 
-pub all_had-front : {T : Type 0} (had : List (Option (List T))) (count : ℕ) → all_had had count ≡ true → count ≤ front_of had
-all_had-front had count h = grind (arith, nat_tests)
+pub are_received-front : {T : Type 0} (had : List (Option (List T))) (count : ℕ) → are_received had count ≡ true → count ≤ front_of had
+are_received-front had count h = grind (arith, nat_tests)
 
 -- Page i, from 0, is what stands from 256 * i on, at most 256 of it.
 
@@ -42,24 +42,24 @@ onto_first-later : {T : Type 0} (x : T) (ps : List (List T)) (i : ℕ) → slice
 onto_first-later x [] i = refl
 onto_first-later x (q ∷ ps) i = refl
 
-cut-first : {T : Type 0} (room : ℕ) (xs : List T) → slice_get (cut room xs) 0 ≡ Some (take room xs)
-cut-first zero [] = refl
-cut-first (suc room) [] = refl
-cut-first zero (x ∷ xs) = refl
-cut-first (suc room) (x ∷ xs) = onto_first-head x (cut room xs) (take room xs) (cut-first room xs)
+pages_with_room-first : {T : Type 0} (room : ℕ) (xs : List T) → slice_get (pages_with_room room xs) 0 ≡ Some (take room xs)
+pages_with_room-first zero [] = refl
+pages_with_room-first (suc room) [] = refl
+pages_with_room-first zero (x ∷ xs) = refl
+pages_with_room-first (suc room) (x ∷ xs) = onto_first-head x (pages_with_room room xs) (take room xs) (pages_with_room-first room xs)
 
-cut-later : {T : Type 0} (room : ℕ) (xs : List T) (i : ℕ) → room < length xs → slice_get (cut room xs) (suc i) ≡ slice_get (cut 256 (drop room xs)) i
-cut-later zero [] i h = absurd (omega arith)
-cut-later (suc room) [] i h = absurd (omega arith)
-cut-later zero (x ∷ xs) i h = refl
-cut-later (suc room) (x ∷ xs) i h = onto_first-later x (cut room xs) i ∙ cut-later room xs i (le_of_suc-le-suc h)
+pages_with_room-later : {T : Type 0} (room : ℕ) (xs : List T) (i : ℕ) → room < length xs → slice_get (pages_with_room room xs) (suc i) ≡ slice_get (pages_with_room 256 (drop room xs)) i
+pages_with_room-later zero [] i h = absurd (omega arith)
+pages_with_room-later (suc room) [] i h = absurd (omega arith)
+pages_with_room-later zero (x ∷ xs) i h = refl
+pages_with_room-later (suc room) (x ∷ xs) i h = onto_first-later x (pages_with_room room xs) i ∙ pages_with_room-later room xs i (le_of_suc-le-suc h)
 
 pub page-is : {T : Type 0} (i : ℕ) (xs : List T) → (256 * i < length xs) ⊎ (i ≡ 0) → slice_get (pages_of xs) i ≡ Some (take 256 (drop (256 * i) xs))
-page-is zero xs h = cut-first 256 xs
+page-is zero xs h = pages_with_room-first 256 xs
 page-is (suc i) xs (inr e) = absurd (omega (arith, e))
 page-is {T} (suc i) xs (inl h) =
     let m : 256 * suc i ≡ 256 + 256 * i = omega arith in
     let l : length (drop 256 xs) ≡ length xs - 256 = length-drop 256 xs in
-    cut-later 256 xs i (omega (arith, h))
+    pages_with_room-later 256 xs i (omega (arith, h))
     ∙ page-is i (drop 256 xs) (elim (eq-zero-or-pos i) [ inl e ↦ inr e | inr p ↦ inl (omega (arith, h, l, m)) ])
     ∙ ap (λ (ys : List T). Some (take 256 ys)) (drop-drop (256 * i) 256 xs ∙ ap (λ (j : ℕ). drop j xs) (sym m))

@@ -1,6 +1,6 @@
 -- The reports of a promise, gathered slot by slot and cut into pages on the way.
-use Rattle.synod.proofs.Words.{◌≡◌, ℕ, zero, suc, ◌+◌, ◌-◌, ◌<◌, ◌≤◌, ◌≢◌, Bool, true, false, nat_lt, List, [], ◌∷◌, ◌++◌, length, drop, Option, Some, None, refl, ap, sym, ◌∙◌, subst, arith, if◌then◌else◌, append_assoc, append-nil, add-one, le_of_suc-le-suc, length-append, drop_of_length-le, nat_tests, SLOTS, entry_at, MOST_PAGES, Ballot, SlotReport, Packet, Promise, AcceptedEntry, packet, onto_first, cut, pages_of, reports_from, promise_pages}
-use Rattle.synod.proofs.PageKeeps.{reports_few, pages_few}
+use Rattle.synod.proofs.Words.{◌≡◌, ℕ, zero, suc, ◌+◌, ◌-◌, ◌<◌, ◌≤◌, ◌≢◌, Bool, true, false, nat_lt, List, [], ◌∷◌, ◌++◌, length, drop, Option, Some, None, refl, ap, sym, ◌∙◌, subst, arith, if◌then◌else◌, append_assoc, append-nil, add-one, le_of_suc-le-suc, length-append, drop_of_length-le, nat_tests, SLOTS, entry_at, MOST_PAGES, Ballot, SlotReport, Packet, Promise, AcceptedEntry, packet, onto_first, pages_with_room, pages_of, reports_from, promise_pages}
+use Rattle.synod.proofs.PageInvariant.{reports_few, pages_few}
 
 -- a page that was begun, and the pages after it
 abbrev pub onto_front : {T : Type 0} → List T → List (List T) → List (List T)
@@ -9,7 +9,7 @@ onto_front page (next ∷ pages) = (page ++ next) ∷ pages
 
 -- all pages, where some are full, one was begun and these reports are left
 abbrev pub pages_with : {T : Type 0} → List (List T) → List T → List T → List (List T)
-pages_with full page rest = full ++ onto_front page (cut (256 - length page) rest)
+pages_with full page rest = full ++ onto_front page (pages_with_room (256 - length page) rest)
 
 onto_front-onto_first : {T : Type 0} (page : List T) (x : T) (pages : List (List T)) → onto_front page (onto_first x pages) ≡ onto_front (page ++ x ∷ []) pages
 onto_front-onto_first page x [] = refl
@@ -26,7 +26,7 @@ onto_front-one x (next ∷ pages) = refl
 -- at first
 pub pages_with-none : {T : Type 0} (rest : List T) → pages_with [] [] rest ≡ pages_of rest
 pages_with-none [] = refl
-pages_with-none (x ∷ rest) = onto_front-none x (cut 255 rest)
+pages_with-none (x ∷ rest) = onto_front-none x (pages_with_room 255 rest)
 
 -- one more, on a page that has room
 pub pages_with-add : {T : Type 0} (full : List (List T)) (page : List T) (x : T) (rest : List T) → length page < 256 → pages_with full page (x ∷ rest) ≡ pages_with full (page ++ x ∷ []) rest
@@ -34,24 +34,24 @@ pages_with-add {T} full page x rest low =
     let count : length (page ++ x ∷ []) ≡ length page + 1 = length-append page (x ∷ []) in
     let room : 256 - length page ≡ suc (256 - length (page ++ x ∷ [])) = omega (arith, count) in
     ap (λ (pages : List (List T)). full ++ pages)
-    (ap (λ (r : ℕ). onto_front page (cut r (x ∷ rest))) room ∙ onto_front-onto_first page x (cut (256 - length (page ++ x ∷ [])) rest))
+    (ap (λ (r : ℕ). onto_front page (pages_with_room r (x ∷ rest))) room ∙ onto_front-onto_first page x (pages_with_room (256 - length (page ++ x ∷ [])) rest))
 
 -- one more, on a new page
 pub pages_with-new : {T : Type 0} (full : List (List T)) (page : List T) (x : T) (rest : List T) → length page ≡ 256 → pages_with full page (x ∷ rest) ≡ pages_with (full ++ page ∷ []) (x ∷ []) rest
 pages_with-new {T} full page x rest whole =
     let room : 256 - length page ≡ 0 = omega (arith, whole) in
     ap (λ (pages : List (List T)). full ++ pages)
-    (ap (λ (r : ℕ). onto_front page (cut r (x ∷ rest))) room ∙ ap (λ (p : List T). p ∷ onto_first x (cut 255 rest)) (append-nil page)
-    ∙ ap (λ (pages : List (List T)). page ∷ pages) (sym (onto_front-one x (cut 255 rest))))
-    ∙ sym (append_assoc full (page ∷ []) (onto_front (x ∷ []) (cut 255 rest)))
+    (ap (λ (r : ℕ). onto_front page (pages_with_room r (x ∷ rest))) room ∙ ap (λ (p : List T). p ∷ onto_first x (pages_with_room 255 rest)) (append-nil page)
+    ∙ ap (λ (pages : List (List T)). page ∷ pages) (sym (onto_front-one x (pages_with_room 255 rest))))
+    ∙ sym (append_assoc full (page ∷ []) (onto_front (x ∷ []) (pages_with_room 255 rest)))
 
-cut-none : {T : Type 0} (room : ℕ) → cut {T = T} room [] ≡ [] ∷ []
-cut-none zero = refl
-cut-none (suc room) = refl
+pages_with_room-none : {T : Type 0} (room : ℕ) → pages_with_room {T = T} room [] ≡ [] ∷ []
+pages_with_room-none zero = refl
+pages_with_room-none (suc room) = refl
 
 -- none is left
 pub pages_with-last : {T : Type 0} (full : List (List T)) (page : List T) → pages_with full page [] ≡ full ++ page ∷ []
-pages_with-last {T} full page = ap (λ (pages : List (List T)). full ++ pages) (ap (λ (pages : List (List T)). onto_front page pages) (cut-none (256 - length page)) ∙ ap (λ (p : List T). p ∷ []) (append-nil page))
+pages_with-last {T} full page = ap (λ (pages : List (List T)). full ++ pages) (ap (λ (pages : List (List T)). onto_front page pages) (pages_with_room-none (256 - length page)) ∙ ap (λ (p : List T). p ∷ []) (append-nil page))
 
 -- The reports, slot by slot.
 
@@ -111,7 +111,7 @@ pages-within first accepted low =
     let count = (pages_few 256 (reports_from first 0 accepted)).0 in
     omega (arith, low, few, count)
 
--- What the loop over the slots keeps: the pages so far, the page begun and the reports of the slots to come are all pages.
+-- The invariant of the loop over the slots: the pages so far, the page begun and the reports of the slots to come are all pages.
 pub record Gathers {V : Type 0} (first s : ℕ) (accepted : List (Option (AcceptedEntry V))) (full : List (List (SlotReport V))) (page : List (SlotReport V)) : Type 0 where
   pub from : first ≤ s
   pub low : length page ≤ 256

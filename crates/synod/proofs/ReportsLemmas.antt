@@ -1,5 +1,5 @@
--- What reports say, and what the highest of them is.
-use Rattle.synod.proofs.Words.{AcceptedEntry, ◌≡◌, ℕ, zero, suc, ◌+◌, ◌<◌, ◌≤◌, max, Bool, true, false, ◌==◌, nat_lt, List, [], ◌∷◌, Option, Some, None, inl, inr, refl, ap, ◌∙◌, subst, arith, ltb-true, ltb-false, eqb-true, if◌then◌else◌, nat_tests, In, entry_at, Ballot, SlotReport, is_under, reports_from, higher, highest_at, above_all, top_reported}
+-- The reports of accepted entries, and the highest of them.
+use Rattle.synod.proofs.Words.{AcceptedEntry, ◌≡◌, ℕ, zero, suc, ◌+◌, ◌<◌, ◌≤◌, max, Bool, true, false, ◌==◌, nat_lt, List, [], ◌∷◌, Option, Some, None, inl, inr, refl, ap, ◌∙◌, subst, arith, ltb-true, ltb-false, eqb-true, if◌then◌else◌, nat_tests, In, entry_at, Ballot, SlotReport, is_below, reports_from, higher, highest_at, top_or_zero, top_or_first}
 use Rattle.synod.proofs.BallotsLemmas.{Upto, upto_self, under_true, under_false, under_is_upto, upto_upto}
 
 -- a report says what is held at its slot, the list beginning at slot s
@@ -108,14 +108,14 @@ over_most {V} s r rs p u h q (inl e) d = subst (λ (x : SlotReport V). Upto x.ba
 over_most s r rs p u h q (inr i) d = upto_upto q.ballot p.ballot r.ballot (h.most q i d) u
 
 -- of the report added and the highest of the others, by the test of their ballots
-higher_either : {V : Type 0} (s : ℕ) (r : SlotReport V) (rs : List (SlotReport V)) (p : SlotReport V) (b : Bool) → is_under r.ballot p.ballot ≡ b → r.slot ≡ s → IsHighest s rs p → HighestHolds s (r ∷ rs) (if b then Some p else Some r)
+higher_either : {V : Type 0} (s : ℕ) (r : SlotReport V) (rs : List (SlotReport V)) (p : SlotReport V) (b : Bool) → is_below r.ballot p.ballot ≡ b → r.slot ≡ s → IsHighest s rs p → HighestHolds s (r ∷ rs) (if b then Some p else Some r)
 higher_either s r rs p true e d h = kept_highest s r rs p (λ _. under_is_upto _ _ (under_true _ _ e)) h
 higher_either s r rs p false e d h = record { is_in = inl refl; slot = d; most = over_most s r rs p (under_false _ _ e) h }
 
 -- a report of the slot is added
 higher_holds : {V : Type 0} (s : ℕ) (r : SlotReport V) (rs : List (SlotReport V)) (o : Option (SlotReport V)) → r.slot ≡ s → HighestHolds s rs o → HighestHolds s (r ∷ rs) (higher r o)
 higher_holds s r rs None d h = record { is_in = inl refl; slot = d; most = alone_most s r rs h }
-higher_holds s r rs (Some p) d h = higher_either s r rs p (is_under r.ballot p.ballot) refl d h
+higher_holds s r rs (Some p) d h = higher_either s r rs p (is_below r.ballot p.ballot) refl d h
 
 -- a report of another slot is added
 other_holds : {V : Type 0} (s : ℕ) (r : SlotReport V) (rs : List (SlotReport V)) (o : Option (SlotReport V)) → (r.slot ≡ s → ⊥) → HighestHolds s rs o → HighestHolds s (r ∷ rs) o
@@ -135,17 +135,17 @@ highest_holds s (r ∷ rs) = either_holds s r rs (r.slot == s) refl (highest_hol
 -- The top.
 
 -- each report is of a slot below the one above all
-pub above_each : {V : Type 0} (rs : List (SlotReport V)) (r : SlotReport V) → In r rs → r.slot < above_all rs
+pub above_each : {V : Type 0} (rs : List (SlotReport V)) (r : SlotReport V) → In r rs → r.slot < top_or_zero rs
 above_each [] r i = elim i [ ]
-above_each {V} (q ∷ rs) r (inl e) = subst (λ (x : SlotReport V). x.slot < max (q.slot + 1) (above_all rs)) e (omega arith)
+above_each {V} (q ∷ rs) r (inl e) = subst (λ (x : SlotReport V). x.slot < max (q.slot + 1) (top_or_zero rs)) e (omega arith)
 above_each (q ∷ rs) r (inr i) = let h = above_each rs r i in omega arith
 
 -- each report is of a slot below the top
-pub below_top : {V : Type 0} (first : ℕ) (rs : List (SlotReport V)) (r : SlotReport V) → In r rs → r.slot < top_reported first rs
+pub below_top : {V : Type 0} (first : ℕ) (rs : List (SlotReport V)) (r : SlotReport V) → In r rs → r.slot < top_or_first first rs
 below_top first [] r i = elim i [ ]
 below_top first (q ∷ rs) r i = above_each (q ∷ rs) r i
 
 -- the first slot is at most the top, where no report is of a slot below it
-pub first_to_top : {V : Type 0} (first : ℕ) (rs : List (SlotReport V)) → ((r : SlotReport V) → In r rs → first ≤ r.slot) → first ≤ top_reported first rs
+pub first_to_top : {V : Type 0} (first : ℕ) (rs : List (SlotReport V)) → ((r : SlotReport V) → In r rs → first ≤ r.slot) → first ≤ top_or_first first rs
 first_to_top first [] h = omega arith
 first_to_top first (q ∷ rs) h = let l = h q (inl refl) in omega arith

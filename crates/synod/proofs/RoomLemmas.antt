@@ -1,5 +1,5 @@
 -- The room of a node after one of its parts has grown, and what that leaves of a step that is ready.
-use Rattle.synod.proofs.Words.{◌≡◌, ℕ, zero, suc, ◌≤◌, List, [], ◌∷◌, length, get_or, set, Option, Some, None, Result, Ok, Err, ap, sym, subst, arith, SlotsView, Change, Round, Entry, ProposerUpdate, Wait, Propose, Begin, Page, Hear, CompletePromise, Lead, LearnerUpdate, Count, Choose, Learn, StagedStep, RecordView, HasRoomFor, Node, Stepped, Refusal, Core, ProposerView, LearnerView, core_of, rooms_of, CanUpdateProposer, CanCount, CanUpdateLearner, RoomsGrow, HasAtLeast, IsNode, Made, Readies, staged_node, proposer_of, learner_of, CanCommit}
+use Rattle.synod.proofs.Words.{◌≡◌, ℕ, zero, suc, ◌≤◌, List, [], ◌∷◌, length, get_or, set, Option, Some, None, Result, Ok, Err, ap, sym, subst, arith, SlotsView, Change, Round, Entry, ProposerUpdate, AddWaiting, Propose, Begin, Page, AddHeard, CompletePromise, Lead, LearnerUpdate, Count, Choose, Learn, StagedStep, RecordView, HasRoomFor, Node, StepResult, Refusal, Core, ProposerView, LearnerView, core_of, rooms_of, CanUpdateProposer, CanCount, CanUpdateLearner, RoomsGrow, HasNoLessRoom, IsNode, ReadyView, IsStagingResult, staged_node, proposer_of, learner_of, CanCommit}
 use Rattle.synod.specs.declared.change.Change.TheVariants.{Promise}
 use Rattle.synod.specs.declared.proposer.ProposerUpdate.TheVariants.{Idle}
 
@@ -22,24 +22,24 @@ rooms_grow {T} maps k m more read grows = λ j. grow_at maps k m more read grows
 -- A part of a node has more room.
 
 -- a node has at least its own room
-pub same_room : {V : Type 0} (c : Core V) → HasAtLeast c c
+pub same_room : {V : Type 0} (c : Core V) → HasNoLessRoom c c
 same_room c = record {
   accepted = omega arith;
   pages = rooms_same c.page_rooms;
   heard = omega arith;
   waiting = omega arith;
   tallies = omega arith;
-  later = omega arith;
+  other_tallies = omega arith;
   learned = omega arith;
 }
 
 module _ {V : Type 0} (me : ℕ) (weights : List ℕ) (r : RecordView V) (p : ProposerView V) (l : LearnerView V) (now : Core V) (seen : core_of me weights r p l ≡ now) where
   abbrev Grows : Core V → Type 0
-  Grows new = HasAtLeast now new
+  Grows new = HasNoLessRoom now new
 
   -- what has at least the room of the parts has at least that of the node that is seen
-  back : (new : Core V) → HasAtLeast (core_of me weights r p l) new → Grows new
-  back new h = subst (λ (c : Core V). HasAtLeast c new) seen h
+  back : (new : Core V) → HasNoLessRoom (core_of me weights r p l) new → Grows new
+  back new h = subst (λ (c : Core V). HasNoLessRoom c new) seen h
 
   -- no part has grown
   pub no_more_room : Grows (core_of me weights r p l)
@@ -53,7 +53,7 @@ module _ {V : Type 0} (me : ℕ) (weights : List ℕ) (r : RecordView V) (p : Pr
     heard = omega arith;
     waiting = omega arith;
     tallies = omega arith;
-    later = omega arith;
+    other_tallies = omega arith;
     learned = omega arith;
   }
 
@@ -65,25 +65,25 @@ module _ {V : Type 0} (me : ℕ) (weights : List ℕ) (r : RecordView V) (p : Pr
     heard = heard;
     waiting = waiting;
     tallies = omega arith;
-    later = omega arith;
+    other_tallies = omega arith;
     learned = omega arith;
   }
 
   -- the learner has more room
-  pub learner_room : (more : LearnerView V) → l.tallies_room ≤ more.tallies_room → l.later_room ≤ more.later_room → l.learned_room ≤ more.learned_room → Grows (core_of me weights r p more)
-  learner_room more tallies later learned = back (core_of me weights r p more) record {
+  pub learner_room : (more : LearnerView V) → l.tallies_room ≤ more.tallies_room → l.other_room ≤ more.other_room → l.learned_room ≤ more.learned_room → Grows (core_of me weights r p more)
+  learner_room more tallies other_tallies learned = back (core_of me weights r p more) record {
     accepted = omega arith;
     pages = rooms_same p.page_rooms;
     heard = omega arith;
     waiting = omega arith;
     tallies = tallies;
-    later = later;
+    other_tallies = other_tallies;
     learned = learned;
   }
 
 -- what was just made ready has no more room than the node
-pub ready_room : {V : Type 0} (core : Core V) (r : Result (Stepped V) Refusal) (made : Made V) → Readies core r (Ok made) → HasAtLeast made.before core
-ready_room {V} core (Ok step) made h = subst (λ (c : Core V). HasAtLeast c core) (sym h.0) (same_room core)
+pub ready_room : {V : Type 0} (core : Core V) (r : Result (StepResult V) Refusal) (made : ReadyView V) → IsStagingResult core r (Ok made) → HasNoLessRoom made.before core
+ready_room {V} core (Ok step) made h = subst (λ (c : Core V). HasNoLessRoom c core) (sym h.0) (same_room core)
 ready_room core (Err met) made h = elim h [ ]
 
 -- A plan can be followed where there is as much room.
@@ -93,28 +93,28 @@ record_has_room : {V : Type 0} (room more : ℕ) (change : Option (Change V)) �
 record_has_room room more None grows h = tt
 record_has_room room more (Some (Round r)) grows h = tt
 record_has_room room more (Some (Promise b)) grows h = tt
-record_has_room room more (Some (Entry s held)) grows h = omega (arith, grows, h)
+record_has_room room more (Some (Entry s entry)) grows h = omega (arith, grows, h)
 
-module _ {V : Type 0} (c d : Core V) (same : d.node ≡ c.node) (h : HasAtLeast c d) where
+module _ {V : Type 0} (c d : Core V) (same : d.node ≡ c.node) (h : HasNoLessRoom c d) where
   -- as to what is proposed
   proposer_has_room : (update : Option (ProposerUpdate V)) → CanUpdateProposer (proposer_of c) update → CanUpdateProposer (proposer_of d) update
   proposer_has_room None room = tt
-  proposer_has_room (Some (Wait v)) room = let count = ap (λ (n : Node V). length n.waiting) same in let more = h.waiting in omega (arith, count, more, room)
+  proposer_has_room (Some (AddWaiting v)) room = let count = ap (λ (n : Node V). length n.waiting) same in let more = h.waiting in omega (arith, count, more, room)
   proposer_has_room (Some (Propose b next)) room = tt
   proposer_has_room (Some (Begin b first pages)) room = tt
   proposer_has_room (Some (Page k i reports)) room = let more = h.pages k in omega (arith, more, room)
-  proposer_has_room (Some (Hear heard)) room = let count = ap (λ (n : Node V). length n.heard) same in let more = h.heard in omega (arith, count, more, room)
+  proposer_has_room (Some (AddHeard heard)) room = let count = ap (λ (n : Node V). length n.heard) same in let more = h.heard in omega (arith, count, more, room)
   proposer_has_room (Some (CompletePromise heard i reports)) room =
       let count = ap (λ (n : Node V). length n.heard) same in
       let more = h.heard in
       let pages = h.pages heard.node in
       (omega (arith, pages, room.0), omega (arith, count, more, room.1))
-  proposer_has_room (Some (Lead b next taken)) room = let count = ap (λ (n : Node V). length n.waiting) same in omega (arith, count, room)
+  proposer_has_room (Some (Lead b next proposed)) room = let count = ap (λ (n : Node V). length n.waiting) same in omega (arith, count, room)
   proposer_has_room (Some Idle) room = tt
 
   -- as to a vote
   has_room_to_count : (s k : ℕ) → CanCount (learner_of c) s k → CanCount (learner_of d) s k
-  has_room_to_count s k can = let first = h.tallies in let later = h.later in record { slot = omega (arith, first, can.slot); later = omega (arith, later, can.later); node = can.node }
+  has_room_to_count s k can = let first = h.tallies in let other_tallies = h.other_tallies in record { slot = omega (arith, first, can.slot); other_tallies = omega (arith, other_tallies, can.other_tallies); node = can.node }
 
   -- as to what is learned
   learner_has_room : (update : Option (LearnerUpdate V)) → CanUpdateLearner (learner_of c) update → CanUpdateLearner (learner_of d) update

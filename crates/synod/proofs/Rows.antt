@@ -1,5 +1,5 @@
 -- The definitions of one node, run on worked examples.
-use Rattle.synod.proofs.Words.{◌≡◌, ℕ, zero, suc, List, [], ◌∷◌, Bool, true, false, Some, None, Err, length, map, replicate, refl, Promise, Nack, Ask, Busy, LogFull, RoundsSpent, TooLong, Idle, Leading, is_quorum, is_under, no_ballot, packet, new_node, pages_of, on_prepare, on_accept, offered, begun, fills, restarted}
+use Rattle.synod.proofs.Words.{◌≡◌, ℕ, zero, suc, List, [], ◌∷◌, Bool, true, false, Some, None, Err, length, map, replicate, refl, Promise, Nack, Ask, Busy, LogFull, RoundsSpent, TooLong, Idle, Leading, is_quorum, is_below, zero_ballot, packet, new_node, pages_of, on_prepare, on_accept, offered, begun, proposed_values, restarted}
 
 -- Quorums.
 
@@ -24,17 +24,17 @@ exactly_half_is_none = refl
 -- Ballots go by round, and then by node.
 
 -- round 1 of node 2 is under round 2 of node 0
-pub a_round_decides : is_under (record { round = 1; node = 2 }) (record { round = 2; node = 0 }) ≡ true
+pub a_round_decides : is_below (record { round = 1; node = 2 }) (record { round = 2; node = 0 }) ≡ true
 a_round_decides = refl
 
 -- in one round node 1 is not under node 0
-pub then_the_node : is_under (record { round = 2; node = 1 }) (record { round = 2; node = 0 }) ≡ false
+pub then_the_node : is_below (record { round = 2; node = 1 }) (record { round = 2; node = 0 }) ≡ false
 then_the_node = refl
 
 -- The highest ballot wins: the first heard of equal ones, and the no-operation where none is reported.
 
 -- two reports of slot 0, none of slot 1, one of slot 2
-pub the_highest_is_proposed : fills {V = ℕ}
+pub the_highest_is_proposed : proposed_values {V = ℕ}
     (record { slot = 0; ballot = record { round = 1; node = 0 }; value = Some 7 } ∷ record { slot = 0; ballot = record { round = 2; node = 1 }; value = Some 8 } ∷ record { slot = 2; ballot = record { round = 1; node = 0 }; value = Some 9 } ∷ []) 0 3
     ≡ Some 8 ∷ None ∷ Some 9 ∷ []
 the_highest_is_proposed = refl
@@ -76,7 +76,7 @@ pub too_long_comes_first : offered (λ v. 67108865) (record (new_node {V = ℕ} 
 too_long_comes_first = refl
 
 -- a leader whose next slot is the limit has none to give
-pub the_log_is_full : offered (λ v. 8) (record (new_node {V = ℕ} 0 (1 ∷ [])) { role = Leading no_ballot 1048576 }) 7 ≡ Err LogFull
+pub the_log_is_full : offered (λ v. 8) (record (new_node {V = ℕ} 0 (1 ∷ [])) { role = Leading zero_ballot 1048576 }) 7 ≡ Err LogFull
 the_log_is_full = refl
 
 -- Begins.
@@ -86,13 +86,13 @@ pub the_rounds_are_spent : begun (record (new_node {V = ℕ} 0 (1 ∷ [])) { pro
 the_rounds_are_spent = refl
 
 -- node 0 of three posts an Ask to nodes 1 and 2
-pub a_restarted_proposer_asks_the_others : (restarted (record (new_node {V = ℕ} 0 (1 ∷ 1 ∷ 1 ∷ [])) { role = Leading no_ballot 1; round = 4 })).posts ≡ packet 0 1 (Ask 0) ∷ packet 0 2 (Ask 0) ∷ []
+pub a_restarted_proposer_asks_the_others : (restarted (record (new_node {V = ℕ} 0 (1 ∷ 1 ∷ 1 ∷ [])) { role = Leading zero_ballot 1; round = 4 })).posts ≡ packet 0 1 (Ask 0) ∷ packet 0 2 (Ask 0) ∷ []
 a_restarted_proposer_asks_the_others = refl
 
 -- a leader that began round 4 has it afterwards too
-pub a_restart_keeps_the_round : (restarted (record (new_node {V = ℕ} 0 (1 ∷ [])) { role = Leading no_ballot 1; round = 4 })).node.round ≡ 4
+pub a_restart_keeps_the_round : (restarted (record (new_node {V = ℕ} 0 (1 ∷ [])) { role = Leading zero_ballot 1; round = 4 })).node.round ≡ 4
 a_restart_keeps_the_round = refl
 
 -- a leader is idle afterwards
-pub a_restart_gives_the_role_up : (restarted (record (new_node {V = ℕ} 0 (1 ∷ [])) { role = Leading no_ballot 1; round = 4 })).node.role ≡ Idle
+pub a_restart_gives_the_role_up : (restarted (record (new_node {V = ℕ} 0 (1 ∷ [])) { role = Leading zero_ballot 1; round = 4 })).node.role ≡ Idle
 a_restart_gives_the_role_up = refl

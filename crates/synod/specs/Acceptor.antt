@@ -4,10 +4,10 @@
 use Rattle.std.specs.Prelude.{ℕ, suc, nat_lt, List, [], ◌∷◌, Option, Some, None, length, if◌then◌else◌}
 use Rattle.synod.specs.Words.{put_at, Ballot, SlotReport, Packet, Promise, Accepted, Nack, AcceptedEntry, Entry}
 use Rattle.synod.specs.declared.change.Change.TheVariants.{Promise as PromiseChange}
-use Rattle.synod.specs.Ballots.{is_under}
+use Rattle.synod.specs.Ballots.{is_below}
 use Rattle.synod.specs.Packets.{packet, to_all}
 use Rattle.synod.specs.PromisePages.{pages_of}
-use Rattle.synod.specs.Node.{Node, Stepped, answers}
+use Rattle.synod.specs.Node.{Node, StepResult, volatile_step}
 
 -- the reports of the slots from first on, where the list begins at slot s
 abbrev pub reports_from : {V : Type 0} → ℕ → ℕ → List (Option (AcceptedEntry V)) → List (SlotReport V)
@@ -27,7 +27,7 @@ abbrev pub promise_posts : {V : Type 0} → ℕ → ℕ → Ballot → List (Lis
 promise_posts me p b pages = promise_pages me p b (length pages) 1 pages
 
 -- the ballot is promised to p, with the entries accepted from first on
-abbrev pub promises : {V : Type 0} → Node V → ℕ → Ballot → ℕ → Stepped V
+abbrev pub promises : {V : Type 0} → Node V → ℕ → Ballot → ℕ → StepResult V
 promises n p b first = record {
   node = record n { promise = b };
   change = Some (PromiseChange b);
@@ -35,24 +35,24 @@ promises n p b first = record {
 }
 
 -- p is informed of the promise for which its ballot b is refused
-abbrev pub refuses : {V : Type 0} → Node V → ℕ → Ballot → Stepped V
-refuses n p b = answers n (packet n.me p (Nack b n.promise) ∷ [])
+abbrev pub refuses : {V : Type 0} → Node V → ℕ → Ballot → StepResult V
+refuses n p b = volatile_step n (packet n.me p (Nack b n.promise) ∷ [])
 
 -- Prepare(b, first) from p: the ballot is promised if it is above the promise, else refused
-abbrev pub on_prepare : {V : Type 0} → Node V → ℕ → Ballot → ℕ → Stepped V
-on_prepare n p b first = if is_under n.promise b then promises n p b first else refuses n p b
+abbrev pub on_prepare : {V : Type 0} → Node V → ℕ → Ballot → ℕ → StepResult V
+on_prepare n p b first = if is_below n.promise b then promises n p b first else refuses n p b
 
-abbrev pub held : {V : Type 0} → Ballot → Option V → AcceptedEntry V
-held b v = record { ballot = b; value = v }
+abbrev pub accepted_entry : {V : Type 0} → Ballot → Option V → AcceptedEntry V
+accepted_entry b v = record { ballot = b; value = v }
 
 -- the value is accepted, and its ballot becomes the promise
-abbrev pub takes_value : {V : Type 0} → Node V → Ballot → ℕ → Option V → Stepped V
-takes_value n b s v = record {
-  node = record n { promise = b; accepted = put_at n.accepted s (held b v) };
-  change = Some (Entry s (held b v));
+abbrev pub accepts_value : {V : Type 0} → Node V → Ballot → ℕ → Option V → StepResult V
+accepts_value n b s v = record {
+  node = record n { promise = b; accepted = put_at n.accepted s (accepted_entry b v) };
+  change = Some (Entry s (accepted_entry b v));
   posts = to_all n.me n.weights (Accepted b s v);
 }
 
 -- Accept(b, s, v) from p: the value is accepted unless the ballot is below the promise
-abbrev pub on_accept : {V : Type 0} → Node V → ℕ → Ballot → ℕ → Option V → Stepped V
-on_accept n p b s v = if is_under b n.promise then refuses n p b else takes_value n b s v
+abbrev pub on_accept : {V : Type 0} → Node V → ℕ → Ballot → ℕ → Option V → StepResult V
+on_accept n p b s v = if is_below b n.promise then refuses n p b else accepts_value n b s v

@@ -25,14 +25,14 @@ pub record LearnerState (V : Type 0) : Type 0 where
   pub learned : List (Option (Option V))
 
 -- the votes under other ballots than the one first counted at a slot, by slot and ballot, and the room for more tallies
-pub record LaterView : Type 0 where
+pub record OtherTalliesView : Type 0 where
   pub votes : List ((ℕ × Ballot) × List Bool)
   pub room : ℕ
 
 pub record LearnerView (V : Type 0) : Type 0 where
   pub state : LearnerState V
   pub tallies_room : ℕ
-  pub later_room : ℕ
+  pub other_room : ℕ
   pub learned_room : ℕ
 
 abbrev pub proposer_state : {V : Type 0} → Node V → ProposerState V
@@ -64,7 +64,7 @@ pub record Core (V : Type 0) : Type 0 where
   pub heard_room : ℕ
   pub waiting_room : ℕ
   pub tallies_room : ℕ
-  pub later_room : ℕ
+  pub other_room : ℕ
   pub learned_room : ℕ
 
 abbrev pub core_of : {V : Type 0} → ℕ → List ℕ → RecordView V → ProposerView V → LearnerView V → Core V
@@ -75,6 +75,6 @@ core_of me weights r p l = record {
   heard_room = p.heard_room;
   waiting_room = p.waiting_room;
   tallies_room = l.tallies_room;
-  later_room = l.later_room;
+  other_room = l.other_room;
   learned_room = l.learned_room;
 }

@@ -6,7 +6,7 @@ use Rattle.synod.specs.Words.{SLOTS, entry_at, put_at, MOST_NODES, Ballot, Packe
 use Rattle.synod.specs.Weights.{is_quorum}
 use Rattle.synod.specs.Ballots.{is_same}
 use Rattle.synod.specs.Packets.{packet, to_others}
-use Rattle.synod.specs.Node.{Node, Stepped, unchanged, answers}
+use Rattle.synod.specs.Node.{Node, StepResult, unchanged, volatile_step}
 use Rattle.synod.specs.Log.{log_length}
 
 -- voters are a mark for each node
@@ -53,27 +53,27 @@ abbrev pub ask_below : {V : Type 0} → Node V → ℕ → List (Packet V)
 ask_below n s = asks_below n s (log_length n)
 
 -- the value is learned, since a quorum accepted it under one ballot
-abbrev pub chooses : {V : Type 0} → Node V → ℕ → Option V → Stepped V
-chooses n s v = answers (learns n s v) (ask_below (learns n s v) s)
+abbrev pub chooses : {V : Type 0} → Node V → ℕ → Option V → StepResult V
+chooses n s v = volatile_step (learns n s v) (ask_below (learns n s v) s)
 
 -- the step once the vote is counted: the value is learned if the voters are a quorum
-abbrev pub counts : {V : Type 0} → Node V → Ballot → ℕ → Option V → Stepped V
+abbrev pub counts : {V : Type 0} → Node V → Ballot → ℕ → Option V → StepResult V
 counts n b s v = if is_quorum n.weights (has_voter n.tallies s b) then chooses n s v else unchanged n
 
-abbrev pub on_accepted_at : {V : Type 0} → Option (Option V) → Node V → ℕ → Ballot → ℕ → Option V → Stepped V
+abbrev pub on_accepted_at : {V : Type 0} → Option (Option V) → Node V → ℕ → Ballot → ℕ → Option V → StepResult V
 on_accepted_at (Some u) n p b s v = unchanged n
 on_accepted_at None n p b s v = counts (record n { tallies = counted n.tallies s b p }) b s v
 
 -- Accepted(b, s, v) from p: the vote of p is counted, unless a value is learned at the slot
-abbrev pub on_accepted : {V : Type 0} → Node V → ℕ → Ballot → ℕ → Option V → Stepped V
+abbrev pub on_accepted : {V : Type 0} → Node V → ℕ → Ballot → ℕ → Option V → StepResult V
 on_accepted n p b s v = on_accepted_at (entry_at n.learned s) n p b s v
 
-abbrev pub on_ask_at : {V : Type 0} → Option (Option V) → Node V → ℕ → ℕ → Stepped V
+abbrev pub on_ask_at : {V : Type 0} → Option (Option V) → Node V → ℕ → ℕ → StepResult V
 on_ask_at None n p s = unchanged n
-on_ask_at (Some v) n p s = answers n (packet n.me p (Told s v) ∷ [])
+on_ask_at (Some v) n p s = volatile_step n (packet n.me p (Told s v) ∷ [])
 
 -- Ask(s) from p: the value learned at the slot is sent to p, if there is one
-abbrev pub on_ask : {V : Type 0} → Node V → ℕ → ℕ → Stepped V
+abbrev pub on_ask : {V : Type 0} → Node V → ℕ → ℕ → StepResult V
 on_ask n p s = on_ask_at (entry_at n.learned s) n p s
 
 -- p is asked for the next gap, unless the log is full
@@ -83,13 +83,13 @@ asks_for n p gap = if nat_lt gap SLOTS then (packet n.me p (Ask gap) ∷ []) els
 abbrev pub ask_next : {V : Type 0} → Node V → ℕ → List (Packet V)
 ask_next n p = asks_for n p (log_length n)
 
-abbrev pub hears_told : {V : Type 0} → Node V → ℕ → ℕ → Option V → Stepped V
-hears_told n p s v = answers (learns n s v) (ask_next (learns n s v) p)
+abbrev pub learns_told : {V : Type 0} → Node V → ℕ → ℕ → Option V → StepResult V
+learns_told n p s v = volatile_step (learns n s v) (ask_next (learns n s v) p)
 
-abbrev pub on_told_at : {V : Type 0} → Option (Option V) → Node V → ℕ → ℕ → Option V → Stepped V
+abbrev pub on_told_at : {V : Type 0} → Option (Option V) → Node V → ℕ → ℕ → Option V → StepResult V
 on_told_at (Some u) n p s v = unchanged n
-on_told_at None n p s v = hears_told n p s v
+on_told_at None n p s v = learns_told n p s v
 
 -- Told(s, v) from p: the value is learned, unless a value is learned at the slot
-abbrev pub on_told : {V : Type 0} → Node V → ℕ → ℕ → Option V → Stepped V
+abbrev pub on_told : {V : Type 0} → Node V → ℕ → ℕ → Option V → StepResult V
 on_told n p s v = on_told_at (entry_at n.learned s) n p s v

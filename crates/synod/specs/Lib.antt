@@ -17,5 +17,5 @@ pub mod Updates
 pub mod Broadcast
 pub mod Rooms
 pub mod Ready
-pub mod Heights
+pub mod HighestReports
 pub mod Stored

@@ -23,8 +23,8 @@ abbrev pub kept_of : {V : Type 0} → Node V → Kept V
 kept_of n = record { promise = n.promise; round = n.round; accepted = n.accepted }
 
 -- the node after a restart with this kept part
-abbrev pub rest_of : {V : Type 0} → ℕ → List ℕ → Kept V → Node V
-rest_of me weights kept = record {
+abbrev pub restarted_node : {V : Type 0} → ℕ → List ℕ → Kept V → Node V
+restarted_node me weights kept = record {
   me = me;
   weights = weights;
   promise = kept.promise;
@@ -39,21 +39,21 @@ rest_of me weights kept = record {
 }
 
 abbrev pub new_node : {V : Type 0} → ℕ → List ℕ → Node V
-new_node me weights = rest_of me weights new_kept
+new_node me weights = restarted_node me weights new_kept
 
 -- the result of a step: the state of the node, the change of its kept part, and its posts in order
-pub record Stepped (V : Type 0) : Type 0 where
+pub record StepResult (V : Type 0) : Type 0 where
   pub node : Node V
   pub change : Option (Change V)
   pub posts : List (Packet V)
 
 -- nothing happens
-abbrev pub unchanged : {V : Type 0} → Node V → Stepped V
+abbrev pub unchanged : {V : Type 0} → Node V → StepResult V
 unchanged n = record { node = n; change = None; posts = [] }
 
 -- a step that leaves the kept part unchanged: the node is n after it, and these are its posts
-abbrev pub answers : {V : Type 0} → Node V → List (Packet V) → Stepped V
-answers n posts = record { node = n; change = None; posts = posts }
+abbrev pub volatile_step : {V : Type 0} → Node V → List (Packet V) → StepResult V
+volatile_step n posts = record { node = n; change = None; posts = posts }
 
 -- the pages received from node k
 abbrev pub pages_from : {V : Type 0} → List (List (Option (List (SlotReport V)))) → ℕ → List (Option (List (SlotReport V)))

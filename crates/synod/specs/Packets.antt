@@ -26,9 +26,9 @@ abbrev pub to_others : {V : Type 0} → ℕ → List ℕ → Body V → List (Pa
 to_others me weights body = to_others_from me body 0 weights
 
 -- an Accept to all for each value, from slot s on
-abbrev pub accepts : {V : Type 0} → ℕ → List ℕ → Ballot → ℕ → List (Option V) → List (Packet V)
-accepts me weights ballot s [] = []
-accepts me weights ballot s (v ∷ vs) = to_all me weights (Accept ballot s v) ++ accepts me weights ballot (suc s) vs
+abbrev pub accept_posts : {V : Type 0} → ℕ → List ℕ → Ballot → ℕ → List (Option V) → List (Packet V)
+accept_posts me weights ballot s [] = []
+accept_posts me weights ballot s (v ∷ vs) = to_all me weights (Accept ballot s v) ++ accept_posts me weights ballot (suc s) vs
 
 -- The limits of every packet: each slot in it is below SLOTS, the first slot of a Prepare is at most SLOTS, and the number of a
 -- page is from 1 to the count of pages.

@@ -9,18 +9,18 @@ onto_first x [] = (x ∷ []) ∷ []
 onto_first x (page ∷ pages) = (x ∷ page) ∷ pages
 
 -- the pages that a list is cut into; the first has at most `room` elements, and each other one at most 256
-abbrev pub cut : {T : Type 0} → ℕ → List T → List (List T)
-cut room [] = [] ∷ []
-cut (suc room) (x ∷ xs) = onto_first x (cut room xs)
-cut zero (x ∷ xs) = [] ∷ onto_first x (cut 255 xs)
+abbrev pub pages_with_room : {T : Type 0} → ℕ → List T → List (List T)
+pages_with_room room [] = [] ∷ []
+pages_with_room (suc room) (x ∷ xs) = onto_first x (pages_with_room room xs)
+pages_with_room zero (x ∷ xs) = [] ∷ onto_first x (pages_with_room 255 xs)
 
 -- at least one page, and each but the last has 256
 abbrev pub pages_of : {T : Type 0} → List T → List (List T)
-pages_of xs = cut 256 xs
+pages_of xs = pages_with_room 256 xs
 
 -- whether the first `count` pages are received
-abbrev pub all_had : {T : Type 0} → List (Option (List T)) → ℕ → Bool
-all_had pages count = not (nat_lt (front_of pages) count)
+abbrev pub are_received : {T : Type 0} → List (Option (List T)) → ℕ → Bool
+are_received pages count = not (nat_lt (front_of pages) count)
 
 -- the contents of the first `count` pages
 abbrev pub joined_pages : {T : Type 0} → List (Option (List T)) → ℕ → List T

@@ -4,39 +4,39 @@
 use Rattle.std.specs.Prelude.{ℕ, zero, suc, ◌+◌, ◌-◌, ◌^◌, max, Bool, false, not, ◌==◌, ◌&&◌, nat_lt, List, [], ◌∷◌, ◌++◌, map, take, drop, length, Option, Some, None, Result, Ok, Err, if◌then◌else◌}
 use Rattle.synod.specs.Words.{SLOTS, MOST_BYTES, MOST_WAITING, Ballot, SlotReport, Prepare, Accept, Round, Heard, Role, Idle, Preparing, Leading, Refusal, Busy, LogFull, RoundsSpent, TooLong}
 use Rattle.synod.specs.Weights.{is_quorum}
-use Rattle.synod.specs.Ballots.{is_under, is_same}
-use Rattle.synod.specs.Packets.{to_all, accepts}
-use Rattle.synod.specs.PromisePages.{all_had, joined_pages}
-use Rattle.synod.specs.Node.{Node, Stepped, unchanged, answers, pages_from, with_page, no_pages, is_heard}
+use Rattle.synod.specs.Ballots.{is_below, is_same}
+use Rattle.synod.specs.Packets.{to_all, accept_posts}
+use Rattle.synod.specs.PromisePages.{are_received, joined_pages}
+use Rattle.synod.specs.Node.{Node, StepResult, unchanged, volatile_step, pages_from, with_page, no_pages, is_heard}
 use Rattle.synod.specs.Log.{log_length}
 
 -- A value is offered.
 
 -- the value is added to those that wait
-abbrev pub waits : {V : Type 0} → Node V → V → Stepped V
-waits n v = answers (record n { waiting = n.waiting ++ v ∷ [] }) []
+abbrev pub waits : {V : Type 0} → Node V → V → StepResult V
+waits n v = volatile_step (record n { waiting = n.waiting ++ v ∷ [] }) []
 
-abbrev pub offer_waits : {V : Type 0} → Node V → V → Result (Stepped V) Refusal
+abbrev pub offer_waits : {V : Type 0} → Node V → V → Result (StepResult V) Refusal
 offer_waits n v =
     if log_length n == SLOTS then Err LogFull
     else if nat_lt (length n.waiting) MOST_WAITING then Ok (waits n v)
     else Err Busy
 
 -- the value is proposed at the leader's next slot
-abbrev pub takes_slot : {V : Type 0} → Node V → Ballot → ℕ → V → Stepped V
-takes_slot n b next v =
-    answers (record n { role = Leading b (next + 1) }) (to_all n.me n.weights (Accept b next (Some v)))
+abbrev pub proposes_value : {V : Type 0} → Node V → Ballot → ℕ → V → StepResult V
+proposes_value n b next v =
+    volatile_step (record n { role = Leading b (next + 1) }) (to_all n.me n.weights (Accept b next (Some v)))
 
-abbrev pub offer_leads : {V : Type 0} → Node V → Ballot → ℕ → V → Result (Stepped V) Refusal
-offer_leads n b next v = if next == SLOTS then Err LogFull else Ok (takes_slot n b next v)
+abbrev pub offer_leads : {V : Type 0} → Node V → Ballot → ℕ → V → Result (StepResult V) Refusal
+offer_leads n b next v = if next == SLOTS then Err LogFull else Ok (proposes_value n b next v)
 
-abbrev pub offer_as : {V : Type 0} → Role → Node V → V → Result (Stepped V) Refusal
+abbrev pub offer_as : {V : Type 0} → Role → Node V → V → Result (StepResult V) Refusal
 offer_as Idle n v = offer_waits n v
 offer_as (Preparing b first) n v = offer_waits n v
 offer_as (Leading b next) n v = offer_leads n b next v
 
 -- offer(v)
-abbrev pub offered : {V : Type 0} → (V → ℕ) → Node V → V → Result (Stepped V) Refusal
+abbrev pub offered : {V : Type 0} → (V → ℕ) → Node V → V → Result (StepResult V) Refusal
 offered size n v = if nat_lt MOST_BYTES (size v) then Err TooLong else offer_as n.role n v
 
 -- A ballot is begun.
@@ -49,7 +49,7 @@ abbrev pub next_ballot : {V : Type 0} → Node V → Ballot
 next_ballot n = record { round = next_round n; node = n.me }
 
 -- the node begins its next ballot, and discards the pages that it received for an earlier one
-abbrev pub begins : {V : Type 0} → Node V → Stepped V
+abbrev pub begins : {V : Type 0} → Node V → StepResult V
 begins n = record {
   node = record n {
     round = next_round n;
@@ -62,7 +62,7 @@ begins n = record {
 }
 
 -- begin
-abbrev pub begun : {V : Type 0} → Node V → Result (Stepped V) Refusal
+abbrev pub begun : {V : Type 0} → Node V → Result (StepResult V) Refusal
 begun n = if nat_lt (next_round n) (2 ^ 64) then Ok (begins n) else Err RoundsSpent
 
 -- The proposals.
@@ -70,7 +70,7 @@ begun n = if nat_lt (next_round n) (2 ^ 64) then Ok (begins n) else Err RoundsSp
 -- the first report, unless the second is of a higher ballot
 abbrev pub higher : {V : Type 0} → SlotReport V → Option (SlotReport V) → Option (SlotReport V)
 higher r None = Some r
-higher r (Some q) = if is_under r.ballot q.ballot then Some q else Some r
+higher r (Some q) = if is_below r.ballot q.ballot then Some q else Some r
 
 -- the first report of the highest ballot at the slot
 abbrev pub highest_at : {V : Type 0} → ℕ → List (SlotReport V) → Option (SlotReport V)
@@ -83,19 +83,19 @@ reported_value None = None
 reported_value (Some r) = r.value
 
 -- one above the greatest slot reported, or 0
-abbrev pub above_all : {V : Type 0} → List (SlotReport V) → ℕ
-above_all [] = 0
-above_all (r ∷ rs) = max (r.slot + 1) (above_all rs)
+abbrev pub top_or_zero : {V : Type 0} → List (SlotReport V) → ℕ
+top_or_zero [] = 0
+top_or_zero (r ∷ rs) = max (r.slot + 1) (top_or_zero rs)
 
 -- one above the greatest slot reported, or `first` if nothing is reported
-abbrev pub top_reported : {V : Type 0} → ℕ → List (SlotReport V) → ℕ
-top_reported first [] = first
-top_reported first (r ∷ rs) = above_all (r ∷ rs)
+abbrev pub top_or_first : {V : Type 0} → ℕ → List (SlotReport V) → ℕ
+top_or_first first [] = first
+top_or_first first (r ∷ rs) = top_or_zero (r ∷ rs)
 
 -- the values to propose at `count` slots from s on
-abbrev pub fills : {V : Type 0} → List (SlotReport V) → ℕ → ℕ → List (Option V)
-fills reports s zero = []
-fills reports s (suc count) = reported_value (highest_at s reports) ∷ fills reports (suc s) count
+abbrev pub proposed_values : {V : Type 0} → List (SlotReport V) → ℕ → ℕ → List (Option V)
+proposed_values reports s zero = []
+proposed_values reports s (suc count) = reported_value (highest_at s reports) ∷ proposed_values reports (suc s) count
 
 -- the reports of all nodes heard, in the order in which they were heard
 abbrev pub all_reports : {V : Type 0} → List (List (Option (List (SlotReport V)))) → List Heard → List (SlotReport V)
@@ -103,51 +103,51 @@ all_reports pages [] = []
 all_reports pages (h ∷ hs) = joined_pages (pages_from pages h.node) h.count ++ all_reports pages hs
 
 -- the node leads: it proposes reported values or no-operations at the slots from first up to top, and waiting values from top on
-abbrev pub leads : {V : Type 0} → Node V → Ballot → ℕ → List (SlotReport V) → ℕ → Stepped V
+abbrev pub leads : {V : Type 0} → Node V → Ballot → ℕ → List (SlotReport V) → ℕ → StepResult V
 leads n b first reports top =
-    let taken = take (SLOTS - top) n.waiting in
-    answers
-    (record n { role = Leading b (top + length taken); pages = []; heard = []; waiting = drop (SLOTS - top) n.waiting })
-    (accepts n.me n.weights b first (fills reports first (top - first)) ++ accepts n.me n.weights b top (map (λ v. Some v) taken))
+    let proposed = take (SLOTS - top) n.waiting in
+    volatile_step
+    (record n { role = Leading b (top + length proposed); pages = []; heard = []; waiting = drop (SLOTS - top) n.waiting })
+    (accept_posts n.me n.weights b first (proposed_values reports first (top - first)) ++ accept_posts n.me n.weights b top (map (λ v. Some v) proposed))
 
 -- the node leads, with the reports of the nodes heard
-abbrev pub leads_with : {V : Type 0} → Node V → Ballot → ℕ → List (List (Option (List (SlotReport V)))) → List Heard → Stepped V
-leads_with n b first pages heard = leads n b first (all_reports pages heard) (top_reported first (all_reports pages heard))
+abbrev pub leads_with : {V : Type 0} → Node V → Ballot → ℕ → List (List (Option (List (SlotReport V)))) → List Heard → StepResult V
+leads_with n b first pages heard = leads n b first (all_reports pages heard) (top_or_first first (all_reports pages heard))
 
 -- A page of a promise arrives. A node is heard once all pages of its promise are received.
 
--- the page is kept, and further pages of the promise are missing
-abbrev pub keeps_page : {V : Type 0} → Node V → List (List (Option (List (SlotReport V)))) → Stepped V
-keeps_page n pages = answers (record n { pages = pages }) []
+-- the page is added, and further pages of the promise are missing
+abbrev pub adds_page : {V : Type 0} → Node V → List (List (Option (List (SlotReport V)))) → StepResult V
+adds_page n pages = volatile_step (record n { pages = pages }) []
 
 -- the sender is heard, and the nodes heard are no quorum yet
-abbrev pub keeps_promise : {V : Type 0} → Node V → List (List (Option (List (SlotReport V)))) → List Heard → Stepped V
-keeps_promise n pages heard = answers (record n { pages = pages; heard = heard }) []
+abbrev pub completes_promise : {V : Type 0} → Node V → List (List (Option (List (SlotReport V)))) → List Heard → StepResult V
+completes_promise n pages heard = volatile_step (record n { pages = pages; heard = heard }) []
 
 -- the sender is heard, and the node leads if the nodes heard are a quorum
-abbrev pub hears : {V : Type 0} → Node V → Ballot → ℕ → List (List (Option (List (SlotReport V)))) → List Heard → Stepped V
-hears n b first pages heard =
+abbrev pub on_complete_promise : {V : Type 0} → Node V → Ballot → ℕ → List (List (Option (List (SlotReport V)))) → List Heard → StepResult V
+on_complete_promise n b first pages heard =
     if is_quorum n.weights (is_heard heard)
     then leads_with n b first pages heard
-    else keeps_promise n pages heard
+    else completes_promise n pages heard
 
 -- a page for the ballot in preparation, from a node that is not heard yet
-abbrev pub gathers : {V : Type 0} → Node V → ℕ → Ballot → ℕ → ℕ → List (List (Option (List (SlotReport V)))) → Stepped V
-gathers n p b first count pages =
-    if all_had (pages_from pages p) count
-    then hears n b first pages (n.heard ++ record { node = p; count = count } ∷ [])
-    else keeps_page n pages
+abbrev pub on_promise_page : {V : Type 0} → Node V → ℕ → Ballot → ℕ → ℕ → List (List (Option (List (SlotReport V)))) → StepResult V
+on_promise_page n p b first count pages =
+    if are_received (pages_from pages p) count
+    then on_complete_promise n b first pages (n.heard ++ record { node = p; count = count } ∷ [])
+    else adds_page n pages
 
-abbrev pub on_promise_as : {V : Type 0} → Role → Node V → ℕ → Ballot → ℕ → ℕ → List (SlotReport V) → Stepped V
+abbrev pub on_promise_as : {V : Type 0} → Role → Node V → ℕ → Ballot → ℕ → ℕ → List (SlotReport V) → StepResult V
 on_promise_as Idle n p b page count reports = unchanged n
 on_promise_as (Leading c next) n p b page count reports = unchanged n
 on_promise_as (Preparing c first) n p b page count reports =
     if is_same b c && not (is_heard n.heard p)
-    then gathers n p c first count (with_page n.pages p (page - 1) reports)
+    then on_promise_page n p c first count (with_page n.pages p (page - 1) reports)
     else unchanged n
 
 -- Promise(b, page, count, reports) from p
-abbrev pub on_promise : {V : Type 0} → Node V → ℕ → Ballot → ℕ → ℕ → List (SlotReport V) → Stepped V
+abbrev pub on_promise : {V : Type 0} → Node V → ℕ → Ballot → ℕ → ℕ → List (SlotReport V) → StepResult V
 on_promise n p b page count reports = on_promise_as n.role n p b page count reports
 
 -- A proposer is refused.
@@ -157,9 +157,9 @@ is_at Idle b = false
 is_at (Preparing c first) b = is_same c b
 is_at (Leading c next) b = is_same c b
 
-abbrev pub idles : {V : Type 0} → Node V → Stepped V
-idles n = answers (record n { role = Idle }) []
+abbrev pub idles : {V : Type 0} → Node V → StepResult V
+idles n = volatile_step (record n { role = Idle }) []
 
 -- Nack(b, c): if the proposer is at ballot b and the promise c is higher, it gives b up
-abbrev pub on_nack : {V : Type 0} → Node V → Ballot → Ballot → Stepped V
-on_nack n b c = if is_at n.role b && is_under b c then idles n else unchanged n
+abbrev pub on_nack : {V : Type 0} → Node V → Ballot → Ballot → StepResult V
+on_nack n b c = if is_at n.role b && is_below b c then idles n else unchanged n

@@ -7,15 +7,15 @@ use Rattle.synod.specs.declared.ready.StagedStep.{StagedStep}
 use Rattle.synod.specs.declared.proposer.ProposerUpdate.{ProposerUpdate}
 use Rattle.synod.specs.declared.learner.LearnerUpdate.{LearnerUpdate}
 use Rattle.synod.specs.Record.{changed_by, HasRoomFor}
-use Rattle.synod.specs.Node.{Node, Stepped, kept_of}
+use Rattle.synod.specs.Node.{Node, StepResult, kept_of}
 use Rattle.synod.specs.Step.{IsNode}
 use Rattle.synod.specs.Core.{Core, ProposerView, LearnerView, proposer_state, learner_state, assembled}
 use Rattle.synod.specs.Updates.{proposer_after, learner_after, CanUpdateProposer, CanUpdateLearner}
 
 -- the node as it was when it staged the step, and the step
-pub record Made (V : Type 0) : Type 0 where
+pub record ReadyView (V : Type 0) : Type 0 where
   pub before : Core V
-  pub step : Stepped V
+  pub step : StepResult V
 
 -- the node once the updates are applied
 abbrev pub staged_node : {V : Type 0} → Node V → StagedStep V → Node V
@@ -26,7 +26,7 @@ abbrev pub proposer_of : {V : Type 0} → Core V → ProposerView V
 proposer_of c = record { state = proposer_state c.node; page_rooms = c.page_rooms; heard_room = c.heard_room; waiting_room = c.waiting_room }
 
 abbrev pub learner_of : {V : Type 0} → Core V → LearnerView V
-learner_of c = record { state = learner_state c.node; tallies_room = c.tallies_room; later_room = c.later_room; learned_room = c.learned_room }
+learner_of c = record { state = learner_state c.node; tallies_room = c.tallies_room; other_room = c.other_room; learned_room = c.learned_room }
 
 -- there is room for all updates, and the node after them meets the invariant
 pub record CanCommit {V : Type 0} (c : Core V) (staged : StagedStep V) : Type 0 where
@@ -36,15 +36,15 @@ pub record CanCommit {V : Type 0} (c : Core V) (staged : StagedStep V) : Type 0 
   pub node : IsNode (staged_node c.node staged)
 
 -- the staged step is this one, of this node
-abbrev pub IsReadyFor : {V : Type 0} → Core V → Stepped V → Made V → Type 0
+abbrev pub IsReadyFor : {V : Type 0} → Core V → StepResult V → ReadyView V → Type 0
 IsReadyFor core step made = (made.before ≡ core) × (made.step ≡ step)
 
 -- the step is staged; or its refusal is returned, or Memory if it meets none
-abbrev pub Readies : {V : Type 0} → Core V → Result (Stepped V) Refusal → Result (Made V) Refusal → Type 0
-Readies core (Ok step) (Ok made) = IsReadyFor core step made
-Readies core (Ok step) (Err refusal) = refusal ≡ Memory
-Readies core (Err met) (Err refusal) = refusal ≡ met
-Readies core (Err met) (Ok made) = ⊥
+abbrev pub IsStagingResult : {V : Type 0} → Core V → Result (StepResult V) Refusal → Result (ReadyView V) Refusal → Type 0
+IsStagingResult core (Ok step) (Ok made) = IsReadyFor core step made
+IsStagingResult core (Ok step) (Err refusal) = refusal ≡ Memory
+IsStagingResult core (Err met) (Err refusal) = refusal ≡ met
+IsStagingResult core (Err met) (Ok made) = ⊥
 
 -- the node once its learner or its proposer is updated
 abbrev pub with_learner_update : {V : Type 0} → Node V → LearnerUpdate V → Node V

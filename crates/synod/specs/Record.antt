@@ -4,7 +4,7 @@
 use Rattle.std.specs.Prelude.{ℕ, ◌<◌, List, [], Option, Some, None}
 use Rattle.synod.specs.Words.{put_at, Ballot, AcceptedEntry, Change, Round, Entry}
 use Rattle.synod.specs.declared.change.Change.TheVariants.{Promise}
-use Rattle.synod.specs.Ballots.{no_ballot}
+use Rattle.synod.specs.Ballots.{zero_ballot}
 
 -- promise, round and accepted entries
 pub record Kept (V : Type 0) : Type 0 where
@@ -14,7 +14,7 @@ pub record Kept (V : Type 0) : Type 0 where
 
 -- the kept part of a new node
 abbrev pub new_kept : {V : Type 0} → Kept V
-new_kept = record { promise = no_ballot; round = 0; accepted = [] }
+new_kept = record { promise = zero_ballot; round = 0; accepted = [] }
 
 -- the kept part after a change; the ballot of an accepted entry becomes the promise
 abbrev pub changed : {V : Type 0} → Kept V → Change V → Kept V

@@ -3,12 +3,12 @@
 -- The code stages a step, and then commits it.
 use Rattle.std.specs.Prelude.{◌≡◌, Result, Ok, Err, Vec}
 use Rattle.synod.specs.Words.{Global, Packet, Refusal, Memory}
-use Rattle.synod.specs.Node.{Node, Stepped}
+use Rattle.synod.specs.Node.{Node, StepResult}
 
 -- the node takes the step, and the call returns its posts; or the node is unchanged, and the call returns the refusal that the
 -- event meets, or Memory if it meets none
-abbrev pub Makes : {V : Type 0} → Node V → Node V → Result (Stepped V) Refusal → Result (Vec (Packet V) Global) Refusal → Type 0
-Makes old new (Ok step) (Ok posts) = (new ≡ step.node) × (posts.items ≡ step.posts)
-Makes old new (Ok step) (Err refusal) = (refusal ≡ Memory) × (new ≡ old)
-Makes old new (Err met) (Err refusal) = (refusal ≡ met) × (new ≡ old)
-Makes old new (Err met) (Ok posts) = ⊥
+abbrev pub IsCallResult : {V : Type 0} → Node V → Node V → Result (StepResult V) Refusal → Result (Vec (Packet V) Global) Refusal → Type 0
+IsCallResult old new (Ok step) (Ok posts) = (new ≡ step.node) × (posts.items ≡ step.posts)
+IsCallResult old new (Ok step) (Err refusal) = (refusal ≡ Memory) × (new ≡ old)
+IsCallResult old new (Err met) (Err refusal) = (refusal ≡ met) × (new ≡ old)
+IsCallResult old new (Err met) (Ok posts) = ⊥

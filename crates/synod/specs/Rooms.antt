@@ -8,12 +8,12 @@ use Rattle.synod.specs.Core.{Core}
 abbrev pub RoomsGrow : List ℕ → List ℕ → Type 0
 RoomsGrow old new = (k : ℕ) → slice_index_or old k 0 ≤ slice_index_or new k 0
 
--- the second has at least the room of the first
-pub record HasAtLeast {V : Type 0} (one other : Core V) : Type 0 where
+-- the second has no less room than the first
+pub record HasNoLessRoom {V : Type 0} (one other : Core V) : Type 0 where
   pub accepted : one.accepted_room ≤ other.accepted_room
   pub pages : RoomsGrow one.page_rooms other.page_rooms
   pub heard : one.heard_room ≤ other.heard_room
   pub waiting : one.waiting_room ≤ other.waiting_room
   pub tallies : one.tallies_room ≤ other.tallies_room
-  pub later : one.later_room ≤ other.later_room
+  pub other_tallies : one.other_room ≤ other.other_room
   pub learned : one.learned_room ≤ other.learned_room

@@ -6,12 +6,12 @@ use Rattle.synod.specs.Words.{AllByRecursion, SLOTS, SlotReport, Packet, Body, P
 use Rattle.synod.specs.Weights.{IsWeights}
 use Rattle.synod.specs.Packets.{IsReport, IsPost, to_others}
 use Rattle.synod.specs.Record.{Kept}
-use Rattle.synod.specs.Node.{Node, Stepped, kept_of, rest_of}
+use Rattle.synod.specs.Node.{Node, StepResult, kept_of, restarted_node}
 use Rattle.synod.specs.Acceptor.{on_prepare, on_accept}
 use Rattle.synod.specs.Proposer.{on_promise, on_nack}
 use Rattle.synod.specs.Learner.{on_accepted, on_ask, on_told}
 
-abbrev pub on_body : {V : Type 0} → Node V → ℕ → Body V → Stepped V
+abbrev pub on_body : {V : Type 0} → Node V → ℕ → Body V → StepResult V
 on_body n p (Prepare b first) = on_prepare n p b first
 on_body n p (Promise b page count reports) = on_promise n p b page count reports
 on_body n p (Accept b s v) = on_accept n p b s v
@@ -21,15 +21,15 @@ on_body n p (Ask s) = on_ask n p s
 on_body n p (Told s v) = on_told n p s v
 
 -- a packet arrives
-abbrev pub on_packet : {V : Type 0} → Node V → Packet V → Stepped V
+abbrev pub on_packet : {V : Type 0} → Node V → Packet V → StepResult V
 on_packet n p = on_body n p.from p.body
 
 -- the node restarts with this kept part, and asks all others for the first entry
-abbrev pub reloaded : {V : Type 0} → Node V → Kept V → Stepped V
-reloaded n kept = record { node = rest_of n.me n.weights kept; change = None; posts = to_others n.me n.weights (Ask 0) }
+abbrev pub reloaded : {V : Type 0} → Node V → Kept V → StepResult V
+reloaded n kept = record { node = restarted_node n.me n.weights kept; change = None; posts = to_others n.me n.weights (Ask 0) }
 
 -- the node restarts with its own kept part
-abbrev pub restarted : {V : Type 0} → Node V → Stepped V
+abbrev pub restarted : {V : Type 0} → Node V → StepResult V
 restarted n = reloaded n (kept_of n)
 
 -- The invariant of a node: it is one of the nodes, and each slot with an entry or a report is below SLOTS.
@@ -52,6 +52,6 @@ pub record IsNode {V : Type 0} (n : Node V) : Type 0 where
   pub pages : AllByRecursion (AllByRecursion ArePages) n.pages
 
 -- the node after the step meets the invariant, and each post is a packet to one of the nodes
-pub record Keeps {V : Type 0} (nodes : ℕ) (step : Stepped V) : Type 0 where
+pub record PreservesInvariant {V : Type 0} (nodes : ℕ) (step : StepResult V) : Type 0 where
   pub node : IsNode step.node
   pub posts : AllByRecursion (IsPost nodes) step.posts

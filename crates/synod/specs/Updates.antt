@@ -5,7 +5,7 @@ use Rattle.std.specs.Prelude.{◌<◌, ◌≤◌, ◌++◌, ℕ, [], ◌∷◌, 
 use Rattle.synod.specs.Words.{put_at, Preparing, Leading, MOST_NODES}
 use Rattle.synod.specs.declared.proposer.Role.TheVariants.{Idle as RoleIdle}
 use Rattle.synod.specs.declared.proposer.ProposerUpdate.{ProposerUpdate}
-use Rattle.synod.specs.declared.proposer.ProposerUpdate.TheVariants.{Wait, Propose, Begin, Page, Hear, CompletePromise, Lead, Idle}
+use Rattle.synod.specs.declared.proposer.ProposerUpdate.TheVariants.{AddWaiting, Propose, Begin, Page, AddHeard, CompletePromise, Lead, Idle}
 use Rattle.synod.specs.declared.learner.LearnerUpdate.{LearnerUpdate}
 use Rattle.synod.specs.declared.learner.LearnerUpdate.TheVariants.{Count, Choose, Learn}
 use Rattle.synod.specs.Learner.{counted}
@@ -14,24 +14,24 @@ use Rattle.synod.specs.Stored.ReceivedPages.{entries_of, put_page}
 
 abbrev pub proposer_after : {V : Type 0} → ProposerState V → Option (ProposerUpdate V) → ProposerState V
 proposer_after p None = p
-proposer_after p (Some (Wait v)) = record p { waiting = p.waiting ++ v ∷ [] }
+proposer_after p (Some (AddWaiting v)) = record p { waiting = p.waiting ++ v ∷ [] }
 proposer_after p (Some (Propose b next)) = record p { role = Leading b next }
 proposer_after p (Some (Begin b first pages)) = record p { role = Preparing b first; pages = entries_of pages; heard = [] }
 proposer_after p (Some (Page k i reports)) = record p { pages = put_page p.pages k i reports }
-proposer_after p (Some (Hear h)) = record p { heard = p.heard ++ h ∷ [] }
+proposer_after p (Some (AddHeard h)) = record p { heard = p.heard ++ h ∷ [] }
 proposer_after p (Some (CompletePromise h i reports)) = record p { pages = put_page p.pages h.node i reports; heard = p.heard ++ h ∷ [] }
-proposer_after p (Some (Lead b next taken)) = record p { role = Leading b next; pages = []; heard = []; waiting = drop taken p.waiting }
+proposer_after p (Some (Lead b next proposed)) = record p { role = Leading b next; pages = []; heard = []; waiting = drop proposed p.waiting }
 proposer_after p (Some Idle) = record p { role = RoleIdle }
 
 abbrev pub CanUpdateProposer : {V : Type 0} → ProposerView V → Option (ProposerUpdate V) → Type 0
 CanUpdateProposer p None = Unit {0}
-CanUpdateProposer p (Some (Wait v)) = length p.state.waiting < p.waiting_room
+CanUpdateProposer p (Some (AddWaiting v)) = length p.state.waiting < p.waiting_room
 CanUpdateProposer p (Some (Propose b next)) = Unit {0}
 CanUpdateProposer p (Some (Begin b first pages)) = Unit {0}
 CanUpdateProposer p (Some (Page k i reports)) = i < slice_index_or p.page_rooms k 0
-CanUpdateProposer p (Some (Hear h)) = length p.state.heard < p.heard_room
+CanUpdateProposer p (Some (AddHeard h)) = length p.state.heard < p.heard_room
 CanUpdateProposer p (Some (CompletePromise h i reports)) = (i < slice_index_or p.page_rooms h.node 0) × (length p.state.heard < p.heard_room)
-CanUpdateProposer p (Some (Lead b next taken)) = taken ≤ length p.state.waiting
+CanUpdateProposer p (Some (Lead b next proposed)) = proposed ≤ length p.state.waiting
 CanUpdateProposer p (Some Idle) = Unit {0}
 
 abbrev pub learner_after : {V : Type 0} → LearnerState V → Option (LearnerUpdate V) → LearnerState V
@@ -43,7 +43,7 @@ learner_after l (Some (Learn s v)) = record l { learned = put_at l.learned s v }
 -- there is room for a vote of node k at a slot, under any ballot
 pub record CanCount {V : Type 0} (l : LearnerView V) (s k : ℕ) : Type 0 where
   pub slot : s < l.tallies_room
-  pub later : 0 < l.later_room
+  pub other_tallies : 0 < l.other_room
   pub node : k < MOST_NODES
 
 abbrev pub CanUpdateLearner : {V : Type 0} → LearnerView V → Option (LearnerUpdate V) → Type 0

@@ -11,18 +11,18 @@ pub struct Ballot {
 }
 
 impl Ballot {
-    ghost use Rattle.synod.specs.Ballots.{is_under, is_same, no_ballot};
+    ghost use Rattle.synod.specs.Ballots.{is_below, is_same, zero_ballot};
 
     /// Returns the ballot 0.0, which a new node has promised.
-    pub fn none() -> Self
-        ensures { result ≡ no_ballot }
+    pub fn zero() -> Self
+        ensures { result ≡ zero_ballot }
     {
         Ballot { round: 0, node: 0 }
     }
 
     /// Returns whether this ballot is lower than `other`.
-    pub fn is_under(self, other: Ballot) -> bool
-        ensures { result ≡ is_under self other }
+    pub fn is_below(self, other: Ballot) -> bool
+        ensures { result ≡ is_below self other }
     {
         self.round < other.round || (self.round == other.round && self.node < other.node)
     }

@@ -16,5 +16,5 @@ pub enum Change<V> {
     /// Sets the promise.
     Promise(Ballot),
     /// Accepts an entry; its ballot becomes the promise.
-    Entry { slot: u32, held: AcceptedEntry<V> },
+    Entry { slot: u32, entry: AcceptedEntry<V> },
 }

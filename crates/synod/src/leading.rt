@@ -3,13 +3,13 @@ ghost use Rattle.std.specs.Prelude.{◌≡◌, ◌<◌, ◌≤◌, ◌+◌, ◌-
 ghost use Rattle.std.specs.List.{AllByRecursion};
 ghost use Rattle.slots.specs.declared.slots.TheConstants.{SLOTS};
 ghost use Rattle.synod.specs.declared.packet.SlotReport.{SlotReport};
-ghost use Rattle.synod.specs.Packets.{IsReport, accepts};
+ghost use Rattle.synod.specs.Packets.{IsReport, accept_posts};
 ghost use Rattle.std.specs.Option.{option_copied};
-ghost use Rattle.synod.specs.Proposer.{above_all, top_reported, highest_at, reported_value, fills, all_reports};
+ghost use Rattle.synod.specs.Proposer.{top_or_zero, top_or_first, highest_at, reported_value, proposed_values, all_reports};
 ghost use Rattle.synod.specs.PromisePages.{joined_pages};
 ghost use Rattle.synod.specs.Node.{pages_from};
-ghost use Rattle.synod.specs.Stored.ReceivedPages.{pages_with};
-ghost use Rattle.synod.specs.Heights.{all_of, AreHighest, some_of, IsLead};
+ghost use Rattle.synod.specs.Stored.ReceivedPages.{pages_after_delivery};
+ghost use Rattle.synod.specs.HighestReports.{reports_of_pages, IsHighestTable, as_entries, IsLead};
 
 use crate::ballot::Ballot;
 use crate::packet::{Packet, SlotReport};
@@ -21,12 +21,12 @@ use crate::weights::Weights;
 use slots::SLOTS;
 use std::alloc::{AllocError, Global};
 
-/// Returns one above the greatest slot of the reports, or `above` if that is greater.
-fn above_page<V>(above: u32, reports: &[SlotReport<V>]) -> u32
+/// Returns one above the greatest slot of the reports, or `top` if that is greater.
+fn top_with_page<V>(top: u32, reports: &[SlotReport<V>]) -> u32
     requires { AllByRecursion IsReport reports.now }
-    ensures { result ≡ max above (above_all reports.now) }
+    ensures { result ≡ max top (top_or_zero reports.now) }
 {
-    let mut most = above;
+    let mut most = top;
     for report in reports {
         most = std::cmp::max(most, report.slot + 1);
     }
@@ -35,24 +35,24 @@ fn above_page<V>(above: u32, reports: &[SlotReport<V>]) -> u32
 
 /// Returns one above the greatest slot reported, or `first` if nothing is reported.
 fn top_of_reports<V>(first: u32, pages: &[&[SlotReport<V>]]) -> u32
-    requires { AllByRecursion IsReport (all_of pages.now) }
-    ensures { result ≡ top_reported first (all_of pages.now) }
+    requires { AllByRecursion IsReport (reports_of_pages pages.now) }
+    ensures { result ≡ top_or_first first (reports_of_pages pages.now) }
 {
-    let mut above = 0;
+    let mut top = 0;
     for reports in pages {
-        above = above_page(above, reports);
+        top = top_with_page(top, reports);
     }
-    if above == 0 { first } else { above }
+    if top == 0 { first } else { top }
 }
 
 /// Enters a report in the table if its ballot is higher than that of the report at its slot. Place `i` of the table is for slot
 /// `first + i`; reports of other slots are ignored.
-fn keep_report<'a, V>(
+fn enter_report<'a, V>(
     table: &mut Vec<Option<&'a SlotReport<V>>>,
     first: u32,
     report: &'a SlotReport<V>,
 )
-    ensures highest { (reports : List (SlotReport V)) → AreHighest first table.old.items reports → AreHighest first table.new.items (reports ++ report.now ∷ []) }
+    ensures highest { (reports : List (SlotReport V)) → IsHighestTable first table.old.items reports → IsHighestTable first table.new.items (reports ++ report.now ∷ []) }
     ensures slots { length table.new.items ≡ length table.old.items }
 {
     if report.slot < first {
@@ -63,7 +63,7 @@ fn keep_report<'a, V>(
         return;
     }
     let is_higher = match table[place] {
-        Some(best) => best.ballot.is_under(report.ballot),
+        Some(best) => best.ballot.is_below(report.ballot),
         None => true,
     };
     if is_higher {
@@ -72,16 +72,16 @@ fn keep_report<'a, V>(
 }
 
 /// Enters the reports of a page in the table.
-fn keep_page<'a, V>(
+fn enter_page<'a, V>(
     table: &mut Vec<Option<&'a SlotReport<V>>>,
     first: u32,
     page: &'a [SlotReport<V>],
 )
-    ensures highest { (reports : List (SlotReport V)) → AreHighest first table.old.items reports → AreHighest first table.new.items (reports ++ page.now) }
+    ensures highest { (reports : List (SlotReport V)) → IsHighestTable first table.old.items reports → IsHighestTable first table.new.items (reports ++ page.now) }
     ensures slots { length table.new.items ≡ length table.old.items }
 {
     for report in page {
-        keep_report(table, first, report);
+        enter_report(table, first, report);
     }
 }
 
@@ -92,7 +92,7 @@ fn highest_reports<'a, V>(
     top: u32,
     pages: &[&'a [SlotReport<V>]],
 ) -> Result<Vec<Option<&'a SlotReport<V>>>, AllocError>
-    ensures highest { IfOk result (λ table. AreHighest first table.items (all_of pages.now)) }
+    ensures highest { IfOk result (λ table. IsHighestTable first table.items (reports_of_pages pages.now)) }
     ensures slots { IfOk result (λ table. length table.items ≡ top - first) }
 {
     let mut table = Vec::new(alloc);
@@ -100,7 +100,7 @@ fn highest_reports<'a, V>(
         table.push(None)?;
     }
     for page in pages {
-        keep_page(&mut table, first, page);
+        enter_page(&mut table, first, page);
     }
     Ok(table)
 }
@@ -117,7 +117,7 @@ fn value_of<V: Value>(highest: Option<&SlotReport<V>>) -> Result<Option<V>, Allo
 
 /// Appends an Accept to all nodes for each slot from `first` up to `top`, `top` excluded, with the value of the report of the
 /// highest ballot.
-fn fill_posts<V: Value>(
+fn post_reported_values<V: Value>(
     alloc: Global,
     posts: &mut Vec<Packet<V>>,
     me: u8,
@@ -127,7 +127,7 @@ fn fill_posts<V: Value>(
     top: u32,
     pages: &[&[SlotReport<V>]],
 ) -> Result<(), AllocError>
-    ensures { OnOk result (posts.new.items ≡ posts.old.items ++ accepts me weights.now ballot first (fills (all_of pages.now) first (top - first))) }
+    ensures { OnOk result (posts.new.items ≡ posts.old.items ++ accept_posts me weights.now ballot first (proposed_values (reports_of_pages pages.now) first (top - first))) }
 {
     let table = highest_reports(alloc, first, top, pages)?;
     let mut slot = first;
@@ -152,7 +152,7 @@ fn add_pages<'a, V: Drop>(
     count: u32,
 ) -> Result<(), AllocError>
     requires { pages.now.node < length pages.now.pages.now }
-    ensures { OnOk result (all_of all.new.items ≡ all_of all.old.items ++ joined_pages (pages_from (pages_with pages.now) node) count) }
+    ensures { OnOk result (reports_of_pages all.new.items ≡ reports_of_pages all.old.items ++ joined_pages (pages_from (pages_after_delivery pages.now) node) count) }
 {
     for page in 0..count {
         if let Some(reports) = pages.get(node, page) {
@@ -169,7 +169,7 @@ fn heard_pages<'a, V: Drop>(
     heard: &[Heard],
 ) -> Result<Vec<&'a [SlotReport<V>]>, AllocError>
     requires { pages.now.node < length pages.now.pages.now }
-    ensures { IfOk result (λ all. all_of all.items ≡ all_reports (pages_with pages.now) heard.now) }
+    ensures { IfOk result (λ all. reports_of_pages all.items ≡ all_reports (pages_after_delivery pages.now) heard.now) }
 {
     let mut all = Vec::new(alloc);
     for node in heard {
@@ -188,7 +188,7 @@ fn post_waiting<V: Value>(
     waiting: &[V],
 ) -> Result<(), AllocError>
     requires { top + length waiting.now ≤ SLOTS }
-    ensures { OnOk result (posts.new.items ≡ posts.old.items ++ accepts me weights.now ballot top (some_of waiting.now)) }
+    ensures { OnOk result (posts.new.items ≡ posts.old.items ++ accept_posts me weights.now ballot top (as_entries waiting.now)) }
 {
     let mut slot = top;
     for value in waiting {
@@ -216,7 +216,7 @@ fn lesser(a: usize, b: usize) -> usize
 pub(crate) struct Lead<V> {
     pub posts: Vec<Packet<V>>,
     pub next: u32,
-    pub taken: usize,
+    pub proposed: usize,
 }
 
 /// Returns the proposals of a new leader: reported values at the slots from `first` on, with no-operations
@@ -235,18 +235,18 @@ pub(crate) fn lead_posts<V: Value>(
 ) -> Result<Lead<V>, AllocError>
     requires node { pages.now.node < length pages.now.pages.now }
     requires first { first ≤ SLOTS }
-    requires reports { AllByRecursion IsReport (all_reports (pages_with pages.now) heard.now) }
-    ensures { IfOk result (λ lead. IsLead me weights.now ballot first (all_reports (pages_with pages.now) heard.now) waiting.now lead.posts.items lead.next lead.taken) }
+    requires reports { AllByRecursion IsReport (all_reports (pages_after_delivery pages.now) heard.now) }
+    ensures { IfOk result (λ lead. IsLead me weights.now ballot first (all_reports (pages_after_delivery pages.now) heard.now) waiting.now lead.posts.items lead.next lead.proposed) }
 {
     let all = heard_pages(alloc, pages, heard)?;
     let top = top_of_reports(first, &all);
     let mut posts = Vec::new(alloc);
-    fill_posts(alloc, &mut posts, me, weights, ballot, first, top, &all)?;
-    let taken = lesser(waiting.len(), (SLOTS - top) as usize);
-    post_waiting(&mut posts, me, weights, ballot, top, &waiting[..taken])?;
+    post_reported_values(alloc, &mut posts, me, weights, ballot, first, top, &all)?;
+    let proposed = lesser(waiting.len(), (SLOTS - top) as usize);
+    post_waiting(&mut posts, me, weights, ballot, top, &waiting[..proposed])?;
     Ok(Lead {
         posts,
-        next: top + taken as u32,
-        taken,
+        next: top + proposed as u32,
+        proposed,
     })
 }

@@ -4,7 +4,7 @@ ghost use Rattle.slots.specs.declared.slots.TheConstants.{SLOTS};
 ghost use Rattle.slots.specs.FiniteMap.{entry_at, put_at, front_of};
 
 use crate::ballot::Ballot;
-use crate::later_tallies::LaterTallies;
+use crate::other_tallies::OtherTallies;
 use crate::tally::Tally;
 use crate::weights::MOST_NODES;
 use slots::Slots;
@@ -39,24 +39,24 @@ pub enum LearnerUpdate<V> {
 #[derive(Drop)]
 pub struct Learner<V> {
     first: Slots<Tally>,
-    later: LaterTallies,
+    other_tallies: OtherTallies,
     learned: Slots<Option<V>>,
 }
 
 impl<V> Model for Learner<V> {
     ghost use Rattle.synod.specs.Core.{LearnerView};
-    ghost use Rattle.synod.specs.Stored.LaterTallies.{later_at, tallies_from, IsLearner};
+    ghost use Rattle.synod.specs.Stored.OtherTallies.{other_tallies_at, tallies_from, IsLearner};
 
     ghost Value = { LearnerView V };
 
     ghost view = { λ l. record {
-      state = record { tallies = tallies_from 0 l.first.entries (later_at l.later.votes); learned = l.learned.entries };
+      state = record { tallies = tallies_from 0 l.first.entries (other_tallies_at l.other_tallies.votes); learned = l.learned.entries };
       tallies_room = l.first.room;
-      later_room = l.later.room;
+      other_room = l.other_tallies.room;
       learned_room = l.learned.room;
     } };
 
-    ghost invariant = { λ l. IsLearner l.first.entries (later_at l.later.votes) l.learned.entries };
+    ghost invariant = { λ l. IsLearner l.first.entries (other_tallies_at l.other_tallies.votes) l.learned.entries };
 }
 
 impl<V: Drop> Learner<V> {
@@ -71,7 +71,7 @@ impl<V: Drop> Learner<V> {
     {
         Learner {
             first: Slots::new(alloc),
-            later: LaterTallies::new(alloc),
+            other_tallies: OtherTallies::new(alloc),
             learned: Slots::new(alloc),
         }
     }
@@ -110,7 +110,7 @@ impl<V: Drop> Learner<V> {
                 if first.ballot.is_same(ballot) {
                     first.with(node).voters
                 } else {
-                    self.later.voters_with(slot, ballot, node)
+                    self.other_tallies.voters_with(slot, ballot, node)
                 }
             }
             None => Tally::one(ballot, node).voters,
@@ -121,15 +121,15 @@ impl<V: Drop> Learner<V> {
     pub(crate) fn room(&mut self, slot: u32) -> Result<(), AllocError>
         requires { slot < SLOTS }
         ensures tallies { OnOk result (slot < self.new.tallies_room) }
-        ensures later { OnOk result (0 < self.new.later_room) }
+        ensures other_tallies { OnOk result (0 < self.new.other_room) }
         ensures learned { OnOk result (slot < self.new.learned_room) }
         ensures state { self.new.state ≡ self.old.state }
         ensures tallies_room { self.old.tallies_room ≤ self.new.tallies_room }
-        ensures later_room { self.old.later_room ≤ self.new.later_room }
+        ensures other_room { self.old.other_room ≤ self.new.other_room }
         ensures learned_room { self.old.learned_room ≤ self.new.learned_room }
     {
         self.first.room(slot)?;
-        self.later.room()?;
+        self.other_tallies.room()?;
         self.learned.room(slot)
     }
 
@@ -150,12 +150,12 @@ impl<V: Drop> Learner<V> {
             let first = first.with(node);
             self.first.put(slot, first);
         } else {
-            self.later.count(slot, ballot, node);
+            self.other_tallies.count(slot, ballot, node);
         }
     }
 
     /// Applies an update, if there is one. It does not allocate.
-    pub(crate) fn learn(&mut self, update: Option<LearnerUpdate<V>>)
+    pub(crate) fn apply_update(&mut self, update: Option<LearnerUpdate<V>>)
         requires { CanUpdateLearner self.old update }
         ensures { self.new.state ≡ learner_after self.old.state update }
     {

@@ -6,16 +6,16 @@
 //! committed, which does not allocate.
 //!
 //! Reading order: `value`, `weights`, `ballot`, `packet`, `change`, `record`, `keep`; `proposer` with `promise_pages` and
-//! `leading`, `tally`, `later_tallies`, `learner`, `promise` and `posts`; `refusal`, `ready`, `node`.
+//! `leading`, `tally`, `other_tallies`, `learner`, `promise` and `posts`; `refusal`, `ready`, `node`.
 #![tactic(auto)]
 
 mod ballot;
 mod change;
 mod keep;
-mod later_tallies;
 mod leading;
 mod learner;
 mod node;
+mod other_tallies;
 mod packet;
 mod posts;
 mod promise;

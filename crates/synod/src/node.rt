@@ -51,13 +51,13 @@ impl<V: Value> NodeCore<V> {
     ghost use Rattle.std.specs.Prelude.{slice_get};
     ghost use Rattle.synod.specs.Packets.{IsPacket, IsPost, IsBody, to_others};
     ghost use Rattle.synod.specs.declared.packet.Body.TheVariants.{Ask};
-    ghost use Rattle.synod.specs.Node.{new_node, unchanged, answers};
+    ghost use Rattle.synod.specs.Node.{new_node, unchanged, volatile_step};
     ghost use Rattle.synod.specs.Log.{log_of};
     ghost use Rattle.synod.specs.Proposer.{begun, offered, offer_waits};
-    ghost use Rattle.synod.specs.Step.{IsNode, Keeps, on_body, on_packet, reloaded, restarted};
-    ghost use Rattle.synod.specs.Refusals.{Makes};
-    ghost use Rattle.synod.specs.Ready.{Readies, IsReadyFor, staged_node, CanCommit};
-    ghost use Rattle.synod.specs.Rooms.{HasAtLeast};
+    ghost use Rattle.synod.specs.Step.{IsNode, PreservesInvariant, on_body, on_packet, reloaded, restarted};
+    ghost use Rattle.synod.specs.Refusals.{IsCallResult};
+    ghost use Rattle.synod.specs.Ready.{IsStagingResult, IsReadyFor, staged_node, CanCommit};
+    ghost use Rattle.synod.specs.Rooms.{HasNoLessRoom};
     ghost use Rattle.synod.specs.declared.refusal.Refusal.TheVariants.{Memory};
 
     /// Creates the new node `me` among nodes with these weights. It does not allocate.
@@ -88,10 +88,10 @@ impl<V: Value> NodeCore<V> {
     ///
     /// Errors and cost: those of `begin`.
     pub fn ready_begin(&mut self) -> Result<Ready<V>, Refusal>
-        ensures ready { Readies self.new (begun self.old.node) result }
+        ensures ready { IsStagingResult self.new (begun self.old.node) result }
         ensures node { self.new.node ≡ self.old.node }
-        ensures room { HasAtLeast self.old self.new }
-        ensures posts { IfOk result (λ made. AllByRecursion (IsPost (length self.old.node.weights)) made.step.posts) }
+        ensures room { HasNoLessRoom self.old self.new }
+        ensures posts { IfOk result (λ ready. AllByRecursion (IsPost (length self.old.node.weights)) ready.step.posts) }
     {
         let last = std::cmp::max(self.kept_part.round(), self.kept_part.promise().round);
         if last == u64::MAX {
@@ -101,17 +101,17 @@ impl<V: Value> NodeCore<V> {
             round: last + 1,
             node: self.me,
         };
-        or_memory(self.ready_ballot(ballot))
+        or_memory(self.stage_ballot(ballot))
     }
 
     /// Stages `offer`, or returns its refusal. The node is unchanged.
     ///
     /// Errors and cost: those of `offer`.
     pub fn ready_offer(&mut self, value: V) -> Result<Ready<V>, Refusal>
-        ensures ready { Readies self.new (offered V.bytes self.old.node value) result }
+        ensures ready { IsStagingResult self.new (offered V.bytes self.old.node value) result }
         ensures node { self.new.node ≡ self.old.node }
-        ensures room { HasAtLeast self.old self.new }
-        ensures posts { IfOk result (λ made. AllByRecursion (IsPost (length self.old.node.weights)) made.step.posts) }
+        ensures room { HasNoLessRoom self.old self.new }
+        ensures posts { IfOk result (λ ready. AllByRecursion (IsPost (length self.old.node.weights)) ready.step.posts) }
     {
         if value.size() > MOST_BYTES {
             return Err(Refusal::TooLong);
@@ -121,19 +121,19 @@ impl<V: Value> NodeCore<V> {
                 if next == SLOTS {
                     return Err(Refusal::LogFull);
                 }
-                or_memory(self.ready_slot(ballot, next, value))
+                or_memory(self.stage_proposal(ballot, next, value))
             }
-            Role::Preparing { .. } => self.ready_offer_waiting(value),
-            Role::Idle => self.ready_offer_waiting(value),
+            Role::Preparing { .. } => self.stage_offer_waiting(value),
+            Role::Idle => self.stage_offer_waiting(value),
         }
     }
 
     /// Stages an offer to a node that does not lead: the value waits.
-    fn ready_offer_waiting(&mut self, value: V) -> Result<Ready<V>, Refusal>
-        ensures ready { Readies self.new (offer_waits self.old.node value) result }
+    fn stage_offer_waiting(&mut self, value: V) -> Result<Ready<V>, Refusal>
+        ensures ready { IsStagingResult self.new (offer_waits self.old.node value) result }
         ensures node { self.new.node ≡ self.old.node }
-        ensures room { HasAtLeast self.old self.new }
-        ensures posts { IfOk result (λ made. AllByRecursion (IsPost (length self.old.node.weights)) made.step.posts) }
+        ensures room { HasNoLessRoom self.old self.new }
+        ensures posts { IfOk result (λ ready. AllByRecursion (IsPost (length self.old.node.weights)) ready.step.posts) }
     {
         if self.learner.front() == SLOTS {
             return Err(Refusal::LogFull);
@@ -141,7 +141,7 @@ impl<V: Value> NodeCore<V> {
         if self.proposer.waiting().len() >= MOST_WAITING {
             return Err(Refusal::Busy);
         }
-        or_memory(self.ready_waiting(value))
+        or_memory(self.stage_waiting(value))
     }
 
     /// Stages `on_packet`, or returns `Memory`. The node is unchanged.
@@ -149,45 +149,45 @@ impl<V: Value> NodeCore<V> {
     /// Cost: that of `on_packet`.
     pub fn ready_packet(&mut self, packet: &Packet<V>) -> Result<Ready<V>, Refusal>
         requires { IsPacket (length self.old.node.weights) packet.now }
-        ensures ready { Readies self.new (Ok (on_packet self.old.node packet.now)) result }
+        ensures ready { IsStagingResult self.new (Ok (on_packet self.old.node packet.now)) result }
         ensures node { self.new.node ≡ self.old.node }
-        ensures room { HasAtLeast self.old self.new }
-        ensures posts { IfOk result (λ made. AllByRecursion (IsPost (length self.old.node.weights)) made.step.posts) }
+        ensures room { HasNoLessRoom self.old self.new }
+        ensures posts { IfOk result (λ ready. AllByRecursion (IsPost (length self.old.node.weights)) ready.step.posts) }
     {
         prove!(packet.from < self.nodes());
-        or_memory(self.ready_body(packet.from, &packet.body))
+        or_memory(self.stage_body(packet.from, &packet.body))
     }
 
     /// Stages the step of a packet with this body.
-    fn ready_body(&mut self, from: u8, body: &Body<V>) -> Result<Ready<V>, AllocError>
+    fn stage_body(&mut self, from: u8, body: &Body<V>) -> Result<Ready<V>, AllocError>
         requires from { from < length self.old.node.weights }
         requires body { IsBody body.now }
-        requires keeps { Keeps (length self.old.node.weights) (on_body self.old.node from body.now) }
+        requires preserves { PreservesInvariant (length self.old.node.weights) (on_body self.old.node from body.now) }
         ensures ready { IfOk result (IsReadyFor self.new (on_body self.old.node from body.now)) }
         ensures node { self.new.node ≡ self.old.node }
-        ensures room { HasAtLeast self.old self.new }
+        ensures room { HasNoLessRoom self.old self.new }
     {
         match body {
-            Body::Prepare { ballot, first } => self.ready_prepare(from, *ballot, *first),
+            Body::Prepare { ballot, first } => self.stage_prepare(from, *ballot, *first),
             Body::Promise {
                 ballot,
                 page,
                 count,
                 reports,
-            } => self.ready_promise(from, *ballot, *page, *count, reports),
+            } => self.stage_promise(from, *ballot, *page, *count, reports),
             Body::Accept {
                 ballot,
                 slot,
                 value,
-            } => self.ready_accept(from, *ballot, *slot, value),
+            } => self.stage_accept(from, *ballot, *slot, value),
             Body::Accepted {
                 ballot,
                 slot,
                 value,
-            } => self.ready_accepted(from, *ballot, *slot, value),
-            Body::Nack { ballot, promise } => Ok(self.ready_nack(*ballot, *promise)),
-            Body::Ask { slot } => self.ready_ask(from, *slot),
-            Body::Told { slot, value } => self.ready_told(from, *slot, value),
+            } => self.stage_accepted(from, *ballot, *slot, value),
+            Body::Nack { ballot, promise } => Ok(self.stage_nack(*ballot, *promise)),
+            Body::Ask { slot } => self.stage_ask(from, *slot),
+            Body::Told { slot, value } => self.stage_told(from, *slot, value),
         }
     }
 
@@ -195,7 +195,7 @@ impl<V: Value> NodeCore<V> {
     /// do no harm.
     pub fn commit(&mut self, ready: Ready<V>) -> Vec<Packet<V>>
         requires node { self.old.node ≡ ready.before.node }
-        requires room { HasAtLeast ready.before self.old }
+        requires room { HasNoLessRoom ready.before self.old }
         ensures node { self.new.node ≡ ready.step.node }
         ensures posts { result.items ≡ ready.step.posts }
     {
@@ -209,9 +209,9 @@ impl<V: Value> NodeCore<V> {
         requires { CanCommit self.old staged }
         ensures { self.new.node ≡ staged_node self.old.node staged }
     {
-        self.kept_part.change_by(staged.change);
-        self.proposer.propose(staged.proposer);
-        self.learner.learn(staged.learner);
+        self.kept_part.apply_change(staged.change);
+        self.proposer.apply_update(staged.proposer);
+        self.learner.apply_update(staged.learner);
     }
 
     /// Begins a ballot above all that the node has begun or promised, and returns the posts. After an error the node is
@@ -219,7 +219,7 @@ impl<V: Value> NodeCore<V> {
     ///
     /// Errors, the first that applies: `RoundsSpent`, `Memory`. Cost: the posts.
     pub fn begin(&mut self) -> Result<Vec<Packet<V>>, Refusal>
-        ensures makes { Makes self.old.node self.new.node (begun self.old.node) result }
+        ensures outcome { IsCallResult self.old.node self.new.node (begun self.old.node) result }
         ensures posts { IfOk result (λ posts. AllByRecursion (IsPost (length self.old.node.weights)) posts.items) }
     {
         match self.ready_begin() {
@@ -229,8 +229,8 @@ impl<V: Value> NodeCore<V> {
     }
 
     /// Stages a step that only posts.
-    pub(crate) fn ready_posts(&self, posts: Vec<Packet<V>>) -> Ready<V>
-        ensures { IsReadyFor self.now (answers self.now.node posts.items) result }
+    pub(crate) fn stage_posts(&self, posts: Vec<Packet<V>>) -> Ready<V>
+        ensures { IsReadyFor self.now (volatile_step self.now.node posts.items) result }
     {
         prove!(self.me < self.nodes());
         let staged = StagedStep {
@@ -242,10 +242,10 @@ impl<V: Value> NodeCore<V> {
     }
 
     /// Stages a step that does nothing.
-    pub(crate) fn ready_nothing(&self) -> Ready<V>
+    pub(crate) fn stage_nothing(&self) -> Ready<V>
         ensures { IsReadyFor self.now (unchanged self.now.node) result }
     {
-        self.ready_posts(Vec::new(self.alloc))
+        self.stage_posts(Vec::new(self.alloc))
     }
 
     /// Offers a value, and returns the posts. A leader proposes it; at another node it waits. After an error the node is
@@ -254,7 +254,7 @@ impl<V: Value> NodeCore<V> {
     /// Errors, the first that applies: `TooLong`, `LogFull`, `Busy`, `Memory`. Cost: the posts, each with a copy of the
     /// value.
     pub fn offer(&mut self, value: V) -> Result<Vec<Packet<V>>, Refusal>
-        ensures makes { Makes self.old.node self.new.node (offered V.bytes self.old.node value) result }
+        ensures outcome { IsCallResult self.old.node self.new.node (offered V.bytes self.old.node value) result }
         ensures posts { IfOk result (λ posts. AllByRecursion (IsPost (length self.old.node.weights)) posts.items) }
     {
         match self.ready_offer(value) {
@@ -268,7 +268,7 @@ impl<V: Value> NodeCore<V> {
     /// Cost: the packet and the posts; a promise costs its reports.
     pub fn on_packet(&mut self, packet: &Packet<V>) -> Result<Vec<Packet<V>>, Refusal>
         requires { IsPacket (length self.old.node.weights) packet.now }
-        ensures makes { Makes self.old.node self.new.node (Ok (on_packet self.old.node packet.now)) result }
+        ensures outcome { IsCallResult self.old.node self.new.node (Ok (on_packet self.old.node packet.now)) result }
         ensures posts { IfOk result (λ posts. AllByRecursion (IsPost (length self.old.node.weights)) posts.items) }
     {
         match self.ready_packet(packet) {
@@ -312,7 +312,7 @@ impl<V: Value> NodeCore<V> {
         ensures posts { IfOk result (λ posts. AllByRecursion (IsPost (length self.now.node.weights)) posts.items) }
         ensures only_memory { IsOkUnless result Memory }
     {
-        let Ok(posts) = self.ask_all() else {
+        let Ok(posts) = self.ask_others() else {
             return Err(Refusal::Memory);
         };
         Ok(posts)
@@ -338,7 +338,7 @@ impl<V: Value> NodeCore<V> {
     /// Restarts: the kept part stays, the rest is that of a new node. Returns posts that ask the others for missed
     /// entries. After `Memory` the node is unchanged.
     pub fn restart(&mut self) -> Result<Vec<Packet<V>>, Refusal>
-        ensures makes { Makes self.old.node self.new.node (Ok (restarted self.old.node)) result }
+        ensures outcome { IsCallResult self.old.node self.new.node (Ok (restarted self.old.node)) result }
         ensures posts { IfOk result (λ posts. AllByRecursion (IsPost (length self.old.node.weights)) posts.items) }
     {
         let posts = self.ready_restart()?;
@@ -349,7 +349,7 @@ impl<V: Value> NodeCore<V> {
     /// Restarts with a loaded record as the kept part, and returns posts as `restart` does. After `Memory` the node is
     /// unchanged.
     pub fn reload(&mut self, stored: Record<V>) -> Result<Vec<Packet<V>>, Refusal>
-        ensures makes { Makes self.old.node self.new.node (Ok (reloaded self.old.node stored.kept)) result }
+        ensures outcome { IsCallResult self.old.node self.new.node (Ok (reloaded self.old.node stored.kept)) result }
         ensures posts { IfOk result (λ posts. AllByRecursion (IsPost (length self.old.node.weights)) posts.items) }
     {
         let posts = self.ready_restart()?;
@@ -358,7 +358,7 @@ impl<V: Value> NodeCore<V> {
     }
 
     /// Returns the packets that ask all other nodes for the first entry.
-    fn ask_all(&self) -> Result<Vec<Packet<V>>, AllocError>
+    fn ask_others(&self) -> Result<Vec<Packet<V>>, AllocError>
         ensures asks { IfOk result (λ posts. posts.items ≡ to_others self.now.node.me self.now.node.weights (Ask 0)) }
         ensures posts { IfOk result (λ posts. AllByRecursion (IsPost (length self.now.node.weights)) posts.items) }
     {

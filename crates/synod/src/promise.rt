@@ -23,15 +23,15 @@ fn report_pages<V: Value>(
     let mut pages = Vec::new(alloc);
     let mut page = Vec::new(alloc);
     for slot in first..stored.top() {
-        if let Some(held) = stored.get(slot) {
+        if let Some(entry) = stored.get(slot) {
             if page.len() == PAGE_REPORTS {
                 pages.push(Reports::new(page))?;
                 page = Vec::new(alloc);
             }
             page.push(SlotReport {
                 slot,
-                ballot: held.ballot,
-                value: copy_value(&held.value)?,
+                ballot: entry.ballot,
+                value: copy_value(&entry.value)?,
             })?;
         }
     }

@@ -134,16 +134,16 @@ pub struct PagesWithDelivered<'a, V> {
 }
 
 impl<V: Drop> PagesWithDelivered<'_, V> {
-    ghost use Rattle.synod.specs.Stored.ReceivedPages.{pages_with};
+    ghost use Rattle.synod.specs.Stored.ReceivedPages.{pages_after_delivery};
 
     /// Returns a page of a node, or `None` if it was neither received before nor just delivered.
     pub(crate) fn get(&self, node: u8, page: u32) -> Option<&Reports<V>>
         requires { self.now.node < length self.now.pages.now }
-        ensures { MatchOption result (page_of (pages_with self.now) node page ≡ None) (λ reports. page_of (pages_with self.now) node page ≡ Some reports.now) }
+        ensures { MatchOption result (page_of (pages_after_delivery self.now) node page ≡ None) (λ reports. page_of (pages_after_delivery self.now) node page ≡ Some reports.now) }
     {
-        let had = self.pages.get(node, page);
-        if had.is_some() {
-            return had;
+        let received = self.pages.get(node, page);
+        if received.is_some() {
+            return received;
         }
         if node != self.node {
             return None;

@@ -51,7 +51,7 @@ pub struct Heard {
 #[derive(Drop)]
 pub enum ProposerUpdate<V> {
     /// A value is added to those that wait.
-    Wait(V),
+    AddWaiting(V),
     /// It proposed at the slot before `next`.
     Propose {
         ballot: Ballot,
@@ -70,18 +70,18 @@ pub enum ProposerUpdate<V> {
         reports: Reports<V>,
     },
     /// A promise is complete, and all its pages were received before.
-    Hear(Heard),
+    AddHeard(Heard),
     /// The page that completes a promise arrived.
     CompletePromise {
         heard: Heard,
         page: u32,
         reports: Reports<V>,
     },
-    /// It begins to lead, and has proposed the first `taken` waiting values.
+    /// It begins to lead, and has proposed the first `proposed` waiting values.
     Lead {
         ballot: Ballot,
         next: u32,
-        taken: usize,
+        proposed: usize,
     },
     /// It gives up its ballot.
     Idle,
@@ -179,7 +179,7 @@ impl<V: Drop> Proposer<V> {
     }
 
     /// Reserves room for a waiting value.
-    pub(crate) fn room_to_wait(&mut self) -> Result<(), AllocError>
+    pub(crate) fn room_for_waiting(&mut self) -> Result<(), AllocError>
         ensures ok { OnOk result (length self.new.state.waiting < self.new.waiting_room) }
         ensures state { self.new.state ≡ self.old.state }
         ensures pages { self.new.page_rooms ≡ self.old.page_rooms }
@@ -190,7 +190,7 @@ impl<V: Drop> Proposer<V> {
     }
 
     /// Reserves room for a node whose promise is complete.
-    pub(crate) fn room_to_hear(&mut self) -> Result<(), AllocError>
+    pub(crate) fn room_for_heard(&mut self) -> Result<(), AllocError>
         ensures ok { OnOk result (length self.new.state.heard < self.new.heard_room) }
         ensures state { self.new.state ≡ self.old.state }
         ensures pages { self.new.page_rooms ≡ self.old.page_rooms }
@@ -201,22 +201,22 @@ impl<V: Drop> Proposer<V> {
     }
 
     /// Applies an update, if there is one. It does not allocate.
-    pub(crate) fn propose(&mut self, update: Option<ProposerUpdate<V>>)
+    pub(crate) fn apply_update(&mut self, update: Option<ProposerUpdate<V>>)
         requires { CanUpdateProposer self.old update }
         ensures { self.new.state ≡ proposer_after self.old.state update }
     {
         if let Some(update) = update {
-            self.apply(update);
+            self.apply_some(update);
         }
     }
 
     /// Applies an update.
-    fn apply(&mut self, update: ProposerUpdate<V>)
+    fn apply_some(&mut self, update: ProposerUpdate<V>)
         requires { CanUpdateProposer self.old (Some update) }
         ensures { self.new.state ≡ proposer_after self.old.state (Some update) }
     {
         match update {
-            ProposerUpdate::Wait(value) => self.waiting.push_reserved(value),
+            ProposerUpdate::AddWaiting(value) => self.waiting.push_reserved(value),
             ProposerUpdate::Propose { ballot, next } => self.role = Role::Leading { ballot, next },
             ProposerUpdate::Begin {
                 ballot,
@@ -228,7 +228,7 @@ impl<V: Drop> Proposer<V> {
                 page,
                 reports,
             } => self.pages.put(node, page, reports),
-            ProposerUpdate::Hear(heard) => self.heard.push_reserved(heard),
+            ProposerUpdate::AddHeard(heard) => self.heard.push_reserved(heard),
             ProposerUpdate::CompletePromise {
                 heard,
                 page,
@@ -237,8 +237,8 @@ impl<V: Drop> Proposer<V> {
             ProposerUpdate::Lead {
                 ballot,
                 next,
-                taken,
-            } => self.lead(ballot, next, taken),
+                proposed,
+            } => self.lead(ballot, next, proposed),
             ProposerUpdate::Idle => self.role = Role::Idle,
         }
     }
@@ -261,15 +261,15 @@ impl<V: Drop> Proposer<V> {
         self.heard.push_reserved(heard);
     }
 
-    /// Begins to lead: `next` is the slot of the next proposal, and the first `taken` waiting values are removed.
-    fn lead(&mut self, ballot: Ballot, next: u32, taken: usize)
-        requires { taken ≤ length self.old.state.waiting }
-        ensures { self.new.state ≡ proposer_after self.old.state (Some (ProposerUpdate.Lead ballot next taken)) }
+    /// Begins to lead: `next` is the slot of the next proposal, and the first `proposed` waiting values are removed.
+    fn lead(&mut self, ballot: Ballot, next: u32, proposed: usize)
+        requires { proposed ≤ length self.old.state.waiting }
+        ensures { self.new.state ≡ proposer_after self.old.state (Some (ProposerUpdate.Lead ballot next proposed)) }
     {
         self.role = Role::Leading { ballot, next };
         self.pages = ReceivedPages::none(self.alloc);
         self.heard.clear();
-        self.waiting.drain(..taken);
+        self.waiting.drain(..proposed);
     }
 }
 

@@ -19,24 +19,24 @@ pub struct StagedStep<V> {
 
 /// A value that only contracts see. At run time it has no bytes.
 #[derive(Drop)]
-struct Past<T> {
+struct GhostValue<T> {
     marker: PhantomData<T>,
     pub ghost value: { T },
 }
 
-impl<T> Model for Past<T> {
+impl<T> Model for GhostValue<T> {
     ghost also_owns = { λ _. ftrue };
 }
 
 // It owns nothing.
-unsafe impl<T> Send for Past<T> {}
+unsafe impl<T> Send for GhostValue<T> {}
 
-impl<T> Past<T> {
-    fn of(present: &T) -> Past<T>
+impl<T> GhostValue<T> {
+    fn of(present: &T) -> GhostValue<T>
         ensures { result.value ≡ present.now }
     {
         let _ = present;
-        Past {
+        GhostValue {
             marker: PhantomData,
         }
     }
@@ -45,15 +45,15 @@ impl<T> Past<T> {
 /// A step of a node, ready to be committed. Contracts see the step, and the node as it was when it staged the step.
 #[derive(Drop)]
 pub struct Ready<V> {
-    before: Past<NodeCore<V>>,
+    before: GhostValue<NodeCore<V>>,
     staged: StagedStep<V>,
     posts: Vec<Packet<V>>,
 }
 
 impl<V> Model for Ready<V> {
-    ghost use Rattle.synod.specs.Ready.{Made, staged_node, CanCommit};
+    ghost use Rattle.synod.specs.Ready.{ReadyView, staged_node, CanCommit};
 
-    ghost Value = { Made V };
+    ghost Value = { ReadyView V };
 
     ghost view = { λ r. record {
       before = r.before.value;
@@ -73,7 +73,7 @@ impl<V: Drop> Ready<V> {
         ensures step { result.step ≡ record { node = staged_node node.now.node staged; change = staged.change; posts = posts.items } }
     {
         Ready {
-            before: Past::of(node),
+            before: GhostValue::of(node),
             staged,
             posts,
         }

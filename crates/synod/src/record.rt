@@ -42,7 +42,7 @@ impl<V: Drop> Record<V> {
         ensures { result.kept ≡ new_kept }
     {
         Record {
-            promise: Ballot::none(),
+            promise: Ballot::zero(),
             round: 0,
             accepted: Slots::new(alloc),
         }
@@ -64,7 +64,7 @@ impl<V: Drop> Record<V> {
 
     /// Returns the entry accepted at a slot, if there is one.
     pub fn get(&self, slot: u32) -> Option<&AcceptedEntry<V>>
-        ensures { MatchOption result (entry_at self.now.kept.accepted slot ≡ None) (λ held. entry_at self.now.kept.accepted slot ≡ Some held.now) }
+        ensures { MatchOption result (entry_at self.now.kept.accepted slot ≡ None) (λ entry. entry_at self.now.kept.accepted slot ≡ Some entry.now) }
     {
         self.accepted.get(slot)
     }
@@ -90,16 +90,16 @@ impl<V: Drop> Record<V> {
     }
 
     /// Applies a change, if there is one. It does not allocate.
-    pub fn change_by(&mut self, change: Option<Change<V>>)
+    pub fn apply_change(&mut self, change: Option<Change<V>>)
         requires { HasRoomFor self.old.room change }
         ensures { self.new.kept ≡ changed_by self.old.kept change }
     {
         match change {
             Some(Change::Round(round)) => self.round = round,
             Some(Change::Promise(ballot)) => self.promise = ballot,
-            Some(Change::Entry { slot, held }) => {
-                self.promise = held.ballot;
-                self.accepted.put(slot, held);
+            Some(Change::Entry { slot, entry }) => {
+                self.promise = entry.ballot;
+                self.accepted.put(slot, entry);
             }
             None => {}
         }

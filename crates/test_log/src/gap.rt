@@ -79,7 +79,7 @@ fn fills_gap(
     cells: &mut Vec<NodeCell>,
 ) -> Result<bool, StepFault> {
     for cell in cells.iter_mut() {
-        if !adds_statements(cell, switch, expected_added(cell.at()))? {
+        if !adds_statements(cell, switch, expected_added(cell.node()))? {
             return Ok(false);
         }
     }

@@ -123,11 +123,11 @@ fn is_kept<K: Keep<Carried>>(keep: &mut K, slot: u32) -> Result<bool, Failed> {
 
 /// Stores a no-operation at the slot.
 fn store<K: Keep<Carried>>(keep: &mut K, slot: u32, ballot: Ballot) -> Result<(), Failed> {
-    let held = AcceptedEntry {
+    let entry = AcceptedEntry {
         ballot,
         value: None,
     };
-    let change = Change::Entry { slot, held };
+    let change = Change::Entry { slot, entry };
     let stored = keep.store(&change);
     drop(change);
     stored
@@ -136,7 +136,7 @@ fn store<K: Keep<Carried>>(keep: &mut K, slot: u32, ballot: Ballot) -> Result<()
 /// Returns whether the record has an entry of that ballot at the slot.
 fn has_entry(record: &Record<Carried>, slot: u32, ballot: Ballot) -> bool {
     match record.get(slot) {
-        Some(held) => held.ballot.is_same(ballot),
+        Some(entry) => entry.ballot.is_same(ballot),
         None => false,
     }
 }

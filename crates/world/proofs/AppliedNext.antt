@@ -1,7 +1,7 @@
 -- The answer of a call that applies the next entry of a node's log.
-use Rattle.world.proofs.Words.{◌≡◌, ℕ, List, set, slice_get, Option, Some, None, Result, Ok, Err, refl, ap, sym, ◌∙◌, subst, IfOk, IfSome, IsSomeAnd, MatchOption, option_map, Bor, Entry, Verdict, Carried, StepFault, log, entry_of, entries_of, NodeLibrary, Replicas, log_entries, IsOfLog, AreReplicas, AppliesNext, next_of, next_entry, IsApplied, set_same}
+use Rattle.world.proofs.Words.{◌≡◌, ℕ, List, set, slice_get, Option, Some, None, Result, Ok, Err, refl, ap, sym, ◌∙◌, subst, IfOk, IfSome, IsSomeAnd, MatchOption, option_map, Bor, Entry, Verdict, Carried, StepFault, log, entry_of, entries_of, NodeLibrary, WorldView, log_entries, IsOfLog, AreLibrariesOfLogs, AppliesNext, next_of, next_entry, IsApplied, set_same}
 use Rattle.world.proofs.EntryLogs.{entries_of-get, entries_of-none}
-use Rattle.world.proofs.ReplicasLemmas.{of_log_applied, applied_are_replicas}
+use Rattle.world.proofs.WorldViewLemmas.{of_log_applied, applied_are_replicas}
 
 -- the next entry of a log, as it is shown
 pub entry_next : (log : List (Option Carried)) (s t : ℕ) (found : Option (Bor (Option Carried))) → t ≡ s
@@ -12,14 +12,14 @@ entry_next log s t (Some e) at h = sym (ap (λ (i : ℕ). slice_get (entries_of 
 
 -- The answer of a call that applies the next entry at node k: node is its library before, next after.
 
-module _ (old : Replicas) (k : ℕ) (node next : NodeLibrary) (result : Result (Option Verdict) StepFault) (is : slice_get old.libraries k ≡ Some node)
-    (from : AppliesNext node next (slice_get (log_entries old.taken k) node.applied) result) where
-  abbrev becomes : Replicas
-  becomes = record { taken = old.taken; libraries = set old.libraries k next }
+module _ (old : WorldView) (k : ℕ) (node next : NodeLibrary) (result : Result (Option Verdict) StepFault) (is : slice_get old.libraries k ≡ Some node)
+    (from : AppliesNext node next (slice_get (log_entries old.history k) node.applied) result) where
+  abbrev becomes : WorldView
+  becomes = record { history = old.history; libraries = set old.libraries k next }
 
   -- the entry next for the library of node k is the next entry of the replicas
-  next_at : slice_get (log_entries old.taken k) node.applied ≡ next_entry old k
-  next_at = sym (ap (λ (o : Option NodeLibrary). next_of (log_entries old.taken k) o) is)
+  next_at : slice_get (log_entries old.history k) node.applied ≡ next_entry old k
+  next_at = sym (ap (λ (o : Option NodeLibrary). next_of (log_entries old.history k) o) is)
 
   -- what the library did is right by the next entry of the replicas
   applies : AppliesNext node next (next_entry old k) result
@@ -27,7 +27,7 @@ module _ (old : Replicas) (k : ℕ) (node next : NodeLibrary) (result : Result (
 
   -- where the library stays, the replicas do
   unmoved : next ≡ node → becomes ≡ old
-  unmoved same = ap (λ (ls : List NodeLibrary). let r : Replicas = record { taken = old.taken; libraries = ls } in r) (ap (λ (l : NodeLibrary). set old.libraries k l) same ∙ set_same old.libraries k node is)
+  unmoved same = ap (λ (ls : List NodeLibrary). let r : WorldView = record { history = old.history; libraries = ls } in r) (ap (λ (l : NodeLibrary). set old.libraries k l) same ∙ set_same old.libraries k node is)
 
   -- an entry that is there, with a verdict on it, is applied at node k
   applied_at : (o : Option (Option Entry)) (r : Result (Option Verdict) StepFault) → AppliesNext node next o r → IfSome o (λ entry. IfOk r (λ answer. IsSomeAnd answer (λ verdict. IsApplied old k entry verdict becomes)))
@@ -39,7 +39,7 @@ module _ (old : Replicas) (k : ℕ) (node next : NodeLibrary) (result : Result (
     library = next.library;
     was = is;
     applies = h.0;
-    becomes = ap (λ (n : ℕ). let r : Replicas = record { taken = old.taken; libraries = set old.libraries k (record { applied = n; library = next.library }) } in r) h.1;
+    becomes = ap (λ (n : ℕ). let r : WorldView = record { history = old.history; libraries = set old.libraries k (record { applied = n; library = next.library }) } in r) h.1;
   }
 
   -- the next entry, with the verdict that is answered, is applied at node k
@@ -58,15 +58,15 @@ module _ (old : Replicas) (k : ℕ) (node next : NodeLibrary) (result : Result (
   call_none missing = none_at (next_entry old k) result applies missing
 
   -- whatever the answer, the library after it is that of first entries of the log
-  of_log_at : (o : Option (Option Entry)) → slice_get (log_entries old.taken k) node.applied ≡ o → (r : Result (Option Verdict) StepFault) → AppliesNext node next o r → IsOfLog (log_entries old.taken k) node
-      → IsOfLog (log_entries old.taken k) next
-  of_log_at None at (Ok None) h log = subst (λ (l : NodeLibrary). IsOfLog (log_entries old.taken k) l) (sym h) log
+  of_log_at : (o : Option (Option Entry)) → slice_get (log_entries old.history k) node.applied ≡ o → (r : Result (Option Verdict) StepFault) → AppliesNext node next o r → IsOfLog (log_entries old.history k) node
+      → IsOfLog (log_entries old.history k) next
+  of_log_at None at (Ok None) h log = subst (λ (l : NodeLibrary). IsOfLog (log_entries old.history k) l) (sym h) log
   of_log_at None at (Ok (Some verdict)) h log = elim h [ ]
   of_log_at None at (Err fault) h log = elim h [ ]
-  of_log_at (Some entry) at (Err fault) h log = subst (λ (l : NodeLibrary). IsOfLog (log_entries old.taken k) l) (sym h.1) log
+  of_log_at (Some entry) at (Err fault) h log = subst (λ (l : NodeLibrary). IsOfLog (log_entries old.history k) l) (sym h.1) log
   of_log_at (Some entry) at (Ok None) h log = elim h [ ]
-  of_log_at (Some entry) at (Ok (Some verdict)) h log = of_log_applied (log_entries old.taken k) node entry verdict next log at h.0 h.1
+  of_log_at (Some entry) at (Ok (Some verdict)) h log = of_log_applied (log_entries old.history k) node entry verdict next log at h.0 h.1
 
   -- the call leaves each library that of its log
-  pub call_keeps : AreReplicas old → AreReplicas becomes
-  call_keeps h = applied_are_replicas old k next h (of_log_at (slice_get (log_entries old.taken k) node.applied) refl result from (h.of_logs k node is))
+  pub call_keeps : AreLibrariesOfLogs old → AreLibrariesOfLogs becomes
+  call_keeps h = applied_are_replicas old k next h (of_log_at (slice_get (log_entries old.history k) node.applied) refl result from (h.of_logs k node is))

@@ -1,9 +1,9 @@
 -- Events and logs of entries, as those of the values that carry them.
-use Rattle.world.proofs.Words.{◌≡◌, ℕ, zero, suc, List, [], ◌∷◌, ◌++◌, slice_get, Option, Some, None, inl, inr, refl, ap, sym, ◌∙◌, Entry, Carried, Event, IsPrefixOf, Agree, carried, all_carried, entry_of, entries_of}
+use Rattle.world.proofs.Words.{◌≡◌, ℕ, zero, suc, List, [], ◌∷◌, ◌++◌, slice_get, Option, Some, None, inl, inr, refl, ap, sym, ◌∙◌, Entry, Carried, Event, IsPrefixOf, Agree, value_event, value_events, entry_of, entries_of}
 
-pub all_carried-append : (es ds : List (Event Entry)) → all_carried (es ++ ds) ≡ all_carried es ++ all_carried ds
-all_carried-append [] ds = refl
-all_carried-append (e ∷ es) ds = ap (λ fs. carried e ∷ fs) (all_carried-append es ds)
+pub value_events-append : (es ds : List (Event Entry)) → value_events (es ++ ds) ≡ value_events es ++ value_events ds
+value_events-append [] ds = refl
+value_events-append (e ∷ es) ds = ap (λ fs. value_event e ∷ fs) (value_events-append es ds)
 
 pub entries_of-append : (vs us : List (Option Carried)) → entries_of (vs ++ us) ≡ entries_of vs ++ entries_of us
 entries_of-append [] us = refl

@@ -1,5 +1,5 @@
 -- The headline: logs of entries agree, the library of a log begins that of a longer one, and each library of a log is good.
-use Rattle.world.proofs.Words.{◌≡◌, ℕ, zero, suc, true, false, List, [], ◌∷◌, take, Option, Result, Ok, Err, inl, inr, refl, ap, sym, subst, IsOk, Entry, Replica, IsLibraryOf, library-begins, library-good, Carried, StepFault, World, log, IsPrefixOf, Agree, Taken, world_of, Agreement, carried_size, entries_of, Headline, HeadlineHolds, then_begins, beginnings_agree, agreement_of}
+use Rattle.world.proofs.Words.{◌≡◌, ℕ, zero, suc, true, false, List, [], ◌∷◌, take, Option, Result, Ok, Err, inl, inr, refl, ap, sym, subst, IsOk, Entry, Replica, IsLibraryOf, library-begins, library-good, Carried, StepFault, World, log, IsPrefixOf, Agree, History, world_of, Agreement, carried_size, entries_of, Headline, HeadlineHolds, then_begins, beginnings_agree, agreement_of}
 use Rattle.world.proofs.EntryLogs.{entries_agree}
 
 -- the first elements of a list are a beginning of it
@@ -21,8 +21,8 @@ statements_agree xs ys one other (inr h) p q =
     let more = library-begins ys h.0 other one q (subst (λ (es : List (Option Entry)). IsLibraryOf es one) (sym h.1) p) in inr (more.0, sym more.1)
 
 -- the headline of a history on which there is agreement
-pub headline_of : (taken : Taken Carried) → Agreement carried_size taken → Headline taken
-headline_of taken agreement = record {
+pub headline_of : (history : History Carried) → Agreement carried_size history → Headline history
+headline_of history agreement = record {
   agreement = agreement;
   libraries_agree = λ one other p q.
       let xs = entries_of (log p.world p.node) in
@@ -37,7 +37,7 @@ headline_of taken agreement = record {
 
 -- the headline of each history that is taken
 pub headline_holds : HeadlineHolds
-headline_holds taken is = from_world (world_of carried_size taken) refl is where
-  from_world : (r : Result (World Carried) StepFault) → world_of carried_size taken ≡ r → IsOk r → Headline taken
-  from_world (Ok w) after ok = headline_of taken (agreement_of carried_size taken w after)
+headline_holds history is = from_world (world_of carried_size history) refl is where
+  from_world : (r : Result (World Carried) StepFault) → world_of carried_size history ≡ r → IsOk r → Headline history
+  from_world (Ok w) after ok = headline_of history (agreement_of carried_size history w after)
   from_world (Err fault) after ok = let no : false ≡ true = ok in cc

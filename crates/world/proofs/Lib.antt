@@ -1,5 +1,5 @@
 pub mod Words
 pub mod EntryLogs
 pub mod HeadlineLemmas
-pub mod ReplicasLemmas
+pub mod WorldViewLemmas
 mod AppliedNext

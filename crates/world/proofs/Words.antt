@@ -6,14 +6,14 @@ pub use Rattle.library.specs.declared.verdict.Verdict.{Verdict}
 pub use Rattle.net.proofs.Beginnings.{beginnings_agree, then_begins}
 pub use Rattle.net.proofs.EveryEvent.{if_taken}
 pub use Rattle.net.proofs.GrowingLists.{at_set_other}
-pub use Rattle.net.proofs.HistoryLemmas.{agreement_of, stops_there, taken_front}
+pub use Rattle.net.proofs.AgreementLemmas.{agreement_of, stops_there, taken_front}
 pub use Rattle.net.proofs.LogsGrow.{log_grows}
-pub use Rattle.net.proofs.TakenLemmas.{after-push, set_same}
-pub use Rattle.net.proofs.TwoMoments.{all_happen-append}
+pub use Rattle.net.proofs.HistoryLemmas.{after-push, set_same}
+pub use Rattle.net.proofs.TwoMoments.{events_result-append}
 pub use Rattle.net.specs.Agree.{Agree, IsPrefixOf}
-pub use Rattle.net.specs.History.{Agreement}
-pub use Rattle.net.specs.Taken.{Taken, with_event, world_of}
-pub use Rattle.net.specs.World.{World, all_happen, happens, log, log_after, start}
+pub use Rattle.net.specs.Agreement.{Agreement}
+pub use Rattle.net.specs.History.{History, with_event, world_of}
+pub use Rattle.net.specs.World.{World, events_result, event_result, log, log_after, start}
 pub use Rattle.net.specs.declared.event.Event.{Event}
 pub use Rattle.net.specs.declared.event.Event.TheVariants.{Begin, Deliver, Offer, Restart}
 pub use Rattle.net.specs.declared.fault.StepFault.{StepFault}
@@ -26,7 +26,7 @@ pub use Rattle.std.specs.Borrow.{Bor}
 pub use Rattle.std.specs.Prelude.{IfErr, IfOk, IfSome, IsOk, IsSomeAnd, MatchOption, option_map}
 pub use Rattle.std.specs.Vec.Iter.{into_iter_items, into_iter_steps}
 pub use Rattle.synod.proofs.LogLemmas.{take_next}
-pub use Rattle.world.specs.Carried.{all_carried, carried, carried_size, entries_of, entry_of}
+pub use Rattle.world.specs.Carried.{value_events, value_event, carried_size, entries_of, entry_of}
 pub use Rattle.world.specs.Headline.{Headline, HeadlineHolds}
-pub use Rattle.world.specs.Replicas.{AppliesNext, AreReplicas, IsApplied, IsOfLog, NodeLibrary, Replicas, given_up, log_entries, new_libraries, new_library, next_entry, next_of, restarts, then_event}
+pub use Rattle.world.specs.WorldView.{AppliesNext, AreLibrariesOfLogs, IsApplied, IsOfLog, NodeLibrary, WorldView, with_library_reset, log_entries, new_node_libraries, new_node_library, next_entry, next_of, restarts, after_event}
 pub use Rattle.world.specs.declared.carried.Carried.{Carried}

@@ -9,15 +9,15 @@ abbrev pub carried_size : Carried → ℕ
 carried_size c = size_of c.0
 
 -- an event on entries, as an event on values
-abbrev pub carried : Event Entry → Event Carried
-carried (Offer k entry) = Offer k (record { 0 = entry })
-carried (Begin k) = Begin k
-carried (Deliver number) = Deliver number
-carried (Restart k) = Restart k
+abbrev pub value_event : Event Entry → Event Carried
+value_event (Offer k entry) = Offer k (record { 0 = entry })
+value_event (Begin k) = Begin k
+value_event (Deliver number) = Deliver number
+value_event (Restart k) = Restart k
 
-abbrev pub all_carried : List (Event Entry) → List (Event Carried)
-all_carried [] = []
-all_carried (e ∷ es) = carried e ∷ all_carried es
+abbrev pub value_events : List (Event Entry) → List (Event Carried)
+value_events [] = []
+value_events (e ∷ es) = value_event e ∷ value_events es
 
 -- an entry of a log, and a log, without the wrapping
 abbrev pub entry_of : Option Carried → Option Entry

@@ -1,4 +1,4 @@
 pub mod Words
 pub mod Carried
-pub mod Replicas
+pub mod WorldView
 pub mod Headline

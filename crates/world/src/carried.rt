@@ -1,7 +1,7 @@
 //! An entry of the library as a value that nodes agree on, and events on entries as events on values.
 ghost use Rattle.std.specs.Prelude.{◌≡◌, IfOk};
-ghost use Rattle.world.specs.Carried.{carried, entry_of, entries_of};
-ghost use Rattle.world.specs.Replicas.{restarts};
+ghost use Rattle.world.specs.Carried.{value_event, entry_of, entries_of};
+ghost use Rattle.world.specs.WorldView.{restarts};
 
 use library::Entry;
 use net::Event;
@@ -51,8 +51,8 @@ fn entry(value: Option<Carried>) -> Option<Entry>
 }
 
 /// Returns the event with its entry as a value.
-pub(crate) fn carry(event: Event<Entry>) -> Event<Carried>
-    ensures { result ≡ carried event }
+pub(crate) fn to_value_event(event: Event<Entry>) -> Event<Carried>
+    ensures { result ≡ value_event event }
 {
     match event {
         Event::Offer(k, entry) => Event::Offer(k, Carried(entry)),

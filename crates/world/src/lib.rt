@@ -4,7 +4,7 @@
 //! nodes' libraries, at any two moments, one is a prefix of the other. `program` and `run_pictures` use `World`, `cluster` uses
 //! `Replica`; `run` serves tests.
 //!
-//! Read the definitions, specs/Carried, Replicas and Headline; then `carried`, `replica`, `world`, `replay` and `laws`.
+//! Read the definitions, specs/Carried, WorldView and Headline; then `carried`, `replica`, `world`, `replay` and `laws`.
 #![tactic(auto)]
 
 mod carried;

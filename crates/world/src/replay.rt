@@ -1,8 +1,8 @@
 //! Taking all events of a list, one after another.
 ghost use Rattle.std.specs.Prelude.{◌≡◌, IfOk, IfErr, OnOk};
-ghost use Rattle.net.specs.History.{StopsAt};
-ghost use Rattle.world.specs.Carried.{carried_size, all_carried};
-ghost use Rattle.world.specs.Replicas.{new_libraries};
+ghost use Rattle.net.specs.Agreement.{RunStopsAt};
+ghost use Rattle.world.specs.Carried.{carried_size, value_events};
+ghost use Rattle.world.specs.WorldView.{new_node_libraries};
 ghost use Rattle.world.specs.Headline.{Headline};
 
 use crate::world::World;
@@ -20,9 +20,9 @@ pub fn run(
     weights: Weights,
     events: Vec<Event<Entry>>,
 ) -> Result<World, (u32, StepFault)>
-    ensures taken { IfOk result (λ world. world ≡ record { taken = record { weights = weights; events = all_carried events.items }; libraries = new_libraries weights }) }
-    ensures headline { OnOk result (Headline (record { weights = weights; events = all_carried events.items })) }
-    ensures stops { IfErr result (λ stop. StopsAt carried_size weights (all_carried events.items) stop.0 stop.1) }
+    ensures taken { IfOk result (λ world. world ≡ record { history = record { weights = weights; events = value_events events.items }; libraries = new_node_libraries weights }) }
+    ensures headline { OnOk result (Headline (record { weights = weights; events = value_events events.items })) }
+    ensures stops { IfErr result (λ stop. RunStopsAt carried_size weights (value_events events.items) stop.0 stop.1) }
 {
     let mut world = match World::new(alloc, weights) {
         Ok(world) => world,

@@ -2,7 +2,7 @@
 ghost use Rattle.std.specs.Prelude.{◌≡◌, ◌<◌, replicate, option_map, IsSome, IfOk};
 ghost use Rattle.slots.specs.declared.slots.TheConstants.{SLOTS};
 ghost use Rattle.world.specs.Carried.{entry_of};
-ghost use Rattle.world.specs.Replicas.{AppliesNext, new_library, given_up};
+ghost use Rattle.world.specs.WorldView.{AppliesNext, new_node_library, with_library_reset};
 
 use crate::carried::Carried;
 use library::{Entry, Library, Verdict};
@@ -21,7 +21,7 @@ pub struct Replica {
 }
 
 impl Model for Replica {
-    ghost use Rattle.world.specs.Replicas.{NodeLibrary};
+    ghost use Rattle.world.specs.WorldView.{NodeLibrary};
 
     ghost Value = { NodeLibrary };
 
@@ -31,7 +31,7 @@ impl Model for Replica {
 impl Replica {
     /// Creates the replica of a new node. Does not allocate.
     pub fn new(alloc: Global) -> Self
-        ensures { result ≡ new_library }
+        ensures { result ≡ new_node_library }
     {
         Replica {
             library: Library::new(alloc),
@@ -40,8 +40,8 @@ impl Replica {
     }
 
     /// Resets this replica to that of a new node, and discards its library. Does not allocate.
-    pub fn give_up(&mut self, alloc: Global)
-        ensures { self.new ≡ new_library }
+    pub fn reset(&mut self, alloc: Global)
+        ensures { self.new ≡ new_node_library }
     {
         let _old = mem::replace(self, Replica::new(alloc));
     }
@@ -74,7 +74,7 @@ impl Replica {
         let Some(entry) = next else {
             return Ok(None);
         };
-        let verdict = self.library.apply(entry_in(entry))?;
+        let verdict = self.library.apply(library_entry(entry))?;
         self.applied += 1;
         Ok(Some(verdict))
     }
@@ -96,14 +96,16 @@ impl Replica {
         let Some(entry) = next else {
             return Ok(None);
         };
-        let verdict = self.library.apply_with(rt, entry_in(entry), workers, gate)?;
+        let verdict = self
+            .library
+            .apply_with(rt, library_entry(entry), workers, gate)?;
         self.applied += 1;
         Ok(Some(verdict))
     }
 }
 
 /// Returns the entry that a library applies; `None` is the no-operation.
-fn entry_in(entry: &Option<Carried>) -> Option<&Entry>
+fn library_entry(entry: &Option<Carried>) -> Option<&Entry>
     ensures { option_map (λ e. e.now) result ≡ entry_of entry.now }
 {
     match entry {
@@ -114,7 +116,7 @@ fn entry_in(entry: &Option<Carried>) -> Option<&Entry>
 
 /// Creates a new replica for each of `nodes` nodes.
 pub(crate) fn new_replicas(alloc: Global, nodes: u8) -> Result<Vec<Replica>, AllocError>
-    ensures { IfOk result (λ replicas. replicas.items ≡ replicate nodes new_library) }
+    ensures { IfOk result (λ replicas. replicas.items ≡ replicate nodes new_node_library) }
 {
     let mut replicas = Vec::with_capacity(alloc, nodes as usize)?;
     for _node in 0..nodes {
@@ -124,12 +126,12 @@ pub(crate) fn new_replicas(alloc: Global, nodes: u8) -> Result<Vec<Replica>, All
 }
 
 /// Discards the library of the node that restarts, if one does.
-pub(crate) fn give_up(alloc: Global, replicas: &mut Vec<Replica>, restarted: Option<u8>)
-    ensures { replicas.new.items ≡ given_up replicas.old.items restarted }
+pub(crate) fn reset_library(alloc: Global, replicas: &mut Vec<Replica>, restarted: Option<u8>)
+    ensures { replicas.new.items ≡ with_library_reset replicas.old.items restarted }
 {
     if let Some(k) = restarted {
         if let Some(replica) = replicas.get_mut(k as usize) {
-            replica.give_up(alloc);
+            replica.reset(alloc);
         }
     }
 }

@@ -2,13 +2,13 @@
 ghost use Rattle.std.specs.Prelude.{◌≡◌, ◌↔◌, ◌≤◌, ◌<◌, None, Some, Ok, Err, length, slice_get, IfOk, IfErr, IfSome, IsSomeAnd, OnOk, OnErr, IsOk, IsOkUnless};
 ghost use Rattle.net.specs.World.{packets_after};
 ghost use Rattle.net.specs.NodeStates.{state_after};
-ghost use Rattle.net.specs.Taken.{world_of, with_event};
-ghost use Rattle.world.specs.Carried.{carried as carried_event, carried_size};
-ghost use Rattle.world.specs.Replicas.{log_entries, AppliesNext};
+ghost use Rattle.net.specs.History.{world_of, with_event};
+ghost use Rattle.world.specs.Carried.{value_event, carried_size};
+ghost use Rattle.world.specs.WorldView.{log_entries, AppliesNext};
 ghost use Rattle.net.specs.declared.fault.StepFault.TheVariants.{NoNode, NoPacket, Memory};
 
-use crate::carried::{Carried, carry, entries, restarted};
-use crate::replica::{Replica, give_up, new_replicas};
+use crate::carried::{Carried, entries, restarted, to_value_event};
+use crate::replica::{Replica, new_replicas, reset_library};
 use library::{Entry, Library, Verdict};
 use net::{Event, MOST_EVENTS, Net, StepFault};
 use std::alloc::Global;
@@ -19,7 +19,7 @@ use synod::{NodeState, Packet, Weights};
 /// entries applied.
 ///
 /// Source: Lamport, Paxos Made Simple, 2 and 3; the world after a list of events is in `net/specs/World.antt`, what contracts
-/// see of it in `specs/Replicas.antt`.
+/// see of it in `specs/WorldView.antt`.
 #[derive(Drop)]
 pub struct World {
     alloc: Global,
@@ -28,24 +28,24 @@ pub struct World {
 }
 
 impl Model for World {
-    ghost use Rattle.world.specs.Replicas.{Replicas, AreReplicas};
+    ghost use Rattle.world.specs.WorldView.{WorldView, AreLibrariesOfLogs};
 
-    ghost Value = { Replicas };
+    ghost Value = { WorldView };
 
-    ghost view = { λ w. record { taken = w.net.taken; libraries = w.replicas.items } };
+    ghost view = { λ w. record { history = w.net.history; libraries = w.replicas.items } };
 
-    ghost invariant = { λ w. AreReplicas (record { taken = w.net.taken; libraries = w.replicas.items }) };
+    ghost invariant = { λ w. AreLibrariesOfLogs (record { history = w.net.history; libraries = w.replicas.items }) };
 }
 
 impl World {
-    ghost use Rattle.world.specs.Replicas.{new_replicas, then_event, next_entry, AreReplicas, IsApplied};
+    ghost use Rattle.world.specs.WorldView.{new_world, after_event, next_entry, AreLibrariesOfLogs, IsApplied};
     ghost use Rattle.world.specs.Headline.{Headline};
 
     /// Creates a world of new nodes, each with an empty library.
     ///
     /// Errors: `Memory`.
     pub fn new(alloc: Global, weights: Weights) -> Result<Self, StepFault>
-        ensures new { IfOk result (λ world. world ≡ new_replicas weights) }
+        ensures new { IfOk result (λ world. world ≡ new_world weights) }
         ensures only_memory { IsOkUnless result Memory }
     {
         Ok(World {
@@ -59,18 +59,18 @@ impl World {
     ///
     /// Errors: the first fault that the event meets, or `Memory` if it meets none; the world is then as before.
     pub fn step(&mut self, event: Event<Entry>) -> Result<u64, StepFault>
-        ensures taken { OnOk result (self.new ≡ then_event self.old (carried_event event)) }
-        ensures posted { IfOk result (λ count. count ≡ length (packets_after (world_of carried_size self.new.taken))) }
+        ensures taken { OnOk result (self.new ≡ after_event self.old (value_event event)) }
+        ensures posted { IfOk result (λ count. count ≡ length (packets_after (world_of carried_size self.new.history))) }
 
         // A fault of the event is returned even if every allocation fails.
-        ensures refused { IfErr (world_of carried_size (with_event self.old.taken (carried_event event))) (λ fault. result ≡ Err fault) }
-        ensures only_memory { OnOk (world_of carried_size (with_event self.old.taken (carried_event event))) (IsOkUnless result Memory) }
+        ensures refused { IfErr (world_of carried_size (with_event self.old.history (value_event event))) (λ fault. result ≡ Err fault) }
+        ensures only_memory { OnOk (world_of carried_size (with_event self.old.history (value_event event))) (IsOkUnless result Memory) }
         ensures same { OnErr result (self.new ≡ self.old) }
     {
-        let event = carry(event);
+        let event = to_value_event(event);
         let restarted = restarted(&event);
         let posted = self.net.step(event)?;
-        give_up(self.alloc, &mut self.replicas, restarted);
+        reset_library(self.alloc, &mut self.replicas, restarted);
         Ok(posted)
     }
 
@@ -80,9 +80,9 @@ impl World {
     /// Cost: that of `Library::apply` on the entry.
     pub fn apply_next(&mut self, k: u8) -> Result<Option<Verdict>, StepFault>
         ensures applied { IfSome (next_entry self.old k) (λ entry. IfOk result (λ answer. IsSomeAnd answer (λ verdict. IsApplied self.old k entry verdict self.new))) }
-        ensures none { k < length self.old.taken.weights → next_entry self.old k ≡ None → result ≡ Ok None }
-        ensures no_node { length self.old.taken.weights ≤ k → result ≡ Err NoNode }
-        ensures only_memory { k < length self.old.taken.weights → IsOkUnless result Memory }
+        ensures none { k < length self.old.history.weights → next_entry self.old k ≡ None → result ≡ Ok None }
+        ensures no_node { length self.old.history.weights ≤ k → result ≡ Err NoNode }
+        ensures only_memory { k < length self.old.history.weights → IsOkUnless result Memory }
         ensures same { next_entry self.old k ≡ None → self.new ≡ self.old }
         ensures err { OnErr result (self.new ≡ self.old) }
     {
@@ -95,9 +95,9 @@ impl World {
     /// Returns the library of node `k`: that of the first entries of its log, as many as were applied. Does not allocate.
     pub fn library(&self, k: u8) -> Result<&Library, StepFault>
         ensures library { IfOk result (λ library. IsSomeAnd (slice_get self.now.libraries k) (λ node. library.now.replica ≡ node.library)) }
-        ensures no_node { length self.now.taken.weights ≤ k → result ≡ Err NoNode }
-        ensures node { k < length self.now.taken.weights → IsOk result }
-        ensures of_logs { AreReplicas self.now }
+        ensures no_node { length self.now.history.weights ≤ k → result ≡ Err NoNode }
+        ensures node { k < length self.now.history.weights → IsOk result }
+        ensures of_logs { AreLibrariesOfLogs self.now }
     {
         match self.replicas.get(k as usize) {
             Some(replica) => Ok(replica.library()),
@@ -107,27 +107,27 @@ impl World {
 
     /// Returns the events taken, in order. None of them meets a fault, and the headline holds of them.
     pub fn history(&self) -> &[Event<Carried>]
-        ensures events { result.now ≡ self.now.taken.events }
-        ensures few { length self.now.taken.events ≤ MOST_EVENTS }
-        ensures headline { Headline self.now.taken }
+        ensures events { result.now ≡ self.now.history.events }
+        ensures few { length self.now.history.events ≤ MOST_EVENTS }
+        ensures headline { Headline self.now.history }
     {
         self.net.history()
     }
 
     /// Returns the log of node `k`: what it learned, up to its first gap.
     pub fn log(&self, k: u8) -> Result<Vec<Option<Entry>>, StepFault>
-        ensures log { IfOk result (λ entries. entries.items ≡ log_entries self.now.taken k) }
-        ensures no_node { length self.now.taken.weights ≤ k → result ≡ Err NoNode }
-        ensures only_memory { k < length self.now.taken.weights → IsOkUnless result Memory }
+        ensures log { IfOk result (λ entries. entries.items ≡ log_entries self.now.history k) }
+        ensures no_node { length self.now.history.weights ≤ k → result ≡ Err NoNode }
+        ensures only_memory { k < length self.now.history.weights → IsOkUnless result Memory }
     {
         Ok(entries(self.alloc, self.net.log(k)?)?)
     }
 
     /// Returns the state that node `k` reports. Does not allocate.
     pub fn state(&self, k: u8) -> Result<NodeState, StepFault>
-        ensures state { IfOk result (λ state. state_after (world_of carried_size self.now.taken) k ≡ Some state) }
-        ensures no_node { length self.now.taken.weights ≤ k → result ≡ Err NoNode }
-        ensures node { k < length self.now.taken.weights → IsOk result }
+        ensures state { IfOk result (λ state. state_after (world_of carried_size self.now.history) k ≡ Some state) }
+        ensures no_node { length self.now.history.weights ≤ k → result ≡ Err NoNode }
+        ensures node { k < length self.now.history.weights → IsOk result }
     {
         self.net.state(k)
     }
@@ -135,8 +135,8 @@ impl World {
     /// Returns the number of entries of node `k`'s log that its library applied. Does not allocate.
     pub fn applied(&self, k: u8) -> Result<u32, StepFault>
         ensures applied { IfOk result (λ applied. IsSomeAnd (slice_get self.now.libraries k) (λ node. applied ≡ node.applied)) }
-        ensures no_node { length self.now.taken.weights ≤ k → result ≡ Err NoNode }
-        ensures node { k < length self.now.taken.weights → IsOk result }
+        ensures no_node { length self.now.history.weights ≤ k → result ≡ Err NoNode }
+        ensures node { k < length self.now.history.weights → IsOk result }
     {
         match self.replicas.get(k as usize) {
             Some(replica) => Ok(replica.applied()),
@@ -146,8 +146,8 @@ impl World {
 
     /// Returns the packet of that number, from 0 in the order of posting. Does not allocate.
     pub fn packet(&self, number: u64) -> Result<&Packet<Carried>, StepFault>
-        ensures found { IfOk result (λ packet. slice_get (packets_after (world_of carried_size self.now.taken)) number ≡ Some packet.now) }
-        ensures no_packet { (result ≡ Err NoPacket) ↔ (slice_get (packets_after (world_of carried_size self.now.taken)) number ≡ None) }
+        ensures found { IfOk result (λ packet. slice_get (packets_after (world_of carried_size self.now.history)) number ≡ Some packet.now) }
+        ensures no_packet { (result ≡ Err NoPacket) ↔ (slice_get (packets_after (world_of carried_size self.now.history)) number ≡ None) }
         ensures only_no_packet { IsOkUnless result NoPacket }
     {
         self.net.packet(number)
@@ -160,8 +160,8 @@ fn apply_from(
     net: &Net<Carried>,
     k: u8,
 ) -> Result<Option<Verdict>, StepFault>
-    requires { k < length net.now.taken.weights }
-    ensures { AppliesNext replica.old replica.new (slice_get (log_entries net.now.taken k) replica.old.applied) result }
+    requires { k < length net.now.history.weights }
+    ensures { AppliesNext replica.old replica.new (slice_get (log_entries net.now.history k) replica.old.applied) result }
 {
     let next = net.entry(k, replica.applied())?;
     replica.apply_next(next)

@@ -10,7 +10,7 @@ use Rattle.slots.specs.FiniteMap.{front_of, top_of, trimmed}
 abbrev pub padded : {T : Type 0} → List (Option T) → List (Option T)
 padded stored = stored ++ replicate (PAGE_SLOTS - length stored) None
 
-pub record IsPage {T : Type 0} (stored : List (Option T)) (capacity : ℕ) : Type 0 where
+pub record IsStoredPage {T : Type 0} (stored : List (Option T)) (capacity : ℕ) : Type 0 where
   pub within : length stored ≤ PAGE_SLOTS
   pub room : PAGE_SLOTS ≤ capacity
 
@@ -20,9 +20,9 @@ joined [] = []
 joined (page ∷ pages) = page ++ joined pages
 
 -- each page has 256 slots
-abbrev pub AreWhole : {T : Type 0} → List (List T) → Type 0
-AreWhole [] = Unit {0}
-AreWhole (page ∷ pages) = (length page ≡ PAGE_SLOTS) × AreWhole pages
+abbrev pub AreFullSize : {T : Type 0} → List (List T) → Type 0
+AreFullSize [] = Unit {0}
+AreFullSize (page ∷ pages) = (length page ≡ PAGE_SLOTS) × AreFullSize pages
 
 -- the invariant of `Slots`: at most SLOTS slots, and the stored front and top are those of the map
 pub record AreSlots {T : Type 0} (slots : List (Option T)) (front top : ℕ) : Type 0 where

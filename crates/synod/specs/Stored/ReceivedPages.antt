@@ -18,5 +18,5 @@ abbrev pub put_page : {V : Type 0} → List (List (Option (List (SlotReport V)))
 put_page pages k i reports = slice_set pages k (put_at (pages_from pages k) i reports)
 
 -- the pages received before, and the one just delivered
-abbrev pub pages_with : {V : Type 0} → PagesWithDelivered V → List (List (Option (List (SlotReport V))))
-pages_with w = with_page (entries_of w.pages.now) w.node w.page w.reports.now
+abbrev pub pages_after_delivery : {V : Type 0} → PagesWithDelivered V → List (List (Option (List (SlotReport V))))
+pages_after_delivery w = with_page (entries_of w.pages.now) w.node w.page w.reports.now

@@ -13,13 +13,13 @@ use crate::value::{Value, copy_value};
 use std::alloc::AllocError;
 
 impl<V: Value> NodeCore<V> {
-    ghost use Rattle.synod.specs.Acceptor.{refuses, on_prepare, on_accept, takes_value};
-    ghost use Rattle.synod.specs.Step.{Keeps};
-    ghost use Rattle.synod.specs.Rooms.{HasAtLeast};
+    ghost use Rattle.synod.specs.Acceptor.{refuses, on_prepare, on_accept, accepts_value};
+    ghost use Rattle.synod.specs.Step.{PreservesInvariant};
+    ghost use Rattle.synod.specs.Rooms.{HasNoLessRoom};
     ghost use Rattle.synod.specs.Ready.{IsReadyFor};
 
     /// Stages a Nack to a proposer, with the promise for which its ballot is refused.
-    fn ready_refusal(&self, from: u8, ballot: Ballot) -> Result<Ready<V>, AllocError>
+    fn stage_refusal(&self, from: u8, ballot: Ballot) -> Result<Ready<V>, AllocError>
         ensures { IfOk result (IsReadyFor self.now (refuses self.now.node from ballot)) }
     {
         let mut posts = Vec::new(self.alloc);
@@ -31,23 +31,23 @@ impl<V: Value> NodeCore<V> {
                 promise: self.kept_part.promise(),
             },
         })?;
-        Ok(self.ready_posts(posts))
+        Ok(self.stage_posts(posts))
     }
 
     /// Stages the step of a Prepare.
-    pub(crate) fn ready_prepare(
+    pub(crate) fn stage_prepare(
         &mut self,
         from: u8,
         ballot: Ballot,
         first: u32,
     ) -> Result<Ready<V>, AllocError>
-        requires { Keeps (length self.old.node.weights) (on_prepare self.old.node from ballot first) }
+        requires { PreservesInvariant (length self.old.node.weights) (on_prepare self.old.node from ballot first) }
         ensures ready { IfOk result (IsReadyFor self.new (on_prepare self.old.node from ballot first)) }
         ensures node { self.new.node ≡ self.old.node }
-        ensures room { HasAtLeast self.old self.new }
+        ensures room { HasNoLessRoom self.old self.new }
     {
-        if !self.kept_part.promise().is_under(ballot) {
-            return self.ready_refusal(from, ballot);
+        if !self.kept_part.promise().is_below(ballot) {
+            return self.stage_refusal(from, ballot);
         }
         let posts = promise_posts(self.alloc, &self.kept_part, self.me, from, ballot, first)?;
         let staged = StagedStep {
@@ -59,7 +59,7 @@ impl<V: Value> NodeCore<V> {
     }
 
     /// Stages the step of an Accept.
-    pub(crate) fn ready_accept(
+    pub(crate) fn stage_accept(
         &mut self,
         from: u8,
         ballot: Ballot,
@@ -67,33 +67,33 @@ impl<V: Value> NodeCore<V> {
         value: &Option<V>,
     ) -> Result<Ready<V>, AllocError>
         requires slot { slot < SLOTS }
-        requires keeps { Keeps (length self.old.node.weights) (on_accept self.old.node from ballot slot value.now) }
+        requires preserves { PreservesInvariant (length self.old.node.weights) (on_accept self.old.node from ballot slot value.now) }
         ensures ready { IfOk result (IsReadyFor self.new (on_accept self.old.node from ballot slot value.now)) }
         ensures node { self.new.node ≡ self.old.node }
-        ensures room { HasAtLeast self.old self.new }
+        ensures room { HasNoLessRoom self.old self.new }
     {
-        if ballot.is_under(self.kept_part.promise()) {
-            return self.ready_refusal(from, ballot);
+        if ballot.is_below(self.kept_part.promise()) {
+            return self.stage_refusal(from, ballot);
         }
         self.kept_part.room(slot)?;
         let value = copy_value(value)?;
-        self.ready_entry(slot, AcceptedEntry { ballot, value })
+        self.stage_entry(slot, AcceptedEntry { ballot, value })
     }
 
     /// Stages accepting an entry, and posts Accepted to all nodes.
-    fn ready_entry(&self, slot: u32, held: AcceptedEntry<V>) -> Result<Ready<V>, AllocError>
+    fn stage_entry(&self, slot: u32, entry: AcceptedEntry<V>) -> Result<Ready<V>, AllocError>
         requires room { slot < self.now.accepted_room }
-        requires keeps { Keeps (length self.now.node.weights) (takes_value self.now.node held.ballot slot held.value) }
-        ensures { IfOk result (IsReadyFor self.now (takes_value self.now.node held.ballot slot held.value)) }
+        requires preserves { PreservesInvariant (length self.now.node.weights) (accepts_value self.now.node entry.ballot slot entry.value) }
+        ensures { IfOk result (IsReadyFor self.now (accepts_value self.now.node entry.ballot slot entry.value)) }
     {
         let message = Broadcast::Accepted {
-            ballot: held.ballot,
+            ballot: entry.ballot,
             slot,
-            value: &held.value,
+            value: &entry.value,
         };
         let posts = broadcast_posts(self.alloc, self.me, &self.weights, &message)?;
         let staged = StagedStep {
-            change: Some(Change::Entry { slot, held }),
+            change: Some(Change::Entry { slot, entry }),
             proposer: None,
             learner: None,
         };

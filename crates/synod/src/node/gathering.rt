@@ -17,13 +17,13 @@ impl<V: Value> NodeCore<V> {
     ghost use Rattle.synod.specs.Weights.{is_quorum};
     ghost use Rattle.synod.specs.Packets.{IsPage, IsReport};
     ghost use Rattle.synod.specs.Node.{is_heard, with_page};
-    ghost use Rattle.synod.specs.Proposer.{on_promise, gathers, leads_with, keeps_page, keeps_promise};
-    ghost use Rattle.synod.specs.Step.{Keeps};
-    ghost use Rattle.synod.specs.Rooms.{HasAtLeast};
+    ghost use Rattle.synod.specs.Proposer.{on_promise, on_promise_page, leads_with, adds_page, completes_promise};
+    ghost use Rattle.synod.specs.Step.{PreservesInvariant};
+    ghost use Rattle.synod.specs.Rooms.{HasNoLessRoom};
     ghost use Rattle.synod.specs.Ready.{IsReadyFor};
 
-    /// Stages keeping a page, unless it was received before.
-    fn ready_to_keep(
+    /// Stages adding a page, unless it was received before.
+    fn stage_added_page(
         &mut self,
         node: u8,
         page: u32,
@@ -31,13 +31,13 @@ impl<V: Value> NodeCore<V> {
     ) -> Result<Ready<V>, AllocError>
         requires node { node < length self.old.node.pages }
         requires page { page < SLOTS }
-        requires keeps { Keeps (length self.old.node.weights) (keeps_page self.old.node (with_page self.old.node.pages node page reports.now)) }
-        ensures ready { IfOk result (IsReadyFor self.new (keeps_page self.old.node (with_page self.old.node.pages node page reports.now))) }
+        requires preserves { PreservesInvariant (length self.old.node.weights) (adds_page self.old.node (with_page self.old.node.pages node page reports.now)) }
+        ensures ready { IfOk result (IsReadyFor self.new (adds_page self.old.node (with_page self.old.node.pages node page reports.now))) }
         ensures node { self.new.node ≡ self.old.node }
-        ensures room { HasAtLeast self.old self.new }
+        ensures room { HasNoLessRoom self.old self.new }
     {
         if self.proposer.pages().get(node, page).is_some() {
-            return Ok(self.ready_nothing());
+            return Ok(self.stage_nothing());
         }
         self.proposer.room_for_page(node, page)?;
         let reports = copy_reports(self.alloc, reports)?;
@@ -46,11 +46,11 @@ impl<V: Value> NodeCore<V> {
             page,
             reports,
         };
-        Ok(self.ready_proposer(update, Vec::new(self.alloc)))
+        Ok(self.stage_proposer_update(update, Vec::new(self.alloc)))
     }
 
-    /// Stages keeping a page that completes a promise without completing a quorum.
-    fn ready_to_hear(
+    /// Stages adding a page that completes a promise without completing a quorum.
+    fn stage_complete_promise(
         &mut self,
         heard: Heard,
         page: u32,
@@ -58,25 +58,25 @@ impl<V: Value> NodeCore<V> {
     ) -> Result<Ready<V>, AllocError>
         requires node { heard.node < length self.old.node.pages }
         requires page { page < SLOTS }
-        requires keeps { Keeps (length self.old.node.weights) (keeps_promise self.old.node (with_page self.old.node.pages heard.node page reports.now) (self.old.node.heard ++ heard ∷ [])) }
-        ensures ready { IfOk result (IsReadyFor self.new (keeps_promise self.old.node (with_page self.old.node.pages heard.node page reports.now) (self.old.node.heard ++ heard ∷ []))) }
+        requires preserves { PreservesInvariant (length self.old.node.weights) (completes_promise self.old.node (with_page self.old.node.pages heard.node page reports.now) (self.old.node.heard ++ heard ∷ [])) }
+        ensures ready { IfOk result (IsReadyFor self.new (completes_promise self.old.node (with_page self.old.node.pages heard.node page reports.now) (self.old.node.heard ++ heard ∷ []))) }
         ensures node { self.new.node ≡ self.old.node }
-        ensures room { HasAtLeast self.old self.new }
+        ensures room { HasNoLessRoom self.old self.new }
     {
         if self.proposer.pages().get(heard.node, page).is_some() {
-            self.proposer.room_to_hear()?;
-            let update = ProposerUpdate::Hear(heard);
-            return Ok(self.ready_proposer(update, Vec::new(self.alloc)));
+            self.proposer.room_for_heard()?;
+            let update = ProposerUpdate::AddHeard(heard);
+            return Ok(self.stage_proposer_update(update, Vec::new(self.alloc)));
         }
         self.proposer.room_for_page(heard.node, page)?;
-        self.proposer.room_to_hear()?;
+        self.proposer.room_for_heard()?;
         let reports = copy_reports(self.alloc, reports)?;
         let update = ProposerUpdate::CompletePromise {
             heard,
             page,
             reports,
         };
-        Ok(self.ready_proposer(update, Vec::new(self.alloc)))
+        Ok(self.stage_proposer_update(update, Vec::new(self.alloc)))
     }
 
     /// Returns whether the nodes heard are a quorum.
@@ -88,7 +88,7 @@ impl<V: Value> NodeCore<V> {
     }
 
     /// Stages the step of a page for the ballot in preparation, from a node that is not heard yet.
-    fn ready_page(
+    fn stage_page(
         &mut self,
         ballot: Ballot,
         first: u32,
@@ -100,20 +100,20 @@ impl<V: Value> NodeCore<V> {
         requires first { first ≤ SLOTS }
         requires page { page < SLOTS }
         requires each { AllByRecursion IsReport reports.now }
-        requires keeps { Keeps (length self.old.node.weights) (gathers self.old.node heard.node ballot first heard.count (with_page self.old.node.pages heard.node page reports.now)) }
-        ensures ready { IfOk result (IsReadyFor self.new (gathers self.old.node heard.node ballot first heard.count (with_page self.old.node.pages heard.node page reports.now))) }
+        requires preserves { PreservesInvariant (length self.old.node.weights) (on_promise_page self.old.node heard.node ballot first heard.count (with_page self.old.node.pages heard.node page reports.now)) }
+        ensures ready { IfOk result (IsReadyFor self.new (on_promise_page self.old.node heard.node ballot first heard.count (with_page self.old.node.pages heard.node page reports.now))) }
         ensures node { self.new.node ≡ self.old.node }
-        ensures room { HasAtLeast self.old self.new }
+        ensures room { HasNoLessRoom self.old self.new }
     {
         let front = front_after(self.proposer.pages(), heard.node, page);
         if front < heard.count {
-            return self.ready_to_keep(heard.node, page, reports);
+            return self.stage_added_page(heard.node, page, reports);
         }
         let nodes = self.heard_with(heard)?;
         if self.has_heard_quorum(&nodes) {
-            self.ready_to_lead(ballot, first, heard.node, page, reports, &nodes)
+            self.stage_lead(ballot, first, heard.node, page, reports, &nodes)
         } else {
-            self.ready_to_hear(heard, page, reports)
+            self.stage_complete_promise(heard, page, reports)
         }
     }
 
@@ -127,7 +127,7 @@ impl<V: Value> NodeCore<V> {
     }
 
     /// Stages the start of leading, once a quorum is heard.
-    fn ready_to_lead(
+    fn stage_lead(
         &self,
         ballot: Ballot,
         first: u32,
@@ -139,7 +139,7 @@ impl<V: Value> NodeCore<V> {
         requires node { node < length self.now.node.pages }
         requires first { first ≤ SLOTS }
         requires each { AllByRecursion IsReport reports.now }
-        requires keeps { Keeps (length self.now.node.weights) (leads_with self.now.node ballot first (with_page self.now.node.pages node page reports.now) heard.now) }
+        requires preserves { PreservesInvariant (length self.now.node.weights) (leads_with self.now.node ballot first (with_page self.now.node.pages node page reports.now) heard.now) }
         ensures { IfOk result (IsReadyFor self.now (leads_with self.now.node ballot first (with_page self.now.node.pages node page reports.now) heard.now)) }
     {
         let delivered = PagesWithDelivered {
@@ -162,13 +162,13 @@ impl<V: Value> NodeCore<V> {
         let update = ProposerUpdate::Lead {
             ballot,
             next: lead.next,
-            taken: lead.taken,
+            proposed: lead.proposed,
         };
-        Ok(self.ready_proposer(update, lead.posts))
+        Ok(self.stage_proposer_update(update, lead.posts))
     }
 
     /// Stages the step of a page of a Promise.
-    pub(crate) fn ready_promise(
+    pub(crate) fn stage_promise(
         &mut self,
         from: u8,
         ballot: Ballot,
@@ -177,24 +177,24 @@ impl<V: Value> NodeCore<V> {
         reports: &Reports<V>,
     ) -> Result<Ready<V>, AllocError>
         requires page { IsPage page count reports.now }
-        requires keeps { Keeps (length self.old.node.weights) (on_promise self.old.node from ballot page count reports.now) }
+        requires preserves { PreservesInvariant (length self.old.node.weights) (on_promise self.old.node from ballot page count reports.now) }
         ensures ready { IfOk result (IsReadyFor self.new (on_promise self.old.node from ballot page count reports.now)) }
         ensures node { self.new.node ≡ self.old.node }
-        ensures room { HasAtLeast self.old self.new }
+        ensures room { HasNoLessRoom self.old self.new }
     {
         let Role::Preparing { ballot: at, first } = self.proposer.role() else {
-            return Ok(self.ready_nothing());
+            return Ok(self.stage_nothing());
         };
         if !ballot.is_same(at) {
-            return Ok(self.ready_nothing());
+            return Ok(self.stage_nothing());
         }
         if is_heard(self.proposer.heard(), from) {
-            return Ok(self.ready_nothing());
+            return Ok(self.stage_nothing());
         }
         if from as usize >= self.proposer.pages().nodes() {
-            return Ok(self.ready_nothing());
+            return Ok(self.stage_nothing());
         }
         let heard = Heard { node: from, count };
-        self.ready_page(at, first, heard, page - 1, reports)
+        self.stage_page(at, first, heard, page - 1, reports)
     }
 }

@@ -17,14 +17,14 @@ impl<V: Value> NodeCore<V> {
     ghost use Rattle.std.specs.Prelude.{Some};
     ghost use Rattle.synod.specs.declared.weights.TheConstants.{MOST_NODES};
     ghost use Rattle.synod.specs.Weights.{is_quorum};
-    ghost use Rattle.synod.specs.Node.{answers};
+    ghost use Rattle.synod.specs.Node.{volatile_step};
     ghost use Rattle.synod.specs.Updates.{CanUpdateLearner};
-    ghost use Rattle.synod.specs.Step.{Keeps, IsNode};
-    ghost use Rattle.synod.specs.Rooms.{HasAtLeast};
+    ghost use Rattle.synod.specs.Step.{PreservesInvariant, IsNode};
+    ghost use Rattle.synod.specs.Rooms.{HasNoLessRoom};
     ghost use Rattle.synod.specs.Ready.{IsReadyFor, learner_of, with_learner_update};
 
     /// Stages the step of an Ask.
-    pub(crate) fn ready_ask(&self, from: u8, slot: u32) -> Result<Ready<V>, AllocError>
+    pub(crate) fn stage_ask(&self, from: u8, slot: u32) -> Result<Ready<V>, AllocError>
         ensures { IfOk result (IsReadyFor self.now (on_ask self.now.node from slot)) }
     {
         let mut posts = Vec::new(self.alloc);
@@ -38,33 +38,33 @@ impl<V: Value> NodeCore<V> {
                 },
             })?;
         }
-        Ok(self.ready_posts(posts))
+        Ok(self.stage_posts(posts))
     }
 
     /// Stages the step of a Told.
-    pub(crate) fn ready_told(
+    pub(crate) fn stage_told(
         &mut self,
         from: u8,
         slot: u32,
         value: &Option<V>,
     ) -> Result<Ready<V>, AllocError>
         requires slot { slot < SLOTS }
-        requires keeps { Keeps (length self.old.node.weights) (on_told self.old.node from slot value.now) }
+        requires preserves { PreservesInvariant (length self.old.node.weights) (on_told self.old.node from slot value.now) }
         ensures ready { IfOk result (IsReadyFor self.new (on_told self.old.node from slot value.now)) }
         ensures node { self.new.node ≡ self.old.node }
-        ensures room { HasAtLeast self.old self.new }
+        ensures room { HasNoLessRoom self.old self.new }
     {
         if self.learner.learned(slot).is_some() {
-            return Ok(self.ready_nothing());
+            return Ok(self.stage_nothing());
         }
         self.learner.room(slot)?;
         let gap = self.learner.front_with(slot);
         let value = copy_value(value)?;
-        self.ready_told_next(LearnerUpdate::Learn { slot, value }, from, gap)
+        self.stage_told_next(LearnerUpdate::Learn { slot, value }, from, gap)
     }
 
     /// Stages the step of an Accepted.
-    pub(crate) fn ready_accepted(
+    pub(crate) fn stage_accepted(
         &mut self,
         from: u8,
         ballot: Ballot,
@@ -73,13 +73,13 @@ impl<V: Value> NodeCore<V> {
     ) -> Result<Ready<V>, AllocError>
         requires from { from < length self.old.node.weights }
         requires slot { slot < SLOTS }
-        requires keeps { Keeps (length self.old.node.weights) (on_accepted self.old.node from ballot slot value.now) }
+        requires preserves { PreservesInvariant (length self.old.node.weights) (on_accepted self.old.node from ballot slot value.now) }
         ensures ready { IfOk result (IsReadyFor self.new (on_accepted self.old.node from ballot slot value.now)) }
         ensures node { self.new.node ≡ self.old.node }
-        ensures room { HasAtLeast self.old self.new }
+        ensures room { HasNoLessRoom self.old self.new }
     {
         if self.learner.learned(slot).is_some() {
-            return Ok(self.ready_nothing());
+            return Ok(self.stage_nothing());
         }
         self.learner.room(slot)?;
         if self.is_chosen(slot, ballot, from) {
@@ -90,14 +90,14 @@ impl<V: Value> NodeCore<V> {
                 node: from,
                 value: copy_value(value)?,
             };
-            self.ready_chosen(update, slot, gap)
+            self.stage_chosen(update, slot, gap)
         } else {
             let update = LearnerUpdate::Count {
                 slot,
                 ballot,
                 node: from,
             };
-            Ok(self.ready_learner(update, Vec::new(self.alloc)))
+            Ok(self.stage_learner_update(update, Vec::new(self.alloc)))
         }
     }
 
@@ -122,7 +122,7 @@ impl<V: Value> NodeCore<V> {
     }
 
     /// Stages an update that learns a chosen value, and asks for the first gap if it is below the slot.
-    fn ready_chosen(
+    fn stage_chosen(
         &self,
         update: LearnerUpdate<V>,
         slot: u32,
@@ -130,14 +130,14 @@ impl<V: Value> NodeCore<V> {
     ) -> Result<Ready<V>, AllocError>
         requires room { CanUpdateLearner (learner_of self.now) (Some update) }
         requires node { IsNode (with_learner_update self.now.node update) }
-        ensures { IfOk result (IsReadyFor self.now (answers (with_learner_update self.now.node update) (asks_below self.now.node slot gap))) }
+        ensures { IfOk result (IsReadyFor self.now (volatile_step (with_learner_update self.now.node update) (asks_below self.now.node slot gap))) }
     {
         let posts = self.ask_below(slot, gap)?;
-        Ok(self.ready_learner(update, posts))
+        Ok(self.stage_learner_update(update, posts))
     }
 
-    /// Stages an update that learns a value told by `from`, and asks `from` for the next gap.
-    fn ready_told_next(
+    /// Stages an update that learns a value that `from` sent in a Told, and asks `from` for the next gap.
+    fn stage_told_next(
         &self,
         update: LearnerUpdate<V>,
         from: u8,
@@ -145,17 +145,17 @@ impl<V: Value> NodeCore<V> {
     ) -> Result<Ready<V>, AllocError>
         requires room { CanUpdateLearner (learner_of self.now) (Some update) }
         requires node { IsNode (with_learner_update self.now.node update) }
-        ensures { IfOk result (IsReadyFor self.now (answers (with_learner_update self.now.node update) (asks_for self.now.node from gap))) }
+        ensures { IfOk result (IsReadyFor self.now (volatile_step (with_learner_update self.now.node update) (asks_for self.now.node from gap))) }
     {
         let posts = self.ask_next(from, gap)?;
-        Ok(self.ready_learner(update, posts))
+        Ok(self.stage_learner_update(update, posts))
     }
 
     /// Stages a step that changes only the learner.
-    fn ready_learner(&self, update: LearnerUpdate<V>, posts: Vec<Packet<V>>) -> Ready<V>
+    fn stage_learner_update(&self, update: LearnerUpdate<V>, posts: Vec<Packet<V>>) -> Ready<V>
         requires room { CanUpdateLearner (learner_of self.now) (Some update) }
         requires node { IsNode (with_learner_update self.now.node update) }
-        ensures { IsReadyFor self.now (answers (with_learner_update self.now.node update) posts.items) result }
+        ensures { IsReadyFor self.now (volatile_step (with_learner_update self.now.node update) posts.items) result }
     {
         let staged = StagedStep {
             change: None,

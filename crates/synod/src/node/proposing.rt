@@ -14,22 +14,22 @@ use crate::value::Value;
 use std::alloc::AllocError;
 
 impl<V: Value> NodeCore<V> {
-    ghost use Rattle.synod.specs.Node.{answers};
-    ghost use Rattle.synod.specs.Proposer.{begins, next_ballot, waits, takes_slot, on_nack};
+    ghost use Rattle.synod.specs.Node.{volatile_step};
+    ghost use Rattle.synod.specs.Proposer.{begins, next_ballot, waits, proposes_value, on_nack};
     ghost use Rattle.synod.specs.Updates.{CanUpdateProposer};
-    ghost use Rattle.synod.specs.Step.{Keeps, IsNode};
-    ghost use Rattle.synod.specs.Rooms.{HasAtLeast};
+    ghost use Rattle.synod.specs.Step.{PreservesInvariant, IsNode};
+    ghost use Rattle.synod.specs.Rooms.{HasNoLessRoom};
     ghost use Rattle.synod.specs.Ready.{IsReadyFor, proposer_of, with_proposer_update};
 
     /// Stages a step that changes only the proposer.
-    pub(crate) fn ready_proposer(
+    pub(crate) fn stage_proposer_update(
         &self,
         update: ProposerUpdate<V>,
         posts: Vec<Packet<V>>,
     ) -> Ready<V>
         requires room { CanUpdateProposer (proposer_of self.now) (Some update) }
         requires node { IsNode (with_proposer_update self.now.node update) }
-        ensures { IsReadyFor self.now (answers (with_proposer_update self.now.node update) posts.items) result }
+        ensures { IsReadyFor self.now (volatile_step (with_proposer_update self.now.node update) posts.items) result }
     {
         let staged = StagedStep {
             change: None,
@@ -40,28 +40,28 @@ impl<V: Value> NodeCore<V> {
     }
 
     /// Stages adding a value to those that wait.
-    pub(crate) fn ready_waiting(&mut self, value: V) -> Result<Ready<V>, AllocError>
-        requires keeps { Keeps (length self.old.node.weights) (waits self.old.node value) }
+    pub(crate) fn stage_waiting(&mut self, value: V) -> Result<Ready<V>, AllocError>
+        requires preserves { PreservesInvariant (length self.old.node.weights) (waits self.old.node value) }
         ensures ready { IfOk result (IsReadyFor self.new (waits self.old.node value)) }
         ensures node { self.new.node ≡ self.old.node }
-        ensures room { HasAtLeast self.old self.new }
+        ensures room { HasNoLessRoom self.old self.new }
     {
-        self.proposer.room_to_wait()?;
-        Ok(self.ready_proposer(ProposerUpdate::Wait(value), Vec::new(self.alloc)))
+        self.proposer.room_for_waiting()?;
+        Ok(self.stage_proposer_update(ProposerUpdate::AddWaiting(value), Vec::new(self.alloc)))
     }
 
     /// Stages proposing a value at the next slot.
-    pub(crate) fn ready_slot(
+    pub(crate) fn stage_proposal(
         &mut self,
         ballot: Ballot,
         slot: u32,
         value: V,
     ) -> Result<Ready<V>, AllocError>
         requires slot { slot < SLOTS }
-        requires keeps { Keeps (length self.old.node.weights) (takes_slot self.old.node ballot slot value) }
-        ensures ready { IfOk result (IsReadyFor self.new (takes_slot self.old.node ballot slot value)) }
+        requires preserves { PreservesInvariant (length self.old.node.weights) (proposes_value self.old.node ballot slot value) }
+        ensures ready { IfOk result (IsReadyFor self.new (proposes_value self.old.node ballot slot value)) }
         ensures node { self.new.node ≡ self.old.node }
-        ensures room { HasAtLeast self.old self.new }
+        ensures room { HasNoLessRoom self.old self.new }
     {
         let value = Some(value);
         let message = Broadcast::Accept {
@@ -71,16 +71,16 @@ impl<V: Value> NodeCore<V> {
         };
         let posts = broadcast_posts(self.alloc, self.me, &self.weights, &message)?;
         let next = slot + 1;
-        Ok(self.ready_proposer(ProposerUpdate::Propose { ballot, next }, posts))
+        Ok(self.stage_proposer_update(ProposerUpdate::Propose { ballot, next }, posts))
     }
 
     /// Stages the start of a ballot.
-    pub(crate) fn ready_ballot(&mut self, ballot: Ballot) -> Result<Ready<V>, AllocError>
-        requires keeps { Keeps (length self.old.node.weights) (begins self.old.node) }
+    pub(crate) fn stage_ballot(&mut self, ballot: Ballot) -> Result<Ready<V>, AllocError>
+        requires preserves { PreservesInvariant (length self.old.node.weights) (begins self.old.node) }
         requires ballot { ballot ≡ next_ballot self.old.node }
         ensures ready { IfOk result (IsReadyFor self.new (begins self.old.node)) }
         ensures node { self.new.node ≡ self.old.node }
-        ensures room { HasAtLeast self.old self.new }
+        ensures room { HasNoLessRoom self.old self.new }
     {
         let first = self.learner.front();
         let pages = ReceivedPages::of_nodes(self.alloc, &self.weights)?;
@@ -99,14 +99,14 @@ impl<V: Value> NodeCore<V> {
     }
 
     /// Stages the step of a Nack: giving up the ballot if a higher one is promised.
-    pub(crate) fn ready_nack(&self, ballot: Ballot, promise: Ballot) -> Ready<V>
-        requires { Keeps (length self.now.node.weights) (on_nack self.now.node ballot promise) }
+    pub(crate) fn stage_nack(&self, ballot: Ballot, promise: Ballot) -> Ready<V>
+        requires { PreservesInvariant (length self.now.node.weights) (on_nack self.now.node ballot promise) }
         ensures { IsReadyFor self.now (on_nack self.now.node ballot promise) result }
     {
-        if self.proposer.role().is_at(ballot) && ballot.is_under(promise) {
-            self.ready_proposer(ProposerUpdate::Idle, Vec::new(self.alloc))
+        if self.proposer.role().is_at(ballot) && ballot.is_below(promise) {
+            self.stage_proposer_update(ProposerUpdate::Idle, Vec::new(self.alloc))
         } else {
-            self.ready_nothing()
+            self.stage_nothing()
         }
     }
 }

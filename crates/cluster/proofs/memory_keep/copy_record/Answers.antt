@@ -1,9 +1,9 @@
-use Rattle.cluster.proofs.Words.{List, Option, ap, ◌∙◌, arith, entry_at, AcceptedEntry, with_entry}
-use Rattle.cluster.proofs.LongerRecordLemmas.{with_next}
+use Rattle.cluster.proofs.Words.{List, Option, ap, ◌∙◌, arith, entry_at, AcceptedEntry, with_copied_slot}
+use Rattle.cluster.proofs.CopiedSlotsLemmas.{with_next}
 use Rattle.cluster.proofs.memory_keep.copy_record.Goals as goal
 
 pub loop-slot-preserved : goal.loop-slot-preserved
 loop-slot-preserved g c =
     c.in_ok-copy_slot.ensures
-    ∙ ap (λ (xs : List (Option (AcceptedEntry g.row.V.Denot))). with_entry xs c.loop-slot.slot (entry_at c.args.source.now.kept.accepted c.loop-slot.slot)) c.loop-slot.invariant
+    ∙ ap (λ (xs : List (Option (AcceptedEntry g.row.V.Denot))). with_copied_slot xs c.loop-slot.slot (entry_at c.args.source.now.kept.accepted c.loop-slot.slot)) c.loop-slot.invariant
     ∙ with_next c.args.source.now.kept.accepted c.loop-slot.slot (omega (arith, c.top-slot-end.ensures.top, c.loop-slot-test.true))

@@ -1,5 +1,5 @@
 use Rattle.std.proofs.Common.{arith}
-use Rattle.net.proofs.TakenLemmas.{new_nodes-push}
+use Rattle.net.proofs.HistoryLemmas.{new_nodes-push}
 use Rattle.net.proofs.net.new_nodes.Goals as goal
 
 pub loop-k-preserved : goal.loop-k-preserved

@@ -1,11 +1,11 @@
-use Rattle.nodes.proofs.Words.{◌≡◌, List, take, ap, sym, ◌∙◌, arith, take_all, Event, Carried, own_counts}
-use Rattle.nodes.proofs.ReportLemmas.{no_sum, own_counts-none, counts_more, report_of}
+use Rattle.nodes.proofs.Words.{◌≡◌, List, take, ap, sym, ◌∙◌, arith, take_all, Event, Carried, event_counts}
+use Rattle.nodes.proofs.ReportLemmas.{no_sum, event_counts-none, counts_more, report_of}
 use Rattle.nodes.proofs.report.count_events.Goals as goal
 
 pub loop-event-init : goal.loop-event-init
 loop-event-init g c = record {
   total = no_sum c.args.handled.items c.args.nodes c.requires;
-  counts = λ w is. c.requires ∙ sym (own_counts-none w 0 c.args.nodes);
+  counts = λ w is. c.requires ∙ sym (event_counts-none w 0 c.args.nodes);
   few = omega arith;
 }
 
@@ -21,4 +21,4 @@ pub returns : goal.returns
 returns g c =
     let all : take c.loop-event.event-index c.history-history.result.now ≡ c.history-history.result.now = take_all _ _ (omega (arith, c.loop-event-test.false)) in
     report_of c.args.switch.now c.args.nodes c.loop-event.handled.items c.history-history.ensures.taken
-    (λ w is. c.loop-event.invariant.counts w is ∙ ap (λ (es : List (Event Carried)). own_counts w 0 c.args.nodes es) (all ∙ c.history-history.ensures.history))
+    (λ w is. c.loop-event.invariant.counts w is ∙ ap (λ (es : List (Event Carried)). event_counts w 0 c.args.nodes es) (all ∙ c.history-history.ensures.history))

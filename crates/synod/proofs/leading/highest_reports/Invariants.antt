@@ -1,4 +1,4 @@
-use Rattle.synod.proofs.Words.{◌≡◌, ◌≤◌, ◌+◌, ◌-◌, ℕ, length, take, slice_index_or, None, all_of, AreHighest}
+use Rattle.synod.proofs.Words.{◌≡◌, ◌≤◌, ◌+◌, ◌-◌, ℕ, length, take, slice_index_or, None, reports_of_pages, IsHighestTable}
 use Rattle.synod.proofs.leading.highest_reports.Given as goal
 
 abbrev pub invariant-loop-slot : goal.invariant-loop-slot
@@ -10,6 +10,6 @@ invariant-loop-slot g l = record {
 
 abbrev pub invariant-loop-page : goal.invariant-loop-page
 invariant-loop-page g l = record {
-  highest : AreHighest l.first l.table.items (all_of (take l.page-index l.pages));
+  highest : IsHighestTable l.first l.table.items (reports_of_pages (take l.page-index l.pages));
   slots : length l.table.items ≡ l.top - l.first;
 }

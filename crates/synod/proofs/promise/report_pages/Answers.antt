@@ -15,12 +15,12 @@ loop-slot-preserved g c = elim c.match-get.branch [
         let made = v.new.ensures in
         let none = v.new-page-then-len-eq-PAGE_REPORTS.ensures.items in
         let copy = w.in_ok-copy_value.ensures in
-        gathers-new c.args.first c.loop-slot.slot _ c.loop-slot.pages.items c.loop-slot.page.items c.loop-slot.invariant (omega arith) w.in-Some.held.now w.in-Some.ensures (omega (arith, w.len.ensures, v.if-len-eq-PAGE_REPORTS.true))
+        gathers-new c.args.first c.loop-slot.slot _ c.loop-slot.pages.items c.loop-slot.page.items c.loop-slot.invariant (omega arith) w.in-Some.entry.now w.in-Some.ensures (omega (arith, w.len.ensures, v.if-len-eq-PAGE_REPORTS.true))
         c.match-get.pages.items c.match-get.page.items (rw (w.pages-is, v.pages-is, posted, made) refl) (rw (w.page-is, pushed, v.page-is, none, copy) refl)
     | else-len-eq-PAGE_REPORTS v ↦
         let pushed = w.in_ok-push-2.ensures.items in
         let copy = w.in_ok-copy_value.ensures in
-        rw (w.pages-is, v.pages-is) (gathers-add c.args.first c.loop-slot.slot _ c.loop-slot.pages.items c.loop-slot.page.items c.loop-slot.invariant (omega arith) w.in-Some.held.now w.in-Some.ensures
+        rw (w.pages-is, v.pages-is) (gathers-add c.args.first c.loop-slot.slot _ c.loop-slot.pages.items c.loop-slot.page.items c.loop-slot.invariant (omega arith) w.in-Some.entry.now w.in-Some.ensures
         (λ e. v.if-len-eq-PAGE_REPORTS.false (omega (arith, w.len.ensures, e))) c.match-get.page.items (rw (w.page-is, pushed, v.page-is, copy) refl))
   ]
   | in_default w ↦ rw (w.pages-is, w.page-is) (gathers-gap c.args.first c.loop-slot.slot _ _ _ c.loop-slot.invariant (omega arith) w.in_default.ensures)

@@ -1,7 +1,7 @@
-use Rattle.world.proofs.Words.{◌≡◌, List, ◌∷◌, ◌++◌, [], ap, sym, ◌∙◌, subst, append_assoc, into_iter_items, into_iter_steps, append-nil, nil_from_length, Yields-more, Entry, Event, carried, all_carried, carried_size, Taken, Carried, Headline, Replicas, taken_front, stops_there}
-use Rattle.world.proofs.EntryLogs.{all_carried-append}
+use Rattle.world.proofs.Words.{◌≡◌, List, ◌∷◌, ◌++◌, [], ap, sym, ◌∙◌, subst, append_assoc, into_iter_items, into_iter_steps, append-nil, nil_from_length, Yields-more, Entry, Event, value_event, value_events, carried_size, History, Carried, Headline, WorldView, taken_front, stops_there}
+use Rattle.world.proofs.EntryLogs.{value_events-append}
 use Rattle.world.proofs.HeadlineLemmas.{headline_holds}
-use Rattle.world.proofs.ReplicasLemmas.{run_goes_on, step_taken}
+use Rattle.world.proofs.WorldViewLemmas.{run_goes_on, step_taken}
 use Rattle.world.proofs.replay.run.Goals as goal
 
 pub returns-in-Err-step-clause-stops : goal.returns-in-Err-step-clause-stops
@@ -12,16 +12,16 @@ returns-in-Err-step-clause-stops c =
     let rest = into_iter_items c.next.new.self in
     let more = Yields-more into_iter_steps it done c.loop-event.event-iterator e c.next.new.self c.loop-event.yielded_by c.in-Some.ensures.steps in
     let split : c.args.events.items ≡ done ++ e ∷ rest = sym c.into_iter-event-iterator.ensures.into_iter_gives.0 ∙ (taken_front it (done ++ e ∷ []) c.next.new.self more ∙ append_assoc done (e ∷ []) rest) in
-    let cut : all_carried c.args.events.items ≡ all_carried done ++ carried e ∷ all_carried rest = ap (λ (es : List (Event Entry)). all_carried es) split ∙ all_carried-append done (e ∷ rest) in
-    stops_there carried_size c.args.weights (all_carried c.args.events.items) (all_carried done) (all_carried rest) (carried e) c.loop-event.world.taken c.step.new.self.taken c.history.result.now c.in-Err-step.fault
-    cut (ap (λ (r : Replicas). r.taken) c.loop-event.invariant.world) (ap (λ (r : Replicas). r.taken) c.in-Err-step.ensures.same) c.history.ensures.events c.history.ensures.headline.agreement.is_taken c.in-Err-step.ensures.refused c.in-Err-step.ensures.only_memory
+    let cut : value_events c.args.events.items ≡ value_events done ++ value_event e ∷ value_events rest = ap (λ (es : List (Event Entry)). value_events es) split ∙ value_events-append done (e ∷ rest) in
+    stops_there carried_size c.args.weights (value_events c.args.events.items) (value_events done) (value_events rest) (value_event e) c.loop-event.world.history c.step.new.self.history c.history.result.now c.in-Err-step.fault
+    cut (ap (λ (r : WorldView). r.history) c.loop-event.invariant.world) (ap (λ (r : WorldView). r.history) c.in-Err-step.ensures.same) c.history.ensures.events c.history.ensures.headline.agreement.is_taken c.in-Err-step.ensures.refused c.in-Err-step.ensures.only_memory
 
 pub loop-event-preserved : goal.loop-event-preserved
 loop-event-preserved c = record {
   can = tt;
   finite = tt;
   world = run_goes_on c.args.weights c.loop-event.yielded c.in-Some.event c.loop-event.world c.step.new.self c.loop-event.invariant.world c.in_default.ensures.taken;
-  taken = step_taken c.loop-event.world c.step.new.self (carried c.in-Some.event) c.step.result _ c.in_default.ensures.taken c.in_default.is c.step.ensures.refused;
+  taken = step_taken c.loop-event.world c.step.new.self (value_event c.in-Some.event) c.step.result _ c.in_default.ensures.taken c.in_default.is c.step.ensures.refused;
 }
 
 pub returns-clause-headline : goal.returns-clause-headline
@@ -32,5 +32,5 @@ returns-clause-headline c =
     let whole : c.args.events.items ≡ done =
     sym c.into_iter-event-iterator.ensures.into_iter_gives.0 ∙ (taken_front c.into_iter-event-iterator.result done it c.loop-event.yielded_by
     ∙ (ap (λ (es : List (Event Entry)). done ++ es) none ∙ append-nil done)) in
-    subst Headline (ap (λ (r : Replicas). r.taken) c.loop-event.invariant.world ∙ ap (λ (es : List (Event Entry)). let t : Taken Carried = record { weights = c.args.weights; events = all_carried es } in t) (sym whole))
-    (headline_holds c.loop-event.world.taken c.loop-event.invariant.taken)
+    subst Headline (ap (λ (r : WorldView). r.history) c.loop-event.invariant.world ∙ ap (λ (es : List (Event Entry)). let t : History Carried = record { weights = c.args.weights; events = value_events es } in t) (sym whole))
+    (headline_holds c.loop-event.world.history c.loop-event.invariant.taken)

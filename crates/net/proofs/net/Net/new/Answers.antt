@@ -1,4 +1,4 @@
-use Rattle.net.proofs.TakenLemmas.{start_of_world}
+use Rattle.net.proofs.HistoryLemmas.{start_of_world}
 use Rattle.net.proofs.net.Net.new.Goals as goal
 
 pub invariant_of-result : goal.invariant_of-result

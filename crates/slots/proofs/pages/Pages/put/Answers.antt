@@ -1,5 +1,5 @@
 use Rattle.slots.proofs.Words.{◌∙◌, ◌/◌, ◌%◌, sym, ap, arith, length, set, List, Option, Some, length-set, entry_at, joined}
-use Rattle.slots.proofs.PagesLemmas.{length-joined, entry_at-joined, set-joined, whole-set, whole-at}
+use Rattle.slots.proofs.PagesLemmas.{length-joined, entry_at-joined, set-joined, full_size-set, full_size-at}
 use Rattle.slots.proofs.pages.Pages.put.Goals as goal
 
 pub index_mut-page-requires : goal.index_mut-page-requires
@@ -10,10 +10,10 @@ index_mut-page-requires g c =
 
 pub invariant_of-self : goal.invariant_of-self
 invariant_of-self g c =
-    whole-set c.self.inside.pages.items (c.args.slot / 256) c.put.new.self c.self.invariant
+    full_size-set c.self.inside.pages.items (c.args.slot / 256) c.put.new.self c.self.invariant
     (ap (λ (page : List (Option g.row.T.Denot)). length page) c.put.ensures.put
     ∙ length-set c.index_mut-page.result.now (c.args.slot % 256) (Some c.args.entry)
-    ∙ whole-at c.self.inside.pages.items (c.args.slot / 256) c.index_mut-page.result.now c.self.invariant c.index_mut-page.ensures.value
+    ∙ full_size-at c.self.inside.pages.items (c.args.slot / 256) c.index_mut-page.result.now c.self.invariant c.index_mut-page.ensures.value
     (let slots = ap (λ (slots : List (Option g.row.T.Denot)). length slots) c.self.view_is in
     let pages = length-joined c.self.inside.pages.items c.self.invariant in
     omega (arith, slots, pages, c.requires)))

@@ -22,7 +22,7 @@ returns-then-has_room-clause-front g c = λ entry.
     ap (λ (v : SlotsView g.row.T.Denot). front_of (put_at v.entries c.args.slot entry)) (sym c.self.view_is)
     ∙ front_of-put_at-trimmed c.self.inside.pages c.args.slot entry (c.if-slot-self.false ∙ c.self.invariant.front_is)
     ∙ ap (λ (i : ℕ). i + front_of (drop i c.self.inside.pages)) (sym (add-one c.args.slot))
-    ∙ sym c.gap_from.ensures
+    ∙ sym c.first_empty_from.ensures
 
 pub returns-then-has_room-clause-within : goal.returns-then-has_room-clause-within
 returns-then-has_room-clause-within g c =
@@ -30,7 +30,7 @@ returns-then-has_room-clause-within g c =
     let below = has_room_is c.has_room.result c.args.slot c.args.self.now.room (length c.self.inside.pages) c.has_room.ensures room c.if-has_room.true in
     let rest = front_of-le (drop (c.args.slot + 1) c.self.inside.pages) in
     let left = length-drop (c.args.slot + 1) c.self.inside.pages in
-    omega (arith, c.self.invariant.within, c.gap_from.ensures, rest, left, below)
+    omega (arith, c.self.invariant.within, c.first_empty_from.ensures, rest, left, below)
 
 pub returns-else-has_room-clause-front : goal.returns-else-has_room-clause-front
 returns-else-has_room-clause-front g c = λ entry.

@@ -2,8 +2,8 @@ use Rattle.slots.proofs.Words.{◌∙◌, ◌+◌, ℕ, max, drop, sym, ap, arit
 use Rattle.slots.proofs.FiniteMapLemmas.{trimmed-set, top_of-put_at, front_of-le, front_of-set, entry_at-trimmed, top_of-trimmed-le}
 use Rattle.slots.proofs.slots.Slots.put.Goals as goal
 
-pub gap_from-self-inside-requires-clause-from : goal.gap_from-self-inside-requires-clause-from
-gap_from-self-inside-requires-clause-from g c =
+pub first_empty_from-self-inside-requires-clause-from : goal.first_empty_from-self-inside-requires-clause-from
+first_empty_from-self-inside-requires-clause-from g c =
     let same = ap (λ (slots : List (Option g.row.T.Denot)). length slots) c.put-before.ensures.put ∙ length-set c.self.inside.pages c.args.slot (Some c.args.entry) in
     omega (arith, same, c.self.invariant.front_is, front_of-le c.self.inside.pages)
 
@@ -13,7 +13,7 @@ invariant_of-self g c =
     let room = ap (λ (v : SlotsView g.row.T.Denot). v.room) c.self.view_is in
     record {
       within = omega (arith, same, c.self.invariant.within);
-      front_is = c.gap_from-self-inside.ensures
+      front_is = c.first_empty_from-self-inside.ensures
           ∙ ap (λ (i : ℕ). i + front_of (drop i c.put-before.new.self)) c.self.invariant.front_is
           ∙ ap (λ (slots : List (Option g.row.T.Denot)). front_of c.self.inside.pages + front_of (drop (front_of c.self.inside.pages) slots)) c.put-before.ensures.put
           ∙ front_of-set c.self.inside.pages c.args.slot c.args.entry

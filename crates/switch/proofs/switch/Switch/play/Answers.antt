@@ -1,4 +1,4 @@
-use Rattle.switch.proofs.Words.{ℕ, false, Result, Err, subst, sym, ◌∙◌, ForOk, Event, StepFault, Down, ActsDown, ActsUp, world_of}
+use Rattle.switch.proofs.Words.{ℕ, false, Result, Err, subst, sym, ◌∙◌, ForOk, Event, StepFault, Down, IsEffectAtDownNode, IsEffectAtUpNode, world_of}
 use Rattle.switch.proofs.DispatchLemmas.{no_restart, refused_down, test_at}
 use Rattle.switch.proofs.TieLemmas.{found_at, plays_down, plays_up}
 use Rattle.switch.proofs.switch.Switch.play.Goals as goal
@@ -6,13 +6,13 @@ use Rattle.switch.proofs.switch.Switch.play.Goals as goal
 pub returns-in-Restart : goal.returns-in-Restart
 returns-in-Restart g c =
     let p = plays_down g.V.Value.bytes _ _ c.self.invariant _ c.self.view_is c.args.event c.node_of.result c.node_of.ensures (sym c.is_down-is_down.ensures ∙ c.if-is_down.true) c.revive.new.self c.revive.result
-    (subst (λ (e : Event g.row.V.Denot). ForOk (world_of g.V.Value.bytes c.args.self.now) (λ x. ActsDown g.V.Value.bytes x c.args.self.now c.revive.new.self e c.revive.result)) (sym c.in-Restart.is) c.revive.ensures) in
+    (subst (λ (e : Event g.row.V.Denot). ForOk (world_of g.V.Value.bytes c.args.self.now) (λ x. IsEffectAtDownNode g.V.Value.bytes x c.args.self.now c.revive.new.self e c.revive.result)) (sym c.in-Restart.is) c.revive.ensures) in
     record { plays = p.0; logs = p.1 }
 
 pub returns-in-Restart-2 : goal.returns-in-Restart-2
 returns-in-Restart-2 g c =
     let p = plays_up g.V.Value.bytes _ _ c.self.invariant _ c.self.view_is c.args.event c.node_of.result c.node_of.ensures (sym c.is_down-is_down.ensures ∙ c.if-is_down.false) c.reload.new.self c.reload.result
-    (subst (λ (e : Event g.row.V.Denot). ForOk (world_of g.V.Value.bytes c.args.self.now) (λ x. ActsUp g.V.Value.bytes x c.args.self.now c.reload.new.self e c.reload.result)) (sym c.in-Restart-2.is) c.reload.ensures) in
+    (subst (λ (e : Event g.row.V.Denot). ForOk (world_of g.V.Value.bytes c.args.self.now) (λ x. IsEffectAtUpNode g.V.Value.bytes x c.args.self.now c.reload.new.self e c.reload.result)) (sym c.in-Restart-2.is) c.reload.ensures) in
     record { plays = p.0; logs = p.1 }
 
 pub returns-in_default : goal.returns-in_default

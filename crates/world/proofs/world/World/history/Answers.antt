@@ -1,6 +1,6 @@
-use Rattle.world.proofs.Words.{subst, Replicas, Headline}
+use Rattle.world.proofs.Words.{subst, WorldView, Headline}
 use Rattle.world.proofs.HeadlineLemmas.{headline_of}
 use Rattle.world.proofs.world.World.history.Goals as goal
 
 pub returns-clause-headline : goal.returns-clause-headline
-returns-clause-headline c = subst (λ (r : Replicas). Headline r.taken) c.self.view_is (headline_of c.self.inside.net.taken c.history.ensures.agreement)
+returns-clause-headline c = subst (λ (r : WorldView). Headline r.history) c.self.view_is (headline_of c.self.inside.net.history c.history.ensures.agreement)

@@ -1,9 +1,0 @@
--- The accepted entries of a record with one more slot copied.
--- Source: this project's profile.
--- The code copies a record slot by slot. A slot without an entry adds nothing.
-use Rattle.std.specs.Prelude.{ℕ, List, Option, Some, None}
-use Rattle.cluster.specs.Words.{put_at}
-
-abbrev pub with_entry : {T : Type 0} → List (Option T) → ℕ → Option T → List (Option T)
-with_entry xs s None = xs
-with_entry xs s (Some v) = put_at xs s v

@@ -1,4 +1,0 @@
-use Rattle.synod.proofs.node.NodeCore.ready_posts.Goals as goal
-
-pub new-requires : goal.new-requires
-new-requires g c = record { change = tt; proposer = tt; learner = tt; node = c.nodes.ensures.node }

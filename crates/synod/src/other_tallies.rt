@@ -1,0 +1,71 @@
+//! The votes at a slot under other ballots than the one first counted there, by slot and ballot.
+ghost use Rattle.std.specs.Prelude.{◌≡◌, ◌<◌, ◌≤◌, ◌≢◌, ℕ, [], OnOk};
+ghost use Rattle.synod.specs.Learner.{counted_in, with_voter};
+ghost use Rattle.synod.specs.Stored.OtherTallies.{other_tallies_at, voters_among};
+
+use crate::ballot::Ballot;
+use crate::tally::with_mark;
+use crate::weights::MOST_NODES;
+use indexmap::IndexMap;
+use std::alloc::{AllocError, Global};
+use std::marker::Model;
+
+/// The votes at slots where another ballot was counted first, in the order in which their ballots were first counted.
+///
+/// A table by slot and ballot: counting a vote costs one look-up, however many ballots have votes at the slot.
+#[derive(Drop)]
+pub struct OtherTallies {
+    voters: IndexMap<(u32, Ballot), [bool; MOST_NODES]>,
+}
+
+impl Model for OtherTallies {
+    ghost use Rattle.indexmap.specs.IndexMap.{spare};
+    ghost use Rattle.synod.specs.Core.{OtherTalliesView};
+
+    ghost Value = { OtherTalliesView };
+
+    ghost view = { λ t. record { votes = t.voters.entries; room = spare t.voters } };
+}
+
+impl OtherTallies {
+    /// Creates a table without votes. It does not allocate.
+    pub(crate) fn new(alloc: Global) -> Self
+        ensures { result.votes ≡ [] }
+    {
+        OtherTallies {
+            voters: IndexMap::new(alloc),
+        }
+    }
+
+    /// Reserves room for one more tally. The votes are unchanged.
+    pub(crate) fn room(&mut self) -> Result<(), AllocError>
+        ensures ok { OnOk result (0 < self.new.room) }
+        ensures votes { self.new.votes ≡ self.old.votes }
+        ensures room { self.old.room ≤ self.new.room }
+    {
+        self.voters.reserve(1)
+    }
+
+    /// Returns the voters in the table at a slot under a ballot, and `node`.
+    pub(crate) fn voters_with(&self, slot: u32, ballot: Ballot, node: u8) -> [bool; MOST_NODES]
+        requires { node < MOST_NODES }
+        ensures { result ≡ with_voter (voters_among self.now.votes slot ballot) node }
+    {
+        let voters = match self.voters.get(&(slot, ballot)) {
+            Some(voters) => *voters,
+            None => [false; MOST_NODES],
+        };
+        with_mark(voters, node)
+    }
+
+    /// Counts a vote. It does not allocate.
+    pub(crate) fn count(&mut self, slot: u32, ballot: Ballot, node: u8)
+        requires node { node < MOST_NODES }
+        requires room { 0 < self.old.room }
+        ensures here { other_tallies_at self.new.votes slot ≡ counted_in (other_tallies_at self.old.votes slot) ballot node }
+        ensures others { (s : ℕ) → s ≢ slot → other_tallies_at self.new.votes s ≡ other_tallies_at self.old.votes s }
+    {
+        let voters = self.voters_with(slot, ballot, node);
+        let _ = self.voters.insert((slot, ballot), voters);
+    }
+}

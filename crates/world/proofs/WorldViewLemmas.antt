@@ -1,0 +1,179 @@
+-- The libraries of a world: each is that of its log, whatever event comes and whichever entry is applied.
+use Rattle.world.proofs.Words.{◌≡◌, ◌≢◌, ℕ, zero, suc, ◌+◌, ◌==◌, Bool, true, false, List, [], ◌∷◌, ◌++◌, length, take, replicate, set, slice_get, Option, Some, None, Result, Ok, Err, refl, ap, sym, ◌∙◌, subst, arith, add-one, length-append, IsOk, IfErr, nat_tests, length-set, length-replicate, take-append-le, slice_get_within, take_next, Entry, Verdict, Applies, IsLibraryOf, library-more, Carried, Event, Offer, Begin, Deliver, Restart, StepFault, World, start, event_result, events_result, log, log_after, IsPrefixOf, History, world_of, with_event, carried_size, value_event, value_events, entries_of, NodeLibrary, WorldView, new_node_library, new_node_libraries, restarts, with_library_reset, after_event, log_entries, IsOfLog, AreLibrariesOfLogs, if_taken, events_result-append, after-push, log_grows, at_set_other}
+use Rattle.world.proofs.EntryLogs.{value_events-append, entries_begin}
+
+-- A library and its log.
+
+-- a new library is that of no entries of a log
+pub new_is_of_log : (log : List (Option Entry)) → IsOfLog log new_node_library
+new_is_of_log log = record { within = omega arith; library = refl }
+
+-- it is that of a longer log too
+pub of_longer : (log longer : List (Option Entry)) (node : NodeLibrary) → IsPrefixOf log longer → IsOfLog log node → IsOfLog longer node
+of_longer log longer node begins h = record {
+  within = let count : length log + length begins.0 ≡ length longer = sym (length-append log begins.0) ∙ ap (λ (es : List (Option Entry)). length es) begins.1 in
+      let low = h.within in omega (arith, count, low);
+  library = subst (λ (es : List (Option Entry)). IsLibraryOf es node.library) (sym (take-append-le node.applied log begins.0 h.within) ∙ ap (λ (es : List (Option Entry)). take node.applied es) begins.1) h.library;
+}
+
+-- with the next entry applied
+pub of_log_applied : (log : List (Option Entry)) (node : NodeLibrary) (entry : Option Entry) (verdict : Verdict) (next : NodeLibrary) → IsOfLog log node → slice_get log node.applied ≡ Some entry → Applies node.library entry verdict next.library → next.applied ≡ node.applied + 1
+    → IsOfLog log next
+of_log_applied log node entry verdict next h is applies one_more =
+    let up : next.applied ≡ suc node.applied = one_more ∙ add-one node.applied in
+    record {
+      within = let low = slice_get_within log node.applied entry is in omega (arith, up, low);
+      library = subst (λ (es : List (Option Entry)). IsLibraryOf es next.library) (sym (ap (λ (n : ℕ). take n log) up ∙ take_next log node.applied entry is))
+          (library-more (take node.applied log) node.library next.library entry verdict h.library applies);
+    }
+
+-- The libraries of all nodes.
+
+-- what is found at an index where an element was set is that element
+set_new : {A : Type 0} (xs : List A) (i : ℕ) (y z : A) → slice_get (set xs i y) i ≡ Some z → z ≡ y
+set_new [] i y z got = cc
+set_new (v ∷ xs) zero y z got = cc
+set_new (v ∷ xs) (suc i) y z got = set_new xs i y z got
+
+get-replicate : {A : Type 0} (n k : ℕ) (x y : A) → slice_get (replicate n x) k ≡ Some y → y ≡ x
+get-replicate zero k x y is = cc
+get-replicate (suc n) zero x y is = cc
+get-replicate (suc n) (suc k) x y is = get-replicate n k x y is
+
+-- new libraries, one a node, are those of their logs
+pub new_are_replicas : (history : History Carried) (nodes : ℕ) → nodes ≡ length history.weights → (libraries : List NodeLibrary) → libraries ≡ replicate nodes new_node_library → AreLibrariesOfLogs (record { history = history; libraries = libraries })
+new_are_replicas history nodes count libraries new = subst (λ (ls : List NodeLibrary). AreLibrariesOfLogs (record { history = history; libraries = ls })) (sym new) record {
+  one_each = length-replicate nodes new_node_library ∙ count;
+  of_logs = λ k node is. subst (λ (n : NodeLibrary). IsOfLog (log_entries history k) n) (sym (get-replicate nodes k new_node_library node is)) (new_is_of_log (log_entries history k));
+}
+
+-- One event more.
+
+-- an event that restarts node n is no restart of another node
+restart_other : (k : ℕ) (e : Event Carried) (n : ℕ) → restarts e ≡ Some n → n ≢ k → e ≢ Restart k
+restart_other k (Offer j v) n is other = cc
+restart_other k (Begin j) n is other = cc
+restart_other k (Deliver number) n is other = cc
+restart_other k (Restart j) n is other = λ same. other (let a : j ≡ n = cc in let b : j ≡ k = cc in sym a ∙ b)
+
+-- an event that restarts no node is no restart of node k
+no_restart : (k : ℕ) (e : Event Carried) → restarts e ≡ None → e ≢ Restart k
+no_restart k (Offer j v) is = λ same. let no = same in cc
+no_restart k (Begin j) is = λ same. let no = same in cc
+no_restart k (Deliver number) is = λ same. let no = same in cc
+no_restart k (Restart j) is = λ same. cc
+
+module _ (history : History Carried) (w x : World Carried) (was : world_of carried_size history ≡ Ok w) (e : Event Carried) (is : world_of carried_size (with_event history e) ≡ Ok x) where
+  -- the event leads from the world before it to the one after it
+  happened : event_result carried_size w e ≡ Ok x
+  happened = sym (after-push carried_size history.weights history.events w e was) ∙ is
+
+  -- an event but a restart of node k leaves the log of its entries a beginning of the new one
+  log_longer : (k : ℕ) → e ≢ Restart k → IsPrefixOf (log_entries history k) (log_entries (with_event history e) k)
+  log_longer k other =
+      let grows = if_taken (λ (y : World Carried). IsPrefixOf (log w k) (log y k)) (event_result carried_size w e) x happened (log_grows carried_size w k e other) in
+      let longer = entries_begin (log w k) (log x k) grows in
+      (longer.0, ap (λ (r : Result (World Carried) StepFault). entries_of (log_after r k) ++ longer.0) was ∙ longer.1 ∙ ap (λ (r : Result (World Carried) StepFault). entries_of (log_after r k)) (sym is))
+
+  -- an event but a restart of node k leaves a library that of the log of node k
+  stays_of_log : (k : ℕ) (node : NodeLibrary) → e ≢ Restart k → IsOfLog (log_entries history k) node → IsOfLog (log_entries (with_event history e) k) node
+  stays_of_log k node other h = of_longer (log_entries history k) (log_entries (with_event history e) k) node (log_longer k other) h
+
+  -- the library at k, where node n restarts
+  at_restart : (libraries : List NodeLibrary) (n k : ℕ) → restarts e ≡ Some n → (node old : NodeLibrary) → slice_get (set libraries n new_node_library) k ≡ Some node
+      → ((other : NodeLibrary) → slice_get libraries k ≡ Some other → IsOfLog (log_entries history k) other) → (t : Bool) → (n == k) ≡ t → IsOfLog (log_entries (with_event history e) k) node
+  at_restart libraries n k restart node old got each false test =
+      let other : n ≢ k = grind (arith, nat_tests) in
+      stays_of_log k node (restart_other k e n restart other) (each node (sym (at_set_other libraries n k new_node_library other) ∙ got))
+  at_restart libraries n k restart node old got each true test =
+      let same : n ≡ k = grind (arith, nat_tests) in
+      let new : node ≡ new_node_library = set_new libraries k new_node_library node (subst (λ (i : ℕ). slice_get (set libraries i new_node_library) k ≡ Some node) same got) in
+      subst (λ (l : NodeLibrary). IsOfLog (log_entries (with_event history e) k) l) (sym new) (new_is_of_log (log_entries (with_event history e) k))
+
+  -- each library, the one of a node that restarts given up, is that of its log after the event
+  keeps_each : (libraries : List NodeLibrary) → ((k : ℕ) (node : NodeLibrary) → slice_get libraries k ≡ Some node → IsOfLog (log_entries history k) node)
+      → (o : Option ℕ) → restarts e ≡ o → (k : ℕ) (node : NodeLibrary) → slice_get (with_library_reset libraries o) k ≡ Some node → IsOfLog (log_entries (with_event history e) k) node
+  keeps_each libraries each None none k node got = stays_of_log k node (no_restart k e none) (each k node got)
+  keeps_each libraries each (Some n) restart k node got = at_restart libraries n k restart node node got (each k) (n == k) refl
+
+-- there are as many libraries where one is given up
+as_many : (libraries : List NodeLibrary) (o : Option ℕ) → length (with_library_reset libraries o) ≡ length libraries
+as_many libraries None = refl
+as_many libraries (Some k) = length-set libraries k new_node_library
+
+-- an event that is taken comes after events that are taken
+ok_before : (history : History Carried) (e : Event Carried) → IsOk (world_of carried_size (with_event history e)) → IsOk (world_of carried_size history)
+ok_before history e is = before (world_of carried_size history) (subst IsOk (events_result-append carried_size history.events (e ∷ []) (Ok (start history.weights))) is) where
+  before : (r : Result (World Carried) StepFault) → IsOk (events_result carried_size (e ∷ []) r) → IsOk r
+  before (Ok w) h = refl
+  before (Err fault) h = h
+
+-- an event that is taken leaves each library that of its log
+then_are_replicas : (old : WorldView) (e : Event Carried) → IsOk (world_of carried_size (with_event old.history e)) → AreLibrariesOfLogs old → AreLibrariesOfLogs (after_event old e)
+then_are_replicas old e is h = both (world_of carried_size old.history) refl (world_of carried_size (with_event old.history e)) refl (ok_before old.history e is) is where
+  both : (r : Result (World Carried) StepFault) → world_of carried_size old.history ≡ r → (s : Result (World Carried) StepFault) → world_of carried_size (with_event old.history e) ≡ s → IsOk r → IsOk s → AreLibrariesOfLogs (after_event old e)
+  both (Ok w) at (Ok x) then ok done = record {
+    one_each = as_many old.libraries (restarts e) ∙ h.one_each;
+    of_logs = keeps_each old.history w x at e then old.libraries h.of_logs (restarts e) refl;
+  }
+  both (Err fault) at s then ok done = let no : false ≡ true = ok in cc
+  both (Ok w) at (Err fault) then ok done = let no : false ≡ true = done in cc
+
+-- where a count was answered and no fault is met by it, the events are taken
+ok_unless_met : (r : Result (World Carried) StepFault) (count : ℕ) → IfErr r (λ fault. let answer : Result ℕ StepFault = Ok count in answer ≡ Err fault) → IsOk r
+ok_unless_met (Ok w) count h = refl
+ok_unless_met (Err fault) count h = cc
+
+-- the events after a step that is taken
+pub step_taken : {A : Type 0} (old new : WorldView) (e : Event Carried) (result : Result A StepFault) (answer : A) → new ≡ after_event old e → result ≡ Ok answer
+    → IfErr (world_of carried_size (with_event old.history e)) (λ fault. result ≡ Err fault) → IsOk (world_of carried_size new.history)
+step_taken old new e result answer becomes ok refused = subst (λ (r : WorldView). IsOk (world_of carried_size r.history)) (sym becomes) (met (world_of carried_size (with_event old.history e)) refused) where
+  met : (r : Result (World Carried) StepFault) → IfErr r (λ fault. result ≡ Err fault) → IsOk r
+  met (Ok w) h = refl
+  met (Err fault) h = cc
+
+-- what a step leaves
+pub step_keeps : (old : WorldView) (e : Event Carried) (history : History Carried) (libraries : List NodeLibrary) (restarted : Option ℕ) (count : ℕ) → AreLibrariesOfLogs old
+    → history ≡ with_event old.history e → restarted ≡ restarts e → libraries ≡ with_library_reset old.libraries restarted
+    → IfErr (world_of carried_size (with_event old.history e)) (λ fault. let answer : Result ℕ StepFault = Ok count in answer ≡ Err fault) → AreLibrariesOfLogs (record { history = history; libraries = libraries })
+step_keeps old e history libraries restarted count h is restarts_is given refused =
+    subst AreLibrariesOfLogs (sym (record_is history (with_event old.history e) libraries (with_library_reset old.libraries (restarts e)) is (given ∙ ap (λ (o : Option ℕ). with_library_reset old.libraries o) restarts_is)))
+    (then_are_replicas old e (ok_unless_met (world_of carried_size (with_event old.history e)) count refused) h) where
+      record_is : (s t : History Carried) (ls ms : List NodeLibrary) → s ≡ t → ls ≡ ms → let r : WorldView = record { history = s; libraries = ls } in r ≡ record { history = t; libraries = ms }
+      record_is s t ls ms a b = ap (λ (u : History Carried). let r : WorldView = record { history = u; libraries = ls } in r) a ∙ ap (λ (ns : List NodeLibrary). let r : WorldView = record { history = t; libraries = ns } in r) b
+
+-- One entry applied at node k.
+
+-- where the library of node k is set to one of its log, each is still that of its log
+pub applied_are_replicas : (old : WorldView) (k : ℕ) (next : NodeLibrary) → AreLibrariesOfLogs old → IsOfLog (log_entries old.history k) next → AreLibrariesOfLogs (record { history = old.history; libraries = set old.libraries k next })
+applied_are_replicas old k next h here = record {
+  one_each = length-set old.libraries k next ∙ h.one_each;
+  of_logs = λ j node got. at_node j node got (k == j) refl;
+} where
+  at_node : (j : ℕ) (node : NodeLibrary) → slice_get (set old.libraries k next) j ≡ Some node → (t : Bool) → (k == j) ≡ t → IsOfLog (log_entries old.history j) node
+  at_node j node got true test =
+      let same : k ≡ j = grind (arith, nat_tests) in
+      let new : node ≡ next = set_new old.libraries j next node (subst (λ (i : ℕ). slice_get (set old.libraries i next) j ≡ Some node) same got) in
+      subst (λ (l : NodeLibrary). IsOfLog (log_entries old.history j) l) (sym new) (subst (λ (i : ℕ). IsOfLog (log_entries old.history i) next) same here)
+  at_node j node got false test =
+      let other : k ≢ j = grind (arith, nat_tests) in
+      h.of_logs j node (sym (at_set_other old.libraries k j next other) ∙ got)
+
+-- A run on new libraries leaves them new.
+
+-- new libraries, where one is given up, are new libraries
+new_given_up : (n : ℕ) (o : Option ℕ) → with_library_reset (replicate n new_node_library) o ≡ replicate n new_node_library
+new_given_up n None = refl
+new_given_up n (Some k) = set_again n k where
+  set_again : (m i : ℕ) → set (replicate m new_node_library) i new_node_library ≡ replicate m new_node_library
+  set_again zero i = refl
+  set_again (suc m) zero = refl
+  set_again (suc m) (suc i) = ap (λ ls. new_node_library ∷ ls) (set_again m i)
+
+-- the replicas of a run, with one event more, have new libraries as before
+pub run_goes_on : (weights : List ℕ) (done : List (Event Entry)) (e : Event Entry) (old new : WorldView) → old ≡ record { history = record { weights = weights; events = value_events done }; libraries = new_node_libraries weights }
+    → new ≡ after_event old (value_event e) → new ≡ record { history = record { weights = weights; events = value_events (done ++ e ∷ []) }; libraries = new_node_libraries weights }
+run_goes_on weights done e old new was is =
+    is ∙ (ap (λ (r : WorldView). after_event r (value_event e)) was
+    ∙ (ap (λ (es : List (Event Carried)). let r : WorldView = record { history = record { weights = weights; events = es }; libraries = with_library_reset (new_node_libraries weights) (restarts (value_event e)) } in r) (sym (value_events-append done (e ∷ [])))
+    ∙ ap (λ (ls : List NodeLibrary). let r : WorldView = record { history = record { weights = weights; events = value_events (done ++ e ∷ []) }; libraries = ls } in r) (new_given_up (length weights) (restarts (value_event e)))))

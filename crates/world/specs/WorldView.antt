@@ -1,0 +1,83 @@
+-- A world as contracts see it: its weights, the events taken, and each node's library with the count of entries applied.
+-- Source: Lamport, Paxos Made Simple, section 3: a server executes the commands in order, each when it knows all earlier ones.
+-- The code has the nodes and packets too; by its type, each library is that of the first entries of its node's log.
+use Rattle.std.specs.Prelude.{◌≡◌, ◌+◌, ◌≤◌, ℕ, List, [], Option, Some, None, Result, Ok, Err, length, take, replicate, slice_get, slice_set}
+use Rattle.world.specs.Words.{Entry, Verdict, Replica, empty, Applies, IsLibraryOf, Event, StepFault, Memory, Offer, Begin, Deliver, Restart, log_after, History, world_of, with_event}
+use Rattle.world.specs.declared.carried.Carried.{Carried}
+use Rattle.world.specs.Carried.{carried_size, entries_of}
+
+-- a node's library, and the number of entries of its log that were applied to it
+pub record NodeLibrary : Type 0 where
+  pub applied : ℕ
+  pub library : Replica
+
+pub record WorldView : Type 0 where
+  pub history : History Carried
+  pub libraries : List NodeLibrary  -- one for each node
+
+abbrev pub new_node_library : NodeLibrary
+new_node_library = record { applied = 0; library = empty }
+
+abbrev pub new_node_libraries : List ℕ → List NodeLibrary
+new_node_libraries weights = replicate (length weights) new_node_library
+
+-- a world before any event
+abbrev pub new_world : List ℕ → WorldView
+new_world weights = record { history = record { weights = weights; events = [] }; libraries = new_node_libraries weights }
+
+-- the node that the event restarts, if it is a restart
+abbrev pub restarts : {V : Type 0} → Event V → Option ℕ
+restarts (Offer k v) = None
+restarts (Begin k) = None
+restarts (Deliver number) = None
+restarts (Restart k) = Some k
+
+-- the libraries, with that of this node, if there is one, emptied
+abbrev pub with_library_reset : List NodeLibrary → Option ℕ → List NodeLibrary
+with_library_reset libraries None = libraries
+with_library_reset libraries (Some k) = slice_set libraries k new_node_library
+
+-- a world after one more event: the library of a node that restarts is emptied
+abbrev pub after_event : WorldView → Event Carried → WorldView
+after_event r e = record { history = with_event r.history e; libraries = with_library_reset r.libraries (restarts e) }
+
+-- the log of node k after the events
+abbrev pub log_entries : History Carried → ℕ → List (Option Entry)
+log_entries history k = entries_of (log_after (world_of carried_size history) k)
+
+-- the library is that of the first entries of the log, as many as were applied
+pub record IsOfLog (log : List (Option Entry)) (node : NodeLibrary) : Type 0 where
+  pub within : node.applied ≤ length log
+  pub library : IsLibraryOf (take node.applied log) node.library
+
+-- there is one library for each node, each of its node's log
+pub record AreLibrariesOfLogs (r : WorldView) : Type 0 where
+  pub one_each : length r.libraries ≡ length r.history.weights
+  pub of_logs : (k : ℕ) (node : NodeLibrary) → slice_get r.libraries k ≡ Some node → IsOfLog (log_entries r.history k) node
+
+-- The next entry of a log.
+
+abbrev pub next_of : List (Option Entry) → Option NodeLibrary → Option (Option Entry)
+next_of log None = None
+next_of log (Some node) = slice_get log node.applied
+
+-- the entry of node k's log to be applied next, if there is one
+abbrev pub next_entry : WorldView → ℕ → Option (Option Entry)
+next_entry r k = next_of (log_entries r.history k) (slice_get r.libraries k)
+
+-- the entry is applied to the library of node k, with this verdict, and nothing else changes
+pub record IsApplied (old : WorldView) (k : ℕ) (entry : Option Entry) (verdict : Verdict) (new : WorldView) : Type 0 where
+  pub before : NodeLibrary
+  pub library : Replica
+  pub was : slice_get old.libraries k ≡ Some before
+  pub applies : Applies before.library entry verdict library
+  pub becomes : new ≡ record { history = old.history; libraries = slice_set old.libraries k (record { applied = before.applied + 1; library = library }) }
+
+-- the entry is applied with this verdict, or there is none; or an allocation fails, and nothing changes
+abbrev pub AppliesNext : NodeLibrary → NodeLibrary → Option (Option Entry) → Result (Option Verdict) StepFault → Type 0
+AppliesNext old new None (Ok None) = new ≡ old
+AppliesNext old new None (Ok (Some verdict)) = ⊥
+AppliesNext old new None (Err fault) = ⊥
+AppliesNext old new (Some entry) (Ok None) = ⊥
+AppliesNext old new (Some entry) (Ok (Some verdict)) = Applies old.library entry verdict new.library × (new.applied ≡ old.applied + 1)
+AppliesNext old new (Some entry) (Err fault) = (fault ≡ Memory) × (new ≡ old)
