@@ -38,7 +38,7 @@ assertion_of p = record { whole = p.whole; hypotheses = p.hypotheses.now; requir
 -- each hypothesis has its number and its typecode, and the groups are parts of the places
 pub record AreShapedParts (p : AssertionParts) : Type 0 where
   pub paired : length p.required.now ≡ length p.hypotheses.now
-  pub headed : length p.typecodes.now ≡ length p.hypotheses.now
+  pub typecodes_counted : length p.typecodes.now ≡ length p.hypotheses.now
   pub grouped : AreSpansIn (length p.places.now) p.groups.now
 
 -- the statement with this header, these symbols and these parts

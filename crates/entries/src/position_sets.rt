@@ -14,10 +14,10 @@ use std::marker::Model;
 const MOST_NODES: usize = 0xffff_fffe;
 
 /// One side of a node may weigh at most this many times the other. A side's weight is its number of positions plus one.
-const HEAVIER: usize = 3;
+const MOST_IMBALANCE: usize = 3;
 
 /// A side whose inner part weighs at least this many times its outer part needs a double rotation.
-const INNER: usize = 2;
+const DOUBLE_ROTATION_RATIO: usize = 2;
 
 /// A set that is not empty: a position, and an earlier set on either side of it.
 #[derive(Clone, Copy, Drop)]
@@ -161,7 +161,7 @@ impl PositionSets {
         if self.has(set, position) {
             return Ok(set);
         }
-        let made = self.put_in(set, position);
+        let made = self.insert_node(set, position);
         if made.is_err() {
             self.truncate(size);
         }
@@ -215,7 +215,7 @@ impl PositionSets {
     }
 
     /// Makes the set with one more position, copying the nodes on the path to it.
-    fn put_in(&mut self, set: u32, position: u32) -> Result<u32, AllocError>
+    fn insert_node(&mut self, set: u32, position: u32) -> Result<u32, AllocError>
         ensures made { IfOk result (IsSet self.new (with_position position (set_at self.old set))) }
         ensures more { Extends self.old self.new }
     {
@@ -224,12 +224,12 @@ impl PositionSets {
         };
         match position.cmp(&top.position) {
             Ordering::Less => {
-                let left = self.put_in(top.left, position)?;
+                let left = self.insert_node(top.left, position)?;
                 self.balance(left, top.position, top.right)
             }
             Ordering::Equal => Ok(set),
             Ordering::Greater => {
-                let right = self.put_in(top.right, position)?;
+                let right = self.insert_node(top.right, position)?;
                 self.balance(top.left, top.position, right)
             }
         }
@@ -262,12 +262,12 @@ impl PositionSets {
     {
         let below = self.len(left) + 1;
         let above = self.len(right) + 1;
-        if above > HEAVIER * below
+        if above > MOST_IMBALANCE * below
             && let Some(right) = self.top(right)
         {
             return self.rotate_left(left, position, right);
         }
-        if below > HEAVIER * above
+        if below > MOST_IMBALANCE * above
             && let Some(left) = self.top(left)
         {
             return self.rotate_right(left, position, right);
@@ -285,7 +285,7 @@ impl PositionSets {
         ensures more { Extends self.old self.new }
     {
         let outer = self.len(right.right) + 1;
-        if self.len(right.left) + 1 >= INNER * outer
+        if self.len(right.left) + 1 >= DOUBLE_ROTATION_RATIO * outer
             && let Some(inner) = self.top(right.left)
         {
             let below = self.join(left, position, inner.left)?;
@@ -306,7 +306,7 @@ impl PositionSets {
         ensures more { Extends self.old self.new }
     {
         let outer = self.len(left.left) + 1;
-        if self.len(left.right) + 1 >= INNER * outer
+        if self.len(left.right) + 1 >= DOUBLE_ROTATION_RATIO * outer
             && let Some(inner) = self.top(left.right)
         {
             let below = self.join(left.left, left.position, inner.left)?;

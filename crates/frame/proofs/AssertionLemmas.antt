@@ -115,7 +115,7 @@ filled-kept es S s ps d all other p = record {
 pub parts-for : (k : Storage) (s : Stmt) (d : Assertion) → IsKeptOf k s d → ArePartsFor k s d
 parts-for k s d p = record {
   paired = ap length p.required_kept ∙ length-map d.hypotheses (required_at k.entries);
-  headed = ap length p.typecodes_kept ∙ length-map d.hypotheses (typecode_at k.entries);
+  typecodes_counted = ap length p.typecodes_kept ∙ length-map d.hypotheses (typecode_at k.entries);
   kept = λ has. p;
 }
 

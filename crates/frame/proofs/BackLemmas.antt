@@ -1,10 +1,10 @@
 -- Going back over the active statements of a kind that stand in the last block.
-use Rattle.frame.proofs.Words.{◌≡◌, ◌∙◌, ap, sym, subst, arith, refl, inl, inr, ℕ, suc, ◌+◌, ◌-◌, ◌<◌, ◌≤◌, ◌⊎◌, Bool, true, false, cond, nat_eq, List, [], ◌∷◌, ◌++◌, length, length-take, take, take_all, take-append_seam, length-append, append_assoc, append-nil, slice_get, Some, list_any, Stmt, Database, Entry, Kind, LastActive, is_open, is_close, actives, actives_from, last_active_of_kind, last_active_of, Storage, statements_of, names_in, labels_in, stmt_of, AreStored, Disj, Var, StackVersion, IsUntil, AreUntil, history, kept_until, gone_back, stack_at, stack-later, stack-changed, option_symbols, has_code, having, AreStacks, kind_test, latest_of, last_by_kind, opening, KeepsUntil, AreChangedBy, IsNext, NextStatement, IsWalked}
+use Rattle.frame.proofs.Words.{◌≡◌, ◌∙◌, ap, sym, subst, arith, refl, inl, inr, ℕ, suc, ◌+◌, ◌-◌, ◌<◌, ◌≤◌, ◌⊎◌, Bool, true, false, cond, nat_eq, List, [], ◌∷◌, ◌++◌, length, length-take, take, take_all, take-append_seam, length-append, append_assoc, append-nil, slice_get, Some, list_any, Stmt, Database, Entry, Kind, LastActive, is_open, is_close, actives, actives_from, last_active_of_kind, last_active_of, Storage, statements_of, names_in, labels_in, stmt_of, AreStored, Disj, Var, StackVersion, IsUntil, AreUntil, history, kept_until, gone_back, stack_at, stack-later, stack-changed, option_symbols, has_code, positions_with, AreStacks, kind_test, latest_of, last_by_kind, opening, KeepsUntil, AreChangedBy, IsNext, NextStatement, AreStacksOfStorage}
 use Rattle.mm_read.specs.declared.stmt.Stmt.TheVariants as stmt
 use Rattle.entries.specs.declared.kind.Kind.TheVariants.{Close}
 use Rattle.frame.proofs.OpenLemmas.{HasLast, split_last, last-position, actives-append, stays-from, is-open}
 use Rattle.frame.proofs.KindWalk.{IsChain, IsAt, disjoint_chain, variable_chain, walked, as-many, walk-from, walk-step}
-use Rattle.frame.proofs.StackLemmas.{AreIn, actives-in, having-push, all-later, next-same, back-twice, back-until, back-kept, opening-back, opening-some, opening-low}
+use Rattle.frame.proofs.StackLemmas.{AreIn, actives-in, positions_with-push, all-later, next-same, back-twice, back-until, back-kept, opening-back, opening-some, opening-low}
 use Rattle.frame.proofs.BlockWalkLemmas.{last-within}
 
 -- ---- a list of positions, cut at one
@@ -67,7 +67,7 @@ pub record IsGoing (of : Kind) (k : Storage) (block before at p : ℕ) (old now 
   pub rest : List (ℕ × Stmt)
   pub list : actives (kind_test of) (statements_of k) ≡ walked (kind_test of) k p ++ rest
   pub above : AreIn (suc block) (length k.entries) rest
-  pub each : (c : ℕ) → (history now c ≡ gone_back at before (history old c)) ⊎ ((history now c ≡ history old c) × (stack_at (history old c) at ≡ having k.entries c (walked (kind_test of) k p)))
+  pub each : (c : ℕ) → (history now c ≡ gone_back at before (history old c)) ⊎ ((history now c ≡ history old c) × (stack_at (history old c) at ≡ positions_with k.entries c (walked (kind_test of) k p)))
 
 module _ (of : Kind) (k : Storage) (block before at : ℕ) (old : List (List StackVersion)) (stored : AreStored k) (stacks : AreStacks (kind_test of) old k.entries (statements_of k)) (place : at ≡ length k.entries + 1) where
   abbrev S : Database
@@ -88,7 +88,7 @@ module _ (of : Kind) (k : Storage) (block before at : ℕ) (old : List (List Sta
         above = tt;
         each = λ c. inr (
           refl,
-          stacks.each c at (omega (arith, place)) (omega (arith, place)) ∙ ap (having k.entries c) (ap (actives kind) (take_all (at - 1) S (omega (arith, place, as-many k))) ∙ sym same),
+          stacks.each c at (omega (arith, place)) (omega (arith, place)) ∙ ap (positions_with k.entries c) (ap (actives kind) (take_all (at - 1) S (omega (arith, place, as-many k))) ∙ sym same),
         );
       }
 
@@ -107,8 +107,8 @@ module _ (of : Kind) (k : Storage) (block before at : ℕ) (old : List (List Sta
       }
     where
       by : (c : ℕ) (b : Bool) → list_any (λ y. nat_eq c y) e.symbols ≡ b → history new c ≡ cond b (gone_back at before (history now c)) (history now c)
-          → (history now c ≡ gone_back at before (history old c)) ⊎ ((history now c ≡ history old c) × (stack_at (history old c) at ≡ having k.entries c (walked kind k p)))
-          → (history new c ≡ gone_back at before (history old c)) ⊎ ((history new c ≡ history old c) × (stack_at (history old c) at ≡ having k.entries c (walked kind k (last_by_kind of e.last_active))))
+          → (history now c ≡ gone_back at before (history old c)) ⊎ ((history now c ≡ history old c) × (stack_at (history old c) at ≡ positions_with k.entries c (walked kind k p)))
+          → (history new c ≡ gone_back at before (history old c)) ⊎ ((history new c ≡ history old c) × (stack_at (history old c) at ≡ positions_with k.entries c (walked kind k (last_by_kind of e.last_active))))
       by c true has h (inl back) = inl (h ∙ (ap (gone_back at before) back ∙ back-twice at before (history old c)))
       by c true has h (inr stay) = inl (h ∙ ap (gone_back at before) stay.0)
       by c false has h (inl back) = inl (h ∙ back)
@@ -118,7 +118,7 @@ module _ (of : Kind) (k : Storage) (block before at : ℕ) (old : List (List Sta
           let told : has_code k.entries c p ≡ false = ap (λ o. list_any (λ y. nat_eq c y) (option_symbols o)) got ∙ has in
           inr (
             h ∙ stay.0,
-            stay.1 ∙ (ap (having k.entries c) s.list ∙ (having-push k.entries c (walked kind k q) (p, stmt_of (names_in k) (labels_in k) e) ∙ ap (λ t. cond t (p ∷ having k.entries c (walked kind k q)) (having k.entries c (walked kind k q))) told)),
+            stay.1 ∙ (ap (positions_with k.entries c) s.list ∙ (positions_with-push k.entries c (walked kind k q) (p, stmt_of (names_in k) (labels_in k) e) ∙ ap (λ t. cond t (p ∷ positions_with k.entries c (walked kind k q)) (positions_with k.entries c (walked kind k q))) told)),
           )
 
   module _ (p : ℕ) (now : List (List StackVersion)) (g : IsGoing of k block before at p old now) where
@@ -131,14 +131,14 @@ module _ (of : Kind) (k : Storage) (block before at : ℕ) (old : List (List Sta
     pub going-until : AreUntil at now
     going-until c = by (g.each c)
       where
-        by : (history now c ≡ gone_back at before (history old c)) ⊎ ((history now c ≡ history old c) × (stack_at (history old c) at ≡ having k.entries c (walked kind k p))) → IsUntil at (history now c)
+        by : (history now c ≡ gone_back at before (history old c)) ⊎ ((history now c ≡ history old c) × (stack_at (history old c) at ≡ positions_with k.entries c (walked kind k p))) → IsUntil at (history now c)
         by (inl back) = subst (IsUntil at) (sym back) (back-until at before (history old c) (all-later (at - 1) at old (omega arith) old-until c))
         by (inr stay) = subst (IsUntil at) (sym stay.0) (all-later (at - 1) at old (omega arith) old-until c)
 
     pub going-kept : KeepsUntil (at - 1) old now
     going-kept c = by (g.each c)
       where
-        by : (history now c ≡ gone_back at before (history old c)) ⊎ ((history now c ≡ history old c) × (stack_at (history old c) at ≡ having k.entries c (walked kind k p))) → kept_until (at - 1) (history now c) ≡ kept_until (at - 1) (history old c)
+        by : (history now c ≡ gone_back at before (history old c)) ⊎ ((history now c ≡ history old c) × (stack_at (history old c) at ≡ positions_with k.entries c (walked kind k p))) → kept_until (at - 1) (history now c) ≡ kept_until (at - 1) (history old c)
         by (inl back) = ap (kept_until (at - 1)) back ∙ back-kept at before (at - 1) low (history old c)
         by (inr stay) = ap (kept_until (at - 1)) stay.0
 
@@ -148,34 +148,34 @@ module _ (of : Kind) (k : Storage) (block before at : ℕ) (old : List (List Sta
         last : block ≡ last_active_of_kind is_open S
         last = is ∙ ap (λ l. l.block) stored.kept.last
 
-        by : (c : ℕ) → (history now c ≡ gone_back at before (history old c)) ⊎ ((history now c ≡ history old c) × (stack_at (history old c) at ≡ having k.entries c (walked kind k p))) → stack_at (history now c) (at + 1) ≡ stack_at (history old c) (opening block)
+        by : (c : ℕ) → (history now c ≡ gone_back at before (history old c)) ⊎ ((history now c ≡ history old c) × (stack_at (history old c) at ≡ positions_with k.entries c (walked kind k p))) → stack_at (history now c) (at + 1) ≡ stack_at (history old c) (opening block)
         by c (inl back) =
             ap (λ vs. stack_at vs (at + 1)) back ∙ (stack-changed at (stack_at (history old c) before) (history old c) (at - 1) (old-until c) low ∙ ap (stack_at (history old c)) opens)
         by c (inr stay) =
             ap (λ vs. stack_at vs (at + 1)) stay.0
             ∙ (stack-later (history old c) (at - 1) (at + 1) at (old-until c) (omega arith) low
             ∙ (stay.1
-            ∙ (ap (having k.entries c) (front-same kind (no-open of) S block last p (length k.entries) g.rest le g.list g.above ∙ ap (λ n. actives kind (take n S)) (sym (opening-back block)))
+            ∙ (ap (positions_with k.entries c) (front-same kind (no-open of) S block last p (length k.entries) g.rest le g.list g.above ∙ ap (λ n. actives kind (take n S)) (sym (opening-back block)))
             ∙ sym (stacks.each c (opening block) (opening-some block) (omega (arith, opening-low block, last, last-within is_open S refl, as-many k))))))
 
 -- ---- the walk over the entries that a storage has
 
 pub record IsBackTo (of : Kind) (es : List Entry) (last_active : LastActive) (before at p : ℕ) (old now : List (List StackVersion)) : Type 0 where
-  pub walked_by : IsWalked of es last_active old
+  pub walked_by : AreStacksOfStorage of es last_active old
   pub going : IsGoing of walked_by.storage last_active.block before at p old now
 
 module _ (of : Kind) (es : List Entry) (last_active : LastActive) (before at : ℕ) (old : List (List StackVersion)) (place : at ≡ length es + 1) where
-  stacks-of : (w : IsWalked of es last_active old) → AreStacks (kind_test of) old w.storage.entries (statements_of w.storage)
+  stacks-of : (w : AreStacksOfStorage of es last_active old) → AreStacks (kind_test of) old w.storage.entries (statements_of w.storage)
   stacks-of w = subst (λ fs. AreStacks (kind_test of) old fs (statements_of w.storage)) w.entries_are w.stacks
 
-  place-of : (w : IsWalked of es last_active old) → at ≡ length w.storage.entries + 1
+  place-of : (w : AreStacksOfStorage of es last_active old) → at ≡ length w.storage.entries + 1
   place-of w = place ∙ ap (λ fs. length fs + 1) w.entries_are
 
-  pub back-start : (p : ℕ) → IsWalked of es last_active old → p ≡ last_by_kind of last_active → IsBackTo of es last_active before at p old old
+  pub back-start : (p : ℕ) → AreStacksOfStorage of es last_active old → p ≡ last_by_kind of last_active → IsBackTo of es last_active before at p old old
   back-start p w is = record { walked_by = w; going = going-start of w.storage last_active.block before at old w.stored (stacks-of w) (place-of w) p (is ∙ ap (last_by_kind of) w.last_active_are) }
 
   module _ (p : ℕ) (now : List (List StackVersion)) (b : IsBackTo of es last_active before at p old now) where
-    abbrev w : IsWalked of es last_active old
+    abbrev w : AreStacksOfStorage of es last_active old
     w = b.walked_by
 
     pub back-within : p ≤ length es
@@ -216,12 +216,12 @@ pub next-other : (at : ℕ) (old : List (List StackVersion)) (after : ℕ → Li
 next-other at old after one until is = let n = next-same at one old until in record { latest = λ c. n.latest c ∙ sym (is c); until = n.until; kept = n.kept }
 
 -- until the last entry
-pub walked-until : (of : Kind) (es : List Entry) (last_active : LastActive) (hs : List (List StackVersion)) (at : ℕ) → IsWalked of es last_active hs → at ≡ length es + 1 → AreUntil (at - 1) hs
+pub walked-until : (of : Kind) (es : List Entry) (last_active : LastActive) (hs : List (List StackVersion)) (at : ℕ) → AreStacksOfStorage of es last_active hs → at ≡ length es + 1 → AreUntil (at - 1) hs
 walked-until of es last_active hs at w place c = subst (λ n. IsUntil n (history hs c)) (omega (arith, place)) (w.stacks.until c)
 
 -- a storage that grew has the stacks that it had
-pub walked-disj : (old : Storage) (es : List Entry) (last_active : LastActive) (hs : List (List StackVersion)) → AreStored old → es ≡ old.entries → last_active ≡ old.last_active → hs ≡ old.disjoints → IsWalked Disj es last_active hs
+pub walked-disj : (old : Storage) (es : List Entry) (last_active : LastActive) (hs : List (List StackVersion)) → AreStored old → es ≡ old.entries → last_active ≡ old.last_active → hs ≡ old.disjoints → AreStacksOfStorage Disj es last_active hs
 walked-disj old es last_active hs stored entries same is = record { storage = old; stored = stored; entries_are = entries; last_active_are = same; stacks = rw (is, entries) stored.disjoints }
 
-pub walked-var : (old : Storage) (es : List Entry) (last_active : LastActive) (hs : List (List StackVersion)) → AreStored old → es ≡ old.entries → last_active ≡ old.last_active → hs ≡ old.variables → IsWalked Var es last_active hs
+pub walked-var : (old : Storage) (es : List Entry) (last_active : LastActive) (hs : List (List StackVersion)) → AreStored old → es ≡ old.entries → last_active ≡ old.last_active → hs ≡ old.variables → AreStacksOfStorage Var es last_active hs
 walked-var old es last_active hs stored entries same is = record { storage = old; stored = stored; entries_are = entries; last_active_are = same; stacks = rw (is, entries) stored.variables }

@@ -1,5 +1,5 @@
 -- The symbols of a legal assertion: each variable is that of one mandatory `$f`. So the results that it takes determine the one that it gives.
-use Rattle.frame.proofs.Words.{list_all, All, All-filter, All-map, All-get_or, All-from_get_or, slice_get_within, get_or_from_slice_get, sym, ◌∙◌, ap, append-nil, subst, get_or, ◌≡◌, ℕ, suc, ◌-◌, Bool, true, false, cond, List, [], ◌∷◌, ◌++◌, length, map, filter, slice_get, Some, refl, bytes_eq-Decides, and_parts, and_from, or_left, or_right, Name, name_eq, has_name, Stmt, Expr, Database, stays_open, stmt_at, before, expr_of, is_variable, HasAssertion, is_used, is_mandatory, is_hypothesis, hypotheses, groups, separates, mandatory_groups, OfVariables, premises, expr_at, HasFloat, IsBound, IsSingle, take-get}
+use Rattle.frame.proofs.Words.{list_all, All, All-filter, All-map, All-get_or, All-from_get_or, slice_get_within, get_or_from_slice_get, sym, ◌∙◌, ap, append-nil, subst, get_or, ◌≡◌, ℕ, suc, ◌-◌, Bool, true, false, cond, List, [], ◌∷◌, ◌++◌, length, map, filter, slice_get, Some, refl, bytes_eq-Decides, and_parts, and_from, or_left, or_right, Name, name_eq, has_name, Stmt, Expr, Database, stays_open, stmt_at, before, expr_of, is_variable, HasAssertion, is_used, is_mandatory, is_hypothesis, hypotheses, groups, has_two_or_more, mandatory_groups, OfVariables, premises, expr_at, HasFloat, IsBound, IsSingle, take-get}
 use Rattle.frame.proofs.LegalAfter.{stands-at}
 use Rattle.mm_read.specs.declared.stmt.Stmt.TheVariants.{Float, Ess}
 use Rattle.frame.specs.Substitution.{Images, image, apply as applied}
@@ -56,7 +56,7 @@ module _ (S : Database) (a : ℕ) (s : Stmt) (legal : AllKept S) (is : HasAssert
       let m = is_mandatory T s in
       let P = λ (names : List Name). (y : Name) → has_name y names ≡ true → m y ≡ true in
       let all : All P (mandatory_groups T s)
-      = All-filter separates P (map (filter m) (groups T)) (All-map P (filter m) (groups T) (All-from_get_or (λ names. P (filter m names)) (groups T) []
+      = All-filter has_two_or_more P (map (filter m) (groups T)) (All-map P (filter m) (groups T) (All-from_get_or (λ names. P (filter m names)) (groups T) []
       (λ i lt y k. (and_parts (has_name y (get_or (groups T) i [])) (m y) (sym (has-filter m y (get_or (groups T) i [])) ∙ k)).1))) in
       mandatory x (subst P (get_or_from_slice_get (mandatory_groups T s) k g [] h) (All-get_or P (mandatory_groups T s) k [] (slice_get_within (mandatory_groups T s) k g h) all) x has)
 

@@ -1,7 +1,7 @@
 -- Lists that have the mandatory pairs of an assertion: the groups of its frame, or a list for each pair.
-use Rattle.frame.proofs.Words.{◌≡◌, ◌∙◌, ap, sym, subst, arith, refl, true≢false, inl, inr, or_cases, or_right, ℕ, zero, suc, ◌+◌, ◌-◌, ◌<◌, ◌==◌, nat_eq, Bool, true, false, not, ◌&&◌, ◌||◌, or-false, and-false, and-or_distrib_left, List, [], ◌∷◌, ◌++◌, length, map, take, get_or, list_any, list_any_more, list_any-append, list_any-map, Name, name_eq, has_name, name_at, AreDistinct, Stmt, Database, before, decode, expr_of, is_assertion, hypotheses, is_mandatory, mandatory_groups, AreBelow, AllBelow, AreRequired, AreListsOf, IsKeptAs, is_typed, groups_by, symbols_at, required_at, required_by, option_required, typecode_at, is_typed_by, AreHypotheses, AreNumbered, HasTwo, Kind, Float, AreSought, slice_get_within, ◌⊎◌, actives, is_disj, Assertion, AssertionView, Entry, Storage, AreStored, names_in, labels_in, statements_of, are_pair, IsFilledFrom}
+use Rattle.frame.proofs.Words.{◌≡◌, ◌∙◌, ap, sym, subst, arith, refl, true≢false, inl, inr, or_cases, or_right, ℕ, zero, suc, ◌+◌, ◌-◌, ◌<◌, ◌==◌, nat_eq, Bool, true, false, not, ◌&&◌, ◌||◌, or-false, and-false, and-or_distrib_left, List, [], ◌∷◌, ◌++◌, length, map, take, get_or, list_any, list_any_more, list_any-append, list_any-map, Name, name_eq, has_name, name_at, AreDistinct, Stmt, Database, before, decode, expr_of, is_assertion, hypotheses, is_mandatory, mandatory_groups, AreBelow, AllBelow, AreRequired, AreListsOf, IsKeptAs, is_typed, groups_by, symbols_at, required_at, required_by, option_required, typecode_at, is_typed_by, AreHypotheses, AreNumbered, HasTwo, Kind, Float, AreSearched, slice_get_within, ◌⊎◌, actives, is_disj, Assertion, AssertionView, Entry, Storage, AreStored, names_in, labels_in, statements_of, are_pair, IsFilledFrom}
 use Rattle.frame.specs.AssertionView.{AreCitingListsOf, AreMandatoryPairs, IsCited, has_both}
-use Rattle.frame.specs.Stored.PairLists.{HasPairs, IsFilledByPairs, IsFilledForCitation, IsPlace, are_among, is_beside}
+use Rattle.frame.specs.Stored.PairLists.{HasPairs, IsFilledByPairs, IsFilledForCitation, IsSearchPosition, are_among, is_beside}
 use Rattle.frame.proofs.AssertionLemmas.{filled-kept}
 use Rattle.frame.proofs.AssertionViewLemmas.{IsThere}
 use Rattle.frame.proofs.BufferedHypotheses.{filled-lists}
@@ -200,7 +200,7 @@ module _ (k : Storage) (at : ℕ) where
   pub among-start : (d : Assertion) → HasPairs k at (are_among []) d d
   among-start d = pairs-same (are_among []) d (λ u v differ. and-false (are_pair k at u v))
 
-  pub sought-at : (x y : ℕ) → IsPlace k at → x < length (names_in k) → y < length (names_in k) → (x == y) ≡ false → AreSought k at x y
+  pub sought-at : (x y : ℕ) → IsSearchPosition k at → x < length (names_in k) → y < length (names_in k) → (x == y) ≡ false → AreSearched k at x y
   sought-at x y p first second differ = record { stored = p.stored; distinct = p.distinct; above = p.above; within = p.within; first = first; second = second; differ = differ }
 
   pub by-pairs : (ps vs : List ℕ) (old new : Assertion) → HasPairs k at (are_among vs) old new → old.groups ≡ [] → old.hypotheses ≡ ps → old.required ≡ map (required_at k.entries) ps
@@ -305,7 +305,7 @@ module _ (k : Storage) (a i : ℕ) (s : Stmt) (e : Entry) (stored : AreStored k)
   citing ps d (inl p) h = filled-citing ps d p h
   citing ps d (inr p) h = paired-citing ps d p h
 
-  pub place-of : IsPlace k a
+  pub place-of : IsSearchPosition k a
   place-of =
       let place = t.place in
       let within = slice_get_within k.entries i e t.here in

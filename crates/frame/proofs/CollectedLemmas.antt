@@ -1,5 +1,5 @@
 -- The positions that are collected are those of the mandatory hypotheses, in order.
-use Rattle.frame.proofs.Words.{take_all, take-take, sym, ◌∙◌, ap, subst, arith, inl, inr, ⊎_elim, append_assoc, ◌≡◌, ℕ, suc, ◌+◌, ◌-◌, ◌<◌, true, ◌&&◌, ◌⊎◌, List, [], ◌∷◌, ◌++◌, length, map, take, drop, slice_get, Some, refl, take-append_seam, or_left, and_parts, and_from, both_ways, slice_get_within, ⊎_map, length-map, Name, has_name, Stmt, Database, stays_open, is_active, expr_of, is_essential, is_variable, is_float_of, name_at, decode, AreDistinct, is_used, is_hypothesis, hypotheses, AreBelow, Entry, stmt_of, floats, last_from, last_where, AreNumbered, In, IsFloatOf, SomeFloat, IsGiven, AreFloats, AreWith, AreCollected, kept_at, option_kept, is_float_in, floats_in, take-get}
+use Rattle.frame.proofs.Words.{take_all, take-take, sym, ◌∙◌, ap, subst, arith, inl, inr, ⊎_elim, append_assoc, ◌≡◌, ℕ, suc, ◌+◌, ◌-◌, ◌<◌, true, ◌&&◌, ◌⊎◌, List, [], ◌∷◌, ◌++◌, length, map, take, drop, slice_get, Some, refl, take-append_seam, or_left, and_parts, and_from, both_ways, slice_get_within, ⊎_map, length-map, Name, has_name, Stmt, Database, stays_open, is_active, expr_of, is_essential, is_variable, is_float_of, name_at, decode, AreDistinct, is_used, is_hypothesis, hypotheses, AreBelow, Entry, stmt_of, floats, last_from, last_where, AreNumbered, In, IsFloatOf, SomeFloat, IsFromEssentials, AreFloats, AreWith, AreCollected, kept_at, option_kept, is_float_in, floats_in, take-get}
 use Rattle.frame.proofs.LastActiveLemmas.{cut-here, length-cut}
 use Rattle.mm_read.specs.declared.stmt.Stmt.TheVariants as stmt
 use Rattle.frame.proofs.LegalLabels.{AllKept}
@@ -52,7 +52,7 @@ module _ (es : List Entry) (names labels : List Name) (i : ℕ) (all : AllKept (
       let stays = open_both 0 g.rest (h.stmt ∷ h.rest) g.stays (stays-after h.stmt h.rest h.passes h.stays) in
       float-hyp p g.front f.0 f.1 f.2 (g.rest ++ h.stmt ∷ h.rest) cut g.at stays (used-in S s f.2 h.front h.stmt h.rest h.whole h.stays h.passes f.4)
 
-  given-hyp : (p : ℕ) → In p (floats_in S (expr_of s)) ⊎ IsGiven es S p → In p (hypotheses S s)
+  given-hyp : (p : ℕ) → In p (floats_in S (expr_of s)) ⊎ IsFromEssentials es S p → In p (hypotheses S s)
   given-hyp p (inl j) =
       let g = active-members S (is_float_in (expr_of s)) p [] S 1 refl refl j in
       let f = float-in-kind (expr_of s) g.stmt g.passes in
@@ -77,7 +77,7 @@ module _ (es : List Entry) (names labels : List Name) (i : ℕ) (all : AllKept (
       let place : p ≡ suc (length v.front) = (let o = one-place S A u l x B v.front f.0 f.1 after legal cut stays cut' stays' in omega (arith, at_p, o)) in
       subst (In p) (sym (ess-kept r h)) (members h.front (is_float_in (expr_of h.stmt)) p v.front (stmt.Float f.0 f.1 x) v.rest there place v.stays has)
 
-  hyp-given : (p : ℕ) → In p (hypotheses S s) → In p (floats_in S (expr_of s)) ⊎ IsGiven es S p
+  hyp-given : (p : ℕ) → In p (hypotheses S s) → In p (floats_in S (expr_of s)) ⊎ IsFromEssentials es S p
   hyp-given p i =
       let h = active-members S (is_hypothesis S s) p [] S 1 refl refl i in
       elim (hyp-kind S s h.stmt h.passes) [

@@ -1,5 +1,5 @@
 -- Where blocks end: with one statement more, with one less, and what is active by it.
-use Rattle.frame.proofs.Words.{sym, ◌∙◌, ap, subst, arith, inl, inr, length-append, length-drop, add-zero, ◌≡◌, ◌≢◌, ℕ, zero, suc, ◌+◌, ◌-◌, ◌<◌, ◌≤◌, Bool, true, false, cond, not, ◌==◌, ◌&&◌, ◌||◌, nat_eq, nat_le, ◌⊎◌, List, [], ◌∷◌, ◌++◌, length, take, drop, get_or, slice_get, slice_set, Option, Some, None, refl, get_or-append_seam, get_or-take, get_or_read, drop-append-le, drop-take, length-take-le, take-append-drop, get_or-set_other, drop_all, length-set, length-map, nil_from_length, take-take, cases_eq, and_parts, slice_get_within, same_Some, slice_get-get_or, Stmt, Open, Close, Database, stays_open, is_open, is_close, is_active, deficit, no_deficit, below-deficit, deficit-close, left_open, stays_open-same, place, LastActive, last_active_of_kind, last_position, last_active_of, kind_of, IsPlain, Kind, Storage, names_in, labels_in, statements_of, stmt_by, stmt_of, Name, decode, name_at, get-push, get-more, AreStored, end_from, end_of, TellEnds, AreEnds, AreBlocks, with_end, Entry, get_or-append, get_or-set_at}
+use Rattle.frame.proofs.Words.{sym, ◌∙◌, ap, subst, arith, inl, inr, length-append, length-drop, add-zero, ◌≡◌, ◌≢◌, ℕ, zero, suc, ◌+◌, ◌-◌, ◌<◌, ◌≤◌, Bool, true, false, cond, not, ◌==◌, ◌&&◌, ◌||◌, nat_eq, nat_le, ◌⊎◌, List, [], ◌∷◌, ◌++◌, length, take, drop, get_or, slice_get, slice_set, Option, Some, None, refl, get_or-append_seam, get_or-take, get_or_read, drop-append-le, drop-take, length-take-le, take-append-drop, get_or-set_other, drop_all, length-set, length-map, nil_from_length, take-take, cases_eq, and_parts, slice_get_within, same_Some, slice_get-get_or, Stmt, Open, Close, Database, stays_open, is_open, is_close, is_active, deficit, no_deficit, below-deficit, deficit-close, left_open, stays_open-same, place, LastActive, last_active_of_kind, last_position, last_active_of, kind_of, IsPlain, Kind, Storage, names_in, labels_in, statements_of, stmt_by, stmt_of, Name, decode, name_at, get-push, get-more, AreStored, end_from, end_of, AreBlockEnds, AreEnds, AreBlocks, with_end, Entry, get_or-append, get_or-set_at}
 use Rattle.std.specs.Cmp.{both_ways}
 use Rattle.scope.proofs.ActiveLemmas as scope
 use Rattle.entries.specs.declared.kind.Kind.TheVariants as kind
@@ -137,8 +137,8 @@ end-step S b block t s get opens is = (more, less (is_close s && nat_eq block (s
     less false e f = sym f
 
 -- one statement more
-pub tells-more : (ends : List ℕ) (S : Database) (s : Stmt) (block : ℕ) → length ends ≡ length S → TellEnds ends S → block ≡ last_active_of_kind is_open S
-    → TellEnds (with_end (kind_of s) block (length S + 1) (ends ++ 0 ∷ [])) (S ++ s ∷ [])
+pub tells-more : (ends : List ℕ) (S : Database) (s : Stmt) (block : ℕ) → length ends ≡ length S → AreBlockEnds ends S → block ≡ last_active_of_kind is_open S
+    → AreBlockEnds (with_end (kind_of s) block (length S + 1) (ends ++ 0 ∷ [])) (S ++ s ∷ [])
 tells-more ends S s block n told is b t g opens = recorded-end (ends ++ 0 ∷ []) s block (length S + 1) b (omega (arith, length-append ends (0 ∷ []), length-append S (s ∷ []), slice_get_within (S ++ s ∷ []) b t g, n)) ∙ by (get-push S s t b g)
   where
     by : ((b < length S) × (slice_get S b ≡ Some t)) ⊎ ((b ≡ length S) × (s ≡ t)) → cond (is_close s && nat_eq block (suc b)) (length S + 1) (get_or (ends ++ 0 ∷ []) b 0) ≡ end_of b (S ++ s ∷ [])
@@ -149,8 +149,8 @@ tells-more ends S s block n told is b t g opens = recorded-end (ends ++ 0 ∷ []
         rw (none, is-open s (ap is_open p.1 ∙ opens)) zero_there
 
 -- one statement less
-pub tells-less : (ends : List ℕ) (S : Database) (s : Stmt) (block : ℕ) → length S ≤ length ends → TellEnds ends (S ++ s ∷ []) → block ≡ last_active_of_kind is_open S
-    → TellEnds (with_end (kind_of s) block 0 ends) S
+pub tells-less : (ends : List ℕ) (S : Database) (s : Stmt) (block : ℕ) → length S ≤ length ends → AreBlockEnds ends (S ++ s ∷ []) → block ≡ last_active_of_kind is_open S
+    → AreBlockEnds (with_end (kind_of s) block 0 ends) S
 tells-less ends S s block n told is b t g opens =
     let lt = slice_get_within S b t g in
     recorded-end ends s block 0 b (omega (arith, n, lt))
@@ -257,7 +257,7 @@ ends-next k s T q block at ends ends' stored of_kind same place more recorded is
     })
 
 -- the first statements alone
-pub ends-front : (ends : List ℕ) (S : Database) (n : ℕ) → n ≤ length S → length ends ≡ length S → TellEnds ends (take n S) → AreEnds (take n ends) (take n S)
+pub ends-front : (ends : List ℕ) (S : Database) (n : ℕ) → n ≤ length S → length ends ≡ length S → AreBlockEnds ends (take n S) → AreEnds (take n ends) (take n S)
 ends-front ends S n le size told = record {
   count = length-take-le n ends (omega (arith, le, size)) ∙ sym (length-take-le n S le);
   tell = λ b s g o. get_or-take n ends b 0 (omega (arith, slice_get_within (take n S) b s g, length-take-le n S le)) ∙ told b s g o;
@@ -271,7 +271,7 @@ block-fits es S i n e told g size =
     omega (arith, told.blocks i e g, last-within is_open (take i S) refl, lt, length-take-le i S (omega (arith, lt, told.count)), told.count, size)
 
 pub ends-taken : (es front all : List Entry) (S : Database) (e : Entry) (ends ends' : List ℕ) → AreBlocks es S → all ≡ front ++ e ∷ [] → slice_get es (length front) ≡ Some e → length S ≡ length ends
-    → TellEnds ends (take (length all) S) → ends' ≡ with_end e.kind e.last_active.block 0 ends → TellEnds ends' (take (length front) S)
+    → AreBlockEnds ends (take (length all) S) → ends' ≡ with_end e.kind e.last_active.block 0 ends → AreBlockEnds ends' (take (length front) S)
 ends-taken es front all S e ends ends' blocks is here size told recorded =
     let i = length front in
     let below : i < length S = omega (arith, slice_get_within es i e here, blocks.count) in
@@ -280,7 +280,7 @@ ends-taken es front all S e ends ends' blocks is here size told recorded =
     let one : length all ≡ suc i = omega (arith, ap length is, length-append front (e ∷ [])) in
     let more : take (length all) S ≡ take i S ++ s ∷ [] = ap (λ k. take k S) one ∙ take-one S i s g in
     rw (recorded, blocks.kinds i e s here g)
-    (tells-less ends (take i S) s e.last_active.block (omega (arith, length-take-le i S (omega (arith, below)), below, size)) (subst (TellEnds ends) more told) (blocks.blocks i e here))
+    (tells-less ends (take i S) s e.last_active.block (omega (arith, length-take-le i S (omega (arith, below)), below, size)) (subst (AreBlockEnds ends) more told) (blocks.blocks i e here))
 
 kind-by : (q : Kind) (label : Name) (names : List Name) → q ≡ kind_of (stmt_by q label names)
 kind-by kind.Open label names = refl

@@ -1,5 +1,5 @@
 -- A statement entered with its label stands for itself, and what was done to the storage for it.
-use Rattle.frame.proofs.Words.{sym, ◌∙◌, ap, subst, arith, length-append, inl, inr, ◌≡◌, ℕ, List, [], ◌∷◌, ◌++◌, length, take, slice_get, Option, Some, true, refl, ◌+◌, ◌<◌, ◌⊎◌, map, length-map, take-append-le, map_push, same_Some, take-append_seam, name_at-last, Name, Stmt, Database, bare, label_of, expr_of, is_assertion, is_essential, stays_open, declared_with, IsRecordedBy, IsLegal, name_at, decode, with_names, symbols_by, symbols_in, symbols_of, symbols_after, labels_of, option_list, AreNumbers, AreVariableNumbers, AreRecorded, IsNumberingOf, numbering-after, recorded-after, symbols_of-append, labels_of-append, AreBelow, Assertion, Entry, made, Kind, Ess, Storage, names_in, labels_in, stmt_by, stmt_of, statements_of, option_position, ReadsAs, replaced_by, symbol_of, positions_from, AreAllLegal, AreStored, IsKeptOf, AreKept, floats_in, kept_with, has_parts, IsKeptAs, is_label_kind, kind_of, IsLabelBelow, HasTwo, Grown, HasRoom, with_declared, AreNumbered, with_entry, KeepsCounts, LastActive, Symbol, last_active_of, naming_of, get-last, Extends, get-push, extends-length, bare-same, symbols_by-bare, declared_with-bare, legal-bare, EntryHeader, IsEntryHeader}
+use Rattle.frame.proofs.Words.{sym, ◌∙◌, ap, subst, arith, length-append, inl, inr, ◌≡◌, ℕ, List, [], ◌∷◌, ◌++◌, length, take, slice_get, Option, Some, true, refl, ◌+◌, ◌<◌, ◌⊎◌, map, length-map, take-append-le, map_push, same_Some, take-append_seam, name_at-last, Name, Stmt, Database, bare, label_of, expr_of, is_assertion, is_essential, stays_open, declared_with, IsRecordedBy, IsLegal, name_at, decode, with_names, symbols_by, symbols_in, symbols_of, symbols_after, labels_of, option_list, AreNumbers, AreVariableNumbers, AreRecorded, IsNumberingOf, numbering-after, recorded-after, symbols_of-append, labels_of-append, AreBelow, Assertion, Entry, made, Kind, Ess, Storage, names_in, labels_in, stmt_by, stmt_of, statements_of, option_position, ReadsAs, replaced_by, symbol_of, positions_from, AreAllLegal, AreStored, IsKeptOf, AreKept, floats_in, kept_with, has_parts, IsKeptAs, is_label_kind, kind_of, IsLabelBelow, HasTwo, HasMoreNames, HasRoom, with_declared, AreNumbered, with_entry, KeepsCounts, LastActive, Symbol, last_active_of, naming_of, get-last, Extends, get-push, extends-length, bare-same, symbols_by-bare, declared_with-bare, legal-bare, EntryHeader, IsEntryHeader}
 use Rattle.frame.proofs.DeclaredSymbolLemmas.{codes-below}
 use Rattle.frame.proofs.NamingLemmas.{stored-naming, naming_of-append, symbols-extend}
 use Rattle.frame.proofs.StoredOneMore.{still-reads, numbered-at, statements-more, stmt-more, numbered-push, positions_from-push, legal-push, stays-push}
@@ -114,7 +114,7 @@ variable-numbers names s codes n = tt
 
 -- the parts of the storage after the call
 pub record IsExtended (old new : Storage) (s : Stmt) (h : EntryHeader) (a : Assertion) (codes : List ℕ) (kind : Kind) (at : ℕ) (symbols : List Symbol) (replaced : List ℕ) (entries : List Entry) (last_active : LastActive) : Type 0 where
-  pub grown : Grown old new
+  pub grown : HasMoreNames old new
   pub room : HasRoom new
   pub positions : new.positions.items ≡ old.positions.items ++ option_position (label_of s) (length old.entries + 1) []
   pub kept : has_parts h.kind ≡ true → IsKeptOf old (bare s) a

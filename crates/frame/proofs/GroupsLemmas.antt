@@ -1,5 +1,5 @@
 -- The lists of a frame are its mandatory pairs.
-use Rattle.frame.proofs.Words.{list_any, sym, ◌∙◌, ap, arith, ◌≡◌, Bool, true, false, not, ◌&&◌, ◌||◌, List, [], ◌∷◌, map, filter, refl, and_comm, or-false, and_parts, both_ways, Name, name_eq, has_name, name_same, same_name, groups, separates, is_mandatory, any-filter_same, GroupsArePairs}
+use Rattle.frame.proofs.Words.{list_any, sym, ◌∙◌, ap, arith, ◌≡◌, Bool, true, false, not, ◌&&◌, ◌||◌, List, [], ◌∷◌, map, filter, refl, and_comm, or-false, and_parts, both_ways, Name, name_eq, has_name, name_same, same_name, groups, has_two_or_more, is_mandatory, any-filter_same, GroupsArePairs}
 
 -- a name is in the filtered list where it is in the list and passes
 pub has-filter : (m : Name → Bool) (x : Name) (l : List Name) → has_name x (filter m l) ≡ (has_name x l && m x)
@@ -9,7 +9,7 @@ abbrev both : Name → Name → List Name → Bool
 both x y l = has_name x l && has_name y l
 
 -- where two different names stand in one list it has two
-both-separates : (x y : Name) (l : List Name) → name_eq x y ≡ false → both x y l ≡ true → separates l ≡ true
+both-separates : (x y : Name) (l : List Name) → name_eq x y ≡ false → both x y l ≡ true → has_two_or_more l ≡ true
 both-separates x y [] d h = cc
 both-separates x y (z ∷ []) d h =
     let p = and_parts (name_eq x z || false) (name_eq y z || false) h in
@@ -30,7 +30,7 @@ groups-pairs S s x y = by (name_eq x y) refl
     m : Name → Bool
     m = is_mandatory S s
 
-    by : (e : Bool) → name_eq x y ≡ e → (not e && list_any (both x y) (filter separates (map (filter m) (groups S)))) ≡ ((not e && list_any (both x y) (groups S)) && m x && m y)
+    by : (e : Bool) → name_eq x y ≡ e → (not e && list_any (both x y) (filter has_two_or_more (map (filter m) (groups S)))) ≡ ((not e && list_any (both x y) (groups S)) && m x && m y)
     by true e = refl
     -- a test that only lists of two pass sees the others no more
-    by false e = any-filter_same (both x y) separates true (λ l h. both-separates x y l e h) (map (filter m) (groups S)) ∙ any-map m x y (groups S)
+    by false e = any-filter_same (both x y) has_two_or_more true (λ l h. both-separates x y l e h) (map (filter m) (groups S)) ∙ any-map m x y (groups S)

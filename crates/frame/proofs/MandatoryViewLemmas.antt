@@ -1,10 +1,10 @@
 -- The mandatory hypotheses of an assertion, of which the active `$e` bring along a set: this, with its own `$f` that the set has not.
-use Rattle.frame.proofs.Words.{◌≡◌, ◌∙◌, ap, sym, subst, arith, refl, ⊎_map, ℕ, ◌-◌, ◌<◌, ◌≤◌, true, false, not, List, [], ◌∷◌, length, length-append, length-take, filter, take, Stmt, Entry, LastActive, Storage, hypotheses, is_hypothesis, is_assertion, is_float_in, expr_of, last_active_of, statements_of, Ascends, AreThose, IsGiven, In, set_at, ◌^◌, has_position, GivenSets, AreFrames, kept_set, AreMerged, with_each}
+use Rattle.frame.proofs.Words.{◌≡◌, ◌∙◌, ap, sym, subst, arith, refl, ⊎_map, ℕ, ◌-◌, ◌<◌, ◌≤◌, true, false, not, List, [], ◌∷◌, length, length-append, length-take, filter, take, Stmt, Entry, LastActive, Storage, hypotheses, is_hypothesis, is_assertion, is_float_in, expr_of, last_active_of, statements_of, Ascends, AreThose, IsFromEssentials, In, set_at, ◌^◌, has_position, EssentialSets, AreFrames, kept_set, AreMerged, with_each}
 use Rattle.frame.proofs.ActivePositions.{active-members, ascends-active}
 use Rattle.frame.proofs.AssertionViewLemmas.{IsThere}
 use Rattle.frame.proofs.CollectLemmas.{those-by}
 use Rattle.frame.proofs.BufferedHypotheses.{kept-by, mandatory-own}
-use Rattle.frame.proofs.GivenSetLemmas.{given-at}
+use Rattle.frame.proofs.EssentialSetLemmas.{given-at}
 use Rattle.frame.proofs.KindWalk.{as-many}
 use Rattle.frame.proofs.MergedLemmas.{has-in, merged-are, missing-of}
 
@@ -15,12 +15,12 @@ within S s p i =
     let at = h.at in
     let all = ap length h.whole ∙ length-append h.front (h.stmt ∷ h.rest) in omega arith
 
-module _ (k : Storage) (g : GivenSets) (a i : ℕ) (s : Stmt) (e : Entry) (l : LastActive) (held : AreFrames k g) (asserts : is_assertion s ≡ true) (t : IsThere k a i s e) (own : e.assertion.whole ≡ false)
+module _ (k : Storage) (g : EssentialSets) (a i : ℕ) (s : Stmt) (e : Entry) (l : LastActive) (held : AreFrames k g) (asserts : is_assertion s ≡ true) (t : IsThere k a i s e) (own : e.assertion.whole ≡ false)
     (is : l ≡ last_active_of (take (a - 1) (statements_of k))) (some : kept_set g.kept.items l.essential ≡ 0 → ⊥) (low : 1 ≤ a) (high : a ≤ length (statements_of k)) where
   abbrev set : List ℕ
   set = set_at g.sets (kept_set g.kept.items l.essential)
 
-  given : AreThose (IsGiven k.entries (take (a - 1) (statements_of k))) set
+  given : AreThose (IsFromEssentials k.entries (take (a - 1) (statements_of k))) set
   given = given-at k g a l.essential l held.stored held.sets low (omega (arith, high)) is refl some
 
   abbrev all : List ℕ

@@ -1,5 +1,5 @@
 -- The frame collected from the active statements is the frame of the definition.
-use Rattle.frame.proofs.Words.{list_any, flat_map, position_or_len, ◌∙◌, ap, sym, arith, inl, inr, ◌≡◌, ℕ, ◌<◌, ◌≤◌, Bool, true, false, cond, ◌&&◌, ◌||◌, List, [], ◌∷◌, ◌++◌, map, filter, length, refl, Some, None, is_some, nat_lt, or-false, cases_lt, Name, name_eq, has_name, Stmt, Database, Expr, active, separated, expr_of, is_essential, is_variable, name_at, code_of, has-at, same_name, lt-list_any, has_name-append, FrameParts, is_mandatory, is_hypothesis, hypotheses, groups, mandatory_groups, separates, AreMandatory, is_in_essential, asks, required, among, groups_among, fun_ext, stands_at, standing_of, Standing}
+use Rattle.frame.proofs.Words.{list_any, flat_map, position_or_len, ◌∙◌, ap, sym, arith, inl, inr, ◌≡◌, ℕ, ◌<◌, ◌≤◌, Bool, true, false, cond, ◌&&◌, ◌||◌, List, [], ◌∷◌, ◌++◌, map, filter, length, refl, Some, None, is_some, nat_lt, or-false, cases_lt, Name, name_eq, has_name, Stmt, Database, Expr, active, separated, expr_of, is_essential, is_variable, name_at, code_of, has-at, same_name, lt-list_any, has_name-append, FrameParts, is_mandatory, is_hypothesis, hypotheses, groups, mandatory_groups, has_two_or_more, AreMandatory, is_in_essential, is_needed, required, among, groups_among, fun_ext, stands_at, standing_of, Standing}
 use Rattle.mm_read.specs.declared.stmt.Stmt.TheVariants.{Disj, Float, Ess}
 
 -- one more test, for a name that stands among the names already, changes nothing
@@ -38,7 +38,7 @@ required-all : (S : Database) (s : Stmt) (used : List Name) → AreMandatory S s
     → required used (flat_map (λ p. stands_at p.0 p.1) es) ≡ map (λ p. p.0) (filter (λ p. is_hypothesis S s p.1) es)
 required-all S s used m [] = refl
 required-all S s used m ((at, Float label constant variable) ∷ es) =
-    rw (m variable) (by (is_mandatory S s variable) (filter (λ (e : Standing). asks used e.stmt) (flat_map (λ p. stands_at p.0 p.1) es)) (filter (λ (p : ℕ × Stmt). is_hypothesis S s p.1) es) (required-all S s used m es))
+    rw (m variable) (by (is_mandatory S s variable) (filter (λ (e : Standing). is_needed used e.stmt) (flat_map (λ p. stands_at p.0 p.1) es)) (filter (λ (p : ℕ × Stmt). is_hypothesis S s p.1) es) (required-all S s used m es))
   where
     by : (b : Bool) (xs : List Standing) (ps : List (ℕ × Stmt)) → map (λ (e : Standing). e.at) xs ≡ map (λ (p : ℕ × Stmt). p.0) ps
         → map (λ (e : Standing). e.at) (cond b (record { at = at; stmt = Float label constant variable } ∷ xs) xs)
@@ -52,11 +52,11 @@ pub required-hypotheses : (S : Database) (s : Stmt) (used : List Name) → AreMa
 required-hypotheses S s used m = required-all S s used m (active S)
 
 pub groups-mandatory : (S : Database) (s : Stmt) (used : List Name) → AreMandatory S s used → groups_among used (standing_of S) ≡ mandatory_groups S s
-groups-mandatory S s used m = all (active S) ∙ ap (λ p. filter separates (map (filter p) (groups S))) (fun_ext m)
+groups-mandatory S s used m = all (active S) ∙ ap (λ p. filter has_two_or_more (map (filter p) (groups S))) (fun_ext m)
   where
-    all : (es : List (ℕ × Stmt)) → groups_among used (flat_map (λ p. stands_at p.0 p.1) es) ≡ filter separates (map (among used) (map (λ p. separated p.1) es))
+    all : (es : List (ℕ × Stmt)) → groups_among used (flat_map (λ p. stands_at p.0 p.1) es) ≡ filter has_two_or_more (map (among used) (map (λ p. separated p.1) es))
     all [] = refl
-    all ((at, Disj names) ∷ es) = ap (λ r. cond (separates (among used names)) (among used names ∷ r) r) (all es)
+    all ((at, Disj names) ∷ es) = ap (λ r. cond (has_two_or_more (among used names)) (among used names ∷ r) r) (all es)
     all ((at, t) ∷ es) = all es
 
 pub code-has : (names : List Name) (x : Name) → is_some (code_of names x) ≡ has_name x names

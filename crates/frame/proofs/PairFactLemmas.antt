@@ -1,15 +1,15 @@
 -- The search for an active `$d` that has two variables, with facts that earlier searches recorded.
 -- The `$d` of a variable from one of them down are those that were active right after that one.
-use Rattle.frame.proofs.Words.{◌≡◌, ◌∙◌, ap, sym, subst, arith, refl, inl, inr, ℕ, zero, suc, ◌+◌, ◌-◌, ◌<◌, ◌≤◌, Bool, true, false, cond, cases_lt, not, ◌||◌, ◌&&◌, ◌==◌, List, [], ◌∷◌, ◌++◌, length, take, drop, drop_all, get_or, slice_get, Some, list_any, name_at, AreDistinct, before, names_in, statements_of, is_disj, is_pair, Storage, AreStored, Numbered, history, stack_at, AreSought, are_pair, IsOfKind, has_code, having, actives, last_active_of_kind, Stmt}
+use Rattle.frame.proofs.Words.{◌≡◌, ◌∙◌, ap, sym, subst, arith, refl, inl, inr, ℕ, zero, suc, ◌+◌, ◌-◌, ◌<◌, ◌≤◌, Bool, true, false, cond, cases_lt, not, ◌||◌, ◌&&◌, ◌==◌, List, [], ◌∷◌, ◌++◌, length, take, drop, drop_all, get_or, slice_get, Some, list_any, name_at, AreDistinct, before, names_in, statements_of, is_disj, is_pair, Storage, AreStored, Numbered, history, stack_at, AreSearched, are_pair, IsOfKind, has_code, positions_with, actives, last_active_of_kind, Stmt}
 use Rattle.frame.specs.declared.pair_facts.PairFact.{PairFact}
 use Rattle.frame.specs.declared.pair_facts.Walked.{Walked}
 use Rattle.frame.specs.PairFacts.{AreFacts, IsFact}
 use Rattle.frame.specs.Stored.EntryMeanings.{numbered}
-use Rattle.frame.specs.Stored.PairLists.{AreAnswered, IsSoughtIn}
+use Rattle.frame.specs.Stored.PairLists.{AreAnswered, IsSearchedIn}
 use Rattle.frame.proofs.BlockWalkLemmas.{back-own, walk-back, walk-over}
 use Rattle.frame.proofs.KindWalk.{as-many}
 use Rattle.frame.proofs.PairStackLemmas.{pair-is}
-use Rattle.frame.proofs.StackLemmas.{having-push}
+use Rattle.frame.proofs.StackLemmas.{positions_with-push}
 
 -- ---- the facts
 
@@ -25,7 +25,7 @@ facts-push v (g ∷ fs) f a h = (a.0, facts-push v fs f a.1 h)
 -- ---- the `$d` of a variable from one of them down
 
 abbrev row : Storage → ℕ → ℕ → List ℕ
-row k x n = having k.entries x (actives is_disj (take n (statements_of k)))
+row k x n = positions_with k.entries x (actives is_disj (take n (statements_of k)))
 
 -- p is the last one, and the others are those that were active before it
 pub record IsTop (k : Storage) (x p : ℕ) (rest : List ℕ) : Type 0 where
@@ -43,15 +43,15 @@ row-top k x p rest (suc fuel) n le high is = step (last_active_of_kind is_disj (
   where
     step : (l : ℕ) → l ≡ last_active_of_kind is_disj (take n (statements_of k)) → ((i : ℕ) → i < n → p ∷ rest ≡ row k x i → IsTop k x p rest) → IsTop k x p rest
     step zero e earlier =
-        let e : p ∷ rest ≡ [] = is ∙ ap (having k.entries x) (walk-over is_disj (take n (statements_of k)) refl (sym e)) in
+        let e : p ∷ rest ≡ [] = is ∙ ap (positions_with k.entries x) (walk-over is_disj (take n (statements_of k)) refl (sym e)) in
         cc
     step (suc i) e earlier =
         let S = statements_of k in
         let b = walk-back is_disj S n (suc i) refl e (λ z. cc) in
         let own = back-own is_disj S n (suc i) b.0 refl b.1 in
         let low = b.1.within in
-        let push = having-push k.entries x (actives is_disj (take (suc i - 1) S)) (suc i, b.0) in
-        by (has_code k.entries x (suc i)) refl b.0 b.1.above low b.1.stands b.1.of_kind (is ∙ (ap (having k.entries x) b.1.list ∙ push)) (ap (having k.entries x) own ∙ push)
+        let push = positions_with-push k.entries x (actives is_disj (take (suc i - 1) S)) (suc i, b.0) in
+        by (has_code k.entries x (suc i)) refl b.0 b.1.above low b.1.stands b.1.of_kind (is ∙ (ap (positions_with k.entries x) b.1.list ∙ push)) (ap (positions_with k.entries x) own ∙ push)
       where
         by : (t : Bool) → has_code k.entries x (suc i) ≡ t → (s : Stmt) → 1 ≤ suc i → suc i ≤ n → slice_get (statements_of k) (suc i - 1) ≡ Some s → is_disj s ≡ true
             → p ∷ rest ≡ cond (has_code k.entries x (suc i)) (suc i ∷ row k x (suc i - 1)) (row k x (suc i - 1))
@@ -81,7 +81,7 @@ row-pair k x y n xs stored distinct first second differ le is =
 
 -- ---- the walk over them
 
-pub sought-row : (k : Storage) (at x y : ℕ) (xs : List ℕ) → AreSought k at x y → xs ≡ stack_at (history k.disjoints x) at → IsSoughtIn k x y xs
+pub sought-row : (k : Storage) (at x y : ℕ) (xs : List ℕ) → AreSearched k at x y → xs ≡ stack_at (history k.disjoints x) at → IsSearchedIn k x y xs
 sought-row k at x y xs s is =
     let one = s.above in
     let le = s.within in
@@ -95,7 +95,7 @@ sought-row k at x y xs s is =
     }
 
 -- the answer for the whole row is that for the pair
-pub row-answer : (k : Storage) (at x y : ℕ) (xs : List ℕ) → AreSought k at x y → xs ≡ stack_at (history k.disjoints x) at → list_any (has_code k.entries y) xs ≡ are_pair k at x y
+pub row-answer : (k : Storage) (at x y : ℕ) (xs : List ℕ) → AreSearched k at x y → xs ≡ stack_at (history k.disjoints x) at → list_any (has_code k.entries y) xs ≡ are_pair k at x y
 row-answer k at x y xs s is =
     let one = s.above in
     let le = s.within in
@@ -103,7 +103,7 @@ row-answer k at x y xs s is =
 
 -- so many were passed
 pub record IsRest (k : Storage) (x y : ℕ) (start xs : List ℕ) (steps : ℕ) : Type 0 where
-  pub sought : IsSoughtIn k x y xs
+  pub sought : IsSearchedIn k x y xs
   pub rest : xs ≡ drop steps start
 
 -- none of them has y
@@ -111,10 +111,10 @@ pub record IsWalk (k : Storage) (x y : ℕ) (start xs : List ℕ) (steps : ℕ) 
   pub at : IsRest k x y start xs steps
   pub same : (i : ℕ) → i ≤ steps → list_any (has_code k.entries y) (drop i start) ≡ list_any (has_code k.entries y) xs
 
-pub rest-start : (k : Storage) (x y : ℕ) (start : List ℕ) → IsSoughtIn k x y start → IsRest k x y start start 0
+pub rest-start : (k : Storage) (x y : ℕ) (start : List ℕ) → IsSearchedIn k x y start → IsRest k x y start start 0
 rest-start k x y start s = record { sought = s; rest = refl }
 
-pub walk-start : (k : Storage) (x y : ℕ) (start : List ℕ) → IsSoughtIn k x y start → IsWalk k x y start start 0
+pub walk-start : (k : Storage) (x y : ℕ) (start : List ℕ) → IsSearchedIn k x y start → IsWalk k x y start start 0
 walk-start k x y start s = record { at = rest-start k x y start s; same = λ i le. let z : i ≡ 0 = omega (arith, le) in ap (λ j. list_any (has_code k.entries y) (drop j start)) z }
 
 drop-next : (xs rest : List ℕ) (p n : ℕ) → p ∷ rest ≡ drop n xs → rest ≡ drop (suc n) xs
@@ -124,7 +124,7 @@ drop-next (x ∷ xs) rest p zero e = cc
 drop-next (x ∷ xs) rest p (suc n) e = drop-next xs rest p n e
 
 module _ (k : Storage) (x y : ℕ) (start xs : List ℕ) (steps p : ℕ) (rest : List ℕ) (is : xs ≡ p ∷ rest) where
-  pub top-of : IsSoughtIn k x y xs → IsTop k x p rest
+  pub top-of : IsSearchedIn k x y xs → IsTop k x p rest
   top-of s = row-top k x p rest s.row_of.count s.row_of.count (omega arith) s.row_of.within (sym is ∙ s.row_of.are)
 
   pub rest-next : IsRest k x y start xs steps → IsRest k x y start rest (steps + 1)
@@ -167,7 +167,7 @@ module _ (k : Storage) (x y : ℕ) (start xs : List ℕ) (steps p : ℕ) (rest :
       walk.same i (omega (arith, le, count)) ∙ (any-here ∙ (ap (λ b. b || list_any (has_code k.entries y) rest) (sym has) ∙ sym found))
 
   -- the statements up to the one at p
-  pub front-is : IsSoughtIn k x y xs → is_pair (before (statements_of k) (p + 1)) (name_at (names_in k) x) (name_at (names_in k) y) ≡ list_any (has_code k.entries y) xs
+  pub front-is : IsSearchedIn k x y xs → is_pair (before (statements_of k) (p + 1)) (name_at (names_in k) x) (name_at (names_in k) y) ≡ list_any (has_code k.entries y) xs
   front-is s =
       let t = top-of s in
       let up : p + 1 - 1 ≡ p = omega arith in
@@ -193,7 +193,7 @@ module _ (k : Storage) (x y : ℕ) (start xs : List ℕ) (steps p : ℕ) (rest :
         is = front-is s ∙ (ap (list_any (has_code k.entries y)) r.rest ∙ answered steps le);
       }
 
-  pub top-kind : IsSoughtIn k x y xs → IsOfKind is_disj (statements_of k) p
+  pub top-kind : IsSearchedIn k x y xs → IsOfKind is_disj (statements_of k) p
   top-kind s = (top-of s).of_kind
 
 pub walk-end : (k : Storage) (x y : ℕ) (start xs : List ℕ) (steps : ℕ) (w : Walked) → IsWalk k x y start xs steps → length start ≤ steps → w.steps ≡ steps → w.found ≡ false → AreAnswered k y start w

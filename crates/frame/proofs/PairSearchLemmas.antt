@@ -1,5 +1,5 @@
 -- The search for an active `$d` that has two variables, and one that is known to have both.
-use Rattle.frame.proofs.Words.{◌≡◌, ◌∙◌, ap, sym, subst, arith, refl, ℕ, suc, ◌+◌, ◌-◌, ◌<◌, ◌≤◌, Bool, true, false, cond, not, ◌||◌, ◌&&◌, List, [], ◌∷◌, length, map, filter, take, drop, slice_get, Some, list_any, list_any-map, has_name, name_at, is_active, active, separated, stays_open, stmt_of, names_in, labels_in, statements_of, is_disj, Stmt, Storage, Entry, Kind, Disj, In, IsPlain, Name, name_eq, Expr, stmt_by, history, stack_at, AreSought, IsLeft, are_pair, AreOfKind, IsOfKind, has_code}
+use Rattle.frame.proofs.Words.{◌≡◌, ◌∙◌, ap, sym, subst, arith, refl, ℕ, suc, ◌+◌, ◌-◌, ◌<◌, ◌≤◌, Bool, true, false, cond, not, ◌||◌, ◌&&◌, List, [], ◌∷◌, length, map, filter, take, drop, slice_get, Some, list_any, list_any-map, has_name, name_at, is_active, active, separated, stays_open, stmt_of, names_in, labels_in, statements_of, is_disj, Stmt, Storage, Entry, Kind, Disj, In, IsPlain, Name, name_eq, Expr, stmt_by, history, stack_at, AreSearched, IsLeft, are_pair, AreOfKind, IsOfKind, has_code}
 use Rattle.mm_read.specs.declared.stmt.Stmt.TheVariants as stmt
 use Rattle.frame.proofs.ActivePositions.{members-active}
 use Rattle.frame.proofs.BlockWalkLemmas.{active-stays, get-take}
@@ -10,7 +10,7 @@ use Rattle.frame.proofs.StoredReading.{get-stmt}
 
 -- ---- the search
 
-pub left-start : (k : Storage) (at x y : ℕ) (st : List ℕ) → AreSought k at x y → st ≡ stack_at (history k.disjoints x) at → IsLeft k at x y st
+pub left-start : (k : Storage) (at x y : ℕ) (st : List ℕ) → AreSearched k at x y → st ≡ stack_at (history k.disjoints x) at → IsLeft k at x y st
 left-start k at x y st s is =
     let one = s.above in
     let le = s.within in
@@ -22,12 +22,12 @@ left-start k at x y st s is =
     }
 
 -- pairs have no order
-pub sought-turn : (k : Storage) (at x y : ℕ) → AreSought k at x y → AreSought k at y x
+pub sought-turn : (k : Storage) (at x y : ℕ) → AreSearched k at x y → AreSearched k at y x
 sought-turn k at x y s =
     let d = s.differ in
     record { stored = s.stored; distinct = s.distinct; above = s.above; within = s.within; first = s.second; second = s.first; differ = grind (arith, d) }
 
-pub pair-turn : (k : Storage) (at x y : ℕ) → AreSought k at x y → are_pair k at y x ≡ are_pair k at x y
+pub pair-turn : (k : Storage) (at x y : ℕ) → AreSearched k at x y → are_pair k at y x ≡ are_pair k at x y
 pair-turn k at x y s =
     let le = s.within in
     let t = sought-turn k at x y s in
@@ -80,7 +80,7 @@ in-any q p (x ∷ xs) i = by (q x.1) (in-any q p xs) i
     by true more j = refl
     by false more j = more j
 
-pub known-pair : (k : Storage) (at x y p : ℕ) → AreSought k at x y → IsOfKind is_disj (statements_of k) p → p < at → is_active (statements_of k) p at ≡ true → has_code k.entries x p ≡ true → has_code k.entries y p ≡ true → are_pair k at x y ≡ true
+pub known-pair : (k : Storage) (at x y p : ℕ) → AreSearched k at x y → IsOfKind is_disj (statements_of k) p → p < at → is_active (statements_of k) p at ≡ true → has_code k.entries x p ≡ true → has_code k.entries y p ≡ true → are_pair k at x y ≡ true
 known-pair k at x y p s o lt stands has_x has_y =
     let one = o.one in
     let m = at - 1 in

@@ -1,10 +1,10 @@
 -- Two variables that stand together in an active `$d`, and the variables that are active, by the stacks.
-use Rattle.frame.proofs.Words.{◌≡◌, ◌∙◌, ap, sym, subst, arith, refl, ℕ, suc, ◌+◌, ◌-◌, ◌<◌, ◌≤◌, Bool, true, false, cond, not, ◌||◌, ◌&&◌, ◌==◌, nat_eq, List, [], ◌∷◌, ◌++◌, length, map, filter, take, slice_get, slice_get_within, Option, Some, None, length-take, same_Some, list_any, or-false, append_assoc, length-append, take-get, and_comm, list_any-map, AllBelow, AreBelow, Name, name_eq, has_name, name_at, decode, AreDistinct, Stmt, Database, Entry, Storage, stays_open, active_from, actives, actives_from, is_disj, is_var, is_variable, separated, variables, is_pair, groups, names_in, labels_in, statements_of, stmt_of, AreStored, history, stack_at, symbols_at, option_symbols, has_code, having_after, having, IsOfKind, AreOfKind, AreTogether, have_both}
+use Rattle.frame.proofs.Words.{◌≡◌, ◌∙◌, ap, sym, subst, arith, refl, ℕ, suc, ◌+◌, ◌-◌, ◌<◌, ◌≤◌, Bool, true, false, cond, not, ◌||◌, ◌&&◌, ◌==◌, nat_eq, List, [], ◌∷◌, ◌++◌, length, map, filter, take, slice_get, slice_get_within, Option, Some, None, length-take, same_Some, list_any, or-false, append_assoc, length-append, take-get, and_comm, list_any-map, AllBelow, AreBelow, Name, name_eq, has_name, name_at, decode, AreDistinct, Stmt, Database, Entry, Storage, stays_open, active_from, actives, actives_from, is_disj, is_var, is_variable, separated, variables, is_pair, groups, names_in, labels_in, statements_of, stmt_of, AreStored, history, stack_at, symbols_at, option_symbols, has_code, having_after, positions_with, IsOfKind, AreOfKind, AreTogether, have_both}
 use Rattle.frame.proofs.FoundByNumber.{map-back}
 use Rattle.frame.proofs.LegalAfter.{stands-at}
 use Rattle.frame.proofs.StoredOneMore.{numbered-at}
 use Rattle.frame.proofs.KindWalk.{AreLists, any-active, has-decode, same-number, disjoint_lists, variable_lists, as-many}
-use Rattle.frame.proofs.StackLemmas.{AreIn, actives-in, having-push}
+use Rattle.frame.proofs.StackLemmas.{AreIn, actives-in, positions_with-push}
 use Rattle.frame.proofs.LastActiveLemmas.{actives-push, length-cut}
 use Rattle.frame.proofs.OpenLemmas.{no_close}
 use Rattle.frame.proofs.BlockWalkLemmas.{take-one}
@@ -17,9 +17,9 @@ swapped true true z = refl
 swapped true false z = refl
 swapped false y z = refl
 
-having-any-after : (q : ℕ → Bool) (found : List ℕ) (es : List Entry) (c : ℕ) (ps : List (ℕ × Stmt)) → list_any q (having_after found es c ps) ≡ (list_any q found || list_any (λ p. has_code es c p.0 && q p.0) ps)
-having-any-after q found es c [] = sym (or-false (list_any q found))
-having-any-after q found es c (p ∷ ps) = by (has_code es c p.0) (having-any-after q (cond (has_code es c p.0) (p.0 ∷ found) found) es c ps)
+positions_with-any-after : (q : ℕ → Bool) (found : List ℕ) (es : List Entry) (c : ℕ) (ps : List (ℕ × Stmt)) → list_any q (having_after found es c ps) ≡ (list_any q found || list_any (λ p. has_code es c p.0 && q p.0) ps)
+positions_with-any-after q found es c [] = sym (or-false (list_any q found))
+positions_with-any-after q found es c (p ∷ ps) = by (has_code es c p.0) (positions_with-any-after q (cond (has_code es c p.0) (p.0 ∷ found) found) es c ps)
   where
     rest : Bool
     rest = list_any (λ r. has_code es c r.0 && q r.0) ps
@@ -30,8 +30,8 @@ having-any-after q found es c (p ∷ ps) = by (has_code es c p.0) (having-any-af
     by false e = e
 
 -- one of those that have a symbol passes the test
-pub having-any : (q : ℕ → Bool) (es : List Entry) (c : ℕ) (ps : List (ℕ × Stmt)) → list_any q (having es c ps) ≡ list_any (λ p. has_code es c p.0 && q p.0) ps
-having-any q es c ps = having-any-after q [] es c ps
+pub positions_with-any : (q : ℕ → Bool) (es : List Entry) (c : ℕ) (ps : List (ℕ × Stmt)) → list_any q (positions_with es c ps) ≡ list_any (λ p. has_code es c p.0 && q p.0) ps
+positions_with-any q es c ps = positions_with-any-after q [] es c ps
 
 pub some-any : (xs : List ℕ) → not (nat_eq (length xs) 0) ≡ list_any (λ x. true) xs
 some-any [] = refl
@@ -94,10 +94,10 @@ module _ (k : Storage) (stored : AreStored k) (d : AreDistinct (names_in k)) (m 
 
   pub variable-is : (x : ℕ) (st : List ℕ) → x < length N → m ≤ length (statements_of k) → st ≡ stack_at (history k.variables x) (m + 1) → not (nat_eq (length st) 0) ≡ is_variable T (name_at N x)
   variable-is x st lt le is =
-      let st_is : st ≡ having k.entries x (actives is_var T) = is ∙ (stored.variables.each x (m + 1) (omega arith) (omega (arith, le, as-many k)) ∙ ap (λ n. having k.entries x (actives is_var (take n (statements_of k)))) (omega arith)) in
+      let st_is : st ≡ positions_with k.entries x (actives is_var T) = is ∙ (stored.variables.each x (m + 1) (omega arith) (omega (arith, le, as-many k)) ∙ ap (λ n. positions_with k.entries x (actives is_var (take n (statements_of k)))) (omega arith)) in
       some-any st
       ∙ (ap (list_any (λ y. true)) st_is
-      ∙ (having-any (λ y. true) k.entries x (actives is_var T)
+      ∙ (positions_with-any (λ y. true) k.entries x (actives is_var T)
       ∙ (same-any is_var T (λ p. has_code k.entries x p.0 && true) (λ p. has_name (name_at N x) (variables p.1)) (actives is_var T) (there is_var)
       (λ p s o. and-true (has_code k.entries x p.0) ∙ code-name is_var variables variable_lists x lt p s o)
       ∙ any-active (has_name (name_at N x)) T variable_lists refl)))
@@ -110,11 +110,11 @@ module _ (k : Storage) (stored : AreStored k) (d : AreDistinct (names_in k)) (m 
   pub pair-is : (x y : ℕ) (st : List ℕ) → x < length N → y < length N → m ≤ length (statements_of k) → st ≡ stack_at (history k.disjoints x) (m + 1)
       → is_pair T (name_at N x) (name_at N y) ≡ (not (x == y) && list_any (λ p. has_code k.entries y p) st)
   pair-is x y st a b le is =
-      let st_is : st ≡ having k.entries x (actives is_disj T) = is ∙ (stored.disjoints.each x (m + 1) (omega arith) (omega (arith, le, as-many k)) ∙ ap (λ n. having k.entries x (actives is_disj (take n (statements_of k)))) (omega arith)) in
+      let st_is : st ≡ positions_with k.entries x (actives is_disj T) = is ∙ (stored.disjoints.each x (m + 1) (omega arith) (omega (arith, le, as-many k)) ∙ ap (λ n. positions_with k.entries x (actives is_disj (take n (statements_of k)))) (omega arith)) in
       let X = name_at N x in let Y = name_at N y in
       let both : list_any (λ p. has_code k.entries y p) st ≡ list_any (λ names. has_name X names && has_name Y names) (groups T) =
       ap (list_any (λ p. has_code k.entries y p)) st_is
-      ∙ (having-any (λ p. has_code k.entries y p) k.entries x (actives is_disj T)
+      ∙ (positions_with-any (λ p. has_code k.entries y p) k.entries x (actives is_disj T)
       ∙ (same-any is_disj T (λ p. has_code k.entries x p.0 && has_code k.entries y p.0) (λ p. has_name X (separated p.1) && has_name Y (separated p.1)) (actives is_disj T) (there is_disj)
       (λ p s o. ap (λ t. t && has_code k.entries y p.0) (code-name is_disj separated disjoint_lists x a p s o) ∙ ap (λ t. has_name X (separated p.1) && t) (code-name is_disj separated disjoint_lists y b p s o))
       ∙ sym (groups-any (λ names. has_name X names && has_name Y names) T refl))) in
@@ -138,8 +138,8 @@ module _ (k : Storage) (stored : AreStored k) (d : AreDistinct (names_in k)) (m 
       nat-turn : nat_eq y x ≡ nat_eq x y
       nat-turn = grind arith
 
-  pub having-of-kind : (kind : Stmt → Bool) (es : List Entry) (c : ℕ) → AreOfKind kind (statements_of k) (having es c (actives kind T))
-  having-of-kind kind es c = after [] (actives kind T) tt (there kind) (actives-in kind 1 1 (length T) T (omega arith) (omega arith))
+  pub positions_with-of-kind : (kind : Stmt → Bool) (es : List Entry) (c : ℕ) → AreOfKind kind (statements_of k) (positions_with es c (actives kind T))
+  positions_with-of-kind kind es c = after [] (actives kind T) tt (there kind) (actives-in kind 1 1 (length T) T (omega arith) (omega arith))
     where
       after : (found : List ℕ) (ps : List (ℕ × Stmt)) → AreOfKind kind (statements_of k) found → AreThere T kind ps → AreIn 1 (length T) ps → AreOfKind kind (statements_of k) (having_after found es c ps)
       after found [] are stand within = are
@@ -153,11 +153,11 @@ module _ (k : Storage) (stored : AreStored k) (d : AreDistinct (names_in k)) (m 
           by found p ps false with without = without
 
   -- the stack of a symbol at the position
-  stack-having : (c : ℕ) (st : List ℕ) → m ≤ length (statements_of k) → st ≡ stack_at (history k.disjoints c) (m + 1) → st ≡ having k.entries c (actives is_disj T)
-  stack-having c st le is = is ∙ (stored.disjoints.each c (m + 1) (omega arith) (omega (arith, le, as-many k)) ∙ ap (λ n. having k.entries c (actives is_disj (take n (statements_of k)))) (omega arith))
+  stack-having : (c : ℕ) (st : List ℕ) → m ≤ length (statements_of k) → st ≡ stack_at (history k.disjoints c) (m + 1) → st ≡ positions_with k.entries c (actives is_disj T)
+  stack-having c st le is = is ∙ (stored.disjoints.each c (m + 1) (omega arith) (omega (arith, le, as-many k)) ∙ ap (λ n. positions_with k.entries c (actives is_disj (take n (statements_of k)))) (omega arith))
 
   pub stack-of-kind : (c : ℕ) (st : List ℕ) → m ≤ length (statements_of k) → st ≡ stack_at (history k.disjoints c) (m + 1) → AreOfKind is_disj (statements_of k) st
-  stack-of-kind c st le is = subst (AreOfKind is_disj (statements_of k)) (sym (stack-having c st le is)) (having-of-kind is_disj k.entries c)
+  stack-of-kind c st le is = subst (AreOfKind is_disj (statements_of k)) (sym (stack-having c st le is)) (positions_with-of-kind is_disj k.entries c)
 
   symbols-low : (o : Option Entry) (p : ℕ) → slice_get k.entries (p - 1) ≡ o → AreBelow (length N) (option_symbols o)
   symbols-low None p e = tt
@@ -181,13 +181,13 @@ module _ (k : Storage) (stored : AreStored k) (d : AreDistinct (names_in k)) (m 
           let listed : List (ℕ × Stmt) = actives is_disj T in
           let both : ℕ → Bool = λ p. has_code es a p && has_code es b p in
           let in_row : list_any both st ≡ true = list_any-map (symbols_at es) (λ list. list_any (λ c. nat_eq a c) list && list_any (λ c. nat_eq b c) list) st ∙ one in
-          let of_row : list_any both (having es x listed) ≡ true = ap (list_any both) (sym (stack-having x st le is)) ∙ in_row in
+          let of_row : list_any both (positions_with es x listed) ≡ true = ap (list_any both) (sym (stack-having x st le is)) ∙ in_row in
           let own = stack_at (history k.disjoints a) (m + 1) in
           pair-is a b own la lb le refl
           ∙ (ap (λ t. not t && list_any (λ p. has_code es b p) own) other
           ∙ (ap (list_any (λ p. has_code es b p)) (stack-having a own le refl)
-          ∙ (having-any (λ p. has_code es b p) es a listed
-          ∙ second-any (λ p. has_code es x p.0) (λ p. both p.0) listed (sym (having-any both es x listed) ∙ of_row))))
+          ∙ (positions_with-any (λ p. has_code es b p) es a listed
+          ∙ second-any (λ p. has_code es x p.0) (λ p. both p.0) listed (sym (positions_with-any both es x listed) ∙ of_row))))
 
 -- ---- the symbols of one `$d`
 
@@ -195,10 +195,10 @@ abbrev AllLess : ℕ → List ℕ → Type 0
 AllLess n [] = Unit {0}
 AllLess n (x ∷ xs) = (x < n) × AllLess n xs
 
-having-less : (n m : ℕ) (found : List ℕ) (es : List Entry) (c : ℕ) (ps : List (ℕ × Stmt)) → m < n → AllLess n found → AreIn 1 m ps → AllLess n (having_after found es c ps)
-having-less n m found es c [] lt all within = all
-having-less n m found es c (p ∷ ps) lt all within =
-    by (has_code es c p.0) (having-less n m (p.0 ∷ found) es c ps lt (let w = within.0.1 in omega (arith, w, lt), all) within.1) (having-less n m found es c ps lt all within.1)
+positions_with-less : (n m : ℕ) (found : List ℕ) (es : List Entry) (c : ℕ) (ps : List (ℕ × Stmt)) → m < n → AllLess n found → AreIn 1 m ps → AllLess n (having_after found es c ps)
+positions_with-less n m found es c [] lt all within = all
+positions_with-less n m found es c (p ∷ ps) lt all within =
+    by (has_code es c p.0) (positions_with-less n m (p.0 ∷ found) es c ps lt (let w = within.0.1 in omega (arith, w, lt), all) within.1) (positions_with-less n m found es c ps lt all within.1)
   where
     by : (b : Bool) → AllLess n (having_after (p.0 ∷ found) es c ps) → AllLess n (having_after found es c ps) → AllLess n (having_after (cond b (p.0 ∷ found) found) es c ps)
     by true with without = with
@@ -210,7 +210,7 @@ module _ (k : Storage) (stored : AreStored k) (p c : ℕ) (of_kind : IsOfKind is
   within = let one = of_kind.one in omega (arith, slice_get_within (statements_of k) (p - 1) of_kind.statement of_kind.stands, as-many k, one)
 
   abbrev rest : List ℕ
-  rest = having k.entries c (actives is_disj (take (p - 1) (statements_of k)))
+  rest = positions_with k.entries c (actives is_disj (take (p - 1) (statements_of k)))
 
   stack-is : st ≡ cond (has_code k.entries c p) (p ∷ rest) rest
   stack-is =
@@ -220,10 +220,10 @@ module _ (k : Storage) (stored : AreStored k) (p c : ℕ) (of_kind : IsOfKind is
       let up : p + 1 - 1 ≡ suc (p - 1) = omega (arith, one) in
       is
       ∙ (stored.disjoints.each c (p + 1) (omega arith) (omega (arith, within))
-      ∙ (ap (λ n. having k.entries c (actives is_disj (take n S))) up
-      ∙ (ap (having k.entries c) (ap (actives is_disj) (take-one S (p - 1) of_kind.statement of_kind.stands)
+      ∙ (ap (λ n. positions_with k.entries c (actives is_disj (take n S))) up
+      ∙ (ap (positions_with k.entries c) (ap (actives is_disj) (take-one S (p - 1) of_kind.statement of_kind.stands)
       ∙ (actives-push is_disj (take (p - 1) S) of_kind.statement (no_close is_disj of_kind.statement refl of_kind.of_kind) ∙ last place))
-      ∙ having-push k.entries c (actives is_disj (take (p - 1) S)) (p, of_kind.statement))))
+      ∙ positions_with-push k.entries c (actives is_disj (take (p - 1) S)) (p, of_kind.statement))))
     where
       last : 1 + length (take (p - 1) (statements_of k)) ≡ p
           → actives is_disj (take (p - 1) (statements_of k)) ++ cond (is_disj of_kind.statement) ((1 + length (take (p - 1) (statements_of k)), of_kind.statement) ∷ []) []
@@ -234,7 +234,7 @@ module _ (k : Storage) (stored : AreStored k) (p c : ℕ) (of_kind : IsOfKind is
   rest-less : AllLess p rest
   rest-less =
       let one = of_kind.one in
-      having-less p (p - 1) [] k.entries c (actives is_disj (take (p - 1) (statements_of k))) (omega (arith, one)) tt
+      positions_with-less p (p - 1) [] k.entries c (actives is_disj (take (p - 1) (statements_of k))) (omega (arith, one)) tt
       (actives-in is_disj 1 1 (p - 1) (take (p - 1) (statements_of k)) (omega arith) (omega (arith, length-take {A = Stmt})))
 
   pub top-some : (last : ℕ) → Some last ≡ slice_get st 0 → nat_eq last p ≡ has_code k.entries c p

@@ -1,6 +1,6 @@
 -- The storage after room was given back: its lists are as before.
-use Rattle.frame.proofs.Words.{◌≡◌, ◌∙◌, ap, sym, subst, refl, Bool, List, length, Stmt, Database, Entry, Storage, AreStored, statements_of, is_disj, is_var, StackVersion, IsUntil, AreSame, stack_at, AreFrames, AreStacks, GivenSets}
-use Rattle.frame.proofs.GivenSetLemmas.{sets-moved}
+use Rattle.frame.proofs.Words.{◌≡◌, ◌∙◌, ap, sym, subst, refl, Bool, List, length, Stmt, Database, Entry, Storage, AreStored, statements_of, is_disj, is_var, StackVersion, IsUntil, AreSame, stack_at, AreFrames, AreStacks, EssentialSets}
+use Rattle.frame.proofs.EssentialSetLemmas.{sets-moved}
 
 pub record IsShrunk (k new : Storage) : Type 0 where
   pub numbering : new.numbering ≡ k.numbering
@@ -28,7 +28,7 @@ stored-shrunk k new are s = record {
   variables = rw (s.numbering, s.entries) (stacks-same is_var k.variables new.variables k.entries (statements_of k) are.variables s.variables);
 }
 
-pub frames-shrunk : (k new : Storage) (g h : GivenSets) → AreFrames k g → IsShrunk k new → h.sets ≡ g.sets → h.kept.items ≡ g.kept.items → AreFrames new h
+pub frames-shrunk : (k new : Storage) (g h : EssentialSets) → AreFrames k g → IsShrunk k new → h.sets ≡ g.sets → h.kept.items ≡ g.kept.items → AreFrames new h
 frames-shrunk k new g h are s sets kept = record {
   stored = stored-shrunk k new are.stored s;
   sets = rw (s.numbering, s.entries) (sets-moved g h k.entries k.entries (statements_of k) (statements_of k) are.sets sets kept are.sets.within (λ i lt. (refl, refl)));

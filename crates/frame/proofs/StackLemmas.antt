@@ -1,5 +1,5 @@
 -- The stacks by number: what one more statement changes, the first statements alone, and a `$}`.
-use Rattle.frame.proofs.Words.{◌≡◌, ◌∙◌, ap, sym, subst, arith, refl, inl, inr, ℕ, zero, suc, ◌+◌, ◌-◌, ◌<◌, ◌≤◌, ◌⊎◌, Bool, true, false, cond, ◌||◌, nat_eq, List, [], ◌∷◌, ◌++◌, length, filter, take, take_all, take-take, take-append-le, take-append_seam, length-append, length-take, length-take-le, get_or, slice_get, cases_lt, nat_le, list_any, list_any_more, append-nil, get-last, Stmt, Database, Entry, stays_open, active_from, is_open, is_close, actives, actives_from, is_disj, is_var, last_active_of_kind, kind_of, Storage, AreStored, names_in, labels_in, statements_of, stmt_of, length-map, Disj, Var, StackVersion, IsUntil, AreUntil, AreSame, AreKeptUntil, history, kept_until, pushed, gone_back, stack_at, until-later, until-kept, stack-later, stack-kept, stack-changed, changed-twice, until-changed, kept-changed, NextStatement, option_symbols, has_code, having_after, having, AreStacks, opening, with_top, latest_of, KeepsUntil, AreChangedBy, IsNext, leb-true}
+use Rattle.frame.proofs.Words.{◌≡◌, ◌∙◌, ap, sym, subst, arith, refl, inl, inr, ℕ, zero, suc, ◌+◌, ◌-◌, ◌<◌, ◌≤◌, ◌⊎◌, Bool, true, false, cond, ◌||◌, nat_eq, List, [], ◌∷◌, ◌++◌, length, filter, take, take_all, take-take, take-append-le, take-append_seam, length-append, length-take, length-take-le, get_or, slice_get, cases_lt, nat_le, list_any, list_any_more, append-nil, get-last, Stmt, Database, Entry, stays_open, active_from, is_open, is_close, actives, actives_from, is_disj, is_var, last_active_of_kind, kind_of, Storage, AreStored, names_in, labels_in, statements_of, stmt_of, length-map, Disj, Var, StackVersion, IsUntil, AreUntil, AreSame, AreKeptUntil, history, kept_until, pushed, gone_back, stack_at, until-later, until-kept, stack-later, stack-kept, stack-changed, changed-twice, until-changed, kept-changed, NextStatement, option_symbols, has_code, having_after, positions_with, AreStacks, opening, with_top, latest_of, KeepsUntil, AreChangedBy, IsNext, leb-true}
 use Rattle.mm_read.specs.declared.stmt.Stmt.TheVariants as stmt
 use Rattle.entries.specs.Histories.{AreWith}
 use Rattle.frame.proofs.OpenLemmas.{IsNoClose}
@@ -85,12 +85,12 @@ module _ (at : ℕ) (one : 1 ≤ at) (old : List (List StackVersion)) (until : A
 
 -- ---- the positions of those that have a symbol
 
-having-append : (found : List ℕ) (es : List Entry) (c : ℕ) (ps qs : List (ℕ × Stmt)) → having_after found es c (ps ++ qs) ≡ having_after (having_after found es c ps) es c qs
-having-append found es c [] qs = refl
-having-append found es c (p ∷ ps) qs = having-append (cond (has_code es c p.0) (p.0 ∷ found) found) es c ps qs
+positions_with-append : (found : List ℕ) (es : List Entry) (c : ℕ) (ps qs : List (ℕ × Stmt)) → having_after found es c (ps ++ qs) ≡ having_after (having_after found es c ps) es c qs
+positions_with-append found es c [] qs = refl
+positions_with-append found es c (p ∷ ps) qs = positions_with-append (cond (has_code es c p.0) (p.0 ∷ found) found) es c ps qs
 
-pub having-push : (es : List Entry) (c : ℕ) (ps : List (ℕ × Stmt)) (p : ℕ × Stmt) → having es c (ps ++ p ∷ []) ≡ cond (has_code es c p.0) (p.0 ∷ having es c ps) (having es c ps)
-having-push es c ps p = having-append [] es c ps (p ∷ [])
+pub positions_with-push : (es : List Entry) (c : ℕ) (ps : List (ℕ × Stmt)) (p : ℕ × Stmt) → positions_with es c (ps ++ p ∷ []) ≡ cond (has_code es c p.0) (p.0 ∷ positions_with es c ps) (positions_with es c ps)
+positions_with-push es c ps p = positions_with-append [] es c ps (p ∷ [])
 
 abbrev pub AreIn : ℕ → ℕ → List (ℕ × Stmt) → Type 0
 AreIn from to [] = Unit {0}
@@ -105,18 +105,18 @@ actives-in kind low at high (s ∷ S) le h = by (stays_open 0 S) (kind s) refl (
     by true false e r = rw e r
     by false x e r = r
 
-having-same : (found : List ℕ) (es fs : List Entry) (c n : ℕ) (ps : List (ℕ × Stmt)) → AreIn 1 n ps → ((p : ℕ) → 1 ≤ p → p ≤ n → has_code es c p ≡ has_code fs c p) → having_after found es c ps ≡ having_after found fs c ps
-having-same found es fs c n [] are same = refl
-having-same found es fs c n (p ∷ ps) are same =
-    ap (λ b. having_after (cond b (p.0 ∷ found) found) es c ps) (same p.0 are.0.0 are.0.1) ∙ having-same (cond (has_code fs c p.0) (p.0 ∷ found) found) es fs c n ps are.1 same
+positions_with-same : (found : List ℕ) (es fs : List Entry) (c n : ℕ) (ps : List (ℕ × Stmt)) → AreIn 1 n ps → ((p : ℕ) → 1 ≤ p → p ≤ n → has_code es c p ≡ has_code fs c p) → having_after found es c ps ≡ having_after found fs c ps
+positions_with-same found es fs c n [] are same = refl
+positions_with-same found es fs c n (p ∷ ps) are same =
+    ap (λ b. having_after (cond b (p.0 ∷ found) found) es c ps) (same p.0 are.0.0 are.0.1) ∙ positions_with-same (cond (has_code fs c p.0) (p.0 ∷ found) found) es fs c n ps are.1 same
 
 code-front : (es : List Entry) (c n p : ℕ) → 1 ≤ p → p ≤ n → has_code (take n es) c p ≡ has_code es c p
 code-front es c n p one le = ap (λ o. list_any (λ x. nat_eq c x) (option_symbols o)) (get-take (p - 1) n es (omega (arith, one, le)))
 
 -- the statements that were active after the first m of n, by the first n entries
-pub having-front : (kind : Stmt → Bool) (es : List Entry) (c n m : ℕ) (S : Database) → m ≤ n → having (take n es) c (actives kind (take m S)) ≡ having es c (actives kind (take m S))
-having-front kind es c n m S le =
-    having-same [] (take n es) es c n (actives kind (take m S)) (actives-in kind 1 1 n (take m S) (omega arith) (omega (arith, length-take {A = Stmt}, le)))
+pub positions_with-front : (kind : Stmt → Bool) (es : List Entry) (c n m : ℕ) (S : Database) → m ≤ n → positions_with (take n es) c (actives kind (take m S)) ≡ positions_with es c (actives kind (take m S))
+positions_with-front kind es c n m S le =
+    positions_with-same [] (take n es) es c n (actives kind (take m S)) (actives-in kind 1 1 n (take m S) (omega arith) (omega (arith, length-take {A = Stmt}, le)))
     (λ p one low. code-front es c n p one low)
 
 kept-low : (n : ℕ) (vs : List StackVersion) → IsUntil n (kept_until n vs)
@@ -146,17 +146,17 @@ module _ (kind : Stmt → Bool) (hs : List (List StackVersion)) (es : List Entry
   more = es ++ e ∷ []
 
   -- by the entries with one more
-  here : (c at : ℕ) → 1 ≤ at → at ≤ length es + 1 → stack_at (history hs c) at ≡ having more c (actives kind (take (at - 1) S))
+  here : (c at : ℕ) → 1 ≤ at → at ≤ length es + 1 → stack_at (history hs c) at ≡ positions_with more c (actives kind (take (at - 1) S))
   here c at one le =
       are.each c at one le
-      ∙ (ap (λ r. having r c (actives kind (take (at - 1) S))) (sym (take-append_seam es (e ∷ [])))
-      ∙ having-front kind more c (length es) (at - 1) S (omega (arith, le)))
+      ∙ (ap (λ r. positions_with r c (actives kind (take (at - 1) S))) (sym (take-append_seam es (e ∷ [])))
+      ∙ positions_with-front kind more c (length es) (at - 1) S (omega (arith, le)))
 
-  all : (c at : ℕ) → at ≡ length es + 1 → stack_at (history hs c) at ≡ having more c (actives kind S)
-  all c at is = here c at (omega (arith, is)) (omega (arith, is)) ∙ ap (λ T. having more c (actives kind T)) (take_all (at - 1) S (omega (arith, is, size)))
+  all : (c at : ℕ) → at ≡ length es + 1 → stack_at (history hs c) at ≡ positions_with more c (actives kind S)
+  all c at is = here c at (omega (arith, is)) (omega (arith, is)) ∙ ap (λ T. positions_with more c (actives kind T)) (take_all (at - 1) S (omega (arith, is, size)))
 
   pub stacks-next : (new : List (List StackVersion)) (es' : List Entry) (T : Database) (at : ℕ) (latest : ℕ → List ℕ) → at ≡ length es + 1 → IsNext at latest hs new
-      → ((c : ℕ) → latest c ≡ having more c (actives kind (S ++ s ∷ []))) → es' ≡ more → T ≡ S ++ s ∷ [] → AreStacks kind new es' T
+      → ((c : ℕ) → latest c ≡ positions_with more c (actives kind (S ++ s ∷ []))) → es' ≡ more → T ≡ S ++ s ∷ [] → AreStacks kind new es' T
   stacks-next new es' T at latest is next last entries statements = rw (entries, statements) (record {
     until = λ c. subst (λ n. IsUntil n (history new c)) (sym long) (next.until c);
     each = λ c i one le. by c i one le (cases_lt i (at + 1));
@@ -165,56 +165,56 @@ module _ (kind : Stmt → Bool) (hs : List (List StackVersion)) (es : List Entry
       long : length more ≡ at
       long = omega (arith, length-append es (e ∷ []), is)
 
-      by : (c i : ℕ) → 1 ≤ i → i ≤ length more + 1 → (i < at + 1) ⊎ (at + 1 ≤ i) → stack_at (history new c) i ≡ having more c (actives kind (take (i - 1) (S ++ s ∷ [])))
+      by : (c i : ℕ) → 1 ≤ i → i ≤ length more + 1 → (i < at + 1) ⊎ (at + 1 ≤ i) → stack_at (history new c) i ≡ positions_with more c (actives kind (take (i - 1) (S ++ s ∷ [])))
       by c i one le (inl lt) =
           let low : i ≤ at - 1 + 1 = omega (arith, lt, is) in
           sym (stack-kept (history new c) (at - 1) i low)
           ∙ (ap (λ vs. stack_at vs i) (next.kept c)
           ∙ (stack-kept (history hs c) (at - 1) i low
-          ∙ (here c i one (omega (arith, lt, is)) ∙ ap (λ T. having more c (actives kind T)) (sym (take-append-le (i - 1) S (s ∷ []) (omega (arith, lt, is, size)))))))
+          ∙ (here c i one (omega (arith, lt, is)) ∙ ap (λ T. positions_with more c (actives kind T)) (sym (take-append-le (i - 1) S (s ∷ []) (omega (arith, lt, is, size)))))))
       by c i one le (inr ge) =
           let end : i ≡ at + 1 = omega (arith, ge, le, long) in
           ap (stack_at (history new c)) end
-          ∙ (next.latest c ∙ (last c ∙ ap (λ T. having more c (actives kind T)) (sym (take_all (i - 1) (S ++ s ∷ []) (omega (arith, end, is, size, length-append S (s ∷ [])))))))
+          ∙ (next.latest c ∙ (last c ∙ ap (λ T. positions_with more c (actives kind T)) (sym (take_all (i - 1) (S ++ s ∷ []) (omega (arith, end, is, size, length-append S (s ∷ [])))))))
 
   -- a statement of another kind
-  pub latest-other : (at : ℕ) → at ≡ length es + 1 → is_close s ≡ false → kind s ≡ false → (c : ℕ) → stack_at (history hs c) at ≡ having more c (actives kind (S ++ s ∷ []))
+  pub latest-other : (at : ℕ) → at ≡ length es + 1 → is_close s ≡ false → kind s ≡ false → (c : ℕ) → stack_at (history hs c) at ≡ positions_with more c (actives kind (S ++ s ∷ []))
   latest-other at is close other c =
-      all c at is ∙ ap (having more c) (sym (actives-push kind S s close ∙ (ap (λ b. actives kind S ++ cond b ((1 + length S, s) ∷ []) []) other ∙ append-nil (actives kind S))))
+      all c at is ∙ ap (positions_with more c) (sym (actives-push kind S s close ∙ (ap (λ b. actives kind S ++ cond b ((1 + length S, s) ∷ []) []) other ∙ append-nil (actives kind S))))
 
   -- one of the kind
-  pub latest-own : (at : ℕ) → at ≡ length es + 1 → is_close s ≡ false → kind s ≡ true → (c : ℕ) → with_top e.symbols at hs c ≡ having more c (actives kind (S ++ s ∷ []))
+  pub latest-own : (at : ℕ) → at ≡ length es + 1 → is_close s ≡ false → kind s ≡ true → (c : ℕ) → with_top e.symbols at hs c ≡ positions_with more c (actives kind (S ++ s ∷ []))
   latest-own at is close own c =
       let place : 1 + length S ≡ at = omega (arith, is, size) in
       let told : has_code more c at ≡ list_any (λ x. nat_eq c x) e.symbols =
       ap (λ o. list_any (λ x. nat_eq c x) (option_symbols o)) (ap (slice_get more) (omega (arith, is)) ∙ get-last es e) in
       ap (λ st. cond (list_any (λ x. nat_eq c x) e.symbols) (at ∷ st) st) (all c at is)
-      ∙ (ap (λ b. cond b (at ∷ having more c (actives kind S)) (having more c (actives kind S))) (sym told)
-      ∙ (sym (having-push more c (actives kind S) (at, s))
-      ∙ ap (having more c) (sym (actives-push kind S s close ∙ (ap (λ b. actives kind S ++ cond b ((1 + length S, s) ∷ []) []) own ∙ ap (λ n. actives kind S ++ (n, s) ∷ []) place)))))
+      ∙ (ap (λ b. cond b (at ∷ positions_with more c (actives kind S)) (positions_with more c (actives kind S))) (sym told)
+      ∙ (sym (positions_with-push more c (actives kind S) (at, s))
+      ∙ ap (positions_with more c) (sym (actives-push kind S s close ∙ (ap (λ b. actives kind S ++ cond b ((1 + length S, s) ∷ []) []) own ∙ ap (λ n. actives kind S ++ (n, s) ∷ []) place)))))
 
   -- a `$}`
-  pub latest-close : IsNoClose kind → (block : ℕ) → block ≡ last_active_of_kind is_open S → s ≡ stmt.Close → (c : ℕ) → stack_at (history hs c) (opening block) ≡ having more c (actives kind (S ++ s ∷ []))
+  pub latest-close : IsNoClose kind → (block : ℕ) → block ≡ last_active_of_kind is_open S → s ≡ stmt.Close → (c : ℕ) → stack_at (history hs c) (opening block) ≡ positions_with more c (actives kind (S ++ s ∷ []))
   latest-close no_close block is closes c =
       let within = last-within is_open S refl in
       here c (opening block) (opening-some block) (omega (arith, opening-low block, is, within, size))
-      ∙ ap (having more c) (ap (λ n. actives kind (take n S)) (opening-back block ∙ ap (λ n. n - 1) is) ∙ sym (ap (λ t. actives kind (S ++ t ∷ [])) closes ∙ actives-close kind S no_close))
+      ∙ ap (positions_with more c) (ap (λ n. actives kind (take n S)) (opening-back block ∙ ap (λ n. n - 1) is) ∙ sym (ap (λ t. actives kind (S ++ t ∷ [])) closes ∙ actives-close kind S no_close))
 
 -- ---- the stacks of both kinds after the next statement
 
 module _ (hs : List (List StackVersion)) (es : List Entry) (S : Database) (e : Entry) (s : Stmt) (x : NextStatement) (size : length es ≡ length S) (place : x.at ≡ length es + 1) (codes : x.codes.now ≡ e.symbols) (of_kind : x.kind ≡ kind_of s) (block : x.last_active.block ≡ last_active_of_kind is_open S) where
-  pub latest-disj : AreStacks is_disj hs es S → (c : ℕ) → latest_of Disj x.kind x hs c ≡ having (es ++ e ∷ []) c (actives is_disj (S ++ s ∷ []))
-  latest-disj are c = subst (λ k. latest_of Disj k x hs c ≡ having (es ++ e ∷ []) c (actives is_disj (S ++ s ∷ []))) (sym of_kind) (by s refl)
+  pub latest-disj : AreStacks is_disj hs es S → (c : ℕ) → latest_of Disj x.kind x hs c ≡ positions_with (es ++ e ∷ []) c (actives is_disj (S ++ s ∷ []))
+  latest-disj are c = subst (λ k. latest_of Disj k x hs c ≡ positions_with (es ++ e ∷ []) c (actives is_disj (S ++ s ∷ []))) (sym of_kind) (by s refl)
     where
-      by : (t : Stmt) → s ≡ t → latest_of Disj (kind_of t) x hs c ≡ having (es ++ e ∷ []) c (actives is_disj (S ++ s ∷ []))
+      by : (t : Stmt) → s ≡ t → latest_of Disj (kind_of t) x hs c ≡ positions_with (es ++ e ∷ []) c (actives is_disj (S ++ s ∷ []))
       by stmt.Close is = latest-close is_disj hs es S e s are size refl x.last_active.block block is c
       by (stmt.Disj n) is = ap (λ l. with_top l x.at hs c) codes ∙ latest-own is_disj hs es S e s are size x.at place (ap is_close is) (ap is_disj is) c
       by t is = latest-other is_disj hs es S e s are size x.at place (ap is_close is) (ap is_disj is) c
 
-  pub latest-var : AreStacks is_var hs es S → (c : ℕ) → latest_of Var x.kind x hs c ≡ having (es ++ e ∷ []) c (actives is_var (S ++ s ∷ []))
-  latest-var are c = subst (λ k. latest_of Var k x hs c ≡ having (es ++ e ∷ []) c (actives is_var (S ++ s ∷ []))) (sym of_kind) (by s refl)
+  pub latest-var : AreStacks is_var hs es S → (c : ℕ) → latest_of Var x.kind x hs c ≡ positions_with (es ++ e ∷ []) c (actives is_var (S ++ s ∷ []))
+  latest-var are c = subst (λ k. latest_of Var k x hs c ≡ positions_with (es ++ e ∷ []) c (actives is_var (S ++ s ∷ []))) (sym of_kind) (by s refl)
     where
-      by : (t : Stmt) → s ≡ t → latest_of Var (kind_of t) x hs c ≡ having (es ++ e ∷ []) c (actives is_var (S ++ s ∷ []))
+      by : (t : Stmt) → s ≡ t → latest_of Var (kind_of t) x hs c ≡ positions_with (es ++ e ∷ []) c (actives is_var (S ++ s ∷ []))
       by stmt.Close is = latest-close is_var hs es S e s are size refl x.last_active.block block is c
       by (stmt.Var n) is = ap (λ l. with_top l x.at hs c) codes ∙ latest-own is_var hs es S e s are size x.at place (ap is_close is) (ap is_var is) c
       by t is = latest-other is_var hs es S e s are size x.at place (ap is_close is) (ap is_var is) c
@@ -228,8 +228,8 @@ stacks-front kind hs new es S n are le kept = record {
       ap (λ vs. stack_at vs at) (kept c)
       ∙ (stack-kept (history hs c) n at (omega (arith, low, long))
       ∙ (are.each c at one (omega (arith, low, long, le))
-      ∙ (sym (having-front kind es c n (at - 1) S (omega (arith, low, long)))
-      ∙ ap (λ T. having (take n es) c (actives kind T)) (sym (take-take (at - 1) n S (omega (arith, low, long)))))));
+      ∙ (sym (positions_with-front kind es c n (at - 1) S (omega (arith, low, long)))
+      ∙ ap (λ T. positions_with (take n es) c (actives kind T)) (sym (take-take (at - 1) n S (omega (arith, low, long)))))));
 }
   where
     long : length (take n es) ≡ n
@@ -268,6 +268,6 @@ module _ (old : Storage) (s : Stmt) (e : Entry) (x : NextStatement) (stored : Ar
 pub stacks-none : (kind : Stmt → Bool) → AreStacks kind [] [] []
 stacks-none kind = record { until = λ c. tt; each = λ c at one le. by c (at - 1) }
   where
-    by : (c n : ℕ) → [] ≡ having [] c (actives kind (take n []))
+    by : (c n : ℕ) → [] ≡ positions_with [] c (actives kind (take n []))
     by c zero = refl
     by c (suc n) = refl

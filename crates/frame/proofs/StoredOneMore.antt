@@ -1,5 +1,5 @@
 -- The parts of the storage with one more statement: numbers, labels, positions, symbols.
-use Rattle.frame.proofs.Words.{list_any, sym, ◌∙◌, ap, subst, arith, inl, inr, add-zero, ◌≡◌, ℕ, zero, suc, ◌+◌, ◌-◌, ◌<◌, ◌≤◌, Bool, true, false, cond, not, ◌&&◌, ◌||◌, ◌==◌, nat_lt, ◌⊎◌, List, [], ◌∷◌, ◌++◌, length, map, take, slice_get, Option, Some, None, refl, and-false, take-append-le, cases_lt, ltb-true, take-append_seam, Name, Stmt, Database, before, label_of, stays_open, is_close, is_open, count, IsLegal, G10, name_at, decode, AreBelow, LastActive, Kind, Float, Ess, Axiom, Prove, Entry, Symbol, stmt_by, stmt_of, positions_from, option_position, AreAllLegal, symbol_of, ReadsAs, floats, declares, second_is, is_float_kind, is_var_kind, last_from, IsLabelBelow, HasTwo, AreNumbered, AreZero, AreZeroAfter, zero_symbol, AreKept, Extends, get-more, place, stays_open-append, below-deficit, no_deficit, deficit-close, count-left_open, get-push}
+use Rattle.frame.proofs.Words.{list_any, sym, ◌∙◌, ap, subst, arith, inl, inr, add-zero, ◌≡◌, ℕ, zero, suc, ◌+◌, ◌-◌, ◌<◌, ◌≤◌, Bool, true, false, cond, not, ◌&&◌, ◌||◌, ◌==◌, nat_lt, ◌⊎◌, List, [], ◌∷◌, ◌++◌, length, map, take, slice_get, Option, Some, None, refl, and-false, take-append-le, cases_lt, ltb-true, take-append_seam, Name, Stmt, Database, before, label_of, stays_open, is_close, is_open, count, IsLegal, G10, name_at, decode, AreBelow, LastActive, Kind, Float, Ess, Axiom, Prove, Entry, Symbol, stmt_by, stmt_of, positions_from, option_position, AreAllLegal, symbol_of, ReadsAs, floats, declares, second_is, is_float_kind, is_var_kind, last_from, IsLabelBelow, HasTwo, AreNumbered, AreUndeclared, AreZeroAfter, undeclared_symbol, AreKept, Extends, get-more, place, stays_open-append, below-deficit, no_deficit, deficit-close, count-left_open, get-push}
 use Rattle.frame.proofs.SymbolNumberLemmas.{decode-extends, name_at-extends, below-more}
 use Rattle.mm_read.specs.declared.stmt.Stmt.TheVariants as stmt
 
@@ -95,14 +95,14 @@ numbered-at n m [] h k e g = cc
 numbered-at n m (d ∷ es) h zero e g = let same : d ≡ e = cc in subst (λ x. AreBelow n x.symbols) same h.0
 numbered-at n m (d ∷ es) h (suc k) e g = numbered-at n m es h.2 k e g
 
-pub symbol_of-above : (n m : ℕ) (es : List Entry) (c : ℕ) → AreNumbered n m es → n ≤ c → symbol_of es c ≡ zero_symbol
+pub symbol_of-above : (n m : ℕ) (es : List Entry) (c : ℕ) → AreNumbered n m es → n ≤ c → symbol_of es c ≡ undeclared_symbol
 symbol_of-above n m es c h le =
     rw (
       none-from (floats c) 0 1 es (λ e k g. ap (λ b. is_float_kind e.kind && b) (above-second n c e.symbols (numbered-at n m es h k e g) le) ∙ and-false (is_float_kind e.kind)),
       none-from (declares c) 0 1 es (λ e k g. ap (λ b. is_var_kind e.kind && b) (above-any n c e.symbols (numbered-at n m es h k e g) le) ∙ and-false (is_var_kind e.kind)),
     ) refl
 
-get-zero : (old more : List Symbol) (c : ℕ) → AreZero more → length old ≤ c → c < length (old ++ more) → slice_get (old ++ more) c ≡ Some zero_symbol
+get-zero : (old more : List Symbol) (c : ℕ) → AreUndeclared more → length old ≤ c → c < length (old ++ more) → slice_get (old ++ more) c ≡ Some undeclared_symbol
 get-zero [] [] c z le lt = absurd (omega (arith, lt))
 get-zero [] (x ∷ more) zero z le lt = ap Some z.0
 get-zero [] (x ∷ more) (suc c) z le lt = get-zero [] more c z.1 (omega arith) (omega (arith, lt))

@@ -1,15 +1,15 @@
 -- Numbers and the names that they stand for, as both grow.
-use Rattle.frame.proofs.Words.{replicate, take_all, zero, ◌∙◌, ap, arith, ◌≡◌, ℕ, ◌<◌, ◌≤◌, List, [], ◌∷◌, ◌++◌, length, take, refl, suc, take-append_seam, Name, name_at, decode, AreBelow, Symbol, Extends, zero_symbol, AreZero, AreZeroAfter, name_at-more}
+use Rattle.frame.proofs.Words.{replicate, take_all, zero, ◌∙◌, ap, arith, ◌≡◌, ℕ, ◌<◌, ◌≤◌, List, [], ◌∷◌, ◌++◌, length, take, refl, suc, take-append_seam, Name, name_at, decode, AreBelow, Symbol, Extends, undeclared_symbol, AreUndeclared, AreZeroAfter, name_at-more}
 
 -- cut back to where it began, the list is as before
 pub take-extends : {A : Type 0} (a b : List A) → Extends a b → take (length a) b ≡ a
 take-extends a b p = ap (take (length a)) p.1 ∙ take-append_seam a p.0
 
 -- symbols more that nothing declares
-pub zero-more : (a b : List Symbol) (n m : ℕ) → length a ≤ n → b ≡ take n a ++ replicate m zero_symbol → AreZeroAfter a b
-zero-more a b n m le is = (replicate m zero_symbol, is ∙ ap (λ r. r ++ replicate m zero_symbol) (take_all n a le), zeros m)
+pub zero-more : (a b : List Symbol) (n m : ℕ) → length a ≤ n → b ≡ take n a ++ replicate m undeclared_symbol → AreZeroAfter a b
+zero-more a b n m le is = (replicate m undeclared_symbol, is ∙ ap (λ r. r ++ replicate m undeclared_symbol) (take_all n a le), zeros m)
   where
-    zeros : (m : ℕ) → AreZero (replicate m zero_symbol)
+    zeros : (m : ℕ) → AreUndeclared (replicate m undeclared_symbol)
     zeros zero = tt
     zeros (suc m) = (refl, zeros m)
 

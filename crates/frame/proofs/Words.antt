@@ -27,27 +27,27 @@ pub use Rattle.frame.specs.Bound.{HasFloat, IsBound, IsFirstFixed}
 pub use Rattle.frame.specs.Citations.{Carries, OfVariables, expr_at, is_hypothesis_kind, premises}
 pub use Rattle.frame.specs.Disjoint.{are_disjoint, is_pair_disjoint, is_symbol_disjoint, is_variable_disjoint}
 pub use Rattle.frame.specs.ExprPlaces.{AreExprPlaces}
-pub use Rattle.frame.specs.FrameOf.{HasAssertion, frame_of, groups, hypotheses, is_hypothesis, is_mandatory, is_pair, is_used, mandatory_groups, separates}
+pub use Rattle.frame.specs.FrameOf.{HasAssertion, frame_of, groups, hypotheses, is_hypothesis, is_mandatory, is_pair, is_used, mandatory_groups, has_two_or_more}
 pub use Rattle.frame.specs.LastActive.{actives, actives_from, is_disj, is_var, last_active_of, last_active_of_kind, last_position}
 pub use Rattle.frame.specs.Laws.{GroupsArePairs}
 pub use Rattle.frame.specs.PairRows.{AreTogether, have_both}
 pub use Rattle.frame.specs.Parts.{FrameParts, Numbered}
 pub use Rattle.frame.specs.Stored.AssertionParts.{IsKeptAs, floats_in, groups_by, has_parts, has_two, is_float_in, is_typed, is_typed_by, kept_with, option_required, option_symbols, recorded_in, required_at, required_by, symbols_at, typecode_at, typed}
-pub use Rattle.frame.specs.Stored.Counts.{AreNumbered, AreZero, AreZeroAfter, Grown, HasRoom, HasTwo, IsAfter, IsLabelBelow, IsPlain, KeepsCounts, kind_of, next_last_active, with_declared, with_entry, zero_symbol}
-pub use Rattle.frame.specs.Stored.Ends.{AreBlocks, AreEnds, TellEnds, end_from, end_of, with_end}
+pub use Rattle.frame.specs.Stored.Counts.{AreNumbered, AreUndeclared, AreZeroAfter, HasMoreNames, HasRoom, HasTwo, IsAfter, IsLabelBelow, IsPlain, KeepsCounts, kind_of, next_last_active, with_declared, with_entry, undeclared_symbol}
+pub use Rattle.frame.specs.Stored.Ends.{AreBlocks, AreEnds, AreBlockEnds, end_from, end_of, with_end}
 pub use Rattle.frame.specs.Stored.EntryMeanings.{AreAllLegal, ReadsAs, declared_by, declares, floats, is_float_kind, is_var_kind, labels_in, last_from, last_of, last_where, names_in, option_position, positions_from, replaced_after, replaced_by, replaced_of, second_is, statements_of, stmt_by, stmt_of, symbol_of, with_last}
-pub use Rattle.frame.specs.Stored.GivenSets.{AreFrames, AreGivenSets, IsGivenBy, IsKeptSet, kept_set, option_set}
-pub use Rattle.frame.specs.Stored.Hypotheses.{AreCollected, AreDescribed, AreFloats, AreHypotheses, AreLooked, AreThose, AreWith, HasMore, In, IsFilledFrom, IsFloatOf, IsGiven, IsWith, OfSome, SomeFloat, is_hypothesis_entry, kept_at, option_kept}
+pub use Rattle.frame.specs.Stored.EssentialSets.{AreFrames, AreEssentialSets, IsSetFromEssentials, IsEssentialSet, kept_set, option_set}
+pub use Rattle.frame.specs.Stored.Hypotheses.{AreCollected, AreDescribed, AreFloats, AreHypotheses, AreLooked, AreThose, AreWith, HasMore, In, IsFilledFrom, IsFloatOf, IsFromEssentials, IsWith, OfSome, SomeFloat, is_hypothesis_entry, kept_at, option_kept}
 pub use Rattle.frame.specs.Stored.Labels.{is_label_kind}
 pub use Rattle.frame.specs.Stored.LongExpressions.{AreLongIn, IsLongIn}
 pub use Rattle.frame.specs.Stored.Merged.{AreMerged, AreMissing, with_each}
 pub use Rattle.frame.specs.Stored.Naming.{is_declared, naming_from, naming_of}
-pub use Rattle.frame.specs.Stored.OneFrame.{AreMandatory, among, asks, groups_among, is_in_essential, required}
-pub use Rattle.frame.specs.Stored.PairSearch.{AreSought, IsLeft, are_pair}
-pub use Rattle.frame.specs.Stored.Stacks.{AreChangedBy, AreOfKind, AreStacks, IsNext, IsOfKind, KeepsUntil, has_code, having, having_after, kind_test, last_by_kind, latest_of, opening, with_top}
-pub use Rattle.frame.specs.Stored.Whole.{AreKept, ArePartsFor, AreStored, IsEntryHeader, IsKeptOf, IsWalked}
-pub use Rattle.frame.specs.declared.given_sets.GivenSets.{GivenSets}
-pub use Rattle.frame.specs.declared.given_sets.KeptSet.{KeptSet}
+pub use Rattle.frame.specs.Stored.OneFrame.{AreMandatory, among, is_needed, groups_among, is_in_essential, required}
+pub use Rattle.frame.specs.Stored.PairSearch.{AreSearched, IsLeft, are_pair}
+pub use Rattle.frame.specs.Stored.Stacks.{AreChangedBy, AreOfKind, AreStacks, IsNext, IsOfKind, KeepsUntil, has_code, positions_with, having_after, kind_test, last_by_kind, latest_of, opening, with_top}
+pub use Rattle.frame.specs.Stored.Whole.{AreKept, ArePartsFor, AreStored, IsEntryHeader, IsKeptOf, AreStacksOfStorage}
+pub use Rattle.frame.specs.declared.essential_sets.EssentialSets.{EssentialSets}
+pub use Rattle.frame.specs.declared.essential_sets.EssentialSet.{EssentialSet}
 pub use Rattle.frame.specs.declared.stacks.NextStatement.{NextStatement}
 pub use Rattle.frame.specs.declared.storage.Storage.{Storage}
 pub use Rattle.frame.specs.declared.storage.Symbol.{Symbol}

@@ -37,14 +37,14 @@ abbrev pub is_mandatory_pair : Database → Stmt → Name → Name → Bool
 is_mandatory_pair S s x y = is_pair S x y && is_mandatory S s x && is_mandatory S s y
 
 -- the list has two or more variables, and so makes a condition
-abbrev pub separates : List Name → Bool
-separates [] = false
-separates (x ∷ []) = false
-separates (x ∷ y ∷ names) = true
+abbrev pub has_two_or_more : List Name → Bool
+has_two_or_more [] = false
+has_two_or_more (x ∷ []) = false
+has_two_or_more (x ∷ y ∷ names) = true
 
 -- for each active `$d` the list of its mandatory variables, if these are two or more
 abbrev pub mandatory_groups : Database → Stmt → List (List Name)
-mandatory_groups S s = filter separates (map (filter (is_mandatory S s)) (groups S))
+mandatory_groups S s = filter has_two_or_more (map (filter (is_mandatory S s)) (groups S))
 
 abbrev pub frame_of : Database → Stmt → FrameParts
 frame_of S s = record { hypotheses = hypotheses S s; groups = mandatory_groups S s; conclusion = expr_of s }

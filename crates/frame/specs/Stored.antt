@@ -13,5 +13,5 @@ pub mod LongExpressions
 pub mod Whole
 pub mod PairSearch
 pub mod PairLists
-pub mod GivenSets
+pub mod EssentialSets
 pub mod Merged

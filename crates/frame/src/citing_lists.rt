@@ -6,7 +6,7 @@ ghost use Rattle.frame.specs.PairFacts.{AreFacts};
 ghost use Rattle.frame.specs.Stored.AssertionParts.{is_typed, is_typed_by, required_at};
 ghost use Rattle.frame.specs.Stored.EntryMeanings.{names_in, numbered, statements_of};
 ghost use Rattle.frame.specs.Stored.Hypotheses.{AreHypotheses};
-ghost use Rattle.frame.specs.Stored.PairLists.{HasPairs, IsFilledByPairs, IsFilledForCitation, IsPlace, are_among, is_beside};
+ghost use Rattle.frame.specs.Stored.PairLists.{HasPairs, IsFilledByPairs, IsFilledForCitation, IsSearchPosition, are_among, is_beside};
 ghost use Rattle.frame.specs.Stored.Whole.{AreStored};
 
 use crate::at_position::last_active_at;
@@ -34,7 +34,7 @@ pub fn fill_for_citation(
     facts: &mut PairFacts,
     buffers: &mut FrameBuffers,
 ) -> Result<(), AllocError>
-    requires place { IsPlace storage.now at }
+    requires place { IsSearchPosition storage.now at }
     requires facts { AreFacts (numbered storage.now) facts.old }
     requires hypotheses { AreHypotheses storage.now.entries buffers.old.hypotheses }
     requires undescribed { (buffers.old.required ≡ []) × (buffers.old.typecodes ≡ []) × (buffers.old.groups ≡ []) }
@@ -42,7 +42,7 @@ pub fn fill_for_citation(
     ensures filled { OnOk result (IsFilledForCitation storage.now at buffers.old.hypotheses buffers.new) }
 {
     let variables = variables(alloc, storage, &buffers.hypotheses)?;
-    if learn_pairs(storage, at, facts, &variables) {
+    if search_all_pairs(storage, at, facts, &variables) {
         fill_by_pairs(storage, at, facts, buffers, &variables)
     } else {
         fill_from_hypotheses(storage, at, buffers)
@@ -78,8 +78,8 @@ fn add_variable(hypothesis: Hypothesis, list: &mut Vec<u32>) -> Result<(), Alloc
 /// Searches for each pair of the variables, and returns whether that took no longer than going through the active `$d`.
 ///
 /// Cost: at most a constant times that of the cheaper one.
-fn learn_pairs(storage: &Storage, at: usize, facts: &mut PairFacts, variables: &[u32]) -> bool
-    requires place { IsPlace storage.now at }
+fn search_all_pairs(storage: &Storage, at: usize, facts: &mut PairFacts, variables: &[u32]) -> bool
+    requires place { IsSearchPosition storage.now at }
     requires facts { AreFacts (numbered storage.now) facts.old }
     requires below { AreBelow (length (names_in storage.now)) variables.now }
     ensures { AreFacts (numbered storage.now) facts.new }
@@ -91,7 +91,7 @@ fn learn_pairs(storage: &Storage, at: usize, facts: &mut PairFacts, variables: &
         if !has_more_symbols(storage, at, most) {
             return false;
         }
-        if ask_pairs(storage, at, facts, variables, most) {
+        if search_pairs(storage, at, facts, variables, most) {
             return true;
         }
         most = most.saturating_mul(4);
@@ -121,21 +121,21 @@ fn has_more_symbols(storage: &Storage, at: usize, most: usize) -> bool
 
 /// Searches for each pair of the variables, until the searches have passed `most` `$d`. Returns whether all were
 /// searched for.
-fn ask_pairs(
+fn search_pairs(
     storage: &Storage,
     at: usize,
     facts: &mut PairFacts,
     variables: &[u32],
     most: usize,
 ) -> bool
-    requires place { IsPlace storage.now at }
+    requires place { IsSearchPosition storage.now at }
     requires facts { AreFacts (numbered storage.now) facts.old }
     requires below { AreBelow (length (names_in storage.now)) variables.now }
     ensures { AreFacts (numbered storage.now) facts.new }
 {
     facts.allow(most);
     for i in 0..variables.len() {
-        if !ask_pairs_of(storage, at, facts, variables[i], &variables[..i]) {
+        if !search_pairs_of(storage, at, facts, variables[i], &variables[..i]) {
             return false;
         }
     }
@@ -144,8 +144,14 @@ fn ask_pairs(
 
 /// Searches for the pairs of a variable and each of some others, until the searches have passed as many `$d` as they may.
 /// Returns whether all were searched for.
-fn ask_pairs_of(storage: &Storage, at: usize, facts: &mut PairFacts, x: u32, others: &[u32]) -> bool
-    requires place { IsPlace storage.now at }
+fn search_pairs_of(
+    storage: &Storage,
+    at: usize,
+    facts: &mut PairFacts,
+    x: u32,
+    others: &[u32],
+) -> bool
+    requires place { IsSearchPosition storage.now at }
     requires facts { AreFacts (numbered storage.now) facts.old }
     requires below { (x < length (names_in storage.now)) × AreBelow (length (names_in storage.now)) others.now }
     ensures { AreFacts (numbered storage.now) facts.new }
@@ -154,14 +160,14 @@ fn ask_pairs_of(storage: &Storage, at: usize, facts: &mut PairFacts, x: u32, oth
         if facts.is_spent() {
             return false;
         }
-        ask_pair(storage, at, facts, x, *y);
+        search_pair(storage, at, facts, x, *y);
     }
     true
 }
 
 /// Searches for a pair of variables, to record facts about it.
-fn ask_pair(storage: &Storage, at: usize, facts: &mut PairFacts, x: u32, y: u32)
-    requires place { IsPlace storage.now at }
+fn search_pair(storage: &Storage, at: usize, facts: &mut PairFacts, x: u32, y: u32)
+    requires place { IsSearchPosition storage.now at }
     requires facts { AreFacts (numbered storage.now) facts.old }
     requires below { (x < length (names_in storage.now)) × (y < length (names_in storage.now)) }
     ensures { AreFacts (numbered storage.now) facts.new }
@@ -182,7 +188,7 @@ fn fill_by_pairs(
     buffers: &mut FrameBuffers,
     variables: &[u32],
 ) -> Result<(), AllocError>
-    requires place { IsPlace storage.now at }
+    requires place { IsSearchPosition storage.now at }
     requires facts { AreFacts (numbered storage.now) facts.old }
     requires hypotheses { AreHypotheses storage.now.entries buffers.old.hypotheses }
     requires undescribed { (buffers.old.required ≡ []) × (buffers.old.typecodes ≡ []) × (buffers.old.groups ≡ []) }
@@ -207,7 +213,7 @@ fn add_pairs(
     buffers: &mut FrameBuffers,
     variables: &[u32],
 ) -> Result<(), AllocError>
-    requires place { IsPlace storage.now at }
+    requires place { IsSearchPosition storage.now at }
     requires facts { AreFacts (numbered storage.now) facts.old }
     requires below { AreBelow (length (names_in storage.now)) variables.now }
     ensures facts { AreFacts (numbered storage.now) facts.new }
@@ -228,7 +234,7 @@ fn add_pairs_of(
     x: u32,
     others: &[u32],
 ) -> Result<(), AllocError>
-    requires place { IsPlace storage.now at }
+    requires place { IsSearchPosition storage.now at }
     requires facts { AreFacts (numbered storage.now) facts.old }
     requires below { (x < length (names_in storage.now)) × AreBelow (length (names_in storage.now)) others.now }
     ensures facts { AreFacts (numbered storage.now) facts.new }
@@ -249,7 +255,7 @@ fn add_if_pair(
     x: u32,
     y: u32,
 ) -> Result<(), AllocError>
-    requires place { IsPlace storage.now at }
+    requires place { IsSearchPosition storage.now at }
     requires facts { AreFacts (numbered storage.now) facts.old }
     requires below { (x < length (names_in storage.now)) × (y < length (names_in storage.now)) }
     ensures facts { AreFacts (numbered storage.now) facts.new }

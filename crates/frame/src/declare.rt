@@ -1,7 +1,7 @@
 //! Makes and undoes the changes by one more statement: the names and the last declarations of symbols, where blocks end, and
 //! what is active after it.
 ghost use Rattle.std.specs.Prelude.{◌≡◌, ℕ, ◌+◌, ◌≤◌, ◌==◌, ◌++◌, ◌∷◌, [], Some, length, slice_get, OnOk, if◌then◌else◌, map, take};
-ghost use Rattle.{std.specs.List.list_any, mm_read.specs.declared.stmt.Stmt.Stmt as Statement, scope.specs.Active.label_of, scope.specs.Declares.IsRecordedBy, scope.specs.Declares.MayDeclare, scope.specs.Declares.declared_with, entries.specs.Stored.Spans.Extends, frame.specs.Below.AreBelow, frame.specs.LastActive.last_active_of, frame.specs.declared.storage.Symbol.Symbol as Declared, frame.specs.Stored.Whole.AreStored, frame.specs.Stored.EntryMeanings.option_position, frame.specs.Stored.EntryMeanings.statements_of, frame.specs.Stored.EntryMeanings.declared_by, frame.specs.Stored.EntryMeanings.last_of, frame.specs.Stored.EntryMeanings.with_last, frame.specs.Stored.EntryMeanings.ReadsAs, frame.specs.Stored.EntryMeanings.replaced_of, frame.specs.Stored.EntryMeanings.symbol_of, frame.specs.Stored.Counts.Grown, frame.specs.Stored.Counts.HasRoom, frame.specs.Stored.Counts.kind_of, frame.specs.Stored.Counts.next_last_active, frame.specs.Stored.Counts.HasTwo, frame.specs.Stored.Ends.with_end, frame.specs.Stored.Ends.TellEnds};
+ghost use Rattle.{std.specs.List.list_any, mm_read.specs.declared.stmt.Stmt.Stmt as Statement, scope.specs.Active.label_of, scope.specs.Declares.IsRecordedBy, scope.specs.Declares.MayDeclare, scope.specs.Declares.declared_with, entries.specs.Stored.Spans.Extends, frame.specs.Below.AreBelow, frame.specs.LastActive.last_active_of, frame.specs.declared.storage.Symbol.Symbol as Declared, frame.specs.Stored.Whole.AreStored, frame.specs.Stored.EntryMeanings.option_position, frame.specs.Stored.EntryMeanings.statements_of, frame.specs.Stored.EntryMeanings.declared_by, frame.specs.Stored.EntryMeanings.last_of, frame.specs.Stored.EntryMeanings.with_last, frame.specs.Stored.EntryMeanings.ReadsAs, frame.specs.Stored.EntryMeanings.replaced_of, frame.specs.Stored.EntryMeanings.symbol_of, frame.specs.Stored.Counts.HasMoreNames, frame.specs.Stored.Counts.HasRoom, frame.specs.Stored.Counts.kind_of, frame.specs.Stored.Counts.next_last_active, frame.specs.Stored.Counts.HasTwo, frame.specs.Stored.Ends.with_end, frame.specs.Stored.Ends.AreBlockEnds};
 
 use crate::at_position::last_active_at;
 use crate::shape::{has_label, kind};
@@ -24,7 +24,7 @@ pub fn declare_next(
 ) -> Result<(), AllocError>
     requires free { MayDeclare storage.old.numbering stmt.now }
     requires room { HasRoom storage.old }
-    ensures grown { Grown storage.old storage.new }
+    ensures grown { HasMoreNames storage.old storage.new }
     ensures room { OnOk result (HasRoom storage.new) }
     ensures numbering { OnOk result (storage.new.numbering ≡ declared_with storage.old.numbering stmt.now) }
     ensures positions { OnOk result (storage.new.positions.items ≡ storage.old.positions.items ++ option_position (label_of stmt.now) (length storage.old.entries + 1) []) }
@@ -163,7 +163,7 @@ pub fn remove_entries(storage: &mut Storage, len: usize)
     ensures entries { storage.new.entries ≡ take len storage.old.entries }
     ensures declared { ReadsAs storage.new.symbols.items (symbol_of storage.new.entries) }
     ensures recorded { storage.new.replaced.items ≡ replaced_of storage.new.entries }
-    ensures ends { TellEnds storage.new.ends.items (take len (statements_of storage.old)) }
+    ensures ends { AreBlockEnds storage.new.ends.items (take len (statements_of storage.old)) }
     ensures count { length storage.new.symbols.items ≡ length storage.old.symbols.items }
     ensures count_ends { length storage.new.ends.items ≡ length storage.old.ends.items }
     ensures names { (storage.new.numbering ≡ storage.old.numbering) × (storage.new.positions ≡ storage.old.positions) }

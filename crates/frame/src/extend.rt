@@ -1,14 +1,14 @@
 //! Appends a statement to the storage as a whole or not at all, and truncates it to the first statements.
 ghost use Rattle.std.specs.Prelude.{true, ◌≡◌, ◌++◌, ◌∷◌, [], Some, OnOk, OnErr, take, length, slice_get, ◌+◌, IfSome, IfErr};
-ghost use Rattle.frame.specs.Stored.GivenSets.{AreFrames};
+ghost use Rattle.frame.specs.Stored.EssentialSets.{AreFrames};
 ghost use Rattle.{names.specs.Codes.with_names, scope.specs.Active.bare, scope.specs.Legal.IsLegal, scope.specs.Legal.broken_rule, scope.specs.Stored.SymbolNumbers.AreRecorded, scope.specs.Symbols.AreVariableNumbers, scope.specs.Symbols.symbols_after, scope.specs.Symbols.symbols_by, scope.specs.Symbols.symbols_in, scope.specs.Symbols.symbols_of, entries.specs.Entries.Entry, entries.specs.Histories.AreKeptUntil, entries.specs.Histories.AreSame, entries.specs.Stored.Spans.Extends, frame.specs.Stored.Whole.AreStored, frame.specs.Stored.Counts.IsAfter, frame.specs.Stored.EntryMeanings.labels_in, frame.specs.Stored.EntryMeanings.names_in, frame.specs.Stored.EntryMeanings.statements_of};
 
 use crate::declare::{
     declare, declare_next, declared, last_active_after, record_end, record_replaced, remove_entries,
 };
+use crate::essential_sets::EssentialSets;
 use crate::frame_buffers::FrameBuffers;
 use crate::frames::Frames;
-use crate::given_sets::GivenSets;
 use crate::make::fill_parts;
 use crate::shape::kind;
 use crate::stacks::{NextStatement, record_active};
@@ -25,7 +25,7 @@ use std::alloc::{AllocError, Global};
 fn extend(
     alloc: Global,
     storage: &mut Storage,
-    given: &GivenSets,
+    given: &EssentialSets,
     buffers: &mut FrameBuffers,
     stmt: &Stmt,
     recorded: &mut SymbolNumbers,
@@ -85,7 +85,7 @@ fn extend(
 fn extend_whole(
     alloc: Global,
     storage: &mut Storage,
-    given: &GivenSets,
+    given: &EssentialSets,
     buffers: &mut FrameBuffers,
     stmt: &Stmt,
     recorded: &mut SymbolNumbers,
@@ -115,7 +115,7 @@ fn extend_whole(
 fn grow(
     alloc: Global,
     storage: &mut Storage,
-    given: &mut GivenSets,
+    given: &mut EssentialSets,
     buffers: &mut FrameBuffers,
     stmt: &Stmt,
     recorded: &mut SymbolNumbers,

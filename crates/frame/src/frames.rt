@@ -4,8 +4,8 @@ ghost use Rattle.{mm_read.specs.declared.stmt.Stmt.Stmt as Statement, names.spec
 
 use crate::at_position::{is_active_at, last_active_at};
 use crate::citing_lists::fill_for_citation;
+use crate::essential_sets::EssentialSets;
 use crate::frame_buffers::FrameBuffers;
-use crate::given_sets::GivenSets;
 use crate::make::fill_from_hypotheses;
 use crate::mandatory_view::{MandatoryView, missing};
 use crate::meaning::Meaning;
@@ -32,13 +32,13 @@ const LONG: usize = 64;
 pub struct Frames {
     pub(crate) alloc: Global,
     pub(crate) storage: Storage,
-    pub(crate) given: GivenSets,
+    pub(crate) given: EssentialSets,
     pub(crate) buffers: FrameBuffers,
     pub(crate) recorded: SymbolNumbers,
 }
 
 impl Model for Frames {
-    ghost use Rattle.{frame.specs.Parts.Numbered, frame.specs.Stored.EntryMeanings.numbered, frame.specs.Stored.GivenSets.AreFrames};
+    ghost use Rattle.{frame.specs.Parts.Numbered, frame.specs.Stored.EntryMeanings.numbered, frame.specs.Stored.EssentialSets.AreFrames};
 
     ghost Value = { Numbered };
 
@@ -71,7 +71,7 @@ impl Frames {
                     disjoint: 0,
                 },
             },
-            given: GivenSets::new(alloc),
+            given: EssentialSets::new(alloc),
             buffers: FrameBuffers::new(alloc),
             recorded: SymbolNumbers::new(alloc),
         }
@@ -219,7 +219,7 @@ impl Frames {
     /// Errors: an allocation fails. Cost: the size of its hypotheses, which are sorted; and, times a constant, the symbols of
     /// the active `$d`, or for each two of its variables the `$d` that earlier calls with the same facts have not passed and
     /// about 64 more, whichever are fewer.
-    pub fn fill_lists(
+    pub fn fill_for_citing(
         &self,
         a: usize,
         facts: &mut PairFacts,
@@ -235,7 +235,7 @@ impl Frames {
         fill_for_citation(self.alloc, &self.storage, a, facts, buffers)
     }
 
-    /// Returns the parts by which the assertion at a position can be cited, from the buffers that `fill_lists` filled.
+    /// Returns the parts by which the assertion at a position can be cited, from the buffers that `fill_for_citing` filled.
     pub fn cited_by<'a>(&'a self, a: usize, buffers: &'a FrameBuffers) -> AssertionView<'a>
         requires assertion { (s : Statement) × HasAssertion self.now.statements a s }
         requires lists { AreCitingLists self.now.statements self.now.names a buffers.now }

@@ -5,7 +5,7 @@
 //! from the active statements.
 //!
 //! Reading order: `storage`, `stored_entries`, `shape`, `frame_buffers`; `symbol_numbers`, `at_position`, `stacks`, `declare`,
-//! `mandatory`, `given_sets`, `make`, `extend` (appending and truncating); `meaning`, `frames`, `mandatory_view`, `row`,
+//! `mandatory`, `essential_sets`, `make`, `extend` (appending and truncating); `meaning`, `frames`, `mandatory_view`, `row`,
 //! `pair_memo`, `pair_facts`, `pairs`, `active_disjoint`, `citing_lists` (queries); `assertion`, `one_frame`; `laws`.
 #![tactic(auto)]
 
@@ -14,10 +14,10 @@ mod assertion;
 mod at_position;
 mod citing_lists;
 mod declare;
+mod essential_sets;
 mod extend;
 mod frame_buffers;
 mod frames;
-mod given_sets;
 mod laws;
 mod make;
 mod mandatory;

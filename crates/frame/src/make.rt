@@ -4,8 +4,8 @@ ghost use Rattle.mm_read.specs.declared.stmt.Stmt.{Stmt as Statement};
 ghost use Rattle.{names.specs.Codes.decode, names.specs.Codes.with_names, scope.specs.Active.expr_of, scope.specs.Active.bare, scope.specs.Stored.SymbolNumbers.AreRecorded, scope.specs.Symbols.symbols_by, scope.specs.Symbols.symbols_in, entries.specs.Hypotheses.told, entries.specs.Stored.Spans.cut, entries.specs.Stored.Spans.AreSpansIn, frame.specs.Below.AreBelow, frame.specs.AssertionView.typecode_of, frame.specs.Stored.Whole.AreStored, frame.specs.Stored.Whole.ArePartsFor, frame.specs.Stored.Hypotheses.AreHypotheses, frame.specs.Stored.Hypotheses.IsFilledFrom, frame.specs.Stored.Counts.HasTwo, frame.specs.Stored.Counts.kind_of, frame.specs.Stored.AssertionParts.required_at, frame.specs.Stored.AssertionParts.required_by, frame.specs.Stored.AssertionParts.typecode_at, frame.specs.Stored.AssertionParts.has_two, frame.specs.Stored.AssertionParts.is_typed, frame.specs.Stored.AssertionParts.is_typed_by, frame.specs.Stored.AssertionParts.recorded_in, std.specs.List.list_any, frame.specs.Stored.AssertionParts.has_parts, frame.specs.Stored.EntryMeanings.names_in, frame.specs.Stored.EntryMeanings.statements_of, frame.specs.FrameOf.hypotheses, frame.specs.Stored.OneFrame.required};
 
 use crate::at_position::last_active_at;
+use crate::essential_sets::EssentialSets;
 use crate::frame_buffers::FrameBuffers;
-use crate::given_sets::GivenSets;
 use crate::mandatory::{add_essentials, are_few, find_floats};
 use crate::shape::{has_parts, is_essential, kind};
 use crate::storage::Storage;
@@ -148,7 +148,7 @@ pub fn fill_from_hypotheses(
 /// hypotheses and groups of an assertion if these are few, else the `$f` of its own variables. Other statements have none.
 pub fn fill_parts(
     storage: &Storage,
-    given: &GivenSets,
+    given: &EssentialSets,
     buffers: &mut FrameBuffers,
     stmt: &Stmt,
     recorded: &SymbolNumbers,

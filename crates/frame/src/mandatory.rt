@@ -3,7 +3,7 @@ ghost use Rattle.std.specs.Prelude.{◌≡◌, ◌+◌, ◌-◌, ◌≤◌, ◌<
 ghost use Rattle.{std.specs.List.list_all, std.specs.List.list_any, frame.specs.Below.AreBelow, frame.specs.Stored.Whole.AreStored, frame.specs.Stored.Hypotheses.In, frame.specs.Stored.Hypotheses.AreThose, frame.specs.Stored.Hypotheses.HasMore, frame.specs.Stored.Hypotheses.IsFloatOf, frame.specs.Stored.Hypotheses.AreLooked, frame.specs.Stored.Hypotheses.AreFloats, frame.specs.Stored.Hypotheses.AreWith, frame.specs.Stored.EntryMeanings.names_in, frame.specs.Stored.EntryMeanings.statements_of};
 
 use crate::at_position::{is_active_at, last_active_at};
-use crate::given_sets::GivenSets;
+use crate::essential_sets::EssentialSets;
 use crate::storage::Storage;
 use scope::Stack;
 use std::alloc::AllocError;
@@ -130,7 +130,7 @@ pub fn given_count(storage: &Storage) -> usize {
 /// The kept parts are right either way.
 ///
 /// Cost: at most a few steps, however much is active.
-pub fn are_few(storage: &Storage, given: &GivenSets, own: usize) -> bool {
+pub fn are_few(storage: &Storage, given: &EssentialSets, own: usize) -> bool {
     let set = given.set(storage.last_active.essential);
     let count = if set == 0 {
         given_count(storage)

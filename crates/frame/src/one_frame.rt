@@ -1,6 +1,6 @@
 //! Collects the frame of one assertion from the active statements.
 ghost use Rattle.std.specs.Prelude.{◌≡◌, ◌||◌, IsTrue, OnOk, IfOk};
-ghost use Rattle.{mm_lex.specs.Alphabet.Name, mm_lex.specs.Alphabet.name_eq, mm_lex.specs.Alphabet.has_name, scope.specs.Active.is_assertion, scope.specs.Active.expr_of, frame.specs.FrameOf.frame_of, frame.specs.Stored.OneFrame.AreRecorded, frame.specs.Stored.OneFrame.AreMandatory, frame.specs.Stored.OneFrame.among, frame.specs.Stored.OneFrame.required, frame.specs.Stored.OneFrame.asks, frame.specs.Stored.OneFrame.groups_among};
+ghost use Rattle.{mm_lex.specs.Alphabet.Name, mm_lex.specs.Alphabet.name_eq, mm_lex.specs.Alphabet.has_name, scope.specs.Active.is_assertion, scope.specs.Active.expr_of, frame.specs.FrameOf.frame_of, frame.specs.Stored.OneFrame.AreRecorded, frame.specs.Stored.OneFrame.AreMandatory, frame.specs.Stored.OneFrame.among, frame.specs.Stored.OneFrame.required, frame.specs.Stored.OneFrame.is_needed, frame.specs.Stored.OneFrame.groups_among};
 
 use crate::assertion::Frame;
 use mm_lex::Words;
@@ -99,7 +99,7 @@ fn mandatory_hypotheses(
 
 /// Returns whether a statement is an `$e`, or the `$f` of one of the used variables.
 fn is_required(used: &NameTable, stmt: &Stmt) -> bool
-    ensures { result ≡ asks used.now stmt.now }
+    ensures { result ≡ is_needed used.now stmt.now }
 {
     match stmt {
         Stmt::Ess { .. } => true,

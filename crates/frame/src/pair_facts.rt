@@ -3,8 +3,8 @@ ghost use Rattle.std.specs.Prelude.{◌≡◌, [], IfSome};
 ghost use Rattle.frame.specs.PairFacts.{AreFacts, IsFact};
 ghost use Rattle.frame.specs.Parts.{Numbered};
 ghost use Rattle.frame.specs.Stored.EntryMeanings.{numbered};
-ghost use Rattle.frame.specs.Stored.PairLists.{AreAnswered, IsSoughtIn};
-ghost use Rattle.frame.specs.Stored.PairSearch.{AreSought, are_pair};
+ghost use Rattle.frame.specs.Stored.PairLists.{AreAnswered, IsSearchedIn};
+ghost use Rattle.frame.specs.Stored.PairSearch.{AreSearched, are_pair};
 
 use crate::pairs::has_symbol;
 use crate::storage::Storage;
@@ -151,7 +151,7 @@ fn key(position: u32, x: u32, y: u32) -> (u64, u64) {
 /// Cost: the smaller count of active `$d` that have x or that have y, times a binary search; if an earlier search for the
 /// two began at the same `$d` or an earlier one, only the `$d` after that one and at most 64 more, and log n for n facts.
 pub fn search_by_facts(storage: &Storage, at: usize, facts: &mut PairFacts, x: u32, y: u32) -> bool
-    requires sought { AreSought storage.now at x y }
+    requires sought { AreSearched storage.now at x y }
     requires facts { AreFacts (numbered storage.now) facts.old }
     ensures found { result ≡ are_pair storage.now at x y }
     ensures facts { AreFacts (numbered storage.now) facts.new }
@@ -167,7 +167,7 @@ pub fn search_by_facts(storage: &Storage, at: usize, facts: &mut PairFacts, x: u
 
 /// Returns whether two variables are disjoint at a position, by the `$d` that have the first.
 fn search_row(storage: &Storage, at: usize, facts: &mut PairFacts, x: u32, y: u32) -> bool
-    requires sought { AreSought storage.now at x y }
+    requires sought { AreSearched storage.now at x y }
     requires facts { AreFacts (numbered storage.now) facts.old }
     ensures found { result ≡ are_pair storage.now at x y }
     ensures facts { AreFacts (numbered storage.now) facts.new }
@@ -192,7 +192,7 @@ pub struct Walked {
 
 /// Goes through the `$d` that have x until one also has y, or a fact says whether one of those that are left does.
 fn walk(storage: &Storage, facts: &PairFacts, mut row: PositionStack<'_>, x: u32, y: u32) -> Walked
-    requires sought { IsSoughtIn storage.now x y row }
+    requires sought { IsSearchedIn storage.now x y row }
     requires facts { AreFacts (numbered storage.now) facts.now }
     ensures { AreAnswered storage.now y row.entry result }
 {
@@ -204,7 +204,7 @@ fn walk(storage: &Storage, facts: &PairFacts, mut row: PositionStack<'_>, x: u32
         if has_symbol(storage, position, y) {
             return Walked { steps, found: true };
         }
-        if is_asked(steps, row.len()) {
+        if is_looked_up(steps, row.len()) {
             if let Some(fact) = facts.known(position, x, y) {
                 return Walked {
                     steps,
@@ -228,7 +228,7 @@ fn record_passed(
     y: u32,
     walked: Walked,
 )
-    requires sought { IsSoughtIn storage.now x y row }
+    requires sought { IsSearchedIn storage.now x y row }
     requires answered { AreAnswered storage.now y row walked }
     requires facts { AreFacts (numbered storage.now) facts.old }
     ensures { AreFacts (numbered storage.now) facts.new }
@@ -252,7 +252,7 @@ fn record_passed(
 }
 
 /// Returns whether a search looks up a fact at a `$d`, after having passed `passed` others and with `below` more to go.
-fn is_asked(passed: usize, below: usize) -> bool {
+fn is_looked_up(passed: usize, below: usize) -> bool {
     passed == 0 || below % STRIDE == STRIDE - 1
 }
 

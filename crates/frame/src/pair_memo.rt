@@ -1,6 +1,6 @@
 //! Records the `$d` in which long searches found pairs of variables.
 ghost use Rattle.std.specs.Prelude.{◌≡◌, true};
-ghost use Rattle.frame.specs.Stored.PairSearch.{AreSought, IsLeft, are_pair};
+ghost use Rattle.frame.specs.Stored.PairSearch.{AreSearched, IsLeft, are_pair};
 
 use crate::at_position::is_active_at;
 use crate::pairs::has_symbol;
@@ -110,7 +110,7 @@ fn search_on(
 ///
 /// Cost: two look-ups, and a binary search for each variable.
 fn has_both(storage: &Storage, at: usize, position: u32, x: u32, y: u32) -> bool
-    requires { AreSought storage.now at x y }
+    requires { AreSearched storage.now at x y }
     ensures { result ≡ true → are_pair storage.now at x y ≡ true }
 {
     let i = position as usize;

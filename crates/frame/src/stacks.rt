@@ -3,7 +3,7 @@ ghost use Rattle.std.specs.Prelude.{◌≡◌, ◌+◌, ◌-◌, ◌<◌, ℕ, l
 ghost use Rattle.entries.specs.Histories.{AreUntil, gone_back, history, pushed, stack_at};
 ghost use Rattle.entries.specs.declared.kind.Kind.TheVariants.{Disj, Var};
 ghost use Rattle.frame.specs.Stored.Stacks.{AreChangedBy, IsNext, KeepsUntil, latest_of, last_by_kind, opening};
-ghost use Rattle.frame.specs.Stored.Whole.{IsWalked};
+ghost use Rattle.frame.specs.Stored.Whole.{AreStacksOfStorage};
 
 use entries::{Entries, Histories, Kind, LastActive};
 use std::alloc::AllocError;
@@ -31,8 +31,8 @@ pub fn record_active(
     next: &NextStatement<'_>,
 ) -> Result<(), AllocError>
     requires place { next.now.at ≡ length entries.now + 1 }
-    requires disjoints { IsWalked Disj entries.now next.now.last_active disjoints.old }
-    requires variables { IsWalked Var entries.now next.now.last_active variables.old }
+    requires disjoints { AreStacksOfStorage Disj entries.now next.now.last_active disjoints.old }
+    requires variables { AreStacksOfStorage Var entries.now next.now.last_active variables.old }
     ensures disjoints { OnOk result (IsNext next.now.at (latest_of Disj next.now.kind next.now disjoints.old) disjoints.old disjoints.new) }
     ensures variables { OnOk result (IsNext next.now.at (latest_of Var next.now.kind next.now variables.old) variables.old variables.new) }
     ensures kept_disjoints { KeepsUntil (next.now.at - 1) disjoints.old disjoints.new }
@@ -70,7 +70,7 @@ fn go_back_all(
     of: Kind,
 ) -> Result<(), AllocError>
     requires place { next.now.at ≡ length entries.now + 1 }
-    requires walked { IsWalked of entries.now next.now.last_active histories.old }
+    requires walked { AreStacksOfStorage of entries.now next.now.last_active histories.old }
     ensures next { OnOk result (IsNext next.now.at (λ c. stack_at (history histories.old c) (opening next.now.last_active.block)) histories.old histories.new) }
     ensures kept { KeepsUntil (next.now.at - 1) histories.old histories.new }
 {

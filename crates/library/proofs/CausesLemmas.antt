@@ -1,5 +1,5 @@
 -- One verdict: one answer is true of a text that is judged after given statements, under a given charter.
-use Rattle.library.proofs.Words.{◌≡◌, ◌≢◌, ℕ, zero, suc, ◌+◌, ◌-◌, ◌<◌, ◌≤◌, true, false, IsTrue, IsFalse, List, ◌++◌, length, Option, Some, None, refl, sym, ◌∙◌, ap, subst, arith, Name, Stmt, Database, tokens_of, Reads, HasTokens, IsNoDatabase, BrokenRule, proof_of, first_broken, is_unfinished, Submission, Cause, TooLong, Shape, NotChartered, Rule, Proof, Unfinished, Verdict, Added, Refused, forbidden, Good, IsReadable, IsAllowed, IsFirstUnproved, IsFault, IsCause, LexFault, IsLexFault, IsClean-no_fault, AreTokens-no_comment_fault, one_statement_list, MOST_BYTES, some-same, same_tokens}
+use Rattle.library.proofs.Words.{◌≡◌, ◌≢◌, ℕ, zero, suc, ◌+◌, ◌-◌, ◌<◌, ◌≤◌, true, false, IsTrue, IsFalse, List, ◌++◌, length, Option, Some, None, refl, sym, ◌∙◌, ap, subst, arith, Name, Stmt, Database, tokens_of, Reads, HasTokens, IsNoDatabase, BrokenRule, proof_of, first_broken, is_unfinished, Submission, Cause, TooLong, Shape, NotChartered, Rule, Proof, Unfinished, Verdict, Added, Refused, first_forbidden, Good, IsReadable, IsAllowed, IsFirstUnproved, IsFault, IsCause, LexFault, IsLexFault, IsClean-no_fault, AreTokens-no_comment_fault, one_statement_list, MOST_BYTES, some-same, same_tokens}
 use Rattle.mm_lex.specs.declared.fault.LexFault.TheVariants as lex
 use Rattle.library.specs.declared.verdict.Cause.TheVariants.{Text}
 use Rattle.library.proofs.GoodLemmas.{provable-after}
@@ -98,7 +98,7 @@ module _ (L : Database) (charter : Option (List ℕ)) (submission : Submission) 
     long : v ≡ Refused TooLong → IsLong → Reason v
     faulty : v ≡ Refused Text → IsFaulty → Reason v
     shapeless : v ≡ Refused Shape → IsShapeless → Reason v
-    late : (T : Database) → IsReadable submission.text T → Late T (forbidden charter submission.author T) v → Reason v
+    late : (T : Database) → IsReadable submission.text T → Late T (first_forbidden charter submission.author T) v → Reason v
 
   -- each verdict on a text is reached at one of these stages
   reason : (v : Verdict) → IsVerdict v → Reason v
@@ -130,7 +130,7 @@ module _ (L : Database) (charter : Option (List ℕ)) (submission : Submission) 
   one-reason v w (late T r l) (faulty f q) = absurd (fault-or-tokens submission.text (tokens_of T) q.1.0 q.1.1 q.1.2 r.read.tokens)
   one-reason v w (late T r l) (shapeless f q) = absurd (none-or-reading submission.text q.1.0 T q.1.1 q.1.2 r.read)
   one-reason v w (late T r l) (late U r' m) =
-      one-late U (forbidden charter submission.author U) v w (subst (λ V. Late V (forbidden charter submission.author V) v) (one-reading submission.text T U r.read r'.read) l) m
+      one-late U (first_forbidden charter submission.author U) v w (subst (λ V. Late V (first_forbidden charter submission.author V) v) (one-reading submission.text T U r.read r'.read) l) m
 
   -- a text has one verdict
   pub one-verdict : (v w : Verdict) → IsVerdict v → IsVerdict w → v ≡ w

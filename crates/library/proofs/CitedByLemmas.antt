@@ -1,5 +1,5 @@
 -- Who uses a statement, and the `$a` that a proof uses: the labels of what a walk over the positions has marked.
-use Rattle.library.proofs.Words.{◌≡◌, ◌↔◌, ◌⊎◌, ℕ, zero, suc, ◌+◌, ◌-◌, ◌<◌, ◌≤◌, Bool, true, false, cond, ◌&&◌, List, [], ◌∷◌, ◌++◌, length, replicate, get_or, false_from_ne_true, Some, None, Option, slice_get, slice_set, refl, sym, ◌∙◌, ap, subst, arith, inl, inr, append-nil, cases_eq, map-append, Name, Stmt, Prove, Database, bares, stmt_at, is_provable, stands-within, Item, label_or_none, Good, HasItems, Cites, RestsOn, directly, through, IsUser, Rises, IsIn, AreLabelsOf, IsMarked, mark, ItemsMeet, ProofMeets, Axiom, IsProvable, Uses, is_axiom, IsAxiomAt, IsMarkedAxiom, get-last, get-more, set-get_or}
+use Rattle.library.proofs.Words.{◌≡◌, ◌↔◌, ◌⊎◌, ℕ, zero, suc, ◌+◌, ◌-◌, ◌<◌, ◌≤◌, Bool, true, false, cond, ◌&&◌, List, [], ◌∷◌, ◌++◌, length, replicate, get_or, false_from_ne_true, Some, None, Option, slice_get, slice_set, refl, sym, ◌∙◌, ap, subst, arith, inl, inr, append-nil, cases_eq, map-append, Name, Stmt, Prove, Database, bares, stmt_at, is_provable, stands-within, Item, label_or_none, Good, HasItems, Cites, RestsOn, directly, through, IsUser, Rises, IsIn, AreLabelsOf, IsMarked, mark, ItemsCiteMarked, ProofCitesMarked, Axiom, IsProvable, Uses, is_axiom, IsAxiomAt, IsMarkedAxiom, get-last, get-more, set-get_or}
 use Rattle.library.proofs.ProvingLemmas.{not-there}
 use Rattle.library.proofs.UseMarkLemmas.{mark-count, mark-kept, mark-sound, mark-whole, one-marked, get-either, marked-within}
 use Rattle.library.proofs.CitationWalkLemmas.{cites-below, cites-of, cited-of}
@@ -89,12 +89,12 @@ pub record IsSearched (S : Database) (all : Bool) (a p : ℕ) (marks : List Bool
   pub listed : AreLabelsOf S (Upto (IsUser S all a) p) labels
 
 -- whether the proof of the next one meets a mark tells whether it is a user
-user-meets : (S : Database) (all : Bool) (a p : ℕ) (marks : List Bool) (labels : List Name) → Good S → IsSearched S all a p marks labels → IsUser S all a (suc p) → ProofMeets S (suc p) marks
+user-meets : (S : Database) (all : Bool) (a p : ℕ) (marks : List Bool) (labels : List Name) → Good S → IsSearched S all a p marks labels → IsUser S all a (suc p) → ProofCitesMarked S (suc p) marks
 user-meets S true a p marks labels good w (directly c) = (a, (w.marked a).1 (inl refl), c)
 user-meets S true a p marks labels good w (through {b = b} c r) = (b, (w.marked b).1 (inr (let less = cites-below S (suc p) b good c in omega (arith, less), refl, r)), c)
 user-meets S false a p marks labels good w c = (a, (w.marked a).1 (inl refl), c)
 
-meets-user : (S : Database) (all : Bool) (a p : ℕ) (marks : List Bool) (labels : List Name) → IsSearched S all a p marks labels → ProofMeets S (suc p) marks → IsUser S all a (suc p)
+meets-user : (S : Database) (all : Bool) (a p : ℕ) (marks : List Bool) (labels : List Name) → IsSearched S all a p marks labels → ProofCitesMarked S (suc p) marks → IsUser S all a (suc p)
 meets-user S all a p marks labels w (b, m, c) = by all ((w.marked b).0 m)
   where
     by : (all : Bool) → IsSought S all a p b → IsUser S all a (suc p)
@@ -110,7 +110,7 @@ when-some found all at b e = absurd (let f = e in cc)
 
 -- where the proof cites a statement that is marked its label is added, and where all users are meant it is marked too
 module _ (S : Database) (all : Bool) (a p : ℕ) (marks marks' : List Bool) (labels labels' : List Name) (good : Good S) (within : suc p ≤ length S) (w : IsSearched S all a p marks labels) (found : Bool)
-    (meets : found ≡ true ↔ ProofMeets S (suc p) marks) (set : marks' ≡ mark (cond (found && all) (Some (suc p)) None) marks) (added : labels' ≡ labels ++ cond found (label_or_none (stmt_at S (suc p)) ∷ []) []) where
+    (meets : found ≡ true ↔ ProofCitesMarked S (suc p) marks) (set : marks' ≡ mark (cond (found && all) (Some (suc p)) None) marks) (added : labels' ≡ labels ++ cond found (label_or_none (stmt_at S (suc p)) ∷ []) []) where
   abbrev Here : Option ℕ
   Here = cond (found && all) (Some (suc p)) None
 
@@ -184,7 +184,7 @@ search-end S all a p marks labels done w = labels-same S (Upto (IsUser S all a) 
 -- ---- one position
 
 module _ (S F : Database) (same : F ≡ bares S) (at : ℕ) (marks : List Bool) where
-  pub proof-meets : (items : List Item) → HasItems S at items → ItemsMeet F items marks ↔ ProofMeets S at marks
+  pub proof-meets : (items : List Item) → HasItems S at items → ItemsCiteMarked F items marks ↔ ProofCitesMarked S at marks
   proof-meets items has = ((λ m. (m.0, m.1, cites-of S F same at items m.0 has m.2)), λ m. (m.0, m.1, cited-of S F same at items m.0 has m.2))
 
 pub not-provable : (s : Stmt) → ((label : Name) (expr proof : List Name) → s ≡ Prove label expr proof → ⊥) → is_provable s ≡ true → ⊥
@@ -201,11 +201,11 @@ module _ (S : Database) (all : Bool) (a p : ℕ) (marks : List Bool) (labels : L
   next : p + 1 ≡ suc p
   next = omega arith
 
-  noted : (marks' : List Bool) (labels' : List Name) (found : Bool) → (found ≡ true ↔ ProofMeets S (suc p) marks) → marks' ≡ mark (cond (found && all) (Some (suc p)) None) marks
+  noted : (marks' : List Bool) (labels' : List Name) (found : Bool) → (found ≡ true ↔ ProofCitesMarked S (suc p) marks) → marks' ≡ mark (cond (found && all) (Some (suc p)) None) marks
       → labels' ≡ labels ++ cond found (label_or_none (stmt_at S (suc p)) ∷ []) [] → IsSearched S all a (p + 1) marks' labels'
   noted marks' labels' found meets set added = subst (λ k. IsSearched S all a k marks' labels') (sym next) (searched-next S all a p marks marks' labels labels' good (omega (arith, within)) w found meets set added)
 
-  misses : (false ≡ true ↔ ProofMeets S (suc p) marks) → IsSearched S all a (p + 1) marks labels
+  misses : (false ≡ true ↔ ProofCitesMarked S (suc p) marks) → IsSearched S all a (p + 1) marks labels
   misses meets = noted marks labels false meets refl (sym (append-nil labels))
 
   pub search-past : (s : Stmt) → stmt_at S (p + 1) ≡ Some s → ((label : Name) (expr proof : List Name) → s ≡ Prove label expr proof → ⊥) → IsSearched S all a (p + 1) marks labels
@@ -214,9 +214,9 @@ module _ (S : Database) (all : Bool) (a p : ℕ) (marks : List Bool) (labels : L
       none : (b : ℕ) → Cites S (suc p) b → ⊥
       none b c = not-there S (suc p) s (subst (λ n. stmt_at S n ≡ Some s) next stands) (not-provable s other) c.has.stmt c.has.provable
 
-  module _ (found : Bool) (lent : List Bool) (same : lent ≡ marks) (meets : found ≡ true ↔ ProofMeets S (p + 1) lent) where
-    told : (b : Bool) → found ≡ b → b ≡ true ↔ ProofMeets S (suc p) marks
-    told b e = subst (λ b. b ≡ true ↔ ProofMeets S (suc p) marks) e (subst (λ ms. found ≡ true ↔ ProofMeets S (suc p) ms) same (subst (λ n. found ≡ true ↔ ProofMeets S n lent) next meets))
+  module _ (found : Bool) (lent : List Bool) (same : lent ≡ marks) (meets : found ≡ true ↔ ProofCitesMarked S (p + 1) lent) where
+    told : (b : Bool) → found ≡ b → b ≡ true ↔ ProofCitesMarked S (suc p) marks
+    told b e = subst (λ b. b ≡ true ↔ ProofCitesMarked S (suc p) marks) e (subst (λ ms. found ≡ true ↔ ProofCitesMarked S (suc p) ms) same (subst (λ n. found ≡ true ↔ ProofCitesMarked S n lent) next meets))
 
     pub search-miss : found ≡ false → IsSearched S all a (p + 1) marks labels
     search-miss e = misses (told false e)

@@ -1,5 +1,5 @@
 -- A proof cites a mandatory hypothesis, or a statement that a token before `)` names.
-use Rattle.library.proofs.Words.{◌≡◌, ◌↔◌, ◌⊎◌, ℕ, zero, suc, ◌+◌, Bool, true, false, ◌||◌, if◌then◌else◌, List, [], ◌∷◌, ◌++◌, Option, Some, None, slice_get, refl, list_all, list_any, sym, ◌∙◌, ap, subst, inl, inr, true≢false, append-nil, bytes_eq-Decides, or_right, and_parts, false_from_ne_true, any_passes_from_place, Name, name_eq, has_name, is_label, Stmt, Float, Ess, Database, bare, bares, before, stmt_at, label_of, proof_of, hypotheses, Carries, is_hypothesis_kind, HasLabelsOnce, IsPosition, Item, Cite, Recall, Mark, AreItems, Writes, begin, finish, label_or_none, mandatory_labels, IsProvable, IsMarked, is_marked, listed_in, ListsNone, ListsSome, ProofMeets, Cites, name_same, map-back}
+use Rattle.library.proofs.Words.{◌≡◌, ◌↔◌, ◌⊎◌, ℕ, zero, suc, ◌+◌, Bool, true, false, ◌||◌, if◌then◌else◌, List, [], ◌∷◌, ◌++◌, Option, Some, None, slice_get, refl, list_all, list_any, sym, ◌∙◌, ap, subst, inl, inr, true≢false, append-nil, bytes_eq-Decides, or_right, and_parts, false_from_ne_true, any_passes_from_place, Name, name_eq, has_name, is_label, Stmt, Float, Ess, Database, bare, bares, before, stmt_at, label_of, proof_of, hypotheses, Carries, is_hypothesis_kind, HasLabelsOnce, IsPosition, Item, Cite, Recall, Mark, AreItems, Writes, begin, finish, label_or_none, mandatory_labels, IsProvable, IsMarked, is_marked, listed_in, ListsNone, ListsSome, ProofCitesMarked, Cites, name_same, map-back}
 use Rattle.library.proofs.FrontLemmas.{hypothesis-there, hypotheses-at, hypotheses-bare}
 use Rattle.library.proofs.UseMarkLemmas.{get-either, position-is}
 use Rattle.library.proofs.CitationWalkLemmas.{carries-bare}
@@ -113,7 +113,7 @@ module _ (S F : Database) (same : F ≡ bares S) (once : HasLabelsOnce F) (at : 
       there ∙ ap Some (once i a h.stmt r label (record { stands = h.stands; carried = kind-labelled h.stmt h.kind ∙ ap Some labelled }) c)
 
   -- where neither a mandatory hypothesis nor what a token names is marked, the proof cites nothing that is
-  pub meets-nothing : (tokens : List Name) → proof_of s ≡ tokens → list_any (λ p. is_marked marks (Some p)) (hypotheses (before F at) (bare s)) ≡ false → ListsNone F tokens marks → false ≡ true ↔ ProofMeets S at marks
+  pub meets-nothing : (tokens : List Name) → proof_of s ≡ tokens → list_any (λ p. is_marked marks (Some p)) (hypotheses (before F at) (bare s)) ≡ false → ListsNone F tokens marks → false ≡ true ↔ ProofCitesMarked S at marks
   meets-nothing tokens e mandatory lists = ((λ f. absurd (let g = f in cc)), λ m. absurd (nothing m.0 m.1 m.2))
     where
       nothing : (a : ℕ) → IsMarked marks a → Cites S at a → ⊥

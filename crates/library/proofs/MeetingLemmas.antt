@@ -1,5 +1,5 @@
 -- Whether a compressed proof cites what is marked, from its numbers and from a test of each of its labels.
-use Rattle.library.proofs.Words.{◌≡◌, ◌↔◌, ℕ, zero, suc, ◌+◌, ◌-◌, ◌<◌, ◌≤◌, Bool, true, false, ◌||◌, if◌then◌else◌, List, [], ◌∷◌, ◌++◌, length, map, get_or, slice_index_or, take, drop, Option, Some, None, option_map, slice_get, refl, list_any, true≢false, length-append, sym, ◌∙◌, ap, subst, arith, append_assoc, inl, inr, slice_get-map, bytes_eq-Decides, map-append, length-map, length-drop, take_more, drop_more, get_or_append_left, append-nil, both_ways, true_from_ne_false, cases_lt, Name, name_eq, has_name, Stmt, Database, bare, bares, before, stmt_at, proof_of, hypotheses, HasLabelsOnce, IsPosition, Item, Cite, Recall, item_of, items_of, finish, Writes, WritesCompressed, WritesPacked, WritesPlain, is_compressed, label_or_none, mandatory_labels, IsProvable, Good, HasItems, is_marked, place_of, AreWanted, ItemsMeet, ProofMeets, listed_in, ListsNone, ListsSome, get_or-map, get_or_from_slice_get, slice_get_within, get_or-append_right, take-add, cases_Bool, map-map, IsHeading, share_label, positions-end, apart-written, shared-none, item-cite, item-recall}
+use Rattle.library.proofs.Words.{◌≡◌, ◌↔◌, ℕ, zero, suc, ◌+◌, ◌-◌, ◌<◌, ◌≤◌, Bool, true, false, ◌||◌, if◌then◌else◌, List, [], ◌∷◌, ◌++◌, length, map, get_or, slice_index_or, take, drop, Option, Some, None, option_map, slice_get, refl, list_any, true≢false, length-append, sym, ◌∙◌, ap, subst, arith, append_assoc, inl, inr, slice_get-map, bytes_eq-Decides, map-append, length-map, length-drop, take_more, drop_more, get_or_append_left, append-nil, both_ways, true_from_ne_false, cases_lt, Name, name_eq, has_name, Stmt, Database, bare, bares, before, stmt_at, proof_of, hypotheses, HasLabelsOnce, IsPosition, Item, Cite, Recall, item_of, items_of, finish, Writes, WritesCompressed, WritesPacked, WritesPlain, is_compressed, label_or_none, mandatory_labels, IsProvable, Good, HasItems, is_marked, place_of, AreLabelMarks, ItemsCiteMarked, ProofCitesMarked, listed_in, ListsNone, ListsSome, get_or-map, get_or_from_slice_get, slice_get_within, get_or-append_right, take-add, cases_Bool, map-map, IsHeading, share_label, positions-end, apart-written, shared-none, item-cite, item-recall}
 use Rattle.library.proofs.FrontLemmas.{AreHypothesesAt, hypotheses-at}
 use Rattle.library.proofs.UseMarkLemmas.{meets-items}
 use Rattle.library.proofs.MayCiteLemmas.{kind-labelled, cited-label}
@@ -9,7 +9,7 @@ use Rattle.library.proofs.CitedByLemmas.{proof-meets}
 -- ---- the tests of labels
 
 module _ (S : Database) (marks : List Bool) where
-  wanted-end : (labels : List Name) (wanted : List Bool) (label : Name) (o : Option ℕ) → AreWanted S labels marks wanted → IsPosition S label o → AreWanted S (labels ++ label ∷ []) marks (wanted ++ is_marked marks o ∷ [])
+  wanted-end : (labels : List Name) (wanted : List Bool) (label : Name) (o : Option ℕ) → AreLabelMarks S labels marks wanted → IsPosition S label o → AreLabelMarks S (labels ++ label ∷ []) marks (wanted ++ is_marked marks o ∷ [])
   wanted-end labels wanted label o w is =
       record {
         places = w.places ++ o ∷ [];
@@ -24,7 +24,7 @@ module _ (S : Database) (marks : List Bool) where
       (one.stmt, record { stands = one.stands; carried = kind-labelled one.stmt one.kind ∙ ap (λ o. Some (label_or_none o)) (sym one.stands) })
   named-all (p ∷ ps) h (suc k) less = named-all ps h.1 k (omega (arith, less))
 
-  hypotheses-wanted : (ps : List ℕ) → AreHypothesesAt S ps → AreWanted S (map (λ i. label_or_none (stmt_at S i)) ps) marks (map (λ p. is_marked marks (Some p)) ps)
+  hypotheses-wanted : (ps : List ℕ) → AreHypothesesAt S ps → AreLabelMarks S (map (λ i. label_or_none (stmt_at S i)) ps) marks (map (λ p. is_marked marks (Some p)) ps)
   hypotheses-wanted ps h =
       record {
         places = map (λ i. Some i) ps;
@@ -34,20 +34,20 @@ module _ (S : Database) (marks : List Bool) where
 
   -- the mandatory hypotheses of the assertion s
   pub mandatory-wanted : (at : ℕ) (s : Stmt) (positions : List ℕ) (wanted : List Bool) → positions ≡ hypotheses (before S at) s → wanted ≡ map (λ p. is_marked marks (Some p)) positions
-      → AreWanted S (mandatory_labels S at s) marks wanted
+      → AreLabelMarks S (mandatory_labels S at s) marks wanted
   mandatory-wanted at s positions wanted are is =
-      subst (AreWanted S (mandatory_labels S at s) marks) (sym (is ∙ ap (map (λ p. is_marked marks (Some p))) are))
+      subst (AreLabelMarks S (mandatory_labels S at s) marks) (sym (is ∙ ap (map (λ p. is_marked marks (Some p))) are))
       (hypotheses-wanted (hypotheses (before S at) s) (hypotheses-at S at s))
 
   -- the first n of the words are tested
   pub record AreTested (words left : List Name) (n : ℕ) (old wanted : List Bool) : Type 0 where
     pub rest : drop n words ≡ left
-    pub tests : (front : List Name) → AreWanted S front marks old → AreWanted S (front ++ take n words) marks wanted
+    pub tests : (front : List Name) → AreLabelMarks S front marks old → AreLabelMarks S (front ++ take n words) marks wanted
 
   pub untested : (words : List Name) (old none : List Bool) → none ≡ [] → AreTested words words 0 old (old ++ none)
   untested words old none is = record {
     rest = refl;
-    tests = λ front w. subst (λ ls. AreWanted S ls marks (old ++ none)) (sym (append-nil front)) (subst (AreWanted S front marks) (sym (ap (λ ts. old ++ ts) is ∙ append-nil old)) w);
+    tests = λ front w. subst (λ ls. AreLabelMarks S ls marks (old ++ none)) (sym (append-nil front)) (subst (AreLabelMarks S front marks) (sym (ap (λ ts. old ++ ts) is ∙ append-nil old)) w);
   }
 
   module _ (words left : List Name) (n : ℕ) (old wanted : List Bool) (tested : AreTested words left n old wanted) (within : n < length words) where
@@ -59,8 +59,8 @@ module _ (S : Database) (marks : List Bool) where
         record {
           rest = let e = at_drop in let after : drop (n + 1) words ≡ rest = cc in after;
           tests = λ front w.
-              subst (λ ls. AreWanted S ls marks more) (append_assoc front (take n words) (label ∷ []) ∙ ap (λ ls. front ++ ls) (sym taken))
-              (subst (AreWanted S ((front ++ take n words) ++ label ∷ []) marks) (sym (grown ∙ ap (λ b. wanted ++ b ∷ []) same)) (wanted-end (front ++ take n words) wanted label o (tested.tests front w) is));
+              subst (λ ls. AreLabelMarks S ls marks more) (append_assoc front (take n words) (label ∷ []) ∙ ap (λ ls. front ++ ls) (sym taken))
+              (subst (AreLabelMarks S ((front ++ take n words) ++ label ∷ []) marks) (sym (grown ∙ ap (λ b. wanted ++ b ∷ []) same)) (wanted-end (front ++ take n words) wanted label o (tested.tests front w) is));
         }
       where
         at_drop : slice_index_or words n [] ∷ drop (n + 1) words ≡ label ∷ rest
@@ -100,8 +100,8 @@ any-same : (f g : ℕ → Bool) → ((n : ℕ) → f n ≡ g n) → (ns : List �
 any-same f g same [] = refl
 any-same f g same (n ∷ ns) = ap (λ b. b || list_any f ns) (same n) ∙ ap (λ b. g n || b) (any-same f g same ns)
 
-pub tested-meets : (S : Database) (labels : List Name) (marks wanted : List Bool) (numbers : List ℕ) (found : Bool) → HasLabelsOnce S → AreWanted S labels marks wanted → found ≡ list_any (λ n. is_marked wanted (Some n)) numbers
-    → found ≡ true ↔ ItemsMeet S (items_of labels numbers) marks
+pub tested-meets : (S : Database) (labels : List Name) (marks wanted : List Bool) (numbers : List ℕ) (found : Bool) → HasLabelsOnce S → AreLabelMarks S labels marks wanted → found ≡ list_any (λ n. is_marked wanted (Some n)) numbers
+    → found ≡ true ↔ ItemsCiteMarked S (items_of labels numbers) marks
 tested-meets S labels marks wanted numbers found once w is =
     meets-items S labels w.places w.named once numbers (items_of labels numbers) marks found refl
     (is ∙ any-same (λ n. is_marked wanted (Some n)) (λ n. is_marked marks (place_of w.places n)) (number-tested marks wanted w.places w.tests) numbers)
@@ -116,7 +116,7 @@ item-front labels rest (suc n) label e = elim (cases_lt n (length labels)) [
   | inr more ↦ absurd (let f : Recall (suc (n - length labels)) ≡ Cite label = sym (item-recall labels (suc n) n refl more) ∙ e in cc)
 ]
 
-front-meets : (S : Database) (labels rest : List Name) (marks : List Bool) (numbers : List ℕ) → ItemsMeet S (items_of labels numbers) marks → ItemsMeet S (items_of (labels ++ rest) numbers) marks
+front-meets : (S : Database) (labels rest : List Name) (marks : List Bool) (numbers : List ℕ) → ItemsCiteMarked S (items_of labels numbers) marks → ItemsCiteMarked S (items_of (labels ++ rest) numbers) marks
 front-meets S labels rest marks numbers m =
     let c = m.2 in
     (m.0, m.1, record { place = c.place; label = c.label; cited = c.cited; cites = by numbers c.place c.cites; carries = c.carries })
@@ -131,19 +131,19 @@ take-split words n m h = (take (m - n) (drop n words), let e : m ≡ n + (m - n)
 
 -- the numbers meet by the first n labels, so they meet by all
 pub early-meets : (S : Database) (marks : List Bool) (words left : List Name) (n count : ℕ) (old wanted : List Bool) (numbers : List ℕ) → AreTested S marks words left n old wanted → n ≤ count → HasLabelsOnce S
-    → true ≡ list_any (λ n. is_marked wanted (Some n)) numbers → (front : List Name) → AreWanted S front marks old → true ≡ true ↔ ItemsMeet S (items_of (front ++ take count words) numbers) marks
+    → true ≡ list_any (λ n. is_marked wanted (Some n)) numbers → (front : List Name) → AreLabelMarks S front marks old → true ≡ true ↔ ItemsCiteMarked S (items_of (front ++ take count words) numbers) marks
 early-meets S marks words left n count old wanted numbers tested less once any front w =
     let r = take-split words n count less in
     let m = (tested-meets S (front ++ take n words) marks wanted numbers true once (tested.tests front w) any).0 refl in
-    let all : ItemsMeet S (items_of (front ++ take count words) numbers) marks =
-    subst (λ ls. ItemsMeet S (items_of ls numbers) marks) (append_assoc front (take n words) r.0 ∙ ap (λ ls. front ++ ls) (sym r.1))
+    let all : ItemsCiteMarked S (items_of (front ++ take count words) numbers) marks =
+    subst (λ ls. ItemsCiteMarked S (items_of ls numbers) marks) (append_assoc front (take n words) r.0 ∙ ap (λ ls. front ++ ls) (sym r.1))
     (front-meets S (front ++ take n words) r.0 marks numbers m) in
     ((λ e. all), λ m. refl)
 
 pub late-meets : (S : Database) (marks : List Bool) (words left : List Name) (n count : ℕ) (old wanted : List Bool) (numbers : List ℕ) (found : Bool) → AreTested S marks words left n old wanted → n ≡ count → HasLabelsOnce S
-    → found ≡ list_any (λ n. is_marked wanted (Some n)) numbers → (front : List Name) → AreWanted S front marks old → found ≡ true ↔ ItemsMeet S (items_of (front ++ take count words) numbers) marks
+    → found ≡ list_any (λ n. is_marked wanted (Some n)) numbers → (front : List Name) → AreLabelMarks S front marks old → found ≡ true ↔ ItemsCiteMarked S (items_of (front ++ take count words) numbers) marks
 late-meets S marks words left n count old wanted numbers found tested same once any front w =
-    subst (λ k. found ≡ true ↔ ItemsMeet S (items_of (front ++ take k words) numbers) marks) same
+    subst (λ k. found ≡ true ↔ ItemsCiteMarked S (items_of (front ++ take k words) numbers) marks) same
     (tested-meets S (front ++ take n words) marks wanted numbers found once (tested.tests front w) any)
 
 -- ---- the labels that a heading lists
@@ -151,11 +151,11 @@ late-meets S marks words left n count old wanted numbers found tested same once 
 -- where the tokens of a compressed proof write items under these labels, it was found whether one cites a statement that is marked
 abbrev pub TellsMeeting : Database → List Name → List Name → List Bool → Bool → Type 0
 TellsMeeting S mandatory tokens marks found =
-    (other : List Item) → WritesCompressed tokens mandatory other → (items : List Item) × WritesCompressed tokens mandatory items × (found ≡ true ↔ ItemsMeet S items marks)
+    (other : List Item) → WritesCompressed tokens mandatory other → (items : List Item) × WritesCompressed tokens mandatory items × (found ≡ true ↔ ItemsCiteMarked S items marks)
 
 module _ (tokens words : List Name) (mandatory count : ℕ) (numbers : List ℕ) (h : IsHeading tokens mandatory words count numbers) where
   pub tells-heading : (S : Database) (labels : List Name) (marks : List Bool) (found : Bool) → length labels ≡ mandatory
-      → (found ≡ true ↔ ItemsMeet S (items_of (labels ++ take count words) numbers) marks) → TellsMeeting S labels tokens marks found
+      → (found ≡ true ↔ ItemsCiteMarked S (items_of (labels ++ take count words) numbers) marks) → TellsMeeting S labels tokens marks found
   tells-heading S labels marks found long meets = λ other written. elim (cases_Bool (share_label labels (take count words))) [
     | inl q ↦ absurd (shared-none tokens labels words mandatory count numbers (sym long) h q other written)
     | inr q ↦ (items_of (labels ++ take count words) numbers, apart-written tokens labels words mandatory count numbers (sym long) h q, meets)
@@ -183,7 +183,7 @@ listed-there label (token ∷ tokens) h = closes (name_eq token finish) refl (li
         names false r any = let there = later (sym (ap (λ b. b || has_name label (listed_in tokens)) r) ∙ any) in (suc there.0, there.1)
 
 module _ (F : Database) (tokens : List Name) (items : List Item) (marks : List Bool) where
-  some-cited : WritesPlain tokens items → ListsSome F tokens marks → ItemsMeet F items marks
+  some-cited : WritesPlain tokens items → ListsSome F tokens marks → ItemsCiteMarked F items marks
   some-cited w one =
       let there = listed-there one.label tokens one.listed in (
         one.position,
@@ -197,7 +197,7 @@ module _ (F : Database) (tokens : List Name) (items : List Item) (marks : List B
         },
       )
 
-  none-cited : is_compressed tokens ≡ false → WritesPlain tokens items → ItemsMeet F items marks → ListsNone F tokens marks → ⊥
+  none-cited : is_compressed tokens ≡ false → WritesPlain tokens items → ItemsCiteMarked F items marks → ListsNone F tokens marks → ⊥
   none-cited plain w m none =
       let c = m.2 in
       elim (cited-label tokens [] items (inr (plain, w)) c.place c.label c.cites) [
@@ -212,7 +212,7 @@ module _ (S F : Database) (same : F ≡ bares S) (good : Good S) (at : ℕ) (s :
   good-items : (items : List Item) × HasItems S at items
   good-items = let p = good.proved at s provable in (p.items, record { stmt = p.stmt; provable = p.provable; written = p.written })
 
-  pub told-meets : is_compressed tokens ≡ true → (found : Bool) → TellsMeeting F (mandatory_labels F at (bare s)) tokens marks found → found ≡ true ↔ ProofMeets S at marks
+  pub told-meets : is_compressed tokens ≡ true → (found : Bool) → TellsMeeting F (mandatory_labels F at (bare s)) tokens marks found → found ≡ true ↔ ProofCitesMarked S at marks
   told-meets compressed found told =
       let one = good-items in
       let labels = mandatory_labels (bares S) at s in
@@ -226,7 +226,7 @@ module _ (S F : Database) (same : F ≡ bares S) (good : Good S) (at : ℕ) (s :
       packed-of labels items written = elim written [ inl packed ↦ packed.1 | inr plain ↦ absurd (both_ways (is_compressed tokens) plain.0 compressed) ]
 
   -- a normal proof cites the statements that its tokens list
-  pub listed-meets : is_compressed tokens ≡ false → (found : Bool) → (found ≡ false → ListsNone F tokens marks) → (found ≡ true → ListsSome F tokens marks) → found ≡ true ↔ ProofMeets S at marks
+  pub listed-meets : is_compressed tokens ≡ false → (found : Bool) → (found ≡ false → ListsNone F tokens marks) → (found ≡ true → ListsSome F tokens marks) → found ≡ true ↔ ProofCitesMarked S at marks
   listed-meets plain found none some =
       let one = good-items in
       let meets = proof-meets S F same at marks one.0 one.1 in

@@ -1,5 +1,5 @@
 -- From the verifier's answer to whether a `$p` is proved, and the labels with which its tokens write items.
-use Rattle.library.proofs.Words.{◌≡◌, ℕ, ◌⊎◌, ◌↔◌, refl, true, false, IsTrue, List, map, Option, Some, None, Result, Ok, Err, IfOk, MatchOption, sym, ◌∙◌, ap, subst, inl, inr, both_ways, Name, Stmt, Database, bare, bares, before, proof_of, stmt_at, is_provable, Item, Writes, WritesPacked, WritesPlain, IsMalformed, is_compressed, is_unfinished, label_or_none, mandatory_labels, Proves, IsProvable, IsRight, Says, provable-bare, StandsProved, HasItems, one_answer, malformed-none, ◌+◌, ◌<◌, [], ◌∷◌, ◌++◌, length, take, get_or, option_map, slice_get, slice_get-get_or, unwrap_or, map_more, Float, Ess, Prove, is_assertion, stmt_at-bares, hypotheses, is_hypothesis_kind, label_of-bare, CodeFault, Malformed, Answer, Proved, Wrong}
+use Rattle.library.proofs.Words.{◌≡◌, ℕ, ◌⊎◌, ◌↔◌, refl, true, false, IsTrue, List, map, Option, Some, None, Result, Ok, Err, IfOk, MatchOption, sym, ◌∙◌, ap, subst, inl, inr, both_ways, Name, Stmt, Database, bare, bares, before, proof_of, stmt_at, is_provable, Item, Writes, WritesPacked, WritesPlain, IsMalformed, is_compressed, is_unfinished, label_or_none, mandatory_labels, Proves, IsProvable, IsRight, IsAnswerTo, provable-bare, StandsProved, HasItems, one_answer, malformed-none, ◌+◌, ◌<◌, [], ◌∷◌, ◌++◌, length, take, get_or, option_map, slice_get, slice_get-get_or, unwrap_or, map_more, Float, Ess, Prove, is_assertion, stmt_at-bares, hypotheses, is_hypothesis_kind, label_of-bare, CodeFault, Malformed, Answer, Proved, Wrong}
 use Rattle.proof_code.specs.declared.fault.CodeFault.TheVariants.{Unfinished}
 use Rattle.library.proofs.FrontLemmas.{hypotheses-bare, IsHypothesisAt, kind-bare, hypotheses-at, hypothesis-there}
 
@@ -80,7 +80,7 @@ module _ (S F : Database) (at : ℕ) (s : Stmt) (same : F ≡ bares S) (provable
 
   -- a result for the tokens is one for the `$p`
   pub judged-stands : {E : Type 0} (tokens : List Name) → proof_of s ≡ tokens → (r : Result Answer E)
-      → IfOk r (λ answer. Says answer (Proves F at tokens)) → IfOk r (λ answer. Says answer (StandsProved S at))
+      → IfOk r (λ answer. IsAnswerTo answer (Proves F at tokens)) → IfOk r (λ answer. IsAnswerTo answer (StandsProved S at))
   judged-stands tokens e (Ok Proved) h = proves-stands tokens e h
   judged-stands tokens e (Ok Wrong) h = λ stands. h (stands-proves tokens e stands)
   judged-stands tokens e (Err x) h = h

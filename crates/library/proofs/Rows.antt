@@ -1,5 +1,5 @@
 -- Verdicts, worked out.
-use Rattle.library.proofs.Words.{◌≡◌, ℕ, zero, suc, ◌+◌, ◌<◌, true, false, List, [], ◌∷◌, ◌++◌, codes, refl, length, Some, None, list_all, true≢false, sym, ◌∙◌, ap, arith, inl, inr, lit≤, append-nil, Name, is_allowed, runs, word, Stmt, Const, Var, Axiom, Prove, Database, AreShaped, tokens_of, Reads, proof_of, stmt_at, is_provable, G4, Writes, is_unfinished, IsProvable, Submission, Text, Charter, Rule, Unfinished, NotChartered, Added, Nothing, Repeat, Refused, is_rising, forbidden, IsProved, IsCause, Replica, empty, Applies, is_plain, words, w, some-same}
+use Rattle.library.proofs.Words.{◌≡◌, ℕ, zero, suc, ◌+◌, ◌<◌, true, false, List, [], ◌∷◌, ◌++◌, codes, refl, length, Some, None, list_all, true≢false, sym, ◌∙◌, ap, arith, inl, inr, lit≤, append-nil, Name, is_allowed, runs, word, Stmt, Const, Var, Axiom, Prove, Database, AreShaped, tokens_of, Reads, proof_of, stmt_at, is_provable, G4, Writes, is_unfinished, IsProvable, Submission, Text, Charter, Rule, Unfinished, NotChartered, Added, Nothing, Repeat, Refused, is_rising, first_forbidden, IsProved, IsCause, Replica, empty, Applies, is_plain, words, w, some-same}
 use Rattle.library.proofs.LibraryLemmas.{good-empty}
 
 -- a text without comments
@@ -95,17 +95,17 @@ twice_the_same : is_rising (1 ∷ 5 ∷ 5 ∷ []) ≡ false
 twice_the_same = refl
 
 -- to an author whom the charter names nothing is forbidden
-named_author : forbidden (Some (7 ∷ 9 ∷ [])) 9 taken_twice ≡ None
+named_author : first_forbidden (Some (7 ∷ 9 ∷ [])) 9 taken_twice ≡ None
 named_author = refl
 
 -- without a charter nothing is forbidden to anyone
-no_charter : forbidden None 8 taken_twice ≡ None
+no_charter : first_forbidden None 8 taken_twice ≡ None
 no_charter = refl
 
 -- variables, hypotheses and proofs are anyone's
-variables_and_proofs : forbidden (Some (7 ∷ [])) 8 (Var (w (codes "x")) ∷ Prove (codes "th") (w (codes "|- o")) (w (codes "?")) ∷ []) ≡ None
+variables_and_proofs : first_forbidden (Some (7 ∷ [])) 8 (Var (w (codes "x")) ∷ Prove (codes "th") (w (codes "|- o")) (w (codes "?")) ∷ []) ≡ None
 variables_and_proofs = refl
 
 -- a forbidden `$a` is told by its number in the text
-second_statement : forbidden (Some (7 ∷ [])) 8 (Var (w (codes "x")) ∷ Axiom (codes "p") (w (codes "|-")) ∷ []) ≡ Some 2
+second_statement : first_forbidden (Some (7 ∷ [])) 8 (Var (w (codes "x")) ∷ Axiom (codes "p") (w (codes "|-")) ∷ []) ≡ Some 2
 second_statement = refl

@@ -1,5 +1,5 @@
 -- The positions of the `$p` after the first statements, and the consequences of their least that is not right for all statements.
-use Rattle.library.proofs.Words.{◌≡◌, ℕ, zero, suc, ◌+◌, ◌-◌, ◌<◌, ◌≤◌, List, [], ◌∷◌, ◌++◌, length, get_or, Option, Some, None, slice_get, slice_get-get_or, get_or_default, ◌∙◌, ap, sym, subst, arith, inl, inr, cases_eq, cases_order, Stmt, Database, stmt_at, IsProvable, AreProofs, AreAfter, StandsProved, IsKnown, IsLeastUnproved, true, AreShaped, is_shaped, and_parts, list_all, take, drop, cases_lt, take-append-drop, IsProved, AreProvedTo, list_all-append, IsLeast}
+use Rattle.library.proofs.Words.{◌≡◌, ℕ, zero, suc, ◌+◌, ◌-◌, ◌<◌, ◌≤◌, List, [], ◌∷◌, ◌++◌, length, get_or, Option, Some, None, slice_get, slice_get-get_or, get_or_default, ◌∙◌, ap, sym, subst, arith, inl, inr, cases_eq, cases_order, Stmt, Database, stmt_at, IsProvable, AreProofs, AreProvablesAfter, StandsProved, IsKnown, IsLeastUnproved, true, AreShaped, is_shaped, and_parts, list_all, take, drop, cases_lt, take-append-drop, IsProved, AreProvedTo, list_all-append, IsLeast}
 use Rattle.library.proofs.FrontLemmas.{stands_index}
 use Rattle.library.proofs.GoodLemmas.{provable-where, proved-later}
 
@@ -13,11 +13,11 @@ none-more : (S : Database) (front end : ℕ) → NoneBetween S front end → ((s
 none-more S front end none here at s above below p =
     elim (cases_eq at (end + 1)) [ inl e ↦ here s (subst (λ n. IsProvable S n s) e p) | inr apart ↦ none at s above (omega (arith, below, apart)) p ]
 
-pub after-pass : (S : Database) (front end : ℕ) (ps : List ℕ) → AreAfter S front end ps → ((s : Stmt) → IsProvable S (end + 1) s → ⊥) → AreAfter S front (end + 1) ps
+pub after-pass : (S : Database) (front end : ℕ) (ps : List ℕ) → AreProvablesAfter S front end ps → ((s : Stmt) → IsProvable S (end + 1) s → ⊥) → AreProvablesAfter S front (end + 1) ps
 after-pass S front end [] are here = none-more S front end are here
 after-pass S front end (at ∷ ps) are here = let l = are.1 in (are.0, omega (arith, l), are.2, after-pass S at end ps are.3 here)
 
-pub after-more : (S : Database) (front end : ℕ) (ps : List ℕ) → front ≤ end → AreAfter S front end ps → AreAfter S front (end + 1) (ps ++ (end + 1) ∷ [])
+pub after-more : (S : Database) (front end : ℕ) (ps : List ℕ) → front ≤ end → AreProvablesAfter S front end ps → AreProvablesAfter S front (end + 1) (ps ++ (end + 1) ∷ [])
 after-more S front end [] h none = (
   omega (arith, h),
   omega arith,
@@ -28,17 +28,17 @@ after-more S front end (at ∷ ps) h are = let l = are.1 in (are.0, omega (arith
 
 -- ---- all positions
 
-pub all-after : (S : Database) (front end : ℕ) (ps : List ℕ) → end ≤ length S → length S ≤ end → AreAfter S front end ps → AreAfter S front (length S) ps
-all-after S front end ps within over are = subst (λ n. AreAfter S front n ps) (omega (arith, within, over)) are
+pub all-after : (S : Database) (front end : ℕ) (ps : List ℕ) → end ≤ length S → length S ≤ end → AreProvablesAfter S front end ps → AreProvablesAfter S front (length S) ps
+all-after S front end ps within over are = subst (λ n. AreProvablesAfter S front n ps) (omega (arith, within, over)) are
 
-placed-after : (S : Database) (front end : ℕ) (ps : List ℕ) → AreAfter S front end ps → (k at : ℕ) → slice_get ps k ≡ Some at → (front < at) × (at ≤ end)
+placed-after : (S : Database) (front end : ℕ) (ps : List ℕ) → AreProvablesAfter S front end ps → (k at : ℕ) → slice_get ps k ≡ Some at → (front < at) × (at ≤ end)
 placed-after S front end [] are k at e = absurd (let f = e in cc)
 placed-after S front end (first ∷ ps) are zero at e = let is : first ≡ at = cc in let low = are.0 in let high = are.1 in (omega (arith, is, low), omega (arith, is, high))
 placed-after S front end (first ∷ ps) are (suc k) at e =
     let rest = placed-after S first end ps are.3 k at e in
     (omega (arith, are.0, rest.0), rest.1)
 
-pub are-proofs : (S F : Database) (front : ℕ) (ps : List ℕ) → F ≡ Rattle.scope.specs.Active.bares S → AreAfter S front (length S) ps → AreProofs S F ps
+pub are-proofs : (S F : Database) (front : ℕ) (ps : List ℕ) → F ≡ Rattle.scope.specs.Active.bares S → AreProvablesAfter S front (length S) ps → AreProofs S F ps
 are-proofs S F front ps same are = record {
   same = same;
   placed = λ k at e. let w = placed-after S front (length S) ps are k at e in let low = w.0 in (omega (arith, low), w.1);
@@ -62,7 +62,7 @@ module _ (S : Database) where
   abbrev pub IsFirst : ℕ → ℕ → ℕ → Type 0
   IsFirst front end at = (front < at) × (at ≤ end) × (StandsProved S at → ⊥) × ((m : ℕ) → front < m → m < at → StandsProved S m)
 
-  all-proved : (front end : ℕ) (ps : List ℕ) → AreAfter S front end ps → FrontProved (length ps) ps → (at : ℕ) → front < at → at ≤ end → StandsProved S at
+  all-proved : (front end : ℕ) (ps : List ℕ) → AreProvablesAfter S front end ps → FrontProved (length ps) ps → (at : ℕ) → front < at → at ≤ end → StandsProved S at
   all-proved front end [] are right at above below = λ s p. absurd (are at s above below p)
   all-proved front end (first ∷ ps) are right at above below =
       elim (cases_order at first) [
@@ -73,7 +73,7 @@ module _ (S : Database) where
         ]
       ]
 
-  first-bad : (front end : ℕ) (ps : List ℕ) (i : ℕ) → AreAfter S front end ps → FrontProved i ps → i < length ps → (StandsProved S (get_or ps i 0) → ⊥) → IsFirst front end (get_or ps i 0)
+  first-bad : (front end : ℕ) (ps : List ℕ) (i : ℕ) → AreProvablesAfter S front end ps → FrontProved i ps → i < length ps → (StandsProved S (get_or ps i 0) → ⊥) → IsFirst front end (get_or ps i 0)
   first-bad front end [] i are right less wrong = absurd (omega (arith, less))
   first-bad front end (first ∷ ps) zero are right less wrong = (are.0, are.1, wrong, (λ m above below s p. absurd (are.2 m s above below p)))
   first-bad front end (first ∷ ps) (suc i) are right less wrong =
@@ -91,7 +91,7 @@ module _ (S : Database) where
         ]),
       )
 
-  module _ (front : ℕ) (ps : List ℕ) (are : AreAfter S front (length S) ps) (answer : Option ℕ) (least : IsLeast (λ k. StandsProved S (get_or ps k 0)) (length ps) answer) where
+  module _ (front : ℕ) (ps : List ℕ) (are : AreProvablesAfter S front (length S) ps) (answer : Option ℕ) (least : IsLeast (λ k. StandsProved S (get_or ps k 0)) (length ps) answer) where
     pub none-unproved : answer ≡ None → IsLeastUnproved S front None
     none-unproved e =
         let l = subst (IsLeast (λ k. StandsProved S (get_or ps k 0)) (length ps)) e least in

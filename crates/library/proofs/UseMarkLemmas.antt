@@ -1,5 +1,5 @@
 -- The positions of labels, and the marks of what items cite.
-use Rattle.library.proofs.Words.{◌≡◌, ◌↔◌, ◌⊎◌, ℕ, zero, suc, ◌-◌, ◌<◌, ◌≤◌, Bool, true, false, List, [], ◌∷◌, ◌++◌, length, replicate, get_or, slice_set, Option, Some, None, option_map, slice_get, refl, list_any, sym, ◌∙◌, ap, subst, arith, inl, inr, cases_eq, cases_lt, any_passes_from_place, slice_get-map, slice_get_read, length-set, length-replicate, get_or-set_same, get_or-set_other, get_or_past, Name, Stmt, Database, Carries, IsPosition, ArePositions, HasLabelsOnce, Item, Cite, Recall, item_of, items_of, IsMarked, is_marked, mark, place_of, mark_items, ItemsMeet, Marks, ItemsCite, stands-within, no-mark, map-back, item-cite, item-recall, Any-from_list_any}
+use Rattle.library.proofs.Words.{◌≡◌, ◌↔◌, ◌⊎◌, ℕ, zero, suc, ◌-◌, ◌<◌, ◌≤◌, Bool, true, false, List, [], ◌∷◌, ◌++◌, length, replicate, get_or, slice_set, Option, Some, None, option_map, slice_get, refl, list_any, sym, ◌∙◌, ap, subst, arith, inl, inr, cases_eq, cases_lt, any_passes_from_place, slice_get-map, slice_get_read, length-set, length-replicate, get_or-set_same, get_or-set_other, get_or_past, Name, Stmt, Database, Carries, IsPosition, ArePositions, HasLabelsOnce, Item, Cite, Recall, item_of, items_of, IsMarked, is_marked, mark, place_of, mark_items, ItemsCiteMarked, Marks, ItemsCite, stands-within, no-mark, map-back, item-cite, item-recall, Any-from_list_any}
 
 -- ---- one mark
 
@@ -150,18 +150,18 @@ module _ (S : Database) (labels : List Name) (places : List (Option ℕ)) (are :
   abbrev Hits : List Bool → ℕ → Bool
   Hits marks number = is_marked marks (place_of places number)
 
-  pub meets-items : (numbers : List ℕ) (items : List Item) (marks : List Bool) (found : Bool) → items_of labels numbers ≡ items → found ≡ list_any (Hits marks) numbers → found ≡ true ↔ ItemsMeet S items marks
+  pub meets-items : (numbers : List ℕ) (items : List Item) (marks : List Bool) (found : Bool) → items_of labels numbers ≡ items → found ≡ list_any (Hits marks) numbers → found ≡ true ↔ ItemsCiteMarked S items marks
   meets-items numbers items marks found same is =
-      subst (λ is. found ≡ true ↔ ItemsMeet S is marks) same
+      subst (λ is. found ≡ true ↔ ItemsCiteMarked S is marks) same
       (forth, back)
     where
-      forth : found ≡ true → ItemsMeet S (items_of labels numbers) marks
+      forth : found ≡ true → ItemsCiteMarked S (items_of labels numbers) marks
       forth e =
           let h = Any-from_list_any (Hits marks) numbers (sym is ∙ e) in
           let m = marked-some marks (place_of places h.1) h.4 in
           (m.0, m.2, number-cites numbers m.0 (h.0, h.1, slice_get_read numbers _ h.0 h.1 refl h.2 (sym h.3), m.1))
 
-      back : ItemsMeet S (items_of labels numbers) marks → found ≡ true
+      back : ItemsCiteMarked S (items_of labels numbers) marks → found ≡ true
       back m =
           let h = cites-number numbers m.0 m.2 in
           is ∙ any_passes_from_place (Hits marks) numbers h.0 h.1 h.2 (ap (is_marked marks) h.3 ∙ m.1)

@@ -11,17 +11,17 @@ pub use Rattle.frame.specs.Disjoint.{are_groups_disjoint}
 pub use Rattle.frame.specs.FrameOf.{hypotheses, mandatory_groups}
 pub use Rattle.library.specs.Added.{AreProvedTo, IsAdded, IsAddedAfter, count_of}
 pub use Rattle.library.specs.Causes.{IsAllowed, IsCause, IsFault, IsFirstUnproved, IsReadable}
-pub use Rattle.library.specs.Charters.{first_declaration, forbidden, is_rising, may_declare}
+pub use Rattle.library.specs.Charters.{first_declaration, first_forbidden, is_rising, may_declare}
 pub use Rattle.library.specs.Good.{Good, IsProved}
 pub use Rattle.library.specs.Judging.{Extends, IsChecked, IsJudged, IsKnown, IsLeastUnproved, IsReading, StandsProved}
 pub use Rattle.library.specs.Laws.{without_charter}
 pub use Rattle.library.specs.LibraryOf.{Applies, AppliesAt, Decided, Decides, IsLibraryOf, Replica, Runs, author_of, decided_with, empty, serial_of, status, status_of}
-pub use Rattle.library.specs.LibraryState.{IsTableOf, IsWithinEntry, IsWithinText, key_cmp, verdict_of}
+pub use Rattle.library.specs.LibraryState.{IsTableOf, IsWithinEntry, HasFewStepsText, key_cmp, verdict_of}
 pub use Rattle.library.specs.Listed.{listed, listed_of}
 pub use Rattle.library.specs.PlainLibraryOf.{IsPlainCause, PlainApplies, PlainAppliesAt, PlainDecides, PlainReplica, PlainRuns}
 pub use Rattle.library.specs.Queries.{HasNoLabel, IsNoProof, IsTreeOf, IsUsage, NamesNoProof, NamesProof, SpellsTree}
-pub use Rattle.library.specs.Unproved.{AreAfter, AreProofs, IsRightProof}
-pub use Rattle.library.specs.UseMarks.{AreWanted, IsMarked, IsMarkedAxiom, ItemsMeet, ListsNone, ListsSome, Marks, ProofMeets, is_marked, listed_in, mark, mark_items, place_of}
+pub use Rattle.library.specs.Unproved.{AreProvablesAfter, AreProofs, IsRightProof}
+pub use Rattle.library.specs.UseMarks.{AreLabelMarks, IsMarked, IsMarkedAxiom, ItemsCiteMarked, ListsNone, ListsSome, Marks, ProofCitesMarked, is_marked, listed_in, mark, mark_items, place_of}
 pub use Rattle.library.specs.Uses.{AreLabelsOf, Cites, HasItems, IsAxiomAt, IsIn, IsUser, ItemsCite, RestsOn, Rises, Uses, directly, is_axiom, through}
 pub use Rattle.library.specs.Words.{is_closed}
 pub use Rattle.library.specs.contracts.decided.DecidedEntries.{the_row, the_type}
@@ -91,7 +91,7 @@ pub use Rattle.verify.specs.Concludes.{ConcludeAll, Concludes}
 pub use Rattle.verify.specs.Derivations.{Derivation, Derivations, apply, hyp, more}
 pub use Rattle.verify.specs.KeptLists.{AreKeptFor}
 pub use Rattle.verify.specs.Proves.{Proves, label_or_none, mandatory_labels}
-pub use Rattle.verify.specs.Right.{Derives, IsProvable, IsRight, Says}
+pub use Rattle.verify.specs.Right.{Derives, IsProvable, IsRight, IsAnswerTo}
 pub use Rattle.verify.specs.Spells.{Spells, SpellsAll, cites_assertion, cites_hypothesis, marks, recalls, spells_more, spells_none}
 pub use Rattle.verify.specs.declared.answer.Answer.{Answer}
 pub use Rattle.verify.specs.declared.answer.Answer.TheVariants.{Proved, Wrong}

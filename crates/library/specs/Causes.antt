@@ -8,7 +8,7 @@ use Rattle.library.specs.declared.submission.TheConstants.{MOST_BYTES}
 use Rattle.library.specs.declared.submission.Submission.{Submission}
 use Rattle.library.specs.declared.verdict.Cause.{Cause}
 use Rattle.library.specs.declared.verdict.Cause.TheVariants.{TooLong, Text, Shape, NotChartered, Rule, Proof, Unfinished}
-use Rattle.library.specs.Charters.{forbidden}
+use Rattle.library.specs.Charters.{first_forbidden}
 use Rattle.library.specs.Good.{IsProved}
 
 -- the text is within the limit, and reads as T
@@ -19,7 +19,7 @@ pub record IsReadable (text : List ℕ) (T : Database) : Type 0 where
 -- the text reads as T, and the charter in force, if any, forbids its author nothing in it
 pub record IsAllowed (charter : Option (List ℕ)) (submission : Submission) (T : Database) : Type 0 where
   pub readable : IsReadable submission.text T
-  pub allowed : forbidden charter submission.author T ≡ None
+  pub allowed : first_forbidden charter submission.author T ≡ None
 
 -- statement n of T, after L, is the least `$p` that is not proved
 pub record IsFirstUnproved (L T : Database) (n : ℕ) (s : Stmt) : Type 0 where
@@ -44,5 +44,5 @@ IsCause L charter submission Text =
 IsCause L charter submission Shape =
     (length submission.text ≤ MOST_BYTES) × ((tokens : List Name) × HasTokens submission.text tokens × IsNoDatabase tokens)
 IsCause L charter submission (NotChartered n) =
-    (T : Database) × IsReadable submission.text T × (forbidden charter submission.author T ≡ Some n)
+    (T : Database) × IsReadable submission.text T × (first_forbidden charter submission.author T ≡ Some n)
 IsCause L charter submission cause = (T : Database) × IsAllowed charter submission T × IsFault L T cause

@@ -39,5 +39,5 @@ first_declaration at [] = None
 first_declaration at (s ∷ T) = if is_declaration s then Some at else first_declaration (at + 1) T
 
 -- the number of the first statement of the text that its author may not declare
-abbrev pub forbidden : Option (List ℕ) → ℕ → Database → Option ℕ
-forbidden charter author T = if may_declare charter author then None else first_declaration 1 T
+abbrev pub first_forbidden : Option (List ℕ) → ℕ → Database → Option ℕ
+first_forbidden charter author T = if may_declare charter author then None else first_declaration 1 T

@@ -46,13 +46,13 @@ IsDecision (Refused cause) = ⊤
 IsDecision verdict = ⊥
 
 -- the judging of a text takes at most three steps for each statement, and none if the text does not read
-pub record IsWithinText (submission : Submission) (before after : ℕ) : Type 0 where
+pub record HasFewStepsText (submission : Submission) (before after : ℕ) : Type 0 where
   pub read : (T : Database) → Reads submission.text T → after ≤ before + 3 * length T
   pub unread : ((T : Database) → ¬ Reads submission.text T) → after ≡ before
 
 -- the judging of an entry that was not decided before: a charter takes no step
 abbrev pub IsWithinEntry : Entry → ℕ → ℕ → Type 0
-IsWithinEntry (Text submission) before after = IsWithinText submission before after
+IsWithinEntry (Text submission) before after = HasFewStepsText submission before after
 IsWithinEntry (Charter author serial names) before after = after ≡ before
 
 -- given the verdict decided before under its author and serial number, if any

@@ -25,10 +25,10 @@ pub record AreProofs (S frames : Database) (positions : List ℕ) : Type 0 where
   pub placed : (k at : ℕ) → slice_get positions k ≡ Some at → (1 ≤ at) × (at ≤ length S)
 
 -- the positions of the `$p` above the one position, up to the other, in order
-abbrev pub AreAfter : Database → ℕ → ℕ → List ℕ → Type 0
-AreAfter S front end [] = (at : ℕ) (s : Stmt) → front < at → at ≤ end → ¬ IsProvable S at s
-AreAfter S front end (at ∷ positions) =
-    (front < at) × (at ≤ end) × ((m : ℕ) (s : Stmt) → front < m → m < at → ¬ IsProvable S m s) × AreAfter S at end positions
+abbrev pub AreProvablesAfter : Database → ℕ → ℕ → List ℕ → Type 0
+AreProvablesAfter S front end [] = (at : ℕ) (s : Stmt) → front < at → at ≤ end → ¬ IsProvable S at s
+AreProvablesAfter S front end (at ∷ positions) =
+    (front < at) × (at ≤ end) × ((m : ℕ) (s : Stmt) → front < m → m < at → ¬ IsProvable S m s) × AreProvablesAfter S at end positions
 
 -- a function with this contract returns the index of the least of the proofs that is not right
 abbrev pub FindsLeast : {E : Type 0} → (Bor ProofsAt → MutBor Checkers → Type 0) → (Bor ProofsAt → MutBor Checkers → Result (Option ℕ) E → MutBor Checkers → Type 0) → Type 0

@@ -31,7 +31,7 @@ mark_items places [] marks = marks
 mark_items places (number ∷ numbers) marks = mark_items places numbers (mark (place_of places number) marks)
 
 -- for each label, whether what it names is marked
-pub record AreWanted (S : Database) (labels : List Name) (marks wanted : List Bool) : Type 0 where
+pub record AreLabelMarks (S : Database) (labels : List Name) (marks wanted : List Bool) : Type 0 where
   pub places : List (Option ℕ)
   pub named : ArePositions S labels places
   pub tests : wanted ≡ map (is_marked marks) places
@@ -48,12 +48,12 @@ abbrev pub IsMarkedAxiom : Database → List Bool → ℕ → Type 0
 IsMarkedAxiom S marks a = IsMarked marks a × IsAxiomAt S a
 
 -- an item cites a statement that is marked
-abbrev pub ItemsMeet : Database → List Item → List Bool → Type 0
-ItemsMeet S items marks = (a : ℕ) × IsMarked marks a × ItemsCite S items a
+abbrev pub ItemsCiteMarked : Database → List Item → List Bool → Type 0
+ItemsCiteMarked S items marks = (a : ℕ) × IsMarked marks a × ItemsCite S items a
 
 -- the proof of the statement at a position cites a statement that is marked
-abbrev pub ProofMeets : Database → ℕ → List Bool → Type 0
-ProofMeets S at marks = (a : ℕ) × IsMarked marks a × Cites S at a
+abbrev pub ProofCitesMarked : Database → ℕ → List Bool → Type 0
+ProofCitesMarked S at marks = (a : ℕ) × IsMarked marks a × Cites S at a
 
 -- the tokens before `)`: those that a compressed proof lists after `(`, or all of a normal one
 abbrev pub listed_in : List Name → List Name

@@ -58,7 +58,7 @@ impl CheckedDatabase {
 
     /// Returns a database of good statements, given with their rules and frames. Does not allocate.
     #[tactic(auto, using(crate::proofs::JoinedRulesLemmas::good_closed))]
-    pub(crate) fn of_good(
+    pub(crate) fn from_good(
         alloc: Global,
         statements: Vec<Stmt>,
         mut rules: Rules,

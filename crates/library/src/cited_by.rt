@@ -2,7 +2,7 @@
 ghost use Rattle.std.specs.Prelude.{◌≡◌, ◌≤◌, ◌↔◌, ◌++◌, List, true, false, Some, length, map, take, IfOk};
 ghost use Rattle.frame.specs.AtPosition.{HasLabelsOnce};
 ghost use Rattle.frame.specs.FrameOf.{hypotheses};
-ghost use Rattle.library.specs.UseMarks.{is_marked, AreWanted, ItemsMeet, ProofMeets, ListsNone, ListsSome};
+ghost use Rattle.library.specs.UseMarks.{is_marked, AreLabelMarks, ItemsCiteMarked, ProofCitesMarked, ListsNone, ListsSome};
 ghost use Rattle.library.specs.Uses.{IsUser, AreLabelsOf};
 ghost use Rattle.mm_lex.specs.Alphabet.{Name};
 ghost use Rattle.mm_read.specs.declared.stmt.Stmt.{Stmt as Statement};
@@ -75,7 +75,7 @@ impl Search {
         marks: &[bool],
     ) -> Result<bool, AllocError>
         requires { (s : Statement) × IsProvable database.now at s × (proof_of s ≡ tokens.now) }
-        ensures { IfOk result (λ found. found ≡ true ↔ ProofMeets database.now at marks.now) }
+        ensures { IfOk result (λ found. found ≡ true ↔ ProofCitesMarked database.now at marks.now) }
     {
         let frames = database.frames();
         if !is_compressed(tokens) {
@@ -95,7 +95,7 @@ impl Search {
         let Some(heading) = self.reader.read(tokens, count)? else {
             return Ok(false);
         };
-        listed_meet(
+        listed_cite_marked(
             frames,
             heading,
             self.reader.numbers(),
@@ -119,20 +119,20 @@ impl Search {
         requires provable { (s : Statement) × IsProvable database.now at s × (proof_of s ≡ tokens.now) }
         requires compressed { is_compressed tokens.now ≡ true }
         requires view { (s : Statement) → IsProvable database.now at s → view.now ≡ hypotheses (before (bares database.now) at) (bare s) }
-        ensures { IfOk result (λ found. found ≡ true ↔ ProofMeets database.now at marks.now) }
+        ensures { IfOk result (λ found. found ≡ true ↔ ProofCitesMarked database.now at marks.now) }
     {
         let frames = database.frames();
         let Some(heading) = self.reader.read(tokens, view.len())? else {
             return Ok(false);
         };
         let numbers = self.reader.numbers();
-        listed_meet_many(frames, heading, numbers, view, marks, &mut self.wanted)
+        listed_cite_many_marked(frames, heading, numbers, view, marks, &mut self.wanted)
     }
 }
 
 /// Returns whether one of the numbers cites a marked statement, from one flag for each mandatory hypothesis and then for
 /// each listed label. The first marked one is usually cited, so the numbers are searched once as soon as it is found.
-fn listed_meet(
+fn listed_cite_marked(
     frames: &Frames,
     heading: Heading<'_>,
     numbers: &[u32],
@@ -142,8 +142,8 @@ fn listed_meet(
 ) -> Result<bool, AllocError>
     requires once { HasLabelsOnce frames.now.statements }
     requires listed { heading.count ≤ length heading.words }
-    ensures { IfOk result (λ found. (front : List Name) → AreWanted frames.now.statements front marks.now (map (λ position. is_marked marks.now (Some position)) mandatory.now)
-        → found ≡ true ↔ ItemsMeet frames.now.statements (items_of (front ++ take heading.entry.count heading.entry.words) numbers.now) marks.now) }
+    ensures { IfOk result (λ found. (front : List Name) → AreLabelMarks frames.now.statements front marks.now (map (λ position. is_marked marks.now (Some position)) mandatory.now)
+        → found ≡ true ↔ ItemsCiteMarked frames.now.statements (items_of (front ++ take heading.entry.count heading.entry.words) numbers.now) marks.now) }
 {
     wanted.clear();
     for position in mandatory {
@@ -167,8 +167,8 @@ fn listed_meet(
     Ok(has_marked(numbers, wanted))
 }
 
-/// Answers as `listed_meet` does, with the mandatory hypotheses read through a view, and flags for the listed labels alone.
-fn listed_meet_many(
+/// Answers as `listed_cite_marked` does, with the mandatory hypotheses read through a view, and flags for the listed labels alone.
+fn listed_cite_many_marked(
     frames: &Frames,
     heading: Heading<'_>,
     numbers: &[u32],
@@ -178,8 +178,8 @@ fn listed_meet_many(
 ) -> Result<bool, AllocError>
     requires once { HasLabelsOnce frames.now.statements }
     requires listed { heading.count ≤ length heading.words }
-    ensures { IfOk result (λ found. (front : List Name) → AreWanted frames.now.statements front marks.now (map (λ position. is_marked marks.now (Some position)) view.now)
-        → found ≡ true ↔ ItemsMeet frames.now.statements (items_of (front ++ take heading.entry.count heading.entry.words) numbers.now) marks.now) }
+    ensures { IfOk result (λ found. (front : List Name) → AreLabelMarks frames.now.statements front marks.now (map (λ position. is_marked marks.now (Some position)) view.now)
+        → found ≡ true ↔ ItemsCiteMarked frames.now.statements (items_of (front ++ take heading.entry.count heading.entry.words) numbers.now) marks.now) }
 {
     wanted.clear();
     let mut words = heading.words;

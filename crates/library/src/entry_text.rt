@@ -1,6 +1,6 @@
 //! The statements of a text, and those of them that the charter forbids its author.
 ghost use Rattle.std.specs.Prelude.{◌≡◌, IfOk};
-ghost use Rattle.library.specs.Charters.{forbidden, is_declaration, may_declare};
+ghost use Rattle.library.specs.Charters.{first_forbidden, is_declaration, may_declare};
 ghost use Rattle.library.specs.Judging.{IsReading, ReadsTexts};
 ghost use Rattle.std.specs.Fn.{FnReturnsAt};
 
@@ -27,7 +27,7 @@ pub(crate) fn read_text<T: Fn(&[u8]) -> Result<Vec<Stmt>, ReadFault>>(
         return Ok(Err(Cause::TooLong));
     }
     match read(text) {
-        Ok(statements) => match forbidden(charter, submission.author, &statements) {
+        Ok(statements) => match first_forbidden(charter, submission.author, &statements) {
             Some(statement) => Ok(Err(Cause::NotChartered { statement })),
             None => Ok(Ok(statements)),
         },
@@ -48,8 +48,8 @@ pub(crate) fn may_declare(charter: &Option<Names>, author: u64) -> bool
 }
 
 /// Returns the number of the first statement that the author may not declare, counted from 1.
-fn forbidden(charter: &Option<Names>, author: u64, statements: &[Stmt]) -> Option<usize>
-    ensures { result ≡ forbidden charter.now author statements.now }
+fn first_forbidden(charter: &Option<Names>, author: u64, statements: &[Stmt]) -> Option<usize>
+    ensures { result ≡ first_forbidden charter.now author statements.now }
 {
     if may_declare(charter, author) {
         return None;

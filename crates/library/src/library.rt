@@ -75,7 +75,7 @@ impl Library {
     /// allocate. Judges nothing: the caller knows that the statements are good.
     ///
     /// Cost: a constant.
-    pub fn of_good(alloc: Global, statements: Vec<Stmt>, rules: Rules, frames: Frames) -> Library
+    pub fn from_good(alloc: Global, statements: Vec<Stmt>, rules: Rules, frames: Frames) -> Library
         requires good { Good statements.items }
         requires shaped { AreShaped statements.items }
         requires rules { rules.statements ≡ bares statements.items }
@@ -84,7 +84,7 @@ impl Library {
         ensures steps { result.steps ≡ 0 }
     {
         Library {
-            database: CheckedDatabase::of_good(alloc, statements, rules, frames),
+            database: CheckedDatabase::from_good(alloc, statements, rules, frames),
             standings: BTreeMap::new(alloc),
             decided: DecidedEntries::none(),
             charter: None,

@@ -3,7 +3,7 @@ use crate::fault::Fault;
 use crate::streams::print;
 use commands::Question;
 use extract::ExtractFault;
-use library::{AskFault, Library};
+use library::{Library, AskFault};
 use mm_read::Stmt;
 use std::io::Write;
 

@@ -1,5 +1,5 @@
 -- The step that a citation adds to a table, where a run takes the same step.
-use Rattle.steps.proofs.Words.{◌≡◌, ℕ, zero, suc, ◌-◌, ◌<◌, ◌≤◌, List, [], ◌∷◌, ◌++◌, length, map, drop, get_or, slice_get, Some, refl, sym, ◌∙◌, ap, subst, arith, inl, inr, length-map, map-append, get_or_from_slice_get, Name, Stmt, Expr, Database, stmt_at, before, expr_of, is_assertion, decode, Float, AssertionView, AreBelow, AllBelow, IsBound, IsViewOf, HasAssertion, hypotheses, Carries, IsHypothesis, IsInstance, premises, AreLegal, Cite, below-drop, IsTyped, AreRead, AreDifferent, AreNamed, Results, State, Cites, Steps, with_result, below, top, required-lengths, required-different, Meets, meets-step, read-over, cited-plain, append_cut, length-premises, not_both, apply-below, halves, length-top, map-drop, Row, no_row, expr_in, Follows, from_hypothesis, from_assertion, AreRows, row_of, rows_of, codes_in, progress_of, IsDraft, IsTied, GivesHypothesis, GivesAssertion, TableDraft, some-same, below-take}
+use Rattle.steps.proofs.Words.{◌≡◌, ℕ, zero, suc, ◌-◌, ◌<◌, ◌≤◌, List, [], ◌∷◌, ◌++◌, length, map, drop, get_or, slice_get, Some, refl, sym, ◌∙◌, ap, subst, arith, inl, inr, length-map, map-append, get_or_from_slice_get, Name, Stmt, Expr, Database, stmt_at, before, expr_of, is_assertion, decode, Float, AssertionView, AreBelow, AllBelow, IsBound, IsViewOf, HasAssertion, hypotheses, Carries, IsHypothesis, IsInstance, premises, AreLegal, Cite, below-drop, IsTyped, AreRead, AreDifferent, AreNamed, Results, State, Cites, Steps, with_result, below, top, required-lengths, required-different, Meets, meets-step, read-over, cited-plain, append_cut, length-premises, not_both, apply-below, halves, length-top, map-drop, Row, no_row, expr_in, Follows, from_hypothesis, from_assertion, AreRows, row_of, rows_of, codes_in, progress_of, IsDraft, AgreesWithRun, GivesHypothesis, GivesAssertion, TableDraft, some-same, below-take}
 use Rattle.frame.specs.Substitution.{Images, CodeImages, apply as applied, code_apply}
 use Rattle.verify.specs.Machine.{of_hypothesis, of_assertion}
 use Rattle.steps.specs.StepTable.{Step, stands, of_hypothesis as makes_hypothesis, of_assertion as makes_assertion, RecordsItem}
@@ -24,9 +24,9 @@ codes-named S at names rows (k ∷ ks) are b = (one rows k are b.0, codes-named 
 
 -- the citation is recorded, and the results of the run are the expressions of the rows
 abbrev IsRecorded : Database → ℕ → List Name → TableDraft → Name → TableDraft → State → Type 0
-IsRecorded S at names d label new next = RecordsItem S at (progress_of d) (Cite label) (progress_of new) × IsTied names new next
+IsRecorded S at names d label new next = RecordsItem S at (progress_of d) (Cite label) (progress_of new) × AgreesWithRun names new next
 
-module _ (S : Database) (at : ℕ) (names : List Name) (legal : AreLegal S names) (d : TableDraft) (is : IsDraft S at names d) (label : Name) (st : State) (tied : IsTied names d st) where
+module _ (S : Database) (at : ℕ) (names : List Name) (legal : AreLegal S names) (d : TableDraft) (is : IsDraft S at names d) (label : Name) (st : State) (tied : AgreesWithRun names d st) where
   -- ---- a hypothesis
 
   module _ (i : ℕ) (s : Stmt) (codes : List ℕ) (carries : Carries S i s label) (active : IsHypothesis S at i s) (named : decode names codes ≡ expr_of s) (low : AreBelow (length names) codes) where

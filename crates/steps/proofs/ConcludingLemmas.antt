@@ -1,19 +1,19 @@
 -- Images are read off results that begin with the typecodes of their hypotheses.
-use Rattle.steps.proofs.Words.{◌≡◌, ℕ, Bool, true, false, List, [], length, map, get_or, slice_get, IfSome, None, Option, Some, Bor, subst, sym, ◌∙◌, Name, Expr, AreDistinct, decode, ArePlacesOf, SymbolGroups, decode-injective, AreBelow, AreExprPlaces, SymbolRange, seen_at, images_at, AreWithin, Hypothesis, Float, IsTyped, AreRead, Reads, ReadsAll, reads-seen}
+use Rattle.steps.proofs.Words.{◌≡◌, ℕ, Bool, true, false, List, [], length, map, get_or, slice_get, IfSome, None, Option, Some, Bor, subst, sym, ◌∙◌, Name, Expr, AreDistinct, decode, ArePlacesOf, SymbolGroups, decode-injective, AreBelow, AreExprPlaces, SymbolRange, symbols_in, images_at, AreWithin, Hypothesis, Float, IsTyped, AreRead, Reads, ReadsAll, reads-seen}
 
 module _ (xs ys typecodes : List ℕ) (hs : List Hypothesis) (places : List SymbolRange) (images : List (ℕ × SymbolRange)) (same : ys ≡ xs) (count : length places ≡ length hs) (within : AreWithin (length xs) places) where
   -- the images read by places are those read off the results that stand there
-  seen : (b : Bool) → ReadsAll b (length hs) ys typecodes hs places images → Reads b typecodes hs (map (seen_at xs) places) (images_at xs images)
+  seen : (b : Bool) → ReadsAll b (length hs) ys typecodes hs places images → Reads b typecodes hs (map (symbols_in xs) places) (images_at xs images)
   seen b r = reads-seen b xs typecodes hs places images count within (subst (λ s. ReadsAll b (length hs) s typecodes hs places images) same r)
 
-  pub never-other : (b : Bool) → ((k x : ℕ) → slice_get hs k ≡ Some (Float x) → IsTyped (get_or typecodes k 0) (get_or (map (seen_at xs) places) k []))
+  pub never-other : (b : Bool) → ((k x : ℕ) → slice_get hs k ≡ Some (Float x) → IsTyped (get_or typecodes k 0) (get_or (map (symbols_in xs) places) k []))
       → ReadsAll b (length hs) ys typecodes hs places images → b ≡ false → ⊥
   never-other b typed r e =
-      let h = subst (λ v. Reads v typecodes hs (map (seen_at xs) places) (images_at xs images)) e (seen b r) in
+      let h = subst (λ v. Reads v typecodes hs (map (symbols_in xs) places) (images_at xs images)) e (seen b r) in
       h.3 (typed h.0 h.1 h.2)
 
-  pub all-read : (b : Bool) → ReadsAll b (length hs) ys typecodes hs places images → b ≡ true → AreRead typecodes hs (map (seen_at xs) places) (images_at xs images)
-  all-read b r e = subst (λ v. Reads v typecodes hs (map (seen_at xs) places) (images_at xs images)) e (seen b r)
+  pub all-read : (b : Bool) → ReadsAll b (length hs) ys typecodes hs places images → b ≡ true → AreRead typecodes hs (map (symbols_in xs) places) (images_at xs images)
+  all-read b r e = subst (λ v. Reads v typecodes hs (map (symbols_in xs) places) (images_at xs images)) e (seen b r)
 
 -- the places of an expression are those of its numbers
 pub standing-codes : (names : List Name) (e : List ℕ) (x : Expr) (standing : Option (Bor SymbolGroups)) → AreDistinct names → AreBelow (length names) e → decode names e ≡ x

@@ -1,5 +1,5 @@
 -- Rows in one buffer, one place at a time.
-use Rattle.steps.proofs.Words.{◌≡◌, ℕ, zero, suc, ◌+◌, ◌<◌, ◌≤◌, List, [], ◌∷◌, ◌++◌, length, map, take, get_or, refl, sym, ◌∙◌, ap, subst, arith, AreBelow, seen_at, AreWithin, PlacedStep, no_row, row_of, place_in, AreInBuffer}
+use Rattle.steps.proofs.Words.{◌≡◌, ℕ, zero, suc, ◌+◌, ◌<◌, ◌≤◌, List, [], ◌∷◌, ◌++◌, length, map, take, get_or, refl, sym, ◌∙◌, ap, subst, arith, AreBelow, symbols_in, AreWithin, PlacedStep, no_row, row_of, place_in, AreInBuffer}
 
 pub place-get : (ps : List PlacedStep) (k : ℕ) (d : PlacedStep) → k < length ps → (get_or ps k d).place ≡ place_in ps k
 place-get [] k d h = absurd (omega (arith, h))
@@ -21,16 +21,16 @@ pub places-within : (n : ℕ) (ps : List PlacedStep) (ks : List ℕ) → AreInBu
 places-within n ps [] b h = tt
 places-within n ps (k ∷ ks) b h = let w = in_buffer n ps k b h.0 in (w.0, w.1, places-within n ps ks b h.1)
 
-pub expr-seen : (symbols : List ℕ) (ps : List PlacedStep) (k : ℕ) → k < length ps → (get_or (map (row_of symbols) ps) k no_row).expr ≡ seen_at symbols (place_in ps k)
+pub expr-seen : (symbols : List ℕ) (ps : List PlacedStep) (k : ℕ) → k < length ps → (get_or (map (row_of symbols) ps) k no_row).expr ≡ symbols_in symbols (place_in ps k)
 expr-seen symbols [] k h = absurd (omega (arith, h))
 expr-seen symbols (p ∷ ps) zero h = refl
 expr-seen symbols (p ∷ ps) (suc k) h = expr-seen symbols ps k (omega (arith, h))
 
 pub exprs-seen : (symbols : List ℕ) (ps : List PlacedStep) (ks : List ℕ) → AreBelow (length ps) ks
-    → map (seen_at symbols) (map (place_in ps) ks) ≡ map (λ k. (get_or (map (row_of symbols) ps) k no_row).expr) ks
+    → map (symbols_in symbols) (map (place_in ps) ks) ≡ map (λ k. (get_or (map (row_of symbols) ps) k no_row).expr) ks
 exprs-seen symbols ps [] h = refl
 exprs-seen symbols ps (k ∷ ks) h =
-    ap (λ e. e ∷ map (seen_at symbols) (map (place_in ps) ks)) (sym (expr-seen symbols ps k h.0))
+    ap (λ e. e ∷ map (symbols_in symbols) (map (place_in ps) ks)) (sym (expr-seen symbols ps k h.0))
     ∙ ap (λ r. (get_or (map (row_of symbols) ps) k no_row).expr ∷ r) (exprs-seen symbols ps ks h.1)
 
 pub got-within : (xs : List ℕ) (n : ℕ) (ps : List PlacedStep) (k : ℕ) (p d : PlacedStep) → AreInBuffer n ps → k < length (map (row_of xs) ps) → p ≡ get_or ps k d → (p.place.start ≤ p.place.end) × (p.place.end ≤ n)

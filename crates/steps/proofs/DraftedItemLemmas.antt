@@ -1,5 +1,5 @@
 -- The effect of one item on a draft.
-use Rattle.steps.proofs.Words.{◌≡◌, ℕ, zero, suc, ◌-◌, ◌<◌, List, [], ◌∷◌, ◌++◌, length, map, get_or, slice_get, Option, Some, None, refl, sym, ◌∙◌, ap, subst, arith, length-append, length-map, map_push, slice_get-get_or, Name, Stmt, Expr, Database, stmt_at, AreBelow, Carries, IsHypothesis, IsMeaning, IsPosition, ArePositions, AreLegal, Nothing, Recall, Mark, State, Cites, with_result, with_mark, append_cut, get-map, Progress, steps_of, expr_in, AreRows, row_of, rows_of, AreInBuffer, AreKnown, IsDraft, IsTied, CanDo, IsDone, TableDraft, below-push, below-at}
+use Rattle.steps.proofs.Words.{◌≡◌, ℕ, zero, suc, ◌-◌, ◌<◌, List, [], ◌∷◌, ◌++◌, length, map, get_or, slice_get, Option, Some, None, refl, sym, ◌∙◌, ap, subst, arith, length-append, length-map, map_push, slice_get-get_or, Name, Stmt, Expr, Database, stmt_at, AreBelow, Carries, IsHypothesis, IsMeaning, IsPosition, ArePositions, AreLegal, Nothing, Recall, Mark, State, Cites, with_result, with_mark, append_cut, get-map, Progress, steps_of, expr_in, AreRows, row_of, rows_of, AreInBuffer, AreKnown, IsDraft, AgreesWithRun, CanDo, IsDone, TableDraft, below-push, below-at}
 use Rattle.verify.specs.Machine.{of_hypothesis, of_assertion}
 
 -- the last of a list
@@ -38,7 +38,7 @@ module _ (S : Database) (at : ℕ) (names : List Name) (d : TableDraft) (is : Is
       saved_below = subst (λ ps. AreBelow (length ps) new.saved.items) (sym same_placed) saved;
     }
 
-    tied-same : (st : State) → map f new.stack.items ≡ st.stack → map f new.saved.items ≡ st.saved → IsTied names new st
+    tied-same : (st : State) → map f new.stack.items ≡ st.stack → map f new.saved.items ≡ st.saved → AgreesWithRun names new st
     tied-same st stack saved = record { stack = ap (λ r. map (expr_in names r) new.stack.items) same_rows ∙ stack; saved = ap (λ r. map (expr_in names r) new.saved.items) same_rows ∙ saved }
 
     module _ (some : 0 < length d.stack.items) (last : p ≡ get_or d.stack.items (length d.stack.items - 1) p) (same_stack : new.stack.items ≡ d.stack.items) (saved : new.saved.items ≡ d.saved.items ++ p ∷ []) where
@@ -62,7 +62,7 @@ module _ (S : Database) (at : ℕ) (names : List Name) (d : TableDraft) (is : Is
                   ∙ (ap (λ s. let v : Progress = record { steps = steps_of (rows_of d); stack = s; saved = new.saved.items } in v) same_stack
                   ∙ ap (λ s. let v : Progress = record { steps = steps_of (rows_of d); stack = d.stack.items; saved = s } in v) saved),
             ),
-            subst (IsTied names new) (sym goes)
+            subst (AgreesWithRun names new) (sym goes)
                 (tied-same (with_mark st e) (ap (map f) same_stack ∙ tied.stack) (ap (map f) saved ∙ (map_push f d.saved.items p ∙ (ap (λ r. r ++ f p ∷ []) tied.saved ∙ ap (λ x. st.saved ++ x ∷ []) one)))),
           )
 
@@ -98,7 +98,7 @@ module _ (S : Database) (at : ℕ) (names : List Name) (d : TableDraft) (is : Is
                 ∙ (ap (λ s. let v : Progress = record { steps = steps_of (rows_of d); stack = s; saved = new.saved.items } in v) stack
                 ∙ ap (λ s. let v : Progress = record { steps = steps_of (rows_of d); stack = d.stack.items ++ p ∷ []; saved = s } in v) same_saved),
           ),
-          subst (IsTied names new) (sym goes)
+          subst (AgreesWithRun names new) (sym goes)
               (tied-same new p same_placed same_symbols same_known (with_result st st.stack e)
               (ap (map f) stack ∙ (map_push f d.stack.items p ∙ (ap (λ r. r ++ f p ∷ []) tied.stack ∙ ap (λ x. st.stack ++ x ∷ []) (sym one)))) (ap (map f) same_saved ∙ tied.saved)),
         )

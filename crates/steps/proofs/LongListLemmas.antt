@@ -23,7 +23,7 @@ at-end ls l position same = record {
 -- what was made of an assertion's parts is of that assertion
 pub made-of : (S : Database) (names : List Name) (a : ℕ) (s : Stmt) (c : AssertionView) (l : Listed) → IsViewOf S names a s c → AreMadeOf a c l → AreListsOf S names l s
 made-of S names a s c l is made = record {
-  asked_of = rw (made.at, made.heads_same, made.asked_same) is.required;
+  hypotheses_of = rw (made.at, made.typecodes_same, made.hypotheses_same) is.required;
   groups = c.groups;
   are_groups = rw made.at is.groups;
   below_names = is.groups_below;
@@ -40,7 +40,7 @@ kept-parts S names ls i a l c kept at here s stands typecodes required same belo
     let are = kept-at S names ls i l kept here s (ap (stmt_at S) there ∙ stands) in (
       are.groups,
       record {
-        required = rw (← there, typecodes, required) are.asked_of;
+        required = rw (← there, typecodes, required) are.hypotheses_of;
         conclusion = same;
         conclusion_below = below;
         groups = subst (λ b. map (decode names) are.groups ≡ mandatory_groups (before S b) s) there are.are_groups;

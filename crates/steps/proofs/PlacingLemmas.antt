@@ -1,5 +1,5 @@
 -- A step that stood already, or that is new, in a table while it is made.
-use Rattle.steps.proofs.Words.{◌≡◌, ℕ, ◌+◌, ◌<◌, ◌≤◌, List, [], ◌∷◌, ◌++◌, length, map, slice_get, Some, sym, ◌∙◌, ap, subst, arith, length-append, length-map, map_push, get_or_from_slice_get, slice_get_within, Name, Expr, Database, decode, AreBelow, AreLegal, State, with_result, Step, IsPlaced, stands, comes_last, Row, no_row, steps_of, expr_in, Follows, AreRows, row_of, rows_of, IsDraft, IsTied, Finds, TableDraft, below-push, below-more}
+use Rattle.steps.proofs.Words.{◌≡◌, ℕ, ◌+◌, ◌<◌, ◌≤◌, List, [], ◌∷◌, ◌++◌, length, map, slice_get, Some, sym, ◌∙◌, ap, subst, arith, length-append, length-map, map_push, get_or_from_slice_get, slice_get_within, Name, Expr, Database, decode, AreBelow, AreLegal, State, with_result, Step, IsPlaced, stands, comes_last, Row, no_row, steps_of, expr_in, Follows, AreRows, row_of, rows_of, IsDraft, AgreesWithRun, Finds, TableDraft, below-push, below-more}
 use Rattle.frame.proofs.PositionLemmas.{get-last}
 use Rattle.steps.specs.Stored.Drafted as drafted
 use Rattle.steps.proofs.DraftRowLemmas.{rows-more, buffer-snoc, row-at, exprs-front, rows-snoc, known-snoc}
@@ -45,7 +45,7 @@ module _ (S : Database) (at : ℕ) (names : List Name) (legal : AreLegal S names
     pub found-placed : IsPlaced (steps_of rows) step (steps_of (rows_of new)) finds.place
     found-placed = stands at_step (ap steps_of same_rows)
 
-    pub found-tied : (st : State) (b : List Expr) → IsTied names d st → map (expr_in names rows) rest ≡ b → IsTied names new (with_result st b f)
+    pub found-tied : (st : State) (b : List Expr) → AgreesWithRun names d st → map (expr_in names rows) rest ≡ b → AgreesWithRun names new (with_result st b f)
     found-tied st b tied front =
         let r = row-at rows finds.place step at_step in
         let e : expr_in names rows finds.place ≡ f = ap (λ x. decode names x.expr) (get_or_from_slice_get rows finds.place r.0 no_row r.1) ∙ gives r.0 r.2 ((is.rows finds.place r.0 r.1).follows) in
@@ -100,7 +100,7 @@ module _ (S : Database) (at : ℕ) (names : List Name) (legal : AreLegal S names
     pub made-placed : IsPlaced (steps_of rows) step (steps_of (rows_of new)) (length d.placed.items)
     made-placed = comes_last fresh (sym steps_count) more_steps
 
-    pub made-tied : (st : State) (b : List Expr) (f : Expr) → IsTied names d st → map (expr_in names rows) rest ≡ b → decode names e ≡ f → IsTied names new (with_result st b f)
+    pub made-tied : (st : State) (b : List Expr) (f : Expr) → AgreesWithRun names d st → map (expr_in names rows) rest ≡ b → decode names e ≡ f → AgreesWithRun names new (with_result st b f)
     made-tied st b f tied front ends =
         record {
           stack = ap (λ x. map (expr_in names x) new.stack.items) more_rows ∙ (ap (map (expr_in names (rows ++ row ∷ []))) makes.stack

@@ -1,5 +1,5 @@
 -- How far the items were recorded, and that the rest of them runs through.
-use Rattle.steps.proofs.Words.{◌≡◌, ℕ, zero, suc, ◌-◌, ◌+◌, ◌<◌, ◌≤◌, List, [], ◌∷◌, length, map, take, drop, get_or, Some, refl, sym, ◌∙◌, ap, subst, arith, length-map, drop_all, Name, Stmt, Expr, Database, stmt_at, expr_of, AreLegal, Item, item_of, items_of, State, start, Steps, Runs, IsRight, conclude_same, spellings_run, items-more, all-taken, progress, RecordsItems, AreSteps, steps_of, expr_in, row_of, rows_of, progress_of, IsTied, CanDo, IsDone, TableDraft, some-same}
+use Rattle.steps.proofs.Words.{◌≡◌, ℕ, zero, suc, ◌-◌, ◌+◌, ◌<◌, ◌≤◌, List, [], ◌∷◌, length, map, take, drop, get_or, Some, refl, sym, ◌∙◌, ap, subst, arith, length-map, drop_all, Name, Stmt, Expr, Database, stmt_at, expr_of, AreLegal, Item, item_of, items_of, State, start, Steps, Runs, IsRight, conclude_same, spellings_run, items-more, all-taken, progress, RecordsItems, AreSteps, steps_of, expr_in, row_of, rows_of, progress_of, AgreesWithRun, CanDo, IsDone, TableDraft, some-same}
 use Rattle.steps.proofs.SoundLemmas.{records-sound, records-snoc, nothing-sound, root-last}
 
 drop-more : (labels : List Name) (xs : List ℕ) (i : ℕ) → i < length xs → map (item_of labels) (drop i xs) ≡ item_of labels (get_or xs i 0) ∷ map (item_of labels) (drop (i + 1) xs)
@@ -13,7 +13,7 @@ module _ (S : Database) (at : ℕ) (names : List Name) where
     pub end : State
     pub stmt : Stmt
     pub stands : stmt_at S at ≡ Some stmt
-    pub tied : IsTied names d state
+    pub tied : AgreesWithRun names d state
     pub rest : Runs S at state (map (item_of labels) (drop i numbers)) end
     pub ends : end.stack ≡ expr_of stmt ∷ []
     pub recorded : RecordsItems S at (progress [] [] []) (map (item_of labels) (take i numbers)) (progress_of d)

@@ -48,7 +48,7 @@ pub use Rattle.std.specs.declared.vec.Vec.{Vec}
 pub use Rattle.steps.specs.Essential.{AreEssential, IsEssential, IsIn, IsRenumbered, essential_of, for_premises, is_last, is_premise, is_taken, mandatory}
 pub use Rattle.steps.specs.Rows.{AreRows, Follows, IsRow, Row, expr_in, from_assertion, from_hypothesis, no_row, row, steps_of}
 pub use Rattle.steps.specs.StepTable.{AreSteps, IsPlaced, Makes, Progress, RecordsItem, RecordsItems, Step, comes_last, of_assertion, of_hypothesis, progress, stands}
-pub use Rattle.steps.specs.Stored.Drafted.{AreInBuffer, AreKnown, CanDo, Finds, GivesAssertion, GivesHypothesis, IsDone, IsDraft, IsTied, codes_in, key_of, place_in, place_of, progress_of, row_of, rows_of}
+pub use Rattle.steps.specs.Stored.Drafted.{AreInBuffer, AreKnown, CanDo, Finds, GivesAssertion, GivesHypothesis, IsDone, IsDraft, AgreesWithRun, codes_in, key_of, place_in, place_of, progress_of, row_of, rows_of}
 pub use Rattle.steps.specs.Stored.LongLists.{AreKept, AreListsOf, AreMadeOf, HasPartsOf, IsAt, Listed, with_groups}
 pub use Rattle.steps.specs.Stored.Marked.{AreMarkedFrom, AreMarks, AreNumbers, HasMark, MarksMore, kept_row, mark_each, mark_last, marked_before, number_of, taken_by}
 pub use Rattle.steps.specs.Unfolded.{citation_over, has_assertion, last_unfolded, unfolded, unfolded_after}
@@ -57,7 +57,7 @@ pub use Rattle.steps.specs.declared.table_draft.TableDraft.{TableDraft}
 pub use Rattle.subst.proofs.GroupLemmas.{below-drop}
 pub use Rattle.subst.proofs.SymbolRangeLemmas.{seen-last, seen-more}
 pub use Rattle.subst.specs.Stored.Written.{Appends}
-pub use Rattle.subst.specs.SymbolRanges.{AreWithin, images_at, seen_at}
+pub use Rattle.subst.specs.SymbolRanges.{AreWithin, images_at, symbols_in}
 pub use Rattle.subst.specs.declared.buffer.TheConstants.{SYMBOLS_LIMIT}
 pub use Rattle.subst.specs.declared.symbol_range.SymbolRange.{SymbolRange}
 pub use Rattle.verify.proofs.CitationLemmas.{Meets, meets-step}

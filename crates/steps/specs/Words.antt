@@ -20,7 +20,7 @@ pub use Rattle.std.specs.List.Sorted.{IsStrictlyIncreasing}
 pub use Rattle.std.specs.Ordering.{nat_cmp}
 pub use Rattle.std.specs.declared.alloc.Global.{Global}
 pub use Rattle.std.specs.declared.vec.Vec.{Vec}
-pub use Rattle.subst.specs.SymbolRanges.{seen_at}
+pub use Rattle.subst.specs.SymbolRanges.{symbols_in}
 pub use Rattle.subst.specs.declared.symbol_range.SymbolRange.{SymbolRange}
 pub use Rattle.verify.specs.Derivations.{Derivation, apply, from_list, hyp}
 pub use Rattle.verify.specs.Fits.{AreRead}

@@ -3,13 +3,13 @@ ghost use Rattle.std.specs.Prelude.{◌≡◌, ℕ, ◌++◌, [], List, Some, On
 ghost use Rattle.entries.specs.declared.assertion_view.Hypothesis.TheVariants.{Float};
 ghost use Rattle.entries.specs.SymbolPlaces.{ArePlacesOf};
 ghost use Rattle.frame.specs.Substitution.{CodeImages, code_apply};
-ghost use Rattle.subst.specs.SymbolRanges.{seen_at, AreWithin};
+ghost use Rattle.subst.specs.SymbolRanges.{symbols_in, AreWithin};
 ghost use Rattle.subst.specs.Vanishing.{HaveSameResult};
 ghost use Rattle.verify.specs.Fits.{AreDifferent, IsTyped, AreRead};
 
 use entries::{AssertionView, SymbolPlaces};
 use std::alloc::AllocError;
-use subst::{Buffer, ImageRanges, Remaining, SYMBOLS_LIMIT, SymbolRange, place_between};
+use subst::{Buffer, ImageRanges, Remaining, SYMBOLS_LIMIT, SymbolRange, range_between};
 use verify::read_off;
 
 /// Returns the symbols of an expression whose images are not empty, if `standing` is given and they are at most a quarter of the
@@ -53,8 +53,8 @@ pub fn conclude(
     requires within { AreWithin (length symbols.old) places.now }
     requires different { AreDifferent cited.now.hypotheses }
     requires typed { (k x : ℕ) → slice_get cited.now.hypotheses k ≡ Some (Float x)
-        → IsTyped (get_or cited.now.typecodes.now k 0) (get_or (map (seen_at symbols.old) places.now) k []) }
-    ensures added { OnOk result ((ρ : CodeImages) × AreRead cited.now.typecodes.now cited.now.hypotheses (map (seen_at symbols.old) places.now) ρ
+        → IsTyped (get_or cited.now.typecodes.now k 0) (get_or (map (symbols_in symbols.old) places.now) k []) }
+    ensures added { OnOk result ((ρ : CodeImages) × AreRead cited.now.typecodes.now cited.now.hypotheses (map (symbols_in symbols.old) places.now) ρ
         × (symbols.new ≡ symbols.old ++ code_apply ρ cited.now.conclusion.now)) }
     ensures place { IfOk result (λ place. (place.start ≡ length symbols.old) × (place.end ≡ length symbols.new)) }
 {
@@ -73,5 +73,5 @@ pub fn conclude(
     if !symbols.add_applied(images, conclusion, SYMBOLS_LIMIT - start)? {
         return Err(AllocError);
     }
-    Ok(place_between(start, symbols.len()))
+    Ok(range_between(start, symbols.len()))
 }

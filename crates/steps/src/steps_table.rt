@@ -14,7 +14,7 @@ use frame::Frames;
 use proof_code::Items;
 use std::alloc::{AllocError, Global};
 use std::marker::Model;
-use subst::{Buffer, SYMBOLS_LIMIT, place_between, symbols_at};
+use subst::{Buffer, SYMBOLS_LIMIT, range_between, symbols_at};
 
 /// The steps of a proof without duplicates, each after the steps that it takes. Contracts see the list of rows.
 #[derive(Drop)]
@@ -60,7 +60,7 @@ impl ProofTable {
             return Err(AllocError);
         }
         self.symbols.extend(expr)?;
-        let place = place_between(start, self.symbols.len());
+        let place = range_between(start, self.symbols.len());
         self.placed.push(PlacedStep {
             position,
             taken,

@@ -14,7 +14,7 @@ use crate::known::{find, keep, key};
 use entries::{AssertionView, SymbolPlaces};
 use std::alloc::{AllocError, Global};
 use std::collections::BTreeMap;
-use subst::{Buffer, ImageRanges, Remaining, SYMBOLS_LIMIT, SymbolRange, place_between};
+use subst::{Buffer, ImageRanges, Remaining, SYMBOLS_LIMIT, SymbolRange, range_between};
 
 /// A step, and the range of its expression in the buffer.
 #[derive(Drop)]
@@ -94,7 +94,7 @@ pub fn cite_hypothesis(
         return Err(AllocError);
     }
     draft.symbols.extend(expr)?;
-    let place = place_between(start, draft.symbols.len());
+    let place = range_between(start, draft.symbols.len());
     let taken = Vec::new(alloc);
     add_step(
         draft,
@@ -116,7 +116,7 @@ fn place_at(placed: &[PlacedStep], number: usize) -> SymbolRange
 }
 
 /// Fills the list with the ranges of the expressions of these steps.
-fn fill_places(
+fn fill_ranges(
     placed: &[PlacedStep],
     taken: &[usize],
     places: &mut Vec<SymbolRange>,
@@ -155,7 +155,7 @@ pub fn cite_parts(
         draft.stack.push(place)?;
         return Ok(());
     }
-    fill_places(&draft.placed, &taken, &mut draft.places)?;
+    fill_ranges(&draft.placed, &taken, &mut draft.places)?;
     let place = conclude(
         &mut draft.symbols,
         &mut draft.images,

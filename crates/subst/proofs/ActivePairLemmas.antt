@@ -75,16 +75,16 @@ pub named : (v : Numbered) (list : List ℕ) → AreBelow (length v.names) list 
 named v list below x p = subst (λ m. m < length v.names) p.2 (below-at (length v.names) list p.0 0 below p.1)
 
 module _ (v u w : Numbered) (list : List ℕ) (pairs : ArePairsOf v u)
-    (tells : (x y : ℕ) → x < length u.names → y < length u.names → is_pair u.statements (name_at u.names x) (name_at u.names y) ≡ (not (x == y) && (list_any (λ c. x == c) list && list_any (λ c. y == c) list) || is_pair w.statements (name_at u.names x) (name_at u.names y))) where
+    (decides : (x y : ℕ) → x < length u.names → y < length u.names → is_pair u.statements (name_at u.names x) (name_at u.names y) ≡ (not (x == y) && (list_any (λ c. x == c) list && list_any (λ c. y == c) list) || is_pair w.statements (name_at u.names x) (name_at u.names y))) where
   pub pairs-fewer : w.names ≡ u.names → ArePairsOf v w
-  pairs-fewer same = record { names = same ∙ pairs.names; each = λ x y hx hy h. pairs.each x y hx hy ((rw pairs.names at tells) x y hx hy ∙ or_right _ _ h) }
+  pairs-fewer same = record { names = same ∙ pairs.names; each = λ x y hx hy h. pairs.each x y hx hy ((rw pairs.names at decides) x y hx hy ∙ or_right _ _ h) }
 
   pub list-pairs : AreBelow (length v.names) list → ArePairs v list
   list-pairs below = record {
     each = λ x y p q other.
         (let hx = named v list below x p in
         let hy = named v list below y q in
-        pairs.each x y hx hy ((rw pairs.names at tells) x y hx hy ∙ or_left _ _ (and_from _ _ (ap not (differ x y other)) (and_from _ _ (in-list list x p) (in-list list y q)))));
+        pairs.each x y hx hy ((rw pairs.names at decides) x y hx hy ∙ or_left _ _ (and_from _ _ (ap not (differ x y other)) (and_from _ _ (in-list list x p) (in-list list y q)))));
   }
 
 -- ---- what is recorded of a list

@@ -1,5 +1,5 @@
 -- Symbols copied and written within one buffer.
-use Rattle.subst.proofs.Words.{◌≡◌, ℕ, ◌+◌, ◌-◌, ◌<◌, ◌≤◌, min, List, ◌++◌, length, take, drop, get_or, sym, ◌∙◌, ap, subst, arith, length-append, append-nil, take_all, drop_all, append_assoc, take-add, length-take-le, take-take, drop-drop, drop-take, take-append-add, take-append_seam, take_more_put_chunk, length-chunk, chunk, put_chunk, code_image, code_apply, SymbolRange, seen_at, images_at, AreInside, IsWritten}
+use Rattle.subst.proofs.Words.{◌≡◌, ℕ, ◌+◌, ◌-◌, ◌<◌, ◌≤◌, min, List, ◌++◌, length, take, drop, get_or, sym, ◌∙◌, ap, subst, arith, length-append, append-nil, take_all, drop_all, append_assoc, take-add, length-take-le, take-take, drop-drop, drop-take, take-append-add, take-append_seam, take_more_put_chunk, length-chunk, chunk, put_chunk, code_image, code_apply, SymbolRange, symbols_in, images_at, AreInside, IsWritten}
 use Rattle.subst.proofs.WrittenImages.{apply-take, len-take, len-within}
 use Rattle.subst.proofs.SymbolRangeLemmas.{length-seen}
 use Rattle.subst.proofs.ImageRangesLemmas.{image-more}
@@ -53,20 +53,20 @@ copy-first x from len at before room =
 
 -- the symbols at a place, as a run
 pub place-written : (x y : List ℕ) (at len : ℕ) (p : SymbolRange) → p.start ≤ p.end → p.end ≤ at → at ≤ length x → len ≡ p.end - p.start → at + len ≤ length y
-    → take (at + len) y ≡ take at x ++ take len (drop p.start x) → IsWritten x y at (seen_at (take at x) p) (at + len)
+    → take (at + len) y ≡ take at x ++ take len (drop p.start x) → IsWritten x y at (symbols_in (take at x) p) (at + len)
 place-written x y at len p low high long e room copied =
     let seam : length (take at x) ≡ at = length-take-le at x long in
-    let size : length (seen_at (take at x) p) ≡ p.end - p.start = length-seen (take at x) p low (omega (arith, high, seam)) in
+    let size : length (symbols_in (take at x) p) ≡ p.end - p.start = length-seen (take at x) p low (omega (arith, high, seam)) in
     record {
       written = copied ∙ ap (λ s. take at x ++ s) (ap (λ n. take n (drop p.start x)) e ∙ range-same x (take at x) at p.start (p.end - p.start) (sym (take-take at at x (omega arith))) (omega (arith, low, high)));
       moved = omega (arith, size, e);
       inside = room;
     }
 
-pub place-lacks : (x : List ℕ) (at last : ℕ) (p : SymbolRange) → p.start ≤ p.end → p.end ≤ at → at ≤ length x → last < at + (p.end - p.start) → last < at + length (seen_at (take at x) p)
+pub place-lacks : (x : List ℕ) (at last : ℕ) (p : SymbolRange) → p.start ≤ p.end → p.end ≤ at → at ≤ length x → last < at + (p.end - p.start) → last < at + length (symbols_in (take at x) p)
 place-lacks x at last p low high long less =
     let seam : length (take at x) ≡ at = length-take-le at x long in
-    let size : length (seen_at (take at x) p) ≡ p.end - p.start = length-seen (take at x) p low (omega (arith, high, seam)) in
+    let size : length (symbols_in (take at x) p) ≡ p.end - p.start = length-seen (take at x) p low (omega (arith, high, seam)) in
     omega (arith, size, less)
 
 -- what stood before is as it was

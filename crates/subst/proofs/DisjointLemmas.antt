@@ -1,5 +1,5 @@
 -- The test of the disjoint variable condition holds exactly where its two sentences do.
-use Rattle.subst.proofs.Words.{◌≡◌, Bool, true, false, not, ◌&&◌, ◌||◌, List, [], ◌∷◌, refl, list_all, list_any, sym, ◌∙◌, ap, true≢false, inl, inr, and_parts, and_from, not-true, or_left, or_right, or_cases, cases_Bool, not_from_false, false_from_ne_true, Name, name_eq, has_name, Expr, Database, is_variable, name_same, same_name, groups, is_pair, together, Images, image, are_disjoint, is_group_disjoint, are_groups_disjoint, all-from, pair_at, disjoint-from, PairClause, AreImagesDisjoint, all-has}
+use Rattle.subst.proofs.Words.{◌≡◌, Bool, true, false, not, ◌&&◌, ◌||◌, List, [], ◌∷◌, refl, list_all, list_any, sym, ◌∙◌, ap, true≢false, inl, inr, and_parts, and_from, not-true, or_left, or_right, or_cases, cases_Bool, not_from_false, false_from_ne_true, Name, name_eq, has_name, Expr, Database, is_variable, name_same, same_name, groups, is_pair, together, Images, image, are_disjoint, is_group_disjoint, are_groups_disjoint, all-from, pair_at, disjoint-from, DisjointConditionLaw, AreImagesDisjoint, all-has}
 
 -- ---- two images
 
@@ -75,8 +75,8 @@ module _ (S : Database) (σ : Images) where
       k x y (and_from (not (name_eq x y)) (both x y names || list_any (both x y) lists) p.0 (or_right (both x y names) (list_any (both x y) lists) p.1))))
 
 -- groups are disjoint where both sentences hold of each two of their variables, and only there
-pub pair_clause : PairClause
-pair_clause S σ lists = (
+pub disjoint_condition_law : DisjointConditionLaw
+disjoint_condition_law S σ lists = (
   λ h x y t.
       let p = and_parts (not (name_eq x y)) (list_any (λ names. has_name x names && has_name y names) lists) t in
       disjoint-keeps S (image σ x) (image σ y) (group-disjoint S σ lists x y h p.1 (not-true (name_eq x y) p.0)),

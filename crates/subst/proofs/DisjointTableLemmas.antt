@@ -1,5 +1,5 @@
 -- The tables of a cache, as images are listed in them.
-use Rattle.subst.proofs.Words.{◌≡◌, ℕ, zero, suc, ◌+◌, ◌-◌, ◌<◌, ◌≤◌, ◌==◌, false, List, [], ◌∷◌, ◌++◌, length, take, take_all, drop, get_or, sym, ap, subst, arith, Numbered, SymbolRange, seen_at, CodeImages, code_apply, code_image, PlaceWord, Places, ArePlaced, Grows, IsAmong, AreImagesRecorded, RecordedImages, KeepsRest, AddsSymbols, HasPlace, RecordsImage, AreTables, DisjointTables}
+use Rattle.subst.proofs.Words.{◌≡◌, ℕ, zero, suc, ◌+◌, ◌-◌, ◌<◌, ◌≤◌, ◌==◌, false, List, [], ◌∷◌, ◌++◌, length, take, take_all, drop, get_or, sym, ap, subst, arith, Numbered, SymbolRange, symbols_in, CodeImages, code_apply, code_image, PlaceWord, Places, ArePlaced, Grows, IsAmong, AreImagesRecorded, RecordedImages, KeepsRest, AddsSymbols, HasPlace, RecordsImage, AreTables, DisjointTables}
 use Rattle.subst.proofs.SymbolRangeLemmas.{length-seen}
 use Rattle.subst.proofs.PlaceSetLemmas.{among-left, among-right, symbols-again}
 use Rattle.subst.proofs.WrittenImages.{apply-take}
@@ -39,7 +39,7 @@ symbol-again v f Old New σ e i n low high same h =
     (λ x p. image-among σ e i n x low (omega (arith, high)) (subst (λ y. IsAmong (length (code_image σ y)) (code_image σ y) x) (sym same) p)) h)
 
 -- a range of some symbols
-pub some-range : (xs rest : List ℕ) (p : SymbolRange) (x : ℕ) → p.start ≤ p.end → p.end ≤ length xs → seen_at xs p ≡ x ∷ rest → p.start < p.end
+pub some-range : (xs rest : List ℕ) (p : SymbolRange) (x : ℕ) → p.start ≤ p.end → p.end ≤ length xs → symbols_in xs p ≡ x ∷ rest → p.start < p.end
 some-range xs rest p x low high e = let size = ap length e in omega (arith, length-seen xs p low high, size)
 
 -- the images after those that are long were removed
@@ -56,7 +56,7 @@ module _ (v : Numbered) (symbols : List ℕ) (t : DisjointTables) (g : Places) (
 
 -- the list is recorded as that of what stands after the first symbol of a range
 pub tables-recorded : (v : Numbered) (symbols : List ℕ) (t : DisjointTables) (new : RecordedImages) (range image : SymbolRange) (x : ℕ) (rest : List ℕ) → AreTables v symbols t
-    → AddsSymbols v t.variables (HasPlace []) (HasPlace t.images.list) (length rest) rest → RecordsImage t.images new image → range.start ≤ range.end → range.end ≤ length symbols → image.start ≡ range.start + 1 → image.end ≡ range.end → seen_at symbols range ≡ x ∷ rest
+    → AddsSymbols v t.variables (HasPlace []) (HasPlace t.images.list) (length rest) rest → RecordsImage t.images new image → range.start ≤ range.end → range.end ≤ length symbols → image.start ≡ range.start + 1 → image.end ≡ range.end → symbols_in symbols range ≡ x ∷ rest
     → AreTables v symbols (record { variables = t.variables; images = new; rows = t.rows; before = t.before; found = t.found })
 tables-recorded v symbols t new range image x rest tables adds records start end low_is high_is seen =
     let some = some-range symbols rest range x start end seen in

@@ -1,5 +1,5 @@
 -- The images of each two numbers of a group, each held against those before it.
-use Rattle.subst.proofs.Words.{◌≡◌, ℕ, zero, suc, ◌+◌, ◌<◌, ◌≤◌, Bool, true, false, not, ◌||◌, ◌&&◌, ◌==◌, List, [], ◌∷◌, length, map, take, drop, get_or, slice_get, slice_range, Some, refl, list_all, list_any, position_or_len, sym, ◌∙◌, ap, subst, arith, inl, inr, true≢false, lt-ltb, and_from, and_parts, or_right, cases_eq, or_cases, or_left, cases_Bool, false_from_ne_true, list_all-map, list_all_at, list_all_more, list_any_at, get_or-take, get_or_default, length-take, take_all, eqb-true, last_part, Name, name_eq, has_name, Expr, Database, name_at, decode, AreDistinct, name_same, same_name, name_eq-comm, is_pair, groups, Numbered, CodeImages, code_image, image, images_of_names, are_disjoint, is_group_disjoint, are_groups_disjoint, AreBelow, AllBelow, image_named, are_two_disjoint, is_number_disjoint, are_numbers_disjoint, pair_at, disjoint-from, Places, ArePlaced, ArePlacesOf, HasVariable, IsAmong, HasPlace, PlaceWord, WordRange, IsIn, IsRangeOf, AddsWords, TellsEach, get_or_from_slice_get, slice_get-get_or, slice_get_within, Any-from_list_any, and_comm}
+use Rattle.subst.proofs.Words.{◌≡◌, ℕ, zero, suc, ◌+◌, ◌<◌, ◌≤◌, Bool, true, false, not, ◌||◌, ◌&&◌, ◌==◌, List, [], ◌∷◌, length, map, take, drop, get_or, slice_get, slice_range, Some, refl, list_all, list_any, position_or_len, sym, ◌∙◌, ap, subst, arith, inl, inr, true≢false, lt-ltb, and_from, and_parts, or_right, cases_eq, or_cases, or_left, cases_Bool, false_from_ne_true, list_all-map, list_all_at, list_all_more, list_any_at, get_or-take, get_or_default, length-take, take_all, eqb-true, last_part, Name, name_eq, has_name, Expr, Database, name_at, decode, AreDistinct, name_same, same_name, name_eq-comm, is_pair, groups, Numbered, CodeImages, code_image, image, images_of_names, are_disjoint, is_group_disjoint, are_groups_disjoint, AreBelow, AllBelow, image_named, are_two_disjoint, is_number_disjoint, are_numbers_disjoint, pair_at, disjoint-from, Places, ArePlaced, ArePlacesOf, HasVariable, IsAmong, HasPlace, PlaceWord, WordRange, IsIn, IsRangeOf, AddsWords, DecidesEach, get_or_from_slice_get, slice_get-get_or, slice_get_within, Any-from_list_any, and_comm}
 use Rattle.subst.proofs.BitsLemmas.{differ}
 use Rattle.subst.proofs.VariablePlaceLemmas.{grows-own, has-more, places-same, at-variable}
 use Rattle.subst.proofs.ImageVariableLemmas.{in-listed, listed-in}
@@ -126,7 +126,7 @@ module _ (v : Numbered) (f : Places) (placed : ArePlaced v f) (xs ys : List ℕ)
   listed-places : (zs : List ℕ) (t : WordRange) → IsRangeOf v f words t zs → ArePlacesOf v f (HasPlace (slice_range words t.start t.end)) (IsAmong (length zs) zs)
   listed-places zs t is = places-same v f f (IsIn words t) (HasPlace (slice_range words t.start t.end)) _ (grows-own f) (λ j. in-listed words t j is.low is.high) (λ j. listed-in words t j is.low is.high) is.are
 
-  pub two-told : (b : Bool) → TellsEach v f (slice_range words r.start r.end) (slice_range words s.start s.end) b → b ≡ are_disjoint v.statements (decode v.names xs) (decode v.names ys)
+  pub two-told : (b : Bool) → DecidesEach v f (slice_range words r.start r.end) (slice_range words s.start s.end) b → b ≡ are_disjoint v.statements (decode v.names xs) (decode v.names ys)
   two-told true told = sym (disjoint-from_good v xs ys (λ x y p q. good x y ((listed-places xs r own).each x p) ((listed-places ys s other).each y q)))
     where
       good : (x y : ℕ) → HasVariable v f (HasPlace (slice_range words r.start r.end)) x → HasVariable v f (HasPlace (slice_range words s.start s.end)) y → is_good v x y ≡ true
@@ -170,7 +170,7 @@ module _ (v : Numbered) (f : Places) (placed : ArePlaced v f) (σ : CodeImages) 
   }
 
   -- each image before is disjoint from it
-  pub next-disjoint : TellsEach v f listed set true → (a : ℕ) → a < n → are_two_disjoint v.statements (image_named v.names σ) (get_or group a 0) (get_or group n 0) ≡ true
+  pub next-disjoint : DecidesEach v f listed set true → (a : ℕ) → a < n → are_two_disjoint v.statements (image_named v.names σ) (get_or group a 0) (get_or group n 0) ≡ true
   next-disjoint told a h =
       or_right (get_or group a 0 == get_or group n 0) _
       (disjoint-from_good v (image_at a) (image_at n) (λ x y p q. good x y (first.each x (a, h, p)) (own-listed.each y q)))
@@ -181,7 +181,7 @@ module _ (v : Numbered) (f : Places) (placed : ArePlaced v f) (σ : CodeImages) 
       good x y (inr one) (inr two) = or_right _ _ (pair-swap v.statements (name_at v.names x) (name_at v.names y) ∙ (sym (at-names v f two.0 one.0 y x two.1 one.1) ∙ told two.0 one.0 two.2 one.2))
 
   -- or one is not
-  pub next-clash : TellsEach v f listed set false → (a : ℕ) × (a < n) × (are_disjoint v.statements (image_named v.names σ (get_or group a 0)) (image_named v.names σ (get_or group n 0)) ≡ false)
+  pub next-clash : DecidesEach v f listed set false → (a : ℕ) × (a < n) × (are_disjoint v.statements (image_named v.names σ (get_or group a 0)) (image_named v.names σ (get_or group n 0)) ≡ false)
   next-clash told =
       let p = told.0 in
       let q = told.1 in

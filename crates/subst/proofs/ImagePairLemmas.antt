@@ -1,5 +1,5 @@
 -- Pairs of images that were found to be disjoint.
-use Rattle.subst.proofs.Words.{◌≡◌, ℕ, true, List, [], ◌∷◌, ◌++◌, length, refl, sym, ◌∙◌, arith, inl, inr, length-append, decode, are_disjoint, Numbered, SymbolRange, seen_at, AreInside, Some, nat_eq, lookup, ImagePair, IsInside, IsDisjointPair, AreDisjointPairs, NotesPair, are_named_disjoint, Contains, All-nil, All-push, All-weaker, All-contains}
+use Rattle.subst.proofs.Words.{◌≡◌, ℕ, true, List, [], ◌∷◌, ◌++◌, length, refl, sym, ◌∙◌, arith, inl, inr, length-append, decode, are_disjoint, Numbered, SymbolRange, symbols_in, AreInside, Some, nat_eq, lookup, ImagePair, IsInside, IsDisjointPair, AreDisjointPairs, RecordsPair, are_named_disjoint, Contains, All-nil, All-push, All-weaker, All-contains}
 use Rattle.subst.proofs.SymbolRangeLemmas.{seen-more}
 use Rattle.subst.proofs.ImageRangesLemmas.{image-some}
 
@@ -21,13 +21,13 @@ pub pairs-over : (v : Numbered) (symbols more : List ℕ) (pairs : List ImagePai
 pairs-over v symbols more pairs h = record { each = All-weaker (IsDisjointPair v symbols) (IsDisjointPair v (symbols ++ more)) (pair-over v symbols more) pairs h.each }
 
 -- a pair more
-pub pairs-noted : (v : Numbered) (symbols : List ℕ) (old new : List ImagePair) (p : ImagePair) → NotesPair old new p → IsDisjointPair v symbols p → AreDisjointPairs v symbols old → AreDisjointPairs v symbols new
+pub pairs-noted : (v : Numbered) (symbols : List ℕ) (old new : List ImagePair) (p : ImagePair) → RecordsPair old new p → IsDisjointPair v symbols p → AreDisjointPairs v symbols old → AreDisjointPairs v symbols new
 pairs-noted v symbols old new p (inl e) own h = rw e h
 pairs-noted v symbols old new p (inr e) own h = rw e (record { each = All-push (IsDisjointPair v symbols) old p h.each own })
 
 -- the images of two symbols, by where they lie
 module _ (v : Numbered) (symbols : List ℕ) (images : List (ℕ × SymbolRange)) (x y : ℕ) (p : ImagePair) (first : lookup (nat_eq x) images ≡ Some p.left) (second : lookup (nat_eq y) images ≡ Some p.right) where
-  named-seen : are_named_disjoint v symbols images x y ≡ are_disjoint v.statements (decode v.names (seen_at symbols p.left)) (decode v.names (seen_at symbols p.right))
+  named-seen : are_named_disjoint v symbols images x y ≡ are_disjoint v.statements (decode v.names (symbols_in symbols p.left)) (decode v.names (symbols_in symbols p.right))
   named-seen = rw (image-some symbols images x p.left first, image-some symbols images y p.right second) refl
 
   pub pair-found : (pairs : List ImagePair) → AreDisjointPairs v symbols pairs → Contains pairs p → are_named_disjoint v symbols images x y ≡ true

@@ -1,17 +1,17 @@
 -- Images that are places in a buffer that grows.
-use Rattle.subst.proofs.Words.{◌≡◌, ℕ, ◌≤◌, Bool, true, false, inl, inr, cases_Bool, cond, nat_eq, List, [], ◌∷◌, ◌++◌, length, Option, Some, None, refl, lookup, sym, ◌∙◌, ap, subst, arith, code_image, SymbolRange, seen_at, images_at, AreInside}
+use Rattle.subst.proofs.Words.{◌≡◌, ℕ, ◌≤◌, Bool, true, false, inl, inr, cases_Bool, cond, nat_eq, List, [], ◌∷◌, ◌++◌, length, Option, Some, None, refl, lookup, sym, ◌∙◌, ap, subst, arith, code_image, SymbolRange, symbols_in, images_at, AreInside}
 use Rattle.subst.proofs.SymbolRangeLemmas.{seen-more}
 
 -- the image of a symbol, by the place that was found for it
 abbrev pub by_place : List ℕ → ℕ → Option SymbolRange → List ℕ
 by_place symbols x None = x ∷ []
-by_place symbols x (Some p) = seen_at symbols p
+by_place symbols x (Some p) = symbols_in symbols p
 
 image-by_place : (symbols : List ℕ) (ps : List (ℕ × SymbolRange)) (x : ℕ) → code_image (images_at symbols ps) x ≡ by_place symbols x (lookup (nat_eq x) ps)
 image-by_place symbols [] x = refl
 image-by_place symbols (p ∷ ps) x = elim (cases_Bool (nat_eq x p.0)) [ inl e ↦ rw e refl | inr e ↦ rw e (image-by_place symbols ps x) ]
 
-pub image-some : (symbols : List ℕ) (ps : List (ℕ × SymbolRange)) (x : ℕ) (p : SymbolRange) → lookup (nat_eq x) ps ≡ Some p → code_image (images_at symbols ps) x ≡ seen_at symbols p
+pub image-some : (symbols : List ℕ) (ps : List (ℕ × SymbolRange)) (x : ℕ) (p : SymbolRange) → lookup (nat_eq x) ps ≡ Some p → code_image (images_at symbols ps) x ≡ symbols_in symbols p
 image-some symbols ps x p h = image-by_place symbols ps x ∙ ap (by_place symbols x) h
 
 pub image-none : (symbols : List ℕ) (ps : List (ℕ × SymbolRange)) (x : ℕ) → lookup (nat_eq x) ps ≡ None → code_image (images_at symbols ps) x ≡ x ∷ []
@@ -42,7 +42,7 @@ inside-set n ps qs s p w set low high = record { each = λ x q e. by x q (nat_eq
 
 -- what was set, as images
 pub image-set : (xs ys : List ℕ) (ps qs : List (ℕ × SymbolRange)) (s : ℕ) (p : SymbolRange) (x : ℕ) → AreInside (length xs) ps → ((y : ℕ) → lookup (nat_eq y) qs ≡ cond (nat_eq y s) (Some p) (lookup (nat_eq y) ps))
-    → seen_at (xs ++ ys) p ≡ ys → code_image (images_at (xs ++ ys) qs) x ≡ cond (nat_eq x s) ys (code_image (images_at xs ps) x)
+    → symbols_in (xs ++ ys) p ≡ ys → code_image (images_at (xs ++ ys) qs) x ≡ cond (nat_eq x s) ys (code_image (images_at xs ps) x)
 image-set xs ys ps qs s p x w set seen =
     image-by_place (xs ++ ys) qs x
     ∙ (ap (by_place (xs ++ ys) x) (set x) ∙ elim (cases_Bool (nat_eq x s)) [ inl e ↦ rw e seen | inr e ↦ rw e (sym (image-by_place (xs ++ ys) ps x) ∙ image-more xs ys ps x w) ])

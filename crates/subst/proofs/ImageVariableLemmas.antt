@@ -1,5 +1,5 @@
 -- The words of the variables of images, and where they lie.
-use Rattle.subst.proofs.Words.{◌≡◌, ℕ, ◌+◌, ◌-◌, ◌<◌, ◌≤◌, List, [], ◌∷◌, ◌++◌, length, take, drop, get_or, slice_range, refl, sym, ◌∙◌, ap, subst, arith, inl, inr, append-nil, get_or_append_left, get_or-append_right, get_or-append-add, get_or-drop, get_or-take, drop-drop, drop-take, length-append, length-take, length-drop, Numbered, code_image, SymbolRange, seen_at, images_at, Places, Grows, GrowsWords, IsAmong, PlaceWord, ArePlacesBelow, HasBit, HasPlace, near_word, no_word, AddsSymbols, AddsWords, RecordedImages, WordRange, ReadImage, LongImage, IsIn, IsRangeOf, IsLong, AreImagesRecorded, AreRead, Appends, AppendsWord, KeepsMost, KeepsRest, KeepsImage, RecordsImage, All-nil, All-push, All-weaker, All-contains}
+use Rattle.subst.proofs.Words.{◌≡◌, ℕ, ◌+◌, ◌-◌, ◌<◌, ◌≤◌, List, [], ◌∷◌, ◌++◌, length, take, drop, get_or, slice_range, refl, sym, ◌∙◌, ap, subst, arith, inl, inr, append-nil, get_or_append_left, get_or-append_right, get_or-append-add, get_or-drop, get_or-take, drop-drop, drop-take, length-append, length-take, length-drop, Numbered, code_image, SymbolRange, symbols_in, images_at, Places, Grows, GrowsWords, IsAmong, PlaceWord, ArePlacesBelow, HasBit, HasPlace, near_word, no_word, AddsSymbols, AddsWords, RecordedImages, WordRange, ReadImage, LongImage, IsIn, IsRangeOf, IsLong, AreImagesRecorded, AreRead, Appends, AppendsWord, KeepsMost, KeepsRest, KeepsImage, RecordsImage, All-nil, All-push, All-weaker, All-contains}
 use Rattle.subst.proofs.VariablePlaceLemmas.{grows-own, has-more, places-below, places-same}
 use Rattle.subst.proofs.PlaceSetLemmas.{place-none}
 use Rattle.subst.proofs.SymbolRangeLemmas.{seen-more}
@@ -70,7 +70,7 @@ pub most-twice : (a b c : RecordedImages) → KeepsRest a b → KeepsMost b c �
 most-twice a b c h k = (k.0, k.1, k.2 ∙ rw h.1 refl)
 
 long-grown : (v : Numbered) (f g : Places) (symbols : List ℕ) (words more : List PlaceWord) (kept : ℕ) (e : LongImage) → Grows f g → IsLong v f symbols words kept e → IsLong v g symbols (words ++ more) kept e
-long-grown v f g symbols words more kept e grows h = record { low = h.low; high = h.high; within = h.within; range = range-grown v f g words more e.words (seen_at symbols e.image) grows h.range }
+long-grown v f g symbols words more kept e grows h = record { low = h.low; high = h.high; within = h.within; range = range-grown v f g words more e.words (symbols_in symbols e.image) grows h.range }
 
 pub recorded-most : (v : Numbered) (f g : Places) (symbols : List ℕ) (old new : RecordedImages) → Grows f g → KeepsMost old new → AreImagesRecorded v f symbols old → AreImagesRecorded v g symbols new
 recorded-most v f g symbols old new grows keeps h =
@@ -229,7 +229,7 @@ range-below v f words r image h = λ j p. places-below v f (IsIn words r) (IsAmo
 
 -- a long image more
 pub recorded-long : (v : Numbered) (f : Places) (symbols : List ℕ) (old new : RecordedImages) (image : SymbolRange) → RecordsImage old new image → image.start ≤ image.end → image.end ≤ length symbols
-    → AddsSymbols v f (HasPlace []) (HasPlace old.list) (length (seen_at symbols image)) (seen_at symbols image) → AreImagesRecorded v f symbols old → AreImagesRecorded v f symbols new
+    → AddsSymbols v f (HasPlace []) (HasPlace old.list) (length (symbols_in symbols image)) (symbols_in symbols image) → AreImagesRecorded v f symbols old → AreImagesRecorded v f symbols new
 recorded-long v f symbols old new image (inl keeps) low high own h = recorded-most v f f symbols old new (grows-own f) keeps h
 recorded-long v f symbols old new image (inr e) low high own h =
     let kept = h.kept in
@@ -239,12 +239,12 @@ recorded-long v f symbols old new image (inr e) low high own h =
       kept = omega arith;
       long = All-push (IsLong v f symbols words (length words)) old.long entry
           (All-weaker (IsLong v f symbols old.words old.kept) (IsLong v f symbols words (length words))
-          (λ i is. (let within = is.within in record { low = is.low; high = is.high; within = omega (arith, within, kept, length-append old.words old.list); range = range-grown v f f old.words old.list i.words (seen_at symbols i.image) (grows-own f) is.range })) old.long h.long)
-          (record { low = low; high = high; within = omega arith; range = list-range old.words old.list v f (seen_at symbols image) own });
+          (λ i is. (let within = is.within in record { low = is.low; high = is.high; within = omega (arith, within, kept, length-append old.words old.list); range = range-grown v f f old.words old.list i.words (symbols_in symbols i.image) (grows-own f) is.range })) old.long h.long)
+          (record { low = low; high = high; within = omega arith; range = list-range old.words old.list v f (symbols_in symbols image) own });
     })
 
 -- what stands after the first symbol
-pub seen-without_first : (xs rest : List ℕ) (p q : SymbolRange) (x : ℕ) → p.start < p.end → q.start ≡ p.start + 1 → q.end ≡ p.end → seen_at xs p ≡ x ∷ rest → seen_at xs q ≡ rest
+pub seen-without_first : (xs rest : List ℕ) (p q : SymbolRange) (x : ℕ) → p.start < p.end → q.start ≡ p.start + 1 → q.end ≡ p.end → symbols_in xs p ≡ x ∷ rest → symbols_in xs q ≡ rest
 seen-without_first xs rest p q x some low high e =
     let size : p.end - p.start ≡ 1 + (p.end - (p.start + 1)) = omega (arith, some) in
     let next : p.start + 1 ≡ p.start + 1 = refl in

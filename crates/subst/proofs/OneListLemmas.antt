@@ -1,5 +1,5 @@
 -- One active `$d` that has all variables of two images.
-use Rattle.subst.proofs.Words.{◌≡◌, ℕ, ◌+◌, ◌*◌, ◌<◌, ◌≤◌, ◌⊎◌, Bool, true, false, true≢false, List, ◌∷◌, length, replicate, get_or, slice_set, bit_at, sym, ◌∙◌, subst, arith, inl, inr, and_from, or_left, or_right, cases_eq, cases_lt, get_or-replicate, get_or_past, get_or-set_same, get_or-set_other, length-replicate, AllBelow, AreTogether, Numbered, PlaceWord, HasAmong, HasBit, HasPlace, no_word, Places, IsAmong, ArePairs, TellsEach, IsMarked, number_at, AreMarksOf, TakesMark, TakesPlaces, HasBoth}
+use Rattle.subst.proofs.Words.{◌≡◌, ℕ, ◌+◌, ◌*◌, ◌<◌, ◌≤◌, ◌⊎◌, Bool, true, false, true≢false, List, ◌∷◌, length, replicate, get_or, slice_set, bit_at, sym, ◌∙◌, subst, arith, inl, inr, and_from, or_left, or_right, cases_eq, cases_lt, get_or-replicate, get_or_past, get_or-set_same, get_or-set_other, length-replicate, AllBelow, AreTogether, Numbered, PlaceWord, HasAmong, HasBit, HasPlace, no_word, Places, IsAmong, ArePairs, DecidesEach, IsMarked, number_at, AreMarksOf, TakesMark, TakesPlaces, HasBoth}
 use Rattle.subst.proofs.BitsLemmas.{differ, zero-none, IsTaken, taken-more}
 use Rattle.subst.proofs.VariablePlaceLemmas.{among-before, among-last}
 use Rattle.subst.proofs.PlaceSetLemmas.{word-more}
@@ -115,5 +115,5 @@ row-pairs v list old rest e row =
     record { each = λ x y p q other. h.together.each x y (named v list h.below.0 x p) (named v list h.below.0 y q) (differ x y other) (or_left _ _ (and_from _ _ (in-list list x p) (in-list list y q))) }
 
 -- the variables of one `$d` are disjoint
-pub one-tells : (v : Numbered) (f : Places) (words others : List PlaceWord) (list : List ℕ) → ArePairs v list → HasBoth f words others list → TellsEach v f words others true
+pub one-tells : (v : Numbered) (f : Places) (words others : List PlaceWord) (list : List ℕ) → ArePairs v list → HasBoth f words others list → DecidesEach v f words others true
 one-tells v f words others list pairs both = λ p q h k. pairs.each (number_at f p) (number_at f q) (both.left p h) (both.right q k) (both.other p q h k)

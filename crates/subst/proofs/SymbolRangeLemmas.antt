@@ -1,16 +1,16 @@
 -- Places in a buffer that grows.
-use Rattle.subst.proofs.Words.{◌≡◌, ℕ, zero, suc, ◌-◌, ◌<◌, ◌≤◌, List, [], ◌∷◌, ◌++◌, length, map, take, drop, get_or, slice_get, Some, refl, ◌∙◌, ap, subst, arith, length-append, length-drop, take-append-le, drop-append-le, length-take-le, take_all, drop-append_seam, SymbolRange, seen_at, AreWithin}
+use Rattle.subst.proofs.Words.{◌≡◌, ℕ, zero, suc, ◌-◌, ◌<◌, ◌≤◌, List, [], ◌∷◌, ◌++◌, length, map, take, drop, get_or, slice_get, Some, refl, ◌∙◌, ap, subst, arith, length-append, length-drop, take-append-le, drop-append-le, length-take-le, take_all, drop-append_seam, SymbolRange, symbols_in, AreWithin}
 
-pub seen-more : (xs ys : List ℕ) (p : SymbolRange) → p.start ≤ p.end → p.end ≤ length xs → seen_at (xs ++ ys) p ≡ seen_at xs p
+pub seen-more : (xs ys : List ℕ) (p : SymbolRange) → p.start ≤ p.end → p.end ≤ length xs → symbols_in (xs ++ ys) p ≡ symbols_in xs p
 seen-more xs ys p low high =
     let le : p.start ≤ length xs = omega (arith, low, high) in
     let len = length-drop p.start xs in
     let fits : p.end - p.start ≤ length (drop p.start xs) = omega (arith, len, low, high) in
     ap (take (p.end - p.start)) (drop-append-le p.start xs ys le) ∙ take-append-le (p.end - p.start) (drop p.start xs) ys fits
 
-pub map-seen-more : (xs ys : List ℕ) (ps : List SymbolRange) → AreWithin (length xs) ps → map (seen_at (xs ++ ys)) ps ≡ map (seen_at xs) ps
+pub map-seen-more : (xs ys : List ℕ) (ps : List SymbolRange) → AreWithin (length xs) ps → map (symbols_in (xs ++ ys)) ps ≡ map (symbols_in xs) ps
 map-seen-more xs ys [] w = refl
-map-seen-more xs ys (p ∷ ps) w = ap (λ r. r ∷ map (seen_at (xs ++ ys)) ps) (seen-more xs ys p w.0 w.1) ∙ ap (λ r. seen_at xs p ∷ r) (map-seen-more xs ys ps w.2)
+map-seen-more xs ys (p ∷ ps) w = ap (λ r. r ∷ map (symbols_in (xs ++ ys)) ps) (seen-more xs ys p w.0 w.1) ∙ ap (λ r. symbols_in xs p ∷ r) (map-seen-more xs ys ps w.2)
 
 pub within-weaken : (n m : ℕ) (ps : List SymbolRange) → n ≤ m → AreWithin n ps → AreWithin m ps
 within-weaken n m [] h w = tt
@@ -41,7 +41,7 @@ seen-new xs ys =
     ap (take (length (xs ++ ys) - length xs)) (drop-append_seam xs ys) ∙ take_all (length (xs ++ ys) - length xs) ys (omega (arith, e))
 
 -- what stands at the end of the buffer
-pub seen-last : (xs ys zs : List ℕ) (p : SymbolRange) → zs ≡ xs ++ ys → p.start ≡ length xs → p.end ≡ length zs → seen_at zs p ≡ ys
+pub seen-last : (xs ys zs : List ℕ) (p : SymbolRange) → zs ≡ xs ++ ys → p.start ≡ length xs → p.end ≡ length zs → symbols_in zs p ≡ ys
 seen-last xs ys zs p e low high =
     ap (λ s. take (p.end - s) (drop s zs)) low
     ∙ (ap (λ n. take (n - length xs) (drop (length xs) zs)) high
@@ -52,12 +52,12 @@ within-at n k [] d w h = absurd (omega (arith, h))
 within-at n zero (p ∷ ps) d w h = (w.0, w.1)
 within-at n (suc k) (p ∷ ps) d w h = within-at n k ps d w.2 (omega (arith, h))
 
-pub seen-get : (xs : List ℕ) (k : ℕ) (ps : List SymbolRange) (d : SymbolRange) → k < length ps → get_or (map (seen_at xs) ps) k [] ≡ seen_at xs (get_or ps k d)
+pub seen-get : (xs : List ℕ) (k : ℕ) (ps : List SymbolRange) (d : SymbolRange) → k < length ps → get_or (map (symbols_in xs) ps) k [] ≡ symbols_in xs (get_or ps k d)
 seen-get xs k [] d h = absurd (omega (arith, h))
 seen-get xs zero (p ∷ ps) d h = refl
 seen-get xs (suc k) (p ∷ ps) d h = seen-get xs k ps d (omega (arith, h))
 
-pub length-seen : (xs : List ℕ) (p : SymbolRange) → p.start ≤ p.end → p.end ≤ length xs → length (seen_at xs p) ≡ p.end - p.start
+pub length-seen : (xs : List ℕ) (p : SymbolRange) → p.start ≤ p.end → p.end ≤ length xs → length (symbols_in xs p) ≡ p.end - p.start
 length-seen xs p low high =
     let len = length-drop p.start xs in
     let fits : p.end - p.start ≤ length (drop p.start xs) = omega (arith, len, low, high) in

@@ -1,57 +1,57 @@
 -- What is left of an expression without the symbols whose images are empty has the same result: such images add nothing.
-use Rattle.subst.proofs.Words.{append-nil, ◌≡◌, ℕ, zero, suc, ◌+◌, ◌-◌, ◌<◌, ◌≤◌, Bool, true, false, true≢false, inl, inr, cond, nat_eq, List, [], ◌∷◌, ◌++◌, length, take, take_all, drop, slice_get, Option, Some, None, refl, lookup, sym, ◌∙◌, ap, subst, arith, code_image, code_apply, SymbolRange, images_at, ⊎_elim, get_or, cases_lt, ltb-false, Contains, cons_option, filter, filter_map, flat_map, All-contains, Contains-append_cases, Contains-append_left, Contains-append_right, filter_map-append, flat_map_more, take_more, get_or_from_slice_get, slice_get-get_or, slice_get_within, IsGroupOf, AreGroupsFrom, IsGrouped, AreAbove, Ascends, In, AreThose, contains-in, in-contains, is_left, is_place_left, is_symbol_left, is_group_left, group_left, remaining}
+use Rattle.subst.proofs.Words.{append-nil, ◌≡◌, ℕ, zero, suc, ◌+◌, ◌-◌, ◌<◌, ◌≤◌, Bool, true, false, true≢false, inl, inr, cond, nat_eq, List, [], ◌∷◌, ◌++◌, length, take, take_all, drop, slice_get, Option, Some, None, refl, lookup, sym, ◌∙◌, ap, subst, arith, code_image, code_apply, SymbolRange, images_at, ⊎_elim, get_or, cases_lt, ltb-false, Contains, cons_option, filter, filter_map, flat_map, All-contains, Contains-append_cases, Contains-append_left, Contains-append_right, filter_map-append, flat_map_more, take_more, get_or_from_slice_get, slice_get-get_or, slice_get_within, IsGroupOf, AreGroupsFrom, IsGrouped, AreAbove, Ascends, In, AreThose, contains-in, in-contains, has_nonempty_image, is_range_nonempty, is_symbol_left, is_group_left, group_left, remaining}
 use Rattle.entries.specs.SymbolPlaces.{ArePlacesOf, SymbolGroups}
 use Rattle.subst.proofs.ImageRangesLemmas.{image-some}
 
 -- ---- an image that is empty
 
-vanished : (symbols : List ℕ) (ps : List (ℕ × SymbolRange)) (x : ℕ) → is_left ps x ≡ false → code_image (images_at symbols ps) x ≡ []
+vanished : (symbols : List ℕ) (ps : List (ℕ × SymbolRange)) (x : ℕ) → has_nonempty_image ps x ≡ false → code_image (images_at symbols ps) x ≡ []
 vanished symbols ps x h = by (lookup (nat_eq x) ps) refl h
   where
-    by : (o : Option SymbolRange) → lookup (nat_eq x) ps ≡ o → is_place_left o ≡ false → code_image (images_at symbols ps) x ≡ []
+    by : (o : Option SymbolRange) → lookup (nat_eq x) ps ≡ o → is_range_nonempty o ≡ false → code_image (images_at symbols ps) x ≡ []
     by None e f = absurd (true≢false f)
     by (Some p) e f =
         let none : p.end - p.start ≡ 0 = (let l = ltb-false p.start p.end f in omega (arith, l)) in
         image-some symbols ps x p e ∙ ap (λ n. take n (drop p.start symbols)) none
 
 remaining-step : (symbols : List ℕ) (ps : List (ℕ × SymbolRange)) (x : ℕ) (e : List ℕ) → code_apply (images_at symbols ps) (remaining ps e) ≡ code_apply (images_at symbols ps) e
-    → (b : Bool) → is_left ps x ≡ b → code_apply (images_at symbols ps) (cond b (x ∷ remaining ps e) (remaining ps e)) ≡ code_image (images_at symbols ps) x ++ code_apply (images_at symbols ps) e
+    → (b : Bool) → has_nonempty_image ps x ≡ b → code_apply (images_at symbols ps) (cond b (x ∷ remaining ps e) (remaining ps e)) ≡ code_image (images_at symbols ps) x ++ code_apply (images_at symbols ps) e
 remaining-step symbols ps x e rest true h = ap (λ r. code_image (images_at symbols ps) x ++ r) rest
 remaining-step symbols ps x e rest false h = rest ∙ ap (λ r. r ++ code_apply (images_at symbols ps) e) (sym (vanished symbols ps x h))
 
 -- the same result without them
 pub apply-remaining : (symbols : List ℕ) (ps : List (ℕ × SymbolRange)) (e : List ℕ) → code_apply (images_at symbols ps) (remaining ps e) ≡ code_apply (images_at symbols ps) e
 apply-remaining symbols ps [] = refl
-apply-remaining symbols ps (x ∷ e) = remaining-step symbols ps x e (apply-remaining symbols ps e) (is_left ps x) refl
+apply-remaining symbols ps (x ∷ e) = remaining-step symbols ps x e (apply-remaining symbols ps e) (has_nonempty_image ps x) refl
 
 -- ---- the groups that are left
 
 -- all indexes of a group tell the same
-group-left : (ps : List (ℕ × SymbolRange)) (e : List ℕ) (s : ℕ) (g : List ℕ) → IsGroupOf e s g → is_group_left ps e g ≡ is_left ps s
+group-left : (ps : List (ℕ × SymbolRange)) (e : List ℕ) (s : ℕ) (g : List ℕ) → IsGroupOf e s g → is_group_left ps e g ≡ has_nonempty_image ps s
 group-left ps e s [] h = absurd (let some = h.some in omega (arith, some))
 group-left ps e s (i ∷ g) h = ap (is_symbol_left ps) (h.only 0 i (omega arith))
 
 -- what is collected are indexes of symbols that are left
-collected-only : (ps : List (ℕ × SymbolRange)) (e ss : List ℕ) (gs : List (List ℕ)) (low : ℕ) → AreGroupsFrom e low ss gs → (i : ℕ) → Contains (flat_map (group_left ps e) gs) i → (x : ℕ) × (slice_get e i ≡ Some x) × (is_left ps x ≡ true)
+collected-only : (ps : List (ℕ × SymbolRange)) (e ss : List ℕ) (gs : List (List ℕ)) (low : ℕ) → AreGroupsFrom e low ss gs → (i : ℕ) → Contains (flat_map (group_left ps e) gs) i → (x : ℕ) × (slice_get e i ≡ Some x) × (has_nonempty_image ps x ≡ true)
 collected-only ps e [] [] low h i c = absurd (let l = c.1 in omega (arith, l))
 collected-only ps e (s ∷ ss) [] low h i c = absurd h
 collected-only ps e [] (g ∷ gs) low h i c = absurd h
 collected-only ps e (s ∷ ss) (g ∷ gs) low h i c =
     ⊎_elim (λ here. by (is_group_left ps e g) (group-left ps e s g h.1) here) (λ there. collected-only ps e ss gs (suc s) h.2 i there) (Contains-append_cases (group_left ps e g) (flat_map (group_left ps e) gs) i c)
   where
-    by : (b : Bool) → b ≡ is_left ps s → Contains (cond b g []) i → (x : ℕ) × (slice_get e i ≡ Some x) × (is_left ps x ≡ true)
+    by : (b : Bool) → b ≡ has_nonempty_image ps s → Contains (cond b g []) i → (x : ℕ) × (slice_get e i ≡ Some x) × (has_nonempty_image ps x ≡ true)
     by true l here = (s, All-contains (λ k. slice_get e k ≡ Some s) g i h.1.only here, sym l)
     by false l here = absurd (let n = here.1 in omega (arith, n))
 
 -- and all of them
-collected-all : (ps : List (ℕ × SymbolRange)) (e ss : List ℕ) (gs : List (List ℕ)) (low : ℕ) → AreGroupsFrom e low ss gs → (i x : ℕ) → slice_get e i ≡ Some x → is_left ps x ≡ true → IsGrouped i gs → Contains (flat_map (group_left ps e) gs) i
+collected-all : (ps : List (ℕ × SymbolRange)) (e ss : List ℕ) (gs : List (List ℕ)) (low : ℕ) → AreGroupsFrom e low ss gs → (i x : ℕ) → slice_get e i ≡ Some x → has_nonempty_image ps x ≡ true → IsGrouped i gs → Contains (flat_map (group_left ps e) gs) i
 collected-all ps e ss [] low h i x at left in_one = absurd in_one
 collected-all ps e [] (g ∷ gs) low h i x at left in_one = absurd h
 collected-all ps e (s ∷ ss) (g ∷ gs) low h i x at left (inr there) = Contains-append_right (group_left ps e g) (flat_map (group_left ps e) gs) i (collected-all ps e ss gs (suc s) h.2 i x at left there)
 collected-all ps e (s ∷ ss) (g ∷ gs) low h i x at left (inl here) =
     let is : slice_get e i ≡ Some s = All-contains (λ k. slice_get e k ≡ Some s) g i h.1.only here in
     let same : x ≡ s = cc in
-    let kept : is_group_left ps e g ≡ true = group-left ps e s g h.1 ∙ (ap (is_left ps) (sym same) ∙ left) in
+    let kept : is_group_left ps e g ≡ true = group-left ps e s g h.1 ∙ (ap (has_nonempty_image ps) (sym same) ∙ left) in
     Contains-append_left (group_left ps e g) (flat_map (group_left ps e) gs) i (subst (λ b. Contains (cond b g []) i) (sym kept) here)
 
 -- one more group is gone over
@@ -82,13 +82,13 @@ group-at e (s ∷ ss) (g ∷ gs) low (suc at) h l = group-at e ss gs (suc s) at 
 
 -- a group is left where its symbol is
 module _ (ps : List (ℕ × SymbolRange)) (e : List ℕ) (gs : SymbolGroups) (places : ArePlacesOf e gs) where
-  told : (at : ℕ) (b : Bool) → at < length gs.symbols → is_left ps (get_or gs.symbols at 0) ≡ b → is_group_left ps e (get_or gs.groups at []) ≡ b
+  told : (at : ℕ) (b : Bool) → at < length gs.symbols → has_nonempty_image ps (get_or gs.symbols at 0) ≡ b → is_group_left ps e (get_or gs.groups at []) ≡ b
   told at b within h = group-left ps e (get_or gs.symbols at 0) (get_or gs.groups at []) (group-at e gs.symbols gs.groups 0 at places.each within) ∙ h
 
   there : (at : ℕ) → at < length gs.symbols → slice_get gs.groups at ≡ Some (get_or gs.groups at [])
   there at within = slice_get-get_or gs.groups at [] (let n = groups-count e gs.symbols gs.groups 0 places.each in omega (arith, n, within))
 
-  pub symbol-kept : (at : ℕ) (old g new : List ℕ) → at < length gs.symbols → old ≡ flat_map (group_left ps e) (take at gs.groups) → slice_get gs.groups at ≡ Some g → is_left ps (get_or gs.symbols at 0) ≡ true → new ≡ old ++ g
+  pub symbol-kept : (at : ℕ) (old g new : List ℕ) → at < length gs.symbols → old ≡ flat_map (group_left ps e) (take at gs.groups) → slice_get gs.groups at ≡ Some g → has_nonempty_image ps (get_or gs.symbols at 0) ≡ true → new ≡ old ++ g
       → new ≡ flat_map (group_left ps e) (take (at + 1) gs.groups)
   symbol-kept at old g new within done here kept more =
       let same : get_or gs.groups at [] ≡ g = get_or_from_slice_get gs.groups at g [] here in
@@ -96,7 +96,7 @@ module _ (ps : List (ℕ × SymbolRange)) (e : List ℕ) (gs : SymbolGroups) (pl
 
   -- symbols that are passed add nothing
   pub symbols-passed : (from more to : ℕ) (old : List ℕ) → from + more ≡ to → to ≤ length gs.symbols → old ≡ flat_map (group_left ps e) (take from gs.groups)
-      → ((j : ℕ) → from ≤ j → j < to → is_left ps (get_or gs.symbols j 0) ≡ false) → old ≡ flat_map (group_left ps e) (take to gs.groups)
+      → ((j : ℕ) → from ≤ j → j < to → has_nonempty_image ps (get_or gs.symbols j 0) ≡ false) → old ≡ flat_map (group_left ps e) (take to gs.groups)
   symbols-passed from zero to old count within done passed = (let n : from ≡ to = omega (arith, count) in done ∙ ap (λ m. flat_map (group_left ps e) (take m gs.groups)) n)
   symbols-passed from (suc more) to old count within done passed =
       let here : from < length gs.symbols = omega (arith, count, within) in
@@ -166,7 +166,7 @@ picks p f (x ∷ e) k list at h =
 -- the indexes of the groups that are left, in order, give the symbols that are left
 pub remaining-read : (ps : List (ℕ × SymbolRange)) (e : List ℕ) (gs : SymbolGroups) (all list : List ℕ) → ArePlacesOf e gs → all ≡ flat_map (group_left ps e) gs.groups → AreThose (λ i. In i all) list → filter_map (slice_get e) list ≡ remaining ps e
 remaining-read ps e gs all list places is those =
-    picks (is_left ps) (slice_get e) e 0 list (λ j. let n : 0 + j ≡ j = omega arith in ap (slice_get e) n) (record {
+    picks (has_nonempty_image ps) (slice_get e) e 0 list (λ j. let n : 0 + j ≡ j = omega arith in ap (slice_get e) n) (record {
       ascends = those.ascends;
       low = λ i m. omega arith;
       only = λ i m. collected-only ps e gs.symbols gs.groups 0 places.each i (subst (λ xs. Contains xs i) is (in-contains i all (those.only i m)));

@@ -19,7 +19,7 @@ pub record AreImagesDisjoint (S : Database) (e f : Expr) : Type 0 where
       → IsTrue (list_any (λ names. has_name u names && has_name v names) (groups S))
 
 -- the test of a citation succeeds if and only if the images of each pair of variables in one of its lists meet both
-abbrev pub PairClause : Type 0
-PairClause =
+abbrev pub DisjointConditionLaw : Type 0
+DisjointConditionLaw =
     (S : Database) (σ : Images) (lists : List (List Name)) → IsTrue (are_groups_disjoint S σ lists)
     ↔ ((x y : Name) → IsTrue (together lists x y) → AreImagesDisjoint S (image σ x) (image σ y))

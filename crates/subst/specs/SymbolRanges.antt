@@ -5,8 +5,8 @@ use Rattle.std.specs.Prelude.{◌≡◌, ℕ, ◌≤◌, nat_eq, List, [], ◌�
 use Rattle.subst.specs.Words.{lookup, CodeImages}
 use Rattle.subst.specs.declared.symbol_range.SymbolRange.{SymbolRange}
 
-abbrev pub seen_at : List ℕ → SymbolRange → List ℕ
-seen_at symbols p = slice_range symbols p.start p.end
+abbrev pub symbols_in : List ℕ → SymbolRange → List ℕ
+symbols_in symbols p = slice_range symbols p.start p.end
 
 -- each range lies within the first n symbols
 abbrev pub AreWithin : ℕ → List SymbolRange → Type 0
@@ -15,7 +15,7 @@ AreWithin n (p ∷ places) = (p.start ≤ p.end) × (p.end ≤ n) × AreWithin n
 
 -- the images in these ranges
 abbrev pub images_at : List ℕ → List (ℕ × SymbolRange) → CodeImages
-images_at symbols places = map (λ p. (p.0, seen_at symbols p.1)) places
+images_at symbols places = map (λ p. (p.0, symbols_in symbols p.1)) places
 
 -- each image lies within the first n symbols
 pub record AreInside (n : ℕ) (places : List (ℕ × SymbolRange)) : Type 0 where

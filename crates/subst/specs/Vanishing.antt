@@ -6,17 +6,17 @@ use Rattle.subst.specs.Words.{filter, lookup, code_apply}
 use Rattle.subst.specs.SymbolRanges.{images_at}
 use Rattle.subst.specs.declared.symbol_range.SymbolRange.{SymbolRange}
 
-abbrev pub is_place_left : Option SymbolRange → Bool
-is_place_left None = true
-is_place_left (Some p) = nat_lt p.start p.end
+abbrev pub is_range_nonempty : Option SymbolRange → Bool
+is_range_nonempty None = true
+is_range_nonempty (Some p) = nat_lt p.start p.end
 
 -- the image of the symbol is not empty
-abbrev pub is_left : List (ℕ × SymbolRange) → ℕ → Bool
-is_left images x = is_place_left (lookup (nat_eq x) images)
+abbrev pub has_nonempty_image : List (ℕ × SymbolRange) → ℕ → Bool
+has_nonempty_image images x = is_range_nonempty (lookup (nat_eq x) images)
 
 -- the expression without the symbols whose images are empty
 abbrev pub remaining : List (ℕ × SymbolRange) → List ℕ → List ℕ
-remaining images expr = filter (is_left images) expr
+remaining images expr = filter (has_nonempty_image images) expr
 
 -- substitution gives the same result for what is left as for the expression, whichever buffer the images are ranges of
 abbrev pub HaveSameResult : List (ℕ × SymbolRange) → List ℕ → List ℕ → Type 0
@@ -28,7 +28,7 @@ first_symbol expr group = option_and_then (slice_get expr) (slice_get group 0)
 
 abbrev pub is_symbol_left : List (ℕ × SymbolRange) → Option ℕ → Bool
 is_symbol_left images None = false
-is_symbol_left images (Some x) = is_left images x
+is_symbol_left images (Some x) = has_nonempty_image images x
 
 -- the image of that symbol is not empty
 abbrev pub is_group_left : List (ℕ × SymbolRange) → List ℕ → List ℕ → Bool

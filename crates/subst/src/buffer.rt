@@ -2,7 +2,7 @@
 ghost use Rattle.std.specs.Prelude.{◌≡◌, [], ◌++◌, ◌+◌, ◌≤◌, ◌↔◌, length, take, IfOk, OnOk, OnErr, IsTrue};
 ghost use Rattle.frame.specs.Substitution.{code_apply};
 ghost use Rattle.subst.specs.Stored.Written.{Appends};
-ghost use Rattle.subst.specs.SymbolRanges.{AreInside, images_at, seen_at};
+ghost use Rattle.subst.specs.SymbolRanges.{AreInside, images_at, symbols_in};
 
 use crate::copies::put_expr;
 use crate::filling::{fill, filled_len, make_room};
@@ -72,7 +72,7 @@ impl Buffer {
     pub fn matches(&self, images: &ImageRanges, expr: &[u32], whole: SymbolRange) -> bool
         requires inside { AreInside (length self.now) images.now }
         requires place { (whole.start ≤ whole.end) × (whole.end ≤ length self.now) }
-        ensures { IsTrue result ↔ (seen_at self.now whole ≡ code_apply (images_at self.now images.now) expr.now) }
+        ensures { IsTrue result ↔ (symbols_in self.now whole ≡ code_apply (images_at self.now images.now) expr.now) }
     {
         matches(&self.symbols, images, expr, whole)
     }

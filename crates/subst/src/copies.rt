@@ -1,7 +1,7 @@
 //! Copies symbols within one buffer, many at once.
 ghost use Rattle.std.specs.Prelude.{◌≡◌, ◌+◌, ◌<◌, ◌≤◌, ◌++◌, ◌∷◌, [], length, take, drop, IfSome, IfNone};
 ghost use Rattle.subst.specs.Stored.Written.{IsWritten};
-ghost use Rattle.subst.specs.SymbolRanges.{seen_at};
+ghost use Rattle.subst.specs.SymbolRanges.{symbols_in};
 
 use crate::symbol_range::SymbolRange;
 use std::simd::prelude::*;
@@ -27,13 +27,13 @@ fn copy_run(symbols: &mut [u32], from: usize, len: usize, at: usize)
 
 /// Copies the symbols in a range to `at`, and returns where the copy ends, or `None` if that is after `last`.
 #[inline(always)]
-pub fn copy_place(symbols: &mut [u32], at: usize, last: usize, place: SymbolRange) -> Option<usize>
+pub fn copy_range(symbols: &mut [u32], at: usize, last: usize, place: SymbolRange) -> Option<usize>
     requires place { (place.start ≤ place.end) × (place.end ≤ at) }
     requires inside { at ≤ length symbols.old }
     requires room { last + 32 ≤ length symbols.old }
-    ensures some { IfSome result (IsWritten symbols.old symbols.new at (seen_at (take at symbols.old) place)) }
+    ensures some { IfSome result (IsWritten symbols.old symbols.new at (symbols_in (take at symbols.old) place)) }
     ensures within { IfSome result (λ end. end ≤ last) }
-    ensures none { IfNone result (last < at + length (seen_at (take at symbols.old) place)) }
+    ensures none { IfNone result (last < at + length (symbols_in (take at symbols.old) place)) }
     ensures kept { take at symbols.new ≡ take at symbols.old }
     ensures count { length symbols.new ≡ length symbols.old }
 {

@@ -5,7 +5,7 @@ ghost use Rattle.frame.specs.Disjoint.{are_groups_disjoint};
 ghost use Rattle.frame.specs.Substitution.{code_apply, images_of_names};
 ghost use Rattle.names.specs.Codes.{AreDistinct, decode};
 ghost use Rattle.subst.specs.Images.{AreOver};
-ghost use Rattle.subst.specs.SymbolRanges.{AreInside, images_at, seen_at};
+ghost use Rattle.subst.specs.SymbolRanges.{AreInside, images_at, symbols_in};
 
 use crate::buffer::Buffer;
 use crate::disjoint_tables::DisjointTables;
@@ -149,7 +149,7 @@ impl DisjointCache {
         requires inside { AreInside (length symbols.now) images.now }
         requires below { AreBelow (length pairs.now.names) expr.now }
         requires place { (place.start ≤ place.end) × (place.end ≤ length symbols.now) }
-        requires whole { seen_at symbols.now place ≡ code_apply (images_at symbols.now images.now) expr.now }
+        requires whole { symbols_in symbols.now place ≡ code_apply (images_at symbols.now images.now) expr.now }
         ensures about { self.new.about ≡ self.old.about }
         ensures over { (more : List ℕ) × (symbols.now ≡ self.new.over ++ more) }
     {
@@ -178,7 +178,7 @@ impl DisjointCache {
         requires over { (more : List ℕ) × (symbols.now ≡ self.old.over ++ more) }
         requires below { AreBelow (length pairs.now.names) expr.now }
         requires place { (place.start ≤ place.end) × (place.end ≤ length symbols.now) }
-        requires whole { seen_at symbols.now place ≡ expr.now }
+        requires whole { symbols_in symbols.now place ≡ expr.now }
         ensures about { self.new.about ≡ self.old.about }
         ensures over { (more : List ℕ) × (symbols.now ≡ self.new.over ++ more) }
     {

@@ -2,12 +2,12 @@
 ghost use Rattle.std.specs.Prelude.{◌≡◌, ℕ, ◌+◌, ◌*◌, ◌<◌, [], length, true, IfOk, IfSome};
 ghost use Rattle.std.specs.Int.{bit_at};
 ghost use Rattle.frame.specs.Below.{AreBelow};
-ghost use Rattle.subst.specs.Stored.DisjointRows.{AreFacts, ArePairs, HasFact, IsRowAt, RecordsWord, TellsAll, TellsBits, TellsEach, TellsWord};
+ghost use Rattle.subst.specs.Stored.DisjointRows.{AreFacts, ArePairs, HasFact, IsRowAt, RecordsWord, DecidesAll, DecidesBits, DecidesEach, DecidesWord};
 ghost use Rattle.subst.specs.Stored.PlaceSets.{ArePlacesBelow, HasBit, near_word};
 ghost use Rattle.subst.specs.Stored.VariablePlaces.{ArePlaced, Grows};
 
 use crate::hints::Hints;
-use crate::one_list::OneList;
+use crate::one_list::OneDisjointList;
 use crate::place_words::{PlaceWord, costly_steps, lowest, without};
 use crate::variable_places::VariablePlaces;
 use frame::{PairMemo, Pairs};
@@ -15,7 +15,7 @@ use std::alloc::{AllocError, Global};
 use std::marker::Model;
 
 /// Facts are recorded of this many places.
-const NOTED_PLACES: u32 = 8192;
+const RECORDED_PLACES: u32 = 8192;
 
 /// The number of the last active `$d` that are read in a proof before the first question.
 const READ_LISTS: usize = 16;
@@ -43,7 +43,7 @@ pub struct DisjointRows {
     learned: bool,
     /// The pairs that long searches found, in all proofs.
     memo: PairMemo,
-    one_list: OneList,
+    one_list: OneDisjointList,
 }
 
 impl Model for DisjointRows {
@@ -65,7 +65,7 @@ impl DisjointRows {
             words: Vec::new(alloc),
             learned: false,
             memo: PairMemo::new(alloc),
-            one_list: OneList::new(alloc),
+            one_list: OneDisjointList::new(alloc),
         }
     }
 
@@ -114,7 +114,7 @@ impl DisjointRows {
     fn record_word(&mut self, place: usize, word: PlaceWord) -> Result<(), AllocError>
         ensures { RecordsWord self.old self.new place word }
     {
-        if place >= NOTED_PLACES as usize || word.index >= NOTED_PLACES / 64 {
+        if place >= RECORDED_PLACES as usize || word.index >= RECORDED_PLACES / 64 {
             return Ok(());
         }
         let index = word.index;
@@ -226,7 +226,7 @@ impl DisjointRows {
         requires there { place < length variables.now.variables }
         requires others { (b : ℕ) → bit_at word.bits b ≡ 1 → 64 * word.index + b < length variables.now.variables }
         ensures facts { AreFacts pairs.now variables.now self.new }
-        ensures tells { IfOk result (TellsWord pairs.now variables.now place word) }
+        ensures decides { IfOk result (DecidesWord pairs.now variables.now place word) }
     {
         if !are_pairs(pairs, variables, &mut self.memo, place, word) {
             return Ok(false);
@@ -274,7 +274,7 @@ impl DisjointRows {
         requires there { place < length variables.now.variables }
         requires others { ArePlacesBelow (length variables.now.variables) others.now }
         ensures facts { AreFacts pairs.now variables.now self.new }
-        ensures tells { IfOk result (TellsAll pairs.now variables.now place others.now) }
+        ensures decides { IfOk result (DecidesAll pairs.now variables.now place others.now) }
     {
         for word in others {
             let index = word.index;
@@ -300,7 +300,7 @@ impl DisjointRows {
         requires there { (j : ℕ) → HasBit word j → j < length variables.now.variables }
         requires others { ArePlacesBelow (length variables.now.variables) others.now }
         ensures facts { AreFacts pairs.now variables.now self.new }
-        ensures tells { IfOk result (TellsBits pairs.now variables.now word others.now) }
+        ensures decides { IfOk result (DecidesBits pairs.now variables.now word others.now) }
     {
         let mut rest = word.bits;
         while rest != 0 {
@@ -329,7 +329,7 @@ impl DisjointRows {
         requires there { ArePlacesBelow (length variables.now.variables) words.now }
         requires others { ArePlacesBelow (length variables.now.variables) others.now }
         ensures facts { AreFacts pairs.now variables.now self.new }
-        ensures tells { IfOk result (TellsEach pairs.now variables.now words.now others.now) }
+        ensures decides { IfOk result (DecidesEach pairs.now variables.now words.now others.now) }
     {
         for word in words {
             if !self.is_word_disjoint(pairs, variables, *word, others)? {
@@ -358,14 +358,14 @@ impl DisjointRows {
         requires there { ArePlacesBelow (length variables.now.variables) words.now }
         requires others { ArePlacesBelow (length variables.now.variables) others.now }
         ensures facts { AreFacts pairs.now variables.now self.new }
-        ensures tells { IfOk result (TellsEach pairs.now variables.now words.now others.now) }
+        ensures decides { IfOk result (DecidesEach pairs.now variables.now words.now others.now) }
     {
         let Some(steps) = costly_steps(words, others.len()) else {
             return self.are_disjoint(pairs, variables, words, others);
         };
         if self
             .one_list
-            .stand_in_one(pairs, variables, words, others, steps)?
+            .are_in_one(pairs, variables, words, others, steps)?
         {
             return Ok(true);
         }
@@ -386,7 +386,7 @@ fn are_pairs(
     requires placed { ArePlaced pairs.now variables.now }
     requires there { place < length variables.now.variables }
     requires others { (b : ℕ) → bit_at word.bits b ≡ 1 → 64 * word.index + b < length variables.now.variables }
-    ensures { TellsWord pairs.now variables.now place word result }
+    ensures { DecidesWord pairs.now variables.now place word result }
 {
     let x = variables.number(place);
     let mut rest = word.bits;
@@ -402,8 +402,8 @@ fn are_pairs(
 }
 
 /// Returns the number of the hint for a place and the 64 other places of an index. It is unique for places below
-/// `NOTED_PLACES`.
+/// `RECORDED_PLACES`.
 #[inline(always)]
 fn hint_number(place: usize, index: u32) -> u32 {
-    NOTED_PLACES * (index % (NOTED_PLACES / 64)) + (place % NOTED_PLACES as usize) as u32
+    RECORDED_PLACES * (index % (RECORDED_PLACES / 64)) + (place % RECORDED_PLACES as usize) as u32
 }

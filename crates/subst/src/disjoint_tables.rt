@@ -6,7 +6,7 @@ ghost use Rattle.frame.specs.Substitution.{code_apply};
 ghost use Rattle.frame.specs.Parts.{Numbered};
 ghost use Rattle.subst.specs.DisjointImages.{are_numbers_disjoint, image_named, is_number_disjoint};
 ghost use Rattle.subst.specs.Images.{AreOver};
-ghost use Rattle.subst.specs.SymbolRanges.{AreInside, images_at, seen_at};
+ghost use Rattle.subst.specs.SymbolRanges.{AreInside, images_at, symbols_in};
 ghost use Rattle.subst.specs.Stored.DisjointTables.{AreTables, are_named_disjoint};
 ghost use Rattle.subst.specs.Stored.ImageVariables.{AreRead};
 ghost use Rattle.subst.specs.Stored.VariablePlaces.{Grows};
@@ -138,7 +138,7 @@ impl DisjointTables {
         if !self.are_disjoint(pairs, symbols, images, first, second)? {
             return Ok(false);
         }
-        self.found.note(pair);
+        self.found.record_if_new(pair);
         Ok(true)
     }
 
@@ -311,7 +311,7 @@ impl DisjointTables {
         requires inside { AreInside (length symbols.now) images.now }
         requires below { AreBelow (length pairs.now.names) expr.now }
         requires range { (result_range.start ≤ result_range.end) × (result_range.end ≤ length symbols.now) }
-        requires whole { seen_at symbols.now result_range ≡ code_apply (images_at symbols.now images.now) expr.now }
+        requires whole { symbols_in symbols.now result_range ≡ code_apply (images_at symbols.now images.now) expr.now }
         ensures { AreTables pairs.now symbols.now self.new }
     {
         if expr.is_empty() || images.get(expr[0]).is_some() {
@@ -320,7 +320,7 @@ impl DisjointTables {
         self.images.begin();
         let rest = &expr[1..];
         for (index, symbol) in rest.iter().enumerate() {
-            if self.images.stands_before(rest, index)? {
+            if self.images.occurs_earlier(rest, index)? {
                 continue;
             }
             let variables = &mut self.variables;
@@ -341,7 +341,7 @@ impl DisjointTables {
         requires tables { AreTables pairs.now symbols.now self.old }
         requires below { AreBelow (length pairs.now.names) expr.now }
         requires range { (result_range.start ≤ result_range.end) × (result_range.end ≤ length symbols.now) }
-        requires whole { seen_at symbols.now result_range ≡ expr.now }
+        requires whole { symbols_in symbols.now result_range ≡ expr.now }
         ensures { AreTables pairs.now symbols.now self.new }
     {
         if expr.is_empty() {

@@ -6,7 +6,7 @@ ghost use Rattle.subst.specs.SymbolRanges.{AreInside, images_at};
 ghost use Rattle.subst.specs.declared.buffer.TheConstants.{SYMBOLS_LIMIT};
 
 use crate::buffer::SYMBOLS_LIMIT;
-use crate::copies::{LANES, copy_place, put_symbol};
+use crate::copies::{LANES, copy_range, put_symbol};
 use crate::image_ranges::ImageRanges;
 use std::alloc::AllocError;
 
@@ -29,7 +29,7 @@ pub fn fill(symbols: &mut [u32], at: usize, images: &ImageRanges, expr: &[u32]) 
     let mut end = at;
     for symbol in expr {
         end = match table.get(*symbol) {
-            Some(place) => copy_place(symbols, end, last, place)?,
+            Some(place) => copy_range(symbols, end, last, place)?,
             None => put_symbol(symbols, end, *symbol),
         };
     }

@@ -2,7 +2,7 @@
 ghost use Rattle.std.specs.Prelude.{◌≡◌, [], nat_eq, true, IfSome, Some};
 ghost use Rattle.std.specs.List.{Contains};
 ghost use Rattle.std.specs.Map.{lookup};
-ghost use Rattle.subst.specs.Stored.ImagePairs.{NotesPair};
+ghost use Rattle.subst.specs.Stored.ImagePairs.{RecordsPair};
 
 use crate::image_ranges::ImageRanges;
 use crate::symbol_range::SymbolRange;
@@ -95,8 +95,8 @@ impl ImagePairs {
     }
 
     /// Records that two images are disjoint, unless `MOST_PAIRS` are recorded or an allocation fails.
-    pub fn note(&mut self, pair: ImagePair)
-        ensures { NotesPair self.old self.new pair }
+    pub fn record_if_new(&mut self, pair: ImagePair)
+        ensures { RecordsPair self.old self.new pair }
     {
         let place = self.pairs.len();
         if place >= MOST_PAIRS || self.pairs.push(pair).is_err() {

@@ -249,7 +249,7 @@ impl ImageVariables {
     ///
     /// Errors: an allocation fails. Cost: constant.
     #[inline(always)]
-    pub fn stands_before(&mut self, list: &[u32], index: usize) -> Result<bool, AllocError>
+    pub fn occurs_earlier(&mut self, list: &[u32], index: usize) -> Result<bool, AllocError>
         requires { index < length list.now }
         ensures same { self.new ≡ self.old }
         ensures stands { IfOk result (λ ok. ok ≡ true → (at : ℕ) × (at < index) × (get_or list.now at 0 ≡ get_or list.now index 0)) }

@@ -6,7 +6,7 @@ ghost use Rattle.subst.specs.declared.buffer.TheConstants.{SYMBOLS_LIMIT};
 use crate::buffer::{Buffer, SYMBOLS_LIMIT};
 use crate::filling::filled_len;
 use crate::image_ranges::ImageRanges;
-use crate::symbol_range::{place_between, symbols_at};
+use crate::symbol_range::{range_between, symbols_at};
 use std::alloc::{AllocError, Global};
 use std::marker::Model;
 
@@ -56,7 +56,7 @@ impl Subst {
             return Err(AllocError);
         }
         self.symbols.extend(image)?;
-        let place = place_between(start, self.symbols.len());
+        let place = range_between(start, self.symbols.len());
         match self.images.set(symbol, place) {
             Ok(()) => Ok(()),
             Err(refused) => {

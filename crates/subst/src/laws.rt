@@ -1,5 +1,5 @@
 //! The laws of substitution and of the disjoint variable condition, each the contract of a function that does nothing.
-ghost use Rattle.subst.specs.Laws.{SubstitutionOverNames, PairClause};
+ghost use Rattle.subst.specs.Laws.{SubstitutionOverNames, DisjointConditionLaw};
 
 /// Substitution over numbers is substitution over the names that they stand for.
 pub fn substitution_over_names()
@@ -7,6 +7,6 @@ pub fn substitution_over_names()
 {}
 
 /// The disjoint variable condition holds if and only if the book's two sentences do.
-pub fn pair_clause()
-    ensures { PairClause }
+pub fn disjoint_condition_law()
+    ensures { DisjointConditionLaw }
 {}

@@ -38,6 +38,6 @@ pub use disjoint_cache::DisjointCache;
 pub use disjoint_condition::disjoint;
 pub use image_ranges::ImageRanges;
 pub use images::{Subst, apply, has_room};
-pub use laws::{pair_clause, substitution_over_names};
-pub use symbol_range::{SymbolRange, place_between, symbols_at};
+pub use laws::{disjoint_condition_law, substitution_over_names};
+pub use symbol_range::{SymbolRange, range_between, symbols_at};
 pub use vanishing::Remaining;

@@ -1,7 +1,7 @@
 //! Compares symbols of a buffer to an expression with the images substituted, without writing this.
 ghost use Rattle.std.specs.Prelude.{◌≡◌, ℕ, ◌∷◌, ◌++◌, ◌↔◌, ◌<◌, ◌≤◌, [], List, length, take, slice_range, IfSome, IfNone, IsTrue};
 ghost use Rattle.frame.specs.Substitution.{code_apply, code_image};
-ghost use Rattle.subst.specs.SymbolRanges.{AreInside, images_at, seen_at};
+ghost use Rattle.subst.specs.SymbolRanges.{AreInside, images_at, symbols_in};
 
 use crate::image_ranges::{ImageRanges, ImageTable};
 use crate::symbol_range::SymbolRange;
@@ -12,7 +12,7 @@ const LANES: usize = 16;
 
 /// Returns the length of a common prefix of two lists, up to `LANES`.
 #[inline(always)]
-fn count_alike(left: &[u32], right: &[u32]) -> usize
+fn common_prefix_len(left: &[u32], right: &[u32]) -> usize
     requires left { 16 ≤ length left.now }
     requires right { 16 ≤ length right.now }
     ensures { take result left.now ≡ take result right.now }
@@ -28,13 +28,13 @@ fn count_alike(left: &[u32], right: &[u32]) -> usize
 
 /// Returns whether the first `len` symbols of two lists agree. Mostly they are few, and are compared at once.
 #[inline(always)]
-fn begin_alike(left: &[u32], right: &[u32], len: usize) -> bool
+fn have_same_prefix(left: &[u32], right: &[u32], len: usize) -> bool
     requires left { len ≤ length left.now }
     requires right { len ≤ length right.now }
     ensures { IsTrue result ↔ (take len left.now ≡ take len right.now) }
 {
     let room = left.len().min(right.len());
-    if len <= LANES && LANES <= room && len <= count_alike(left, right) {
+    if len <= LANES && LANES <= room && len <= common_prefix_len(left, right) {
         return true;
     }
     left[..len] == right[..len]
@@ -45,14 +45,14 @@ fn begin_alike(left: &[u32], right: &[u32], len: usize) -> bool
 fn pass_range(symbols: &[u32], place: SymbolRange, at: usize, end: usize) -> Option<usize>
     requires image { (place.start ≤ place.end) × (place.end ≤ length symbols.now) }
     requires rest { (at ≤ end) × (end ≤ length symbols.now) }
-    ensures some { IfSome result (λ next. (next ≤ end) × (slice_range symbols.now at end ≡ seen_at symbols.now place ++ slice_range symbols.now next end)) }
-    ensures none { IfNone result ((more : List ℕ) → slice_range symbols.now at end ≡ seen_at symbols.now place ++ more → ⊥) }
+    ensures some { IfSome result (λ next. (next ≤ end) × (slice_range symbols.now at end ≡ symbols_in symbols.now place ++ slice_range symbols.now next end)) }
+    ensures none { IfNone result ((more : List ℕ) → slice_range symbols.now at end ≡ symbols_in symbols.now place ++ more → ⊥) }
 {
     let len = (place.end - place.start) as usize;
     if end - at < len {
         return None;
     }
-    if begin_alike(&symbols[place.start as usize..], &symbols[at..], len) {
+    if have_same_prefix(&symbols[place.start as usize..], &symbols[at..], len) {
         Some(at + len)
     } else {
         None
@@ -91,7 +91,7 @@ pub(crate) fn matches(
 ) -> bool
     requires inside { AreInside (length symbols.now) images.now }
     requires place { (whole.start ≤ whole.end) × (whole.end ≤ length symbols.now) }
-    ensures { IsTrue result ↔ (seen_at symbols.now whole ≡ code_apply (images_at symbols.now images.now) expr.now) }
+    ensures { IsTrue result ↔ (symbols_in symbols.now whole ≡ code_apply (images_at symbols.now images.now) expr.now) }
 {
     let table = images.table();
     let end = whole.end as usize;

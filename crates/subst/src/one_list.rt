@@ -1,6 +1,6 @@
 //! Finds one active `$d` that has all variables of two images.
 ghost use Rattle.std.specs.Prelude.{◌≡◌, ◌<◌, ◌≤◌, ◌⊎◌, ℕ, false, length, replicate, true, IfOk, IfSome, OnOk};
-ghost use Rattle.subst.specs.Stored.DisjointRows.{TellsEach};
+ghost use Rattle.subst.specs.Stored.DisjointRows.{DecidesEach};
 ghost use Rattle.subst.specs.Stored.PlaceSets.{ArePlacesBelow, HasBit, HasPlace};
 ghost use Rattle.subst.specs.Stored.SymbolMarks.{AreMarksOf, HasBoth, IsMarked, TakesMark, TakesPlaces};
 ghost use Rattle.subst.specs.Stored.VariablePlaces.{ArePlaced};
@@ -12,14 +12,14 @@ use std::alloc::{AllocError, Global};
 
 /// Looks for one active `$d` that has all variables of two images, by marking its symbols.
 #[derive(Drop)]
-pub(crate) struct OneList {
+pub(crate) struct OneDisjointList {
     marks: Vec<bool>,
 }
 
-impl OneList {
+impl OneDisjointList {
     /// Returns a search without marks. Does not allocate.
-    pub(crate) fn new(alloc: Global) -> OneList {
-        OneList {
+    pub(crate) fn new(alloc: Global) -> OneDisjointList {
+        OneDisjointList {
             marks: Vec::new(alloc),
         }
     }
@@ -36,7 +36,7 @@ impl OneList {
     /// them take at most `steps` steps.
     ///
     /// Errors: an allocation fails. Cost: linear in `steps`.
-    pub(crate) fn stand_in_one(
+    pub(crate) fn are_in_one(
         &mut self,
         pairs: &Pairs<'_>,
         variables: &VariablePlaces,
@@ -47,7 +47,7 @@ impl OneList {
         requires placed { ArePlaced pairs.now variables.now }
         requires there { ArePlacesBelow (length variables.now.variables) words.now }
         requires others { ArePlacesBelow (length variables.now.variables) others.now }
-        ensures { IfOk result (λ ok. ok ≡ true → TellsEach pairs.now variables.now words.now others.now true) }
+        ensures { IfOk result (λ ok. ok ≡ true → DecidesEach pairs.now variables.now words.now others.now true) }
     {
         let Some(place) = first_place(words) else {
             return Ok(false);

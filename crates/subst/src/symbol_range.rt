@@ -1,7 +1,7 @@
 //! Ranges of a buffer of symbols.
 ghost use Rattle.std.specs.Prelude.{◌≡◌, ◌≤◌, ◌==◌, length};
 ghost use Rattle.std.specs.List.{list_any};
-ghost use Rattle.subst.specs.SymbolRanges.{seen_at};
+ghost use Rattle.subst.specs.SymbolRanges.{symbols_in};
 ghost use Rattle.subst.specs.declared.buffer.TheConstants.{SYMBOLS_LIMIT};
 
 /// A range of a buffer of symbols: from `start` up to, and not including, `end`.
@@ -14,13 +14,13 @@ pub struct SymbolRange {
 /// Returns the symbols in a range.
 pub fn symbols_at(symbols: &[u32], place: SymbolRange) -> &[u32]
     requires { (place.start ≤ place.end) × (place.end ≤ length symbols.now) }
-    ensures { result.now ≡ seen_at symbols.now place }
+    ensures { result.now ≡ symbols_in symbols.now place }
 {
     &symbols[place.start as usize..place.end as usize]
 }
 
 /// Returns the range between two indexes within the bound of a buffer.
-pub fn place_between(start: usize, end: usize) -> SymbolRange
+pub fn range_between(start: usize, end: usize) -> SymbolRange
     requires { (start ≤ SYMBOLS_LIMIT) × (end ≤ SYMBOLS_LIMIT) }
     ensures { (result.start ≡ start) × (result.end ≡ end) }
 {

@@ -3,7 +3,7 @@ ghost use Rattle.std.specs.Prelude.{◌≡◌, ℕ, ◌<◌, ◌≤◌, true, fa
 ghost use Rattle.std.specs.List.{filter_map, flat_map};
 ghost use Rattle.entries.specs.SymbolPlaces.{ArePlacesOf};
 ghost use Rattle.frame.specs.Stored.Hypotheses.{In, AreThose};
-ghost use Rattle.subst.specs.Vanishing.{is_left, group_left, remaining, HaveSameResult};
+ghost use Rattle.subst.specs.Vanishing.{has_nonempty_image, group_left, remaining, HaveSameResult};
 
 use crate::image_ranges::{ImageRanges, ImageTable};
 use entries::SymbolPlaces;
@@ -59,7 +59,7 @@ impl Remaining {
 
 /// Returns whether the image of a symbol is not empty.
 fn is_kept(images: &ImageTable<'_>, symbol: u32) -> bool
-    ensures { result ≡ is_left images.now symbol }
+    ensures { result ≡ has_nonempty_image images.now symbol }
 {
     match images.get(symbol) {
         Some(place) => place.start < place.end,
@@ -82,8 +82,8 @@ fn symbol_at(expr: &[u32], index: u32) -> Option<u32>
 fn next_kept(images: &ImageTable<'_>, symbols: &[u32], from: usize) -> usize
     requires { from ≤ length symbols.now }
     ensures within { (from ≤ result) × (result ≤ length symbols.now) }
-    ensures passed { (j : ℕ) → from ≤ j → j < result → is_left images.now (slice_index symbols.now j) ≡ false }
-    ensures kept { result < length symbols.now → is_left images.now (slice_index symbols.now result) ≡ true }
+    ensures passed { (j : ℕ) → from ≤ j → j < result → has_nonempty_image images.now (slice_index symbols.now j) ≡ false }
+    ensures kept { result < length symbols.now → has_nonempty_image images.now (slice_index symbols.now result) ≡ true }
 {
     for at in from..symbols.len() {
         if is_kept(images, symbols[at]) {

@@ -1,5 +1,5 @@
 -- No rule and no frame asks whether an assertion is a `$a` or a `$p`.
-use Rattle.unproved.proofs.Words.{◌≡◌, ℕ, zero, suc, ◌+◌, ◌-◌, ◌==◌, Bool, true, false, not, cond, ◌||◌, ◌&&◌, nat_le, nat_lt, List, [], ◌∷◌, map, filter, take, drop, Some, None, option_map, refl, list_any, list_all, drop-map, take-map, ◌∙◌, ap, slice_get-map, Name, has_name, name_eq, Open, Close, Const, Var, Disj, Float, Ess, Axiom, Prove, Expr, active, active_from, before, count, expr_of, has_float, has_label, is_active, is_close, is_constant, is_essential, is_float_of, is_open, is_variable, label_of, constants, separated, stays_open, stmt_at, variables, was_label, was_symbol, all_different, broken_rule, end_rule, G1, G2, G3, G4, G5, G6, G7, G8, G9, G10, groups, hypotheses, is_hypothesis, is_mandatory, is_pair, is_used, mandatory_groups, separates, together, Images, image, are_groups_disjoint, as_axiom}
+use Rattle.unproved.proofs.Words.{◌≡◌, ℕ, zero, suc, ◌+◌, ◌-◌, ◌==◌, Bool, true, false, not, cond, ◌||◌, ◌&&◌, nat_le, nat_lt, List, [], ◌∷◌, map, filter, take, drop, Some, None, option_map, refl, list_any, list_all, drop-map, take-map, ◌∙◌, ap, slice_get-map, Name, has_name, name_eq, Open, Close, Const, Var, Disj, Float, Ess, Axiom, Prove, Expr, active, active_from, before, count, expr_of, has_float, has_label, is_active, is_close, is_constant, is_essential, is_float_of, is_open, is_variable, label_of, constants, separated, stays_open, stmt_at, variables, was_label, was_symbol, all_different, broken_rule, end_rule, G1, G2, G3, G4, G5, G6, G7, G8, G9, G10, groups, hypotheses, is_hypothesis, is_mandatory, is_pair, is_used, mandatory_groups, has_two_or_more, together, Images, image, are_groups_disjoint, as_axiom}
 use Rattle.mm_read.specs.declared.stmt.Stmt.{Stmt}
 use Rattle.mm_read.specs.Statements.{Database}
 
@@ -174,7 +174,7 @@ module _ (S : Database) where
         ∙ positions-at (is_hypothesis S s) (plain-same (is_hypothesis S s) (λ l e p. refl)) (active S))
 
     pub mandatory-plains : mandatory_groups (plains S) (as_axiom s) ≡ mandatory_groups S s
-    mandatory-plains = λ j. filter separates (map (filter (λ x. are_mandatory x j)) (groups-plains j))
+    mandatory-plains = λ j. filter has_two_or_more (map (filter (λ x. are_mandatory x j)) (groups-plains j))
 
   pub disjoint-plains : (σ : Images) (gs : List (List Name)) → are_groups_disjoint (plains S) σ gs ≡ are_groups_disjoint S σ gs
   disjoint-plains σ gs = λ j.

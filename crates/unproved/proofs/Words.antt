@@ -1,7 +1,7 @@
 -- The words in which this crate is proved, passed on from one place.
 pub use Rattle.frame.specs.Citations.{Carries, IsHypothesis, IsInstance, expr_at, is_hypothesis_kind, option_expr, premises}
 pub use Rattle.frame.specs.Disjoint.{are_groups_disjoint}
-pub use Rattle.frame.specs.FrameOf.{groups, hypotheses, is_hypothesis, is_mandatory, is_pair, is_used, mandatory_groups, separates, together}
+pub use Rattle.frame.specs.FrameOf.{groups, hypotheses, is_hypothesis, is_mandatory, is_pair, is_used, mandatory_groups, has_two_or_more, together}
 pub use Rattle.frame.specs.Substitution.{Images, image}
 pub use Rattle.library.proofs.AddingLemmas.{left-at, left-more, none-at-end, rule-at-end, rule-is, taken-more}
 pub use Rattle.library.proofs.CitedByLemmas.{not-provable}
@@ -35,6 +35,6 @@ pub use Rattle.verify.specs.Concludes.{ConcludeAll, Concludes}
 pub use Rattle.verify.specs.Derivations.{Derivation, Derivations, apply, hyp, more}
 pub use Rattle.verify.specs.KeptLists.{AreKeptFor}
 pub use Rattle.verify.specs.Proves.{label_or_none}
-pub use Rattle.verify.specs.Right.{IsRight, Says}
+pub use Rattle.verify.specs.Right.{IsRight, IsAnswerTo}
 pub use Rattle.verify.specs.Spells.{Spells, SpellsAll, cites_assertion, cites_hypothesis, marks, recalls, spells_more, spells_none}
 pub use denote.Enum.Bare.{sameb}

@@ -129,7 +129,7 @@ impl LegalDatabase {
             rules,
             frames,
         } = self;
-        Library::of_good(alloc, statements, rules, frames)
+        Library::from_good(alloc, statements, rules, frames)
     }
 
     /// Returns the statements, with each `$p` at one of these positions replaced by a `$a`.

@@ -1,11 +1,11 @@
 -- An assertion may be cited by lists that have its mandatory pairs.
-use Rattle.verify.proofs.Words.{◌≡◌, ℕ, suc, ◌<◌, Bool, true, false, not, ◌&&◌, ◌==◌, List, [], ◌∷◌, length, map, slice_get, Some, refl, sym, ◌∙◌, ap, subst, true≢false, inl, inr, arith, list_any, and_from, and_parts, or_cases, or_left, or_right, not-true, false_from_ne_true, eqb-true, both_ways, slice_get_within, some-same, Name, name_eq, has_name, name_same, same_name, name_at, decode, Stmt, Database, stmt_at, before, hypotheses, mandatory_groups, together, is_mandatory_pair, groups-pairs, pair_clause, Images, are_groups_disjoint, AllBelow, AreBelow, has_both, Hypothesis, IsBound, HasFloat, HasAssertion, AreRequired, AreLegal, AssertionView, IsCited, IsCitedBy}
+use Rattle.verify.proofs.Words.{◌≡◌, ℕ, suc, ◌<◌, Bool, true, false, not, ◌&&◌, ◌==◌, List, [], ◌∷◌, length, map, slice_get, Some, refl, sym, ◌∙◌, ap, subst, true≢false, inl, inr, arith, list_any, and_from, and_parts, or_cases, or_left, or_right, not-true, false_from_ne_true, eqb-true, both_ways, slice_get_within, some-same, Name, name_eq, has_name, name_same, same_name, name_at, decode, Stmt, Database, stmt_at, before, hypotheses, mandatory_groups, together, is_mandatory_pair, groups-pairs, disjoint_condition_law, Images, are_groups_disjoint, AllBelow, AreBelow, has_both, Hypothesis, IsBound, HasFloat, HasAssertion, AreRequired, AreLegal, AssertionView, IsCited, IsCitedBy}
 use Rattle.verify.proofs.RequiredHypotheses.{required-at, float-number}
 
 -- ---- lists of names with the same pairs
 
 same-pairs : (D : Database) (σ : Images) (gs hs : List (List Name)) → ((x y : Name) → together gs x y ≡ together hs x y) → are_groups_disjoint D σ gs ≡ true → are_groups_disjoint D σ hs ≡ true
-same-pairs D σ gs hs same h = (pair_clause D σ hs).1 (λ x y t. (pair_clause D σ gs).0 h x y (same x y ∙ t))
+same-pairs D σ gs hs same h = (disjoint_condition_law D σ hs).1 (λ x y t. (disjoint_condition_law D σ gs).0 h x y (same x y ∙ t))
 
 say-same : (D : Database) (σ : Images) (gs hs : List (List Name)) → ((x y : Name) → together gs x y ≡ together hs x y) → are_groups_disjoint D σ gs ≡ are_groups_disjoint D σ hs
 say-same D σ gs hs same = both_ways _ _ (same-pairs D σ gs hs same) (same-pairs D σ hs gs (λ x y. sym (same x y)))

@@ -1,6 +1,6 @@
 -- The results that an assertion takes are what some images make of its hypotheses, exactly where the first symbols agree
 -- and each `$e` is its result under the images that are read off the others.
-use Rattle.verify.proofs.Words.{◌≡◌, ℕ, zero, suc, ◌<◌, Bool, true, false, cond, List, [], ◌∷◌, ◌++◌, length, map, drop, get_or, slice_get, Option, Some, None, option_map, ◌⊎◌, refl, sym, ◌∙◌, ap, subst, arith, inl, inr, true≢false, append-nil, lt-ltb, length-map, ext_get_or, get_or_from_slice_get, slice_get_within, slice_get-map, Name, Stmt, Expr, Database, stmt_at, before, expr_of, is_variable, name_at, decode, code_of, AreDistinct, code-name, hypotheses, mandatory_groups, Images, image, applied, CodeImages, code_image, images_of_names, OfVariables, premises, expr_at, option_expr, are_groups_disjoint, AreBelow, AllBelow, AreOver, image-named, image-unnamed, image-decode, Hypothesis, Float, Essential, IsBound, HasFloat, IsFirstFixed, typecode_of, IsTypecode, IsRequired, AreRequired, IsTyped, AreRead, FitsOne, DoFit, some-same, name_at-injective}
+use Rattle.verify.proofs.Words.{◌≡◌, ℕ, zero, suc, ◌<◌, Bool, true, false, cond, List, [], ◌∷◌, ◌++◌, length, map, drop, get_or, slice_get, Option, Some, None, option_map, ◌⊎◌, refl, sym, ◌∙◌, ap, subst, arith, inl, inr, true≢false, append-nil, lt-ltb, length-map, ext_get_or, get_or_from_slice_get, slice_get_within, slice_get-map, Name, Stmt, Expr, Database, stmt_at, before, expr_of, is_variable, name_at, decode, code_of, AreDistinct, code-name, hypotheses, mandatory_groups, Images, image, applied, CodeImages, code_image, images_of_names, OfVariables, premises, expr_at, option_expr, are_groups_disjoint, AreBelow, AllBelow, AreOver, image-named, image-unnamed, image-decode, Hypothesis, Float, Essential, IsBound, HasFloat, IsFirstFixed, typecode_of, IsTypecode, IsRequired, AreRequired, IsTyped, AreRead, HypothesisMatches, DoMatch, some-same, name_at-injective}
 use Rattle.mm_read.specs.declared.stmt.Stmt.TheVariants as stmt
 use Rattle.verify.proofs.Named.{all-at}
 use Rattle.verify.proofs.RequiredHypotheses.{At, required-lengths, required-at, float-at, essential-at, float-number, float-find}
@@ -21,9 +21,9 @@ drop-decode names [] = refl
 drop-decode names (x ∷ e) = refl
 
 -- a list with symbols, and its first one
-pub headed : (names : List Name) (e : List ℕ) → 0 < length e → decode names e ≡ name_at names (typecode_of e) ∷ decode names (drop 1 e)
-headed names [] h = absurd (omega (arith, h))
-headed names (x ∷ e) h = refl
+pub typecodes_counted : (names : List Name) (e : List ℕ) → 0 < length e → decode names e ≡ name_at names (typecode_of e) ∷ decode names (drop 1 e)
+typecodes_counted names [] h = absurd (omega (arith, h))
+typecodes_counted names (x ∷ e) h = refl
 
 module _ (S : Database) (names : List Name) (a : ℕ) (s : Stmt) (distinct : AreDistinct names) (bound : IsBound S a s)
     (typecodes : List ℕ) (hs : List Hypothesis) (required : AreRequired S names (hypotheses (before S a) s) typecodes hs) (rs : List (List ℕ)) (count : length rs ≡ length hs) where
@@ -111,7 +111,7 @@ module _ (S : Database) (names : List Name) (a : ℕ) (s : Stmt) (distinct : Are
     disjoint-τ D gs = groups-members D τ N gs (λ k g x e f. image-τ x)
 
     -- what they make of the hypotheses are the results
-    module _ (fits : DoFit S N hs (map (decode names) rs)) where
+    module _ (fits : DoMatch S N hs (map (decode names) rs)) where
       one-premise : (k : ℕ) → k < length rs → (d : At S names ps typecodes hs k) → applied τ (expr_at S d.position) ≡ decode names (get_or rs k [])
       one-premise k less d = by d.hypothesis d.kind d.required
         where
@@ -128,7 +128,7 @@ module _ (S : Database) (names : List Name) (a : ℕ) (s : Stmt) (distinct : Are
               ∙ (apply-τ (f.constant ∷ f.variable ∷ [])
               ∙ (ap (λ e. e ++ (image N f.variable ++ [])) (image-constant f.constant fixed)
               ∙ (ap (λ e. f.constant ∷ e) (append-nil (image N f.variable) ∙ image-float k x f.variable kind f.below f.named)
-              ∙ (ap (λ c. c ∷ decode names (drop 1 (get_or rs k []))) (sym (ap (name_at names) typecode ∙ f.typecode_named)) ∙ sym (headed names (get_or rs k []) typed.some)))))
+              ∙ (ap (λ c. c ∷ decode names (drop 1 (get_or rs k []))) (sym (ap (name_at names) typecode ∙ f.typecode_named)) ∙ sym (typecodes_counted names (get_or rs k []) typed.some)))))
 
       pub premises-read : premises S a s τ ≡ map (decode names) rs
       premises-read =
@@ -213,10 +213,10 @@ module _ (S : Database) (names : List Name) (a : ℕ) (s : Stmt) (distinct : Are
           by false e = image-constant ρ read y e ∙ sym (fixed y e)
           by true e = float (has e)
 
-      pub fits-agree : DoFit S (images_of_names names ρ) hs (map (decode names) rs)
+      pub fits-agree : DoMatch S (images_of_names names ρ) hs (map (decode names) rs)
       fits-agree = record { each = one }
         where
-          one : (k : ℕ) (h : Hypothesis) → slice_get hs k ≡ Some h → FitsOne S (images_of_names names ρ) h (get_or (map (decode names) rs) k [])
+          one : (k : ℕ) (h : Hypothesis) → slice_get hs k ≡ Some h → HypothesisMatches S (images_of_names names ρ) h (get_or (map (decode names) rs) k [])
           one k (Float x) kind = tt
           one k (Essential q) kind =
               let d = at k (within k (Essential q) kind) in

@@ -14,15 +14,15 @@ module _ (S : Database) (at : ℕ) (single : IsSingle S at) where
     -- a derivation concludes one expression
     pub conclude_same : (t : Derivation) (e f : Expr) → Concludes S at t e → Concludes S at t f → e ≡ f
     conclude_same (hyp i) e f p q = p.2 ∙ (ap expr_of (some-same p.1.stands q.1.stands) ∙ sym q.2)
-    conclude_same (apply a kids) e f p q =
-        p.4 ∙ (conclude_instance a p.0 q.0 p.1 q.1 (some-same p.2.stands q.2.stands) p.2 q.2 (conclude_all_same kids (premises S a p.0 p.1) (premises S a q.0 q.1) p.3 q.3) ∙ sym q.4)
+    conclude_same (apply a children) e f p q =
+        p.4 ∙ (conclude_instance a p.0 q.0 p.1 q.1 (some-same p.2.stands q.2.stands) p.2 q.2 (conclude_all_same children (premises S a p.0 p.1) (premises S a q.0 q.1) p.3 q.3) ∙ sym q.4)
 
-    pub conclude_all_same : (kids : Derivations) (es fs : List Expr) → ConcludeAll S at kids es → ConcludeAll S at kids fs → es ≡ fs
+    pub conclude_all_same : (children : Derivations) (es fs : List Expr) → ConcludeAll S at children es → ConcludeAll S at children fs → es ≡ fs
     conclude_all_same none [] [] p q = refl
     conclude_all_same none [] (f ∷ fs) p q = absurd q
-    conclude_all_same (more t kids) (e ∷ es) [] p q = absurd q
-    conclude_all_same (more t kids) (e ∷ es) (f ∷ fs) p q = ap (λ r. r ∷ es) (conclude_same t e f p.0 q.0) ∙ ap (λ r. f ∷ r) (conclude_all_same kids es fs p.1 q.1)
-    conclude_all_same kids es fs p q = absurd p
+    conclude_all_same (more t children) (e ∷ es) [] p q = absurd q
+    conclude_all_same (more t children) (e ∷ es) (f ∷ fs) p q = ap (λ r. r ∷ es) (conclude_same t e f p.0 q.0) ∙ ap (λ r. f ∷ r) (conclude_all_same children es fs p.1 q.1)
+    conclude_all_same children es fs p q = absurd p
 
   -- ---- runs
 
@@ -46,10 +46,10 @@ module _ (S : Database) (at : ℕ) (single : IsSingle S at) where
     pub kept : AllConclude S at after saved'
     pub runs : (below : List Expr) (w : ℕ) → Runs S at (state below saved w) items (state (below ++ result ∷ []) saved' (w + weight))
 
-  pub record Results (items : List Item) (kids : Derivations) (after : List Derivation) (weight : ℕ) (saved : List Expr) : Type 0 where
+  pub record Results (items : List Item) (children : Derivations) (after : List Derivation) (weight : ℕ) (saved : List Expr) : Type 0 where
     pub results : List Expr
     pub saved' : List Expr
-    pub conclude : ConcludeAll S at kids results
+    pub conclude : ConcludeAll S at children results
     pub kept : AllConclude S at after saved'
     pub runs : (below : List Expr) (w : ℕ) → Runs S at (state below saved w) items (state (below ++ results) saved' (w + weight))
 
@@ -73,9 +73,9 @@ module _ (S : Database) (at : ℕ) (single : IsSingle S at) where
           kept = kept;
           runs = λ below w. (state (below ++ e ∷ []) saved (w + length e), (below, e, of_hypothesis i s carries active (ends.2 ∙ ap expr_of (some-same ends.1.stands active.stands)) refl, refl), refl);
         }
-    complete {items = items} {weight = weight} (cites_assertion {a = a} {kids = kids} s e label front front_weight carries citable ends all whole weighs) saved kept =
+    complete {items = items} {weight = weight} (cites_assertion {a = a} {children = children} s e label front front_weight carries citable ends all whole weighs) saved kept =
         let r = complete_all all saved kept in
-        let premises_same : r.results ≡ premises S a ends.0 ends.1 = conclude_all_same kids r.results (premises S a ends.0 ends.1) r.conclude ends.3 in
+        let premises_same : r.results ≡ premises S a ends.0 ends.1 = conclude_all_same children r.results (premises S a ends.0 ends.1) r.conclude ends.3 in
         let carries' : Carries S a ends.0 label = subst (λ v. Carries S a v label) (some-same carries.stands ends.2.stands) carries in
         record {
           result = e;
@@ -110,8 +110,8 @@ module _ (S : Database) (at : ℕ) (single : IsSingle S at) where
               (r.runs below w) (state (below ++ r.result ∷ []) marked' (w + weight), (below, r.result, refl, refl), refl) refl;
         }
 
-    pub complete_all : {marked after : List Derivation} {items : List Item} {kids : Derivations} {weight : ℕ} → SpellsAll S at marked items kids after weight
-        → (saved : List Expr) → AllConclude S at marked saved → Results items kids after weight saved
+    pub complete_all : {marked after : List Derivation} {items : List Item} {children : Derivations} {weight : ℕ} → SpellsAll S at marked items children after weight
+        → (saved : List Expr) → AllConclude S at marked saved → Results items children after weight saved
     complete_all spells_none saved kept =
         record { results = []; saved' = saved; conclude = tt; kept = kept; runs = λ below w. ap (λ r. state r saved w) (sym (append-nil below)) ∙ ap (state (below ++ []) saved) (sym (add-zero w)) }
     complete_all {items = items} {weight = weight} (spells_more first rest middle first_weight rest_weight one all whole weighs) saved kept =

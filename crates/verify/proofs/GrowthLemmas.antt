@@ -5,11 +5,11 @@ use Rattle.verify.proofs.Named.{halves, length-top}
 
 abbrev pub to_list : Derivations → List Derivation
 to_list none = []
-to_list (more t kids) = t ∷ to_list kids
+to_list (more t children) = t ∷ to_list children
 
-from-to : (kids : Derivations) → from_list (to_list kids) ≡ kids
+from-to : (children : Derivations) → from_list (to_list children) ≡ children
 from-to none = refl
-from-to (more t kids) = ap (λ r. more t r) (from-to kids)
+from-to (more t children) = ap (λ r. more t r) (from-to children)
 
 module _ (S : Database) (at : ℕ) where
   -- what grows over the first items and then over the rest grows over all
@@ -25,30 +25,30 @@ module _ (S : Database) (at : ℕ) where
   abbrev pub Yields : List Derivation → List Item → List Derivation → List Derivation → Type 0
   Yields marked items ts after = (below : List Derivation) → GrowsBy S at (trees below marked) items (trees (below ++ ts) after)
 
-  count-kids : (kids : Derivations) (es : List Expr) → ConcludeAll S at kids es → length (to_list kids) ≡ length es
+  count-kids : (children : Derivations) (es : List Expr) → ConcludeAll S at children es → length (to_list children) ≡ length es
   count-kids none [] p = refl
-  count-kids (more t kids) (e ∷ es) p = ap suc (count-kids kids es p.1)
-  count-kids kids es p = absurd p
+  count-kids (more t children) (e ∷ es) p = ap suc (count-kids children es p.1)
+  count-kids children es p = absurd p
 
   mutual
     pub yields : {marked after : List Derivation} {items : List Item} {t : Derivation} {weight : ℕ} → Spells S at marked items t after weight → Yields marked items (t ∷ []) after
     yields {marked} (cites_hypothesis {i = i} s e carries active ends) = λ below. (trees (below ++ hyp i ∷ []) marked, (below, hyp i, a_hypothesis i s carries active refl refl, refl), refl)
-    yields {marked} {after} {items} (cites_assertion {a = a} {kids = kids} s e label front front_weight carries citable ends all whole weighs) = λ below.
-        let many : length (to_list kids) ≡ length (hypotheses (before S a) s)
-        = count-kids kids (premises S a ends.0 ends.1) ends.3 ∙ (length-premises S a ends.0 ends.1 ∙ ap (λ u. length (hypotheses (before S a) u)) (some-same ends.2.stands carries.stands)) in
-        let end = trees (below ++ apply a kids ∷ []) after in
-        grows_behind front (Cite label ∷ []) items (trees below marked) (trees (below ++ to_list kids) after) end end whole (yields_all all below)
-        (end, (below, apply a kids, an_assertion a s (to_list kids) carries citable many refl (ap (λ r. apply a r) (sym (from-to kids))), refl), refl) refl
+    yields {marked} {after} {items} (cites_assertion {a = a} {children = children} s e label front front_weight carries citable ends all whole weighs) = λ below.
+        let many : length (to_list children) ≡ length (hypotheses (before S a) s)
+        = count-kids children (premises S a ends.0 ends.1) ends.3 ∙ (length-premises S a ends.0 ends.1 ∙ ap (λ u. length (hypotheses (before S a) u)) (some-same ends.2.stands carries.stands)) in
+        let end = trees (below ++ apply a children ∷ []) after in
+        grows_behind front (Cite label ∷ []) items (trees below marked) (trees (below ++ to_list children) after) end end whole (yields_all all below)
+        (end, (below, apply a children, an_assertion a s (to_list children) carries citable many refl (ap (λ r. apply a r) (sym (from-to children))), refl), refl) refl
     yields {marked} {t = t} (recalls e found ends) = λ below. (trees (below ++ t ∷ []) marked, (t, found, refl), refl)
     yields {marked} {after} {items} {t} (marks front before one whole added) = λ below.
         let end = trees (below ++ t ∷ []) (before ++ t ∷ []) in
         grows_behind front (Mark ∷ []) items (trees below marked) (trees (below ++ t ∷ []) before) end (trees (below ++ t ∷ []) after) whole (yields one below) (end, (below, t, refl, refl), refl) (ap (trees (below ++ t ∷ [])) (sym added))
 
-    pub yields_all : {marked after : List Derivation} {items : List Item} {kids : Derivations} {weight : ℕ} → SpellsAll S at marked items kids after weight → Yields marked items (to_list kids) after
+    pub yields_all : {marked after : List Derivation} {items : List Item} {children : Derivations} {weight : ℕ} → SpellsAll S at marked items children after weight → Yields marked items (to_list children) after
     yields_all {marked} spells_none = λ below. ap (λ r. trees r marked) (sym (append-nil below))
-    yields_all {marked} {after} {items} (spells_more {t = t} {kids = kids} first rest middle first_weight rest_weight one all whole weighs) = λ below.
-        grows_behind first rest items (trees below marked) (trees (below ++ t ∷ []) middle) (trees ((below ++ t ∷ []) ++ to_list kids) after) (trees (below ++ t ∷ to_list kids) after) whole
-        (yields one below) (yields_all all (below ++ t ∷ [])) (ap (λ v. trees v after) (append_assoc below (t ∷ []) (to_list kids)))
+    yields_all {marked} {after} {items} (spells_more {t = t} {children = children} first rest middle first_weight rest_weight one all whole weighs) = λ below.
+        grows_behind first rest items (trees below marked) (trees (below ++ t ∷ []) middle) (trees ((below ++ t ∷ []) ++ to_list children) after) (trees (below ++ t ∷ to_list children) after) whole
+        (yields one below) (yields_all all (below ++ t ∷ [])) (ap (λ v. trees v after) (append_assoc below (t ∷ []) (to_list children)))
 
   module _ (once : HasLabelsOnce S) where
     -- a label of an active hypothesis is not that of an assertion which can be cited
@@ -58,13 +58,13 @@ module _ (S : Database) (at : ℕ) where
     -- a citation builds one derivation
     builds_same : (label : Name) (stack b c : List Derivation) (t u : Derivation) → Builds S at label stack b t → Builds S at label stack c u → (b ≡ c) × (t ≡ u)
     builds_same label stack b c t u (a_hypothesis i s p active same whole) (a_hypothesis j r q active' same' whole') = (sym whole ∙ whole', same ∙ (ap (λ n. hyp n) (once i j s r label p q) ∙ sym same'))
-    builds_same label stack b c t u (a_hypothesis i s p active same whole) (an_assertion a r kids q citable many whole' same') = absurd (apart_kinds i a s r label p active q citable)
-    builds_same label stack b c t u (an_assertion a r kids q citable many whole' same') (a_hypothesis i s p active same whole) = absurd (apart_kinds i a s r label p active q citable)
-    builds_same label stack b c t u (an_assertion a s kids p citable many whole same) (an_assertion d r kids' q citable' many' whole' same') =
+    builds_same label stack b c t u (a_hypothesis i s p active same whole) (an_assertion a r children q citable many whole' same') = absurd (apart_kinds i a s r label p active q citable)
+    builds_same label stack b c t u (an_assertion a r children q citable many whole' same') (a_hypothesis i s p active same whole) = absurd (apart_kinds i a s r label p active q citable)
+    builds_same label stack b c t u (an_assertion a s children p citable many whole same) (an_assertion d r children' q citable' many' whole' same') =
         let n : a ≡ d = once a d s r label p q in
         let v : s ≡ r = some-same p.stands (ap (stmt_at S) n ∙ q.stands) in
-        let cut = append_cut b c kids kids' (sym whole ∙ whole') (many ∙ (ap (λ k. length (hypotheses (before S k) s)) n ∙ (ap (λ w. length (hypotheses (before S d) w)) v ∙ sym many'))) in
-        (cut.0, same ∙ (ap (λ k. apply k (from_list kids)) n ∙ (ap (λ ks. apply d (from_list ks)) cut.1 ∙ sym same')))
+        let cut = append_cut b c children children' (sym whole ∙ whole') (many ∙ (ap (λ k. length (hypotheses (before S k) s)) n ∙ (ap (λ w. length (hypotheses (before S d) w)) v ∙ sym many'))) in
+        (cut.0, same ∙ (ap (λ k. apply k (from_list children)) n ∙ (ap (λ ks. apply d (from_list ks)) cut.1 ∙ sym same')))
 
     -- one saved derivation by its number
     kept_same : (saved : List Derivation) (k : ℕ) (t u : Derivation) → IsKept saved k t → IsKept saved k u → t ≡ u
@@ -95,11 +95,11 @@ module _ (S : Database) (at : ℕ) (label : Name) where
   pub builds-takes : HasLabelsOnce S → (a : ℕ) (s : Stmt) → Carries S a s label → IsCitable S at a s → (stack b : List Derivation) (t : Derivation) → Builds S at label stack b t
       → length (hypotheses (before S a) s) ≤ length stack
   builds-takes once a s carries citable stack b t (a_hypothesis i r p active same whole) = absurd (apart_kinds S at once i a r s label p active carries citable)
-  builds-takes once a s carries citable stack b t (an_assertion d r kids q citable' many whole same) =
+  builds-takes once a s carries citable stack b t (an_assertion d r children q citable' many whole same) =
       let n : d ≡ a = once d a r s label q carries in
       let v : r ≡ s = some-same q.stands (ap (stmt_at S) n ∙ carries.stands) in
-      let m : length kids ≡ length (hypotheses (before S a) s) = many ∙ (ap (λ k. length (hypotheses (before S k) r)) n ∙ ap (λ w. length (hypotheses (before S a) w)) v) in
-      omega (arith, m, ap length whole, length-append b kids)
+      let m : length children ≡ length (hypotheses (before S a) s) = many ∙ (ap (λ k. length (hypotheses (before S k) r)) n ∙ ap (λ w. length (hypotheses (before S a) w)) v) in
+      omega (arith, m, ap length whole, length-append b children)
 
   pub too-few : HasLabelsOnce S → (a : ℕ) (s : Stmt) → Carries S a s label → IsCitable S at a s → (old new : Trees) (count : ℕ) → count ≡ length (hypotheses (before S a) s) → length old.stack < count → Grew false S at old (Cite label) new
   too-few once a s carries citable old new count same few = λ next p. let h = builds-takes once a s carries citable old.stack p.0 p.1 p.2 in omega (arith, h, same, few)

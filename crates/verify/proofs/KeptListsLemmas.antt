@@ -1,5 +1,5 @@
 -- The lists that a proof keeps say what the assertions' own do.
-use Rattle.verify.proofs.Words.{◌≡◌, ℕ, zero, suc, ◌+◌, ◌<◌, ◌≤◌, Bool, true, false, ◌&&◌, ◌||◌, ◌==◌, List, [], ◌∷◌, ◌++◌, length, length-append, map, take, take_all, take_more, map-append, Hypothesis, get_or, slice_get, Some, refl, sym, ap, subst, ◌∙◌, arith, and_from, list_all, list_any, same_Some, get_or_from_slice_get, slice_get_within, inl, inr, Name, Stmt, Database, stmt_at, before, expr_of, name_at, decode, name_eq, name_same, mandatory_groups, Images, image, AllBelow, AreBelow, IsViewOf, are_disjoint, is_group_disjoint, are_groups_disjoint, list_all-append, list_all-map, list_all_more, list_any_at, and_parts, eqb-true, or_cases, slice_range, cut-more, cut-push, extends-refl, range-behind, spans-push, told, AreSpansIn, cut, BufferPart, AssertionView, has_both, is_paired, are_covered, SaySame, IsCitedBy, Lists, AreMadeOf, AreListsOf, AreKeptLists, AreKeptFor, Kept, AreFacts, IsAt}
+use Rattle.verify.proofs.Words.{◌≡◌, ℕ, zero, suc, ◌+◌, ◌<◌, ◌≤◌, Bool, true, false, ◌&&◌, ◌||◌, ◌==◌, List, [], ◌∷◌, ◌++◌, length, length-append, map, take, take_all, take_more, map-append, Hypothesis, get_or, slice_get, Some, refl, sym, ap, subst, ◌∙◌, arith, and_from, list_all, list_any, same_Some, get_or_from_slice_get, slice_get_within, inl, inr, Name, Stmt, Database, stmt_at, before, expr_of, name_at, decode, name_eq, name_same, mandatory_groups, Images, image, AllBelow, AreBelow, IsViewOf, are_disjoint, is_group_disjoint, are_groups_disjoint, list_all-append, list_all-map, list_all_more, list_any_at, and_parts, eqb-true, or_cases, slice_range, cut-more, cut-push, extends-refl, range-behind, spans-push, told, AreSpansIn, cut, BufferPart, AssertionView, has_both, is_paired, are_covered, AreSameCondition, IsCitedBy, Lists, AreMadeOf, AreListsOf, AreKeptLists, AreKeptFor, Kept, AreFacts, IsAt}
 
 -- ---- the pairs of lists
 
@@ -79,17 +79,17 @@ and-implied : (a b : Bool) → (a ≡ true → b ≡ true) → a ≡ (a && b)
 and-implied true b h = sym (h refl)
 and-implied false b h = refl
 
-pub same-none : (hs : List (List ℕ)) → SaySame [] (take 0 hs)
+pub same-none : (hs : List (List ℕ)) → AreSameCondition [] (take 0 hs)
 same-none hs = λ names D σ. refl
 
-pub same-kept : (gs hs : List (List ℕ)) (i : ℕ) (g : List ℕ) → slice_get hs i ≡ Some g → i < length hs → SaySame gs (take i hs) → SaySame (gs ++ g ∷ []) (take (i + 1) hs)
+pub same-kept : (gs hs : List (List ℕ)) (i : ℕ) (g : List ℕ) → slice_get hs i ≡ Some g → i < length hs → AreSameCondition gs (take i hs) → AreSameCondition (gs ++ g ∷ []) (take (i + 1) hs)
 same-kept gs hs i g here less same = λ names D σ.
     let p = group names D σ in
     let front : list_all p gs ≡ list_all p (take i hs) = sym (list_all-map (is_group_disjoint D σ) (decode names) gs) ∙ (same names D σ ∙ list_all-map (is_group_disjoint D σ) (decode names) (take i hs)) in
     list_all-map (is_group_disjoint D σ) (decode names) (gs ++ g ∷ []) ∙ (list_all-append p gs (g ∷ []) ∙ (ap (λ b. list_all p gs && b) (and-true (p g)) ∙ (ap (λ b. b && p g) front
     ∙ (ap (λ (z : List ℕ). list_all p (take i hs) && p z) (sym (get_or_from_slice_get hs i g [] here)) ∙ (sym (list_all_more p hs i [] less) ∙ sym (list_all-map (is_group_disjoint D σ) (decode names) (take (i + 1) hs)))))))
 
-pub same-left : (gs hs : List (List ℕ)) (i : ℕ) (g : List ℕ) → slice_get hs i ≡ Some g → i < length hs → are_covered gs g ≡ true → SaySame gs (take i hs) → SaySame gs (take (i + 1) hs)
+pub same-left : (gs hs : List (List ℕ)) (i : ℕ) (g : List ℕ) → slice_get hs i ≡ Some g → i < length hs → are_covered gs g ≡ true → AreSameCondition gs (take i hs) → AreSameCondition gs (take (i + 1) hs)
 same-left gs hs i g here less covered same = λ names D σ.
     let p = group names D σ in
     let front : list_all p gs ≡ list_all p (take i hs) = sym (list_all-map (is_group_disjoint D σ) (decode names) gs) ∙ (same names D σ ∙ list_all-map (is_group_disjoint D σ) (decode names) (take i hs)) in
@@ -173,7 +173,7 @@ at-end ls l position same = record {
 
 pub made-of : (S : Database) (names : List Name) (a : ℕ) (s : Stmt) (c : AssertionView) (l : Lists) → IsCitedBy S names a s c → AreMadeOf a c l → AreListsOf S names l s
 made-of S names a s c l is made = record {
-  asked_of = rw (made.at, made.heads_same, made.asked_same) is.required;
+  hypotheses_of = rw (made.at, made.typecodes_same, made.hypotheses_same) is.required;
   disjoint = λ D σ. made.same names D σ ∙ (is.groups D σ ∙ ap (λ (b : ℕ). are_groups_disjoint D σ (mandatory_groups (before S b) s)) (sym made.at));
   below_names = made.below (length names) is.groups_below;
 }
@@ -190,7 +190,7 @@ cited-plain S names a s c is = record {
 pub cited-kept : (S : Database) (names : List Name) (a : ℕ) (s : Stmt) (l : Lists) (c : AssertionView) → AreListsOf S names l s → l.position ≡ a → c.typecodes.now ≡ l.typecodes → c.hypotheses ≡ l.required → c.groups ≡ l.groups
     → decode names c.conclusion.now ≡ expr_of s → AreBelow (length names) c.conclusion.now → IsCitedBy S names a s c
 cited-kept S names a s l c are at typecodes required groups same below = record {
-  required = rw (← at, typecodes, required) are.asked_of;
+  required = rw (← at, typecodes, required) are.hypotheses_of;
   conclusion = same;
   conclusion_below = below;
   groups = λ D σ. ap (λ gs. are_groups_disjoint D σ (map (decode names) gs)) groups ∙ (are.disjoint D σ ∙ ap (λ (b : ℕ). are_groups_disjoint D σ (mandatory_groups (before S b) s)) at);

@@ -74,9 +74,9 @@ entry_at S at labels table k d are h =
     subst (IsEntry S at (get_or labels k [])) (get_or_default table k Nothing d h) (are.each k (omega (arith, h, c)))
 
 -- what a label names that is that of a hypothesis before those of the table
-pub viewed-entry : (S : Database) (at : ℕ) (labels : List Name) (positions : List ℕ) (table : List LabelEntry) (k p : ℕ) → AreEntries S at labels (map Hypothesis positions ++ table) → slice_get positions k ≡ Some p
+pub viewed_entries-entry : (S : Database) (at : ℕ) (labels : List Name) (positions : List ℕ) (table : List LabelEntry) (k p : ℕ) → AreEntries S at labels (map Hypothesis positions ++ table) → slice_get positions k ≡ Some p
     → IsEntry S at (get_or labels k []) (Hypothesis p)
-viewed-entry S at labels positions table k p are there =
+viewed_entries-entry S at labels positions table k p are there =
     let within = slice_get_within positions k p there in
     let long = length-map positions Hypothesis in
     let all = length-append (map Hypothesis positions) table in

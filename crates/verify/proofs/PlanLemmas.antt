@@ -98,9 +98,9 @@ not-saved S at old new i h = λ next p.
     let w : i < length ts = slice_get_within ts i p.0 p.1 in
     omega (arith, l, w, h)
 
-pub kids-top : (ts : List Derivation) (stack kids : List ℕ) (keep count : ℕ) → keep ≡ length stack - count → kids ≡ drop keep stack
-    → map (pick ts) kids ≡ top count (map (pick ts) stack)
-kids-top ts stack kids keep count at whole =
+pub children-top : (ts : List Derivation) (stack children : List ℕ) (keep count : ℕ) → keep ≡ length stack - count → children ≡ drop keep stack
+    → map (pick ts) children ≡ top count (map (pick ts) stack)
+children-top ts stack children keep count at whole =
     let l = length-map stack (pick ts) in
     ap (map (pick ts)) whole ∙ (map-drop (pick ts) keep stack ∙ ap (λ n. drop n (map (pick ts) stack)) (omega (arith, at, l)))
 
@@ -133,28 +133,28 @@ extent-low extents ts k e is h =
     let m : e.depth ≡ min (depth (pick ts k)) 1025 = ap (λ v. v.depth) x in
     (omega (arith, n), omega (arith, m))
 
-pub record IsSoFar (ts : List Derivation) (kids : List ℕ) (i nodes deep : ℕ) : Type 0 where
-  pub counted : nodes ≡ min (1 + nodes_in (from_list (map (pick ts) (take i kids)))) 65537
-  pub reached : deep ≡ min (1 + depth_in (from_list (map (pick ts) (take i kids)))) 1025
+pub record IsSoFar (ts : List Derivation) (children : List ℕ) (i nodes deep : ℕ) : Type 0 where
+  pub counted : nodes ≡ min (1 + nodes_in (from_list (map (pick ts) (take i children)))) 65537
+  pub reached : deep ≡ min (1 + depth_in (from_list (map (pick ts) (take i children)))) 1025
 
-pub so-far-step : (ts : List Derivation) (kids : List ℕ) (extents : List Extent) (i nodes deep nodes' deep' : ℕ) (e : Extent) → IsSoFar ts kids i nodes deep → extents ≡ map extent_of ts → i < length kids
-    → slice_get extents (get_or kids i 0) ≡ Some e
-    → nodes' ≡ min (nodes + e.nodes) 65537 → deep' ≡ max deep (min (e.depth + 1) 1025) → IsSoFar ts kids (i + 1) nodes' deep'
-so-far-step ts kids extents i nodes deep nodes' deep' e far is h at p q =
-    let k = get_or kids i 0 in
+pub so-far-step : (ts : List Derivation) (children : List ℕ) (extents : List Extent) (i nodes deep nodes' deep' : ℕ) (e : Extent) → IsSoFar ts children i nodes deep → extents ≡ map extent_of ts → i < length children
+    → slice_get extents (get_or children i 0) ≡ Some e
+    → nodes' ≡ min (nodes + e.nodes) 65537 → deep' ≡ max deep (min (e.depth + 1) 1025) → IsSoFar ts children (i + 1) nodes' deep'
+so-far-step ts children extents i nodes deep nodes' deep' e far is h at p q =
+    let k = get_or children i 0 in
     let x : e ≡ extent_of (pick ts k) = child-extent extents ts k e is at in
     let en : e.nodes ≡ min (node_count (pick ts k)) 65537 = ap (λ v. v.nodes) x in
     let ed : e.depth ≡ min (depth (pick ts k)) 1025 = ap (λ v. v.depth) x in
-    let more : map (pick ts) (take (i + 1) kids) ≡ map (pick ts) (take i kids) ++ pick ts k ∷ [] = ap (map (pick ts)) (take_more kids i 0 h) ∙ map_push (pick ts) (take i kids) k in
-    let n : nodes_in (from_list (map (pick ts) (take (i + 1) kids))) ≡ nodes_in (from_list (map (pick ts) (take i kids))) + node_count (pick ts k) = ap (λ v. nodes_in (from_list v)) more ∙ nodes_in-snoc (map (pick ts) (take i kids)) (pick ts k) in
-    let d : depth_in (from_list (map (pick ts) (take (i + 1) kids))) ≡ max (depth_in (from_list (map (pick ts) (take i kids)))) (depth (pick ts k)) = ap (λ v. depth_in (from_list v)) more ∙ depth_in-snoc (map (pick ts) (take i kids)) (pick ts k) in
+    let more : map (pick ts) (take (i + 1) children) ≡ map (pick ts) (take i children) ++ pick ts k ∷ [] = ap (map (pick ts)) (take_more children i 0 h) ∙ map_push (pick ts) (take i children) k in
+    let n : nodes_in (from_list (map (pick ts) (take (i + 1) children))) ≡ nodes_in (from_list (map (pick ts) (take i children))) + node_count (pick ts k) = ap (λ v. nodes_in (from_list v)) more ∙ nodes_in-snoc (map (pick ts) (take i children)) (pick ts k) in
+    let d : depth_in (from_list (map (pick ts) (take (i + 1) children))) ≡ max (depth_in (from_list (map (pick ts) (take i children)))) (depth (pick ts k)) = ap (λ v. depth_in (from_list v)) more ∙ depth_in-snoc (map (pick ts) (take i children)) (pick ts k) in
     let a = far.counted in
     let b = far.reached in
     record { counted = omega (arith, en, n, a, p); reached = omega (arith, ed, d, b, q) }
 
-pub so-far-end : (ts : List Derivation) (ks : List ℕ) (i nodes deep a : ℕ) (kids : Vec ℕ Global) (n : Node) → IsSoFar ts ks i nodes deep → length ks ≤ i → ks ≡ kids.items → n ≡ Apply a kids
+pub so-far-end : (ts : List Derivation) (ks : List ℕ) (i nodes deep a : ℕ) (children : Vec ℕ Global) (n : Node) → IsSoFar ts ks i nodes deep → length ks ≤ i → ks ≡ children.items → n ≡ Apply a children
     → (let e : Extent = record { nodes = nodes; depth = deep } in e) ≡ extent_of (derive ts n)
-so-far-end ts ks i nodes deep a kids n far over same is = rw (is, far.counted, far.reached, take_all i ks over, same) refl
+so-far-end ts ks i nodes deep a children n far over same is = rw (is, far.counted, far.reached, take_all i ks over, same) refl
 
 -- a node over those before it
 take-ordered : (k : ℕ) (ns : List Node) (i : ℕ) (d : Node) → AreOrdered k ns → i < length ns → IsAfter (k + i) (get_or ns i d)
@@ -207,17 +207,17 @@ picked ns i d h =
 pub picked-hyp : (ns : List Node) (i p : ℕ) (n : Node) → i < length ns → n ≡ get_or ns i n → n ≡ Hyp p → pick (built ns) i ≡ hyp p
 picked-hyp ns i p n h at is = picked ns i n h ∙ (ap (derive (built (take i ns))) (sym at) ∙ ap (derive (built (take i ns))) is)
 
-kids-after : (ns : List Node) (i p : ℕ) (kids : Vec ℕ Global) (n : Node) → AreOrdered 0 ns → i < length ns → n ≡ get_or ns i n → n ≡ Apply p kids → AreBelow i kids.items
-kids-after ns i p kids n o h at is = subst (IsAfter i) is (subst (IsAfter i) (sym at) (node-after ns i n o h))
+children-after : (ns : List Node) (i p : ℕ) (children : Vec ℕ Global) (n : Node) → AreOrdered 0 ns → i < length ns → n ≡ get_or ns i n → n ≡ Apply p children → AreBelow i children.items
+children-after ns i p children n o h at is = subst (IsAfter i) is (subst (IsAfter i) (sym at) (node-after ns i n o h))
 
-pub picked-apply : (ns : List Node) (i p : ℕ) (kids : Vec ℕ Global) (n : Node) → AreOrdered 0 ns → i < length ns → n ≡ get_or ns i n → n ≡ Apply p kids → pick (built ns) i ≡ apply p (from_list (map (pick (built ns)) kids.items))
-picked-apply ns i p kids n o h at is =
+pub picked-apply : (ns : List Node) (i p : ℕ) (children : Vec ℕ Global) (n : Node) → AreOrdered 0 ns → i < length ns → n ≡ get_or ns i n → n ≡ Apply p children → pick (built ns) i ≡ apply p (from_list (map (pick (built ns)) children.items))
+picked-apply ns i p children n o h at is =
     let f = built-front ns i in
     let l = length-built' (take i ns) in
     let t = length-take-le i ns (omega (arith, h)) in
     let e : i ≡ length (built (take i ns)) = omega (arith, l, t) in
     picked ns i n h ∙ (ap (derive (built (take i ns))) (sym at) ∙ (ap (derive (built (take i ns))) is
-    ∙ ap (λ ks. apply p (from_list ks)) (sym (ap (λ ts. map (pick ts) kids.items) f.1 ∙ map-pick (built (take i ns)) f.0 kids.items (subst (λ k. AreBelow k kids.items) e (kids-after ns i p kids n o h at is))))))
+    ∙ ap (λ ks. apply p (from_list ks)) (sym (ap (λ ts. map (pick ts) children.items) f.1 ∙ map-pick (built (take i ns)) f.0 children.items (subst (λ k. AreBelow k children.items) e (children-after ns i p children n o h at is))))))
 
-pub kid-low : (ns : List Node) (i p : ℕ) (kids : Vec ℕ Global) (n : Node) (items : List ℕ) (j : ℕ) → AreOrdered 0 ns → i < length ns → n ≡ get_or ns i n → n ≡ Apply p kids → items ≡ kids.items → j < length items → get_or items j 0 < i
-kid-low ns i p kids n items j o h at is same lt = below-at i items j 0 (subst (AreBelow i) (sym same) (kids-after ns i p kids n o h at is)) lt
+pub kid-low : (ns : List Node) (i p : ℕ) (children : Vec ℕ Global) (n : Node) (items : List ℕ) (j : ℕ) → AreOrdered 0 ns → i < length ns → n ≡ get_or ns i n → n ≡ Apply p children → items ≡ children.items → j < length items → get_or items j 0 < i
+kid-low ns i p children n items j o h at is same lt = below-at i items j 0 (subst (AreBelow i) (sym same) (children-after ns i p children n o h at is)) lt

@@ -1,5 +1,5 @@
 -- Images read off results, one hypothesis after another, and results held against `$e`, by numbers and by names.
-use Rattle.verify.proofs.Words.{◌≡◌, ℕ, zero, suc, ◌+◌, ◌-◌, ◌<◌, ◌≤◌, min, nat_eq, nat_lt, Bool, true, false, cond, List, [], ◌∷◌, length, map, take, drop, get_or, slice_get, Some, None, refl, ◌↔◌, IsTrue, sym, ◌∙◌, ap, subst, arith, true≢false, nat_tests, slice_get_within, slice_get-get_or, same_Some, drop_more, drop-take, drop-drop, typecode_of, code_image, applied, CodeImages, code_apply, images_of_names, SymbolRange, seen_at, images_at, AreWithin, image-some, image-none, within-get, length-seen, Hypothesis, Float, Essential, AreDifferent, AreFloats, AreFront, IsTyped, Reads, IsStanding, AreStanding, FitsOne, tail_of, BeginsWith, IsMistyped, ReadTo, ReadsAll, some-same, decode-injective, Name, Stmt, Database, stmt_at, expr_of, decode, AreDistinct, AreBelow, AllBelow, expr_at, option_expr, AreOver, substitution_over_names, ◌^◌, lookup}
+use Rattle.verify.proofs.Words.{◌≡◌, ℕ, zero, suc, ◌+◌, ◌-◌, ◌<◌, ◌≤◌, min, nat_eq, nat_lt, Bool, true, false, cond, List, [], ◌∷◌, length, map, take, drop, get_or, slice_get, Some, None, refl, ◌↔◌, IsTrue, sym, ◌∙◌, ap, subst, arith, true≢false, nat_tests, slice_get_within, slice_get-get_or, same_Some, drop_more, drop-take, drop-drop, typecode_of, code_image, applied, CodeImages, code_apply, images_of_names, SymbolRange, symbols_in, images_at, AreWithin, image-some, image-none, within-get, length-seen, Hypothesis, Float, Essential, AreDifferent, AreFloats, AreLeadingFloats, IsTyped, Reads, IsPresent, ArePresent, HypothesisMatches, tail_of, BeginsWith, IsMistyped, ReadTo, ReadsAll, some-same, decode-injective, Name, Stmt, Database, stmt_at, expr_of, decode, AreDistinct, AreBelow, AllBelow, expr_at, option_expr, AreOver, substitution_over_names, ◌^◌, lookup}
 use Rattle.verify.proofs.CitingLemmas.{get-decode, get-map-of}
 use Rattle.verify.proofs.Named.{all-at}
 use Rattle.verify.proofs.ImageLemmas.{apply-below, are-codes}
@@ -41,7 +41,7 @@ module _ (symbols typecodes : List ℕ) (hs : List Hypothesis) (places : List Sy
   }
 
   -- behind the `$f` that stand first
-  pub front-next : (n : ℕ) → i < 2 ^ 64 → AreFront hs i → n ≡ min (i + 1) (2 ^ 64 - 1) → (images : List (ℕ × SymbolRange)) → ReadTo i symbols typecodes hs places images → ReadTo n symbols typecodes hs places images
+  pub front-next : (n : ℕ) → i < 2 ^ 64 → AreLeadingFloats hs i → n ≡ min (i + 1) (2 ^ 64 - 1) → (images : List (ℕ × SymbolRange)) → ReadTo i symbols typecodes hs places images → ReadTo n symbols typecodes hs places images
   front-next n low front is images r = split (nat_lt i n) refl
     where
       split : (b : Bool) → nat_lt i n ≡ b → ReadTo n symbols typecodes hs places images
@@ -76,7 +76,7 @@ floats-next hs k x at before j less = split (nat_lt j k) refl
 -- ---- places as lists of symbols
 
 -- what stands behind the first symbol, as a range of its own
-tail-range : (xs : List ℕ) (p : SymbolRange) → p.start < p.end → seen_at xs (tail_of p) ≡ drop 1 (seen_at xs p)
+tail-range : (xs : List ℕ) (p : SymbolRange) → p.start < p.end → symbols_in xs (tail_of p) ≡ drop 1 (symbols_in xs p)
 tail-range xs p low =
     let m = p.end - (p.start + 1) in
     let e : p.end - p.start ≡ 1 + m = omega (arith, low) in
@@ -87,41 +87,41 @@ typecode-drop xs a zero h m = absurd (omega (arith, m))
 typecode-drop xs a (suc n) h m = ap (λ l. typecode_of (take (suc n) l)) (drop_more xs a 0 h)
 
 -- the symbols at a place, and the list of them
-begun-typed : (symbols : List ℕ) (typecode : ℕ) (p : SymbolRange) → p.end ≤ length symbols → BeginsWith symbols typecode p → IsTyped typecode (seen_at symbols p)
+begun-typed : (symbols : List ℕ) (typecode : ℕ) (p : SymbolRange) → p.end ≤ length symbols → BeginsWith symbols typecode p → IsTyped typecode (symbols_in symbols p)
 begun-typed symbols typecode p high b =
     let low = b.0 in
     let len = length-seen symbols p (omega (arith, low)) high in
     record { some = omega (arith, low, len); first = typecode-drop symbols p.start (p.end - p.start) (omega (arith, low, high)) (omega (arith, low)) ∙ b.1 }
 
-typed-begun : (symbols : List ℕ) (typecode : ℕ) (p : SymbolRange) → p.start ≤ p.end → p.end ≤ length symbols → IsTyped typecode (seen_at symbols p) → BeginsWith symbols typecode p
+typed-begun : (symbols : List ℕ) (typecode : ℕ) (p : SymbolRange) → p.start ≤ p.end → p.end ≤ length symbols → IsTyped typecode (symbols_in symbols p) → BeginsWith symbols typecode p
 typed-begun symbols typecode p low high t =
     let len = length-seen symbols p low high in
     let some = t.some in
     (omega (arith, some, len), sym (typecode-drop symbols p.start (p.end - p.start) (omega (arith, some, len, high)) (omega (arith, some, len))) ∙ t.first)
 
 pub reads-seen : (ok : Bool) (symbols typecodes : List ℕ) (hs : List Hypothesis) (places : List SymbolRange) (images : List (ℕ × SymbolRange)) → length places ≡ length hs → AreWithin (length symbols) places
-    → ReadsAll ok (length hs) symbols typecodes hs places images → Reads ok typecodes hs (map (seen_at symbols) places) (images_at symbols images)
+    → ReadsAll ok (length hs) symbols typecodes hs places images → Reads ok typecodes hs (map (symbols_in symbols) places) (images_at symbols images)
 reads-seen true symbols typecodes hs places images count within r = record { typed = typed; image = image; own = λ x none. image-none symbols images x (r.own x (λ k less. none k)) }
   where
     there : (k x : ℕ) → slice_get hs k ≡ Some (Float x) → (p : SymbolRange) × (slice_get places k ≡ Some p)
     there k x kind = let none : SymbolRange = record { start = 0; end = 0 } in (get_or places k none, place-at hs places k (Float x) none count kind)
 
-    typed : (k x : ℕ) → slice_get hs k ≡ Some (Float x) → IsTyped (get_or typecodes k 0) (get_or (map (seen_at symbols) places) k [])
+    typed : (k x : ℕ) → slice_get hs k ≡ Some (Float x) → IsTyped (get_or typecodes k 0) (get_or (map (symbols_in symbols) places) k [])
     typed k x kind =
         let p = there k x kind in
         let begun = (r.each k x p.0 (slice_get_within hs k (Float x) kind) kind p.1).0 in
         let w = within-get (length symbols) k places p.0 within p.1 in
-        subst (IsTyped (get_or typecodes k 0)) (sym (get-map-of (seen_at symbols) places k p.0 [] p.1)) (begun-typed symbols (get_or typecodes k 0) p.0 w.1 begun)
+        subst (IsTyped (get_or typecodes k 0)) (sym (get-map-of (symbols_in symbols) places k p.0 [] p.1)) (begun-typed symbols (get_or typecodes k 0) p.0 w.1 begun)
 
-    image : (k x : ℕ) → slice_get hs k ≡ Some (Float x) → code_image (images_at symbols images) x ≡ drop 1 (get_or (map (seen_at symbols) places) k [])
+    image : (k x : ℕ) → slice_get hs k ≡ Some (Float x) → code_image (images_at symbols images) x ≡ drop 1 (get_or (map (symbols_in symbols) places) k [])
     image k x kind =
         let p = there k x kind in
         let e = r.each k x p.0 (slice_get_within hs k (Float x) kind) kind p.1 in
         image-some symbols images x (tail_of p.0) e.1
-        ∙ (tail-range symbols p.0 e.0.0 ∙ ap (drop 1) (sym (get-map-of (seen_at symbols) places k p.0 [] p.1)))
+        ∙ (tail-range symbols p.0 e.0.0 ∙ ap (drop 1) (sym (get-map-of (symbols_in symbols) places k p.0 [] p.1)))
 reads-seen false symbols typecodes hs places images count within r =
     let w = within-get (length symbols) r.0 places r.2 within r.4 in
-    (r.0, r.1, r.3, λ typed. r.5 (typed-begun symbols (get_or typecodes r.0 0) r.2 w.0 w.1 (subst (IsTyped (get_or typecodes r.0 0)) (get-map-of (seen_at symbols) places r.0 r.2 [] r.4) typed)))
+    (r.0, r.1, r.3, λ typed. r.5 (typed-begun symbols (get_or typecodes r.0 0) r.2 w.0 w.1 (subst (IsTyped (get_or typecodes r.0 0)) (get-map-of (symbols_in symbols) places r.0 r.2 [] r.4) typed)))
 
 pub essential-iff : (S : Database) (names : List Name) (ρ : CodeImages) (q : ℕ) (s : Stmt) (r e : List ℕ) (b : Bool) → AreDistinct names → stmt_at S q ≡ Some s → decode names e ≡ expr_of s
     → AreBelow (length names) e → AreOver names ρ → AreBelow (length names) r → IsTrue b ↔ (r ≡ code_apply ρ e) → IsTrue b ↔ (decode names r ≡ applied (images_of_names names ρ) (expr_at S q))
@@ -132,15 +132,15 @@ essential-iff S names ρ q s r e b distinct stands same below over low h =
       λ d. h.1 (decode-injective names r (code_apply ρ e) distinct low (apply-below names ρ e over below) (d ∙ sym whole)),
     )
 
-pub standing-at : (S : Database) (hs : List Hypothesis) (k : ℕ) (h : Hypothesis) → AreStanding S hs → slice_get hs k ≡ Some h → IsStanding S h
+pub standing-at : (S : Database) (hs : List Hypothesis) (k : ℕ) (h : Hypothesis) → ArePresent S hs → slice_get hs k ≡ Some h → IsPresent S h
 standing-at S [] k h a e = absurd (cc)
-standing-at S (x ∷ hs) zero h a e = subst (IsStanding S) (same_Some x h e) a.0
+standing-at S (x ∷ hs) zero h a e = subst (IsPresent S) (same_Some x h e) a.0
 standing-at S (x ∷ hs) (suc k) h a e = standing-at S hs k h a.1 e
 
 -- the comparison that is made for a `$e`
-pub fits-essential : (S : Database) (names : List Name) (hs : List Hypothesis) (rs : List (List ℕ)) (ρ ρ' : CodeImages) (k q : ℕ) (r e : List ℕ) (b : Bool) → AreDistinct names → AreStanding S hs → slice_get hs k ≡ Some (Essential q)
+pub fits-essential : (S : Database) (names : List Name) (hs : List Hypothesis) (rs : List (List ℕ)) (ρ ρ' : CodeImages) (k q : ℕ) (r e : List ℕ) (b : Bool) → AreDistinct names → ArePresent S hs → slice_get hs k ≡ Some (Essential q)
     → ((s : Stmt) → stmt_at S q ≡ Some s → decode names e ≡ expr_of s) → AreBelow (length names) e → AreOver names ρ → AllBelow (length names) rs → ρ' ≡ ρ → r ≡ get_or rs k [] → IsTrue b ↔ (r ≡ code_apply ρ' e)
-    → IsTrue b ↔ FitsOne S (images_of_names names ρ) (Essential q) (get_or (map (decode names) rs) k [])
+    → IsTrue b ↔ HypothesisMatches S (images_of_names names ρ) (Essential q) (get_or (map (decode names) rs) k [])
 fits-essential S names hs rs ρ ρ' k q r e b distinct standing at same below over low images here h =
     let s = standing-at S hs k (Essential q) standing at in
     subst (λ v. IsTrue b ↔ (v ≡ applied (images_of_names names ρ) (expr_at S q))) (ap (decode names) here ∙ sym (get-decode names rs k))

@@ -1,5 +1,5 @@
 -- The mandatory hypotheses of an assertion, one place at a time.
-use Rattle.verify.proofs.Words.{◌≡◌, ℕ, zero, suc, ◌<◌, Bool, true, false, nat_eq, List, [], ◌∷◌, length, slice_get, Some, ◌⊎◌, refl, sym, ◌∙◌, ap, subst, arith, inl, inr, nat_tests, slice_get_within, Name, Stmt, Expr, Database, stmt_at, before, expr_of, name_at, hypotheses, Hypothesis, Float, Essential, IsBound, IsTypecode, IsOf, IsRequired, AreRequired, AreDifferent, IsStanding, AreStanding, some-same}
+use Rattle.verify.proofs.Words.{◌≡◌, ℕ, zero, suc, ◌<◌, Bool, true, false, nat_eq, List, [], ◌∷◌, length, slice_get, Some, ◌⊎◌, refl, sym, ◌∙◌, ap, subst, arith, inl, inr, nat_tests, slice_get_within, Name, Stmt, Expr, Database, stmt_at, before, expr_of, name_at, hypotheses, Hypothesis, Float, Essential, IsBound, IsTypecode, IsOf, IsRequired, AreRequired, AreDifferent, IsPresent, ArePresent, some-same}
 use Rattle.mm_read.specs.declared.stmt.Stmt.TheVariants as stmt
 
 -- ---- one place
@@ -70,11 +70,11 @@ module _ (S : Database) (names : List Name) where
       let f = essential-at p typecode q a in
       let same : Some (stmt.Ess f.label f.expr) ≡ Some (stmt.Float l c v) = sym f.stands ∙ stands in cc
 
-  pub required-standing : (ps typecodes : List ℕ) (hs : List Hypothesis) → AreRequired S names ps typecodes hs → AreStanding S hs
+  pub required-standing : (ps typecodes : List ℕ) (hs : List Hypothesis) → AreRequired S names ps typecodes hs → ArePresent S hs
   required-standing [] [] [] a = tt
   required-standing (p ∷ ps) (c ∷ typecodes) (h ∷ hs) a = (one h a.0, required-standing ps typecodes hs a.1)
     where
-      one : (h : Hypothesis) → IsRequired S names p c h → IsStanding S h
+      one : (h : Hypothesis) → IsRequired S names p c h → IsPresent S h
       one (Float x) a = tt
       one (Essential q) a = let f = essential-at p c q a in (stmt.Ess f.label f.expr, ap (stmt_at S) f.same ∙ f.stands)
   required-standing ps typecodes hs a = absurd a

@@ -1,5 +1,5 @@
 -- Results in a buffer that grows.
-use Rattle.verify.proofs.Words.{◌≡◌, ℕ, zero, suc, ◌+◌, ◌-◌, ◌<◌, ◌≤◌, List, [], ◌∷◌, ◌++◌, length, map, take, drop, get_or, replicate, slice_get, slice_set, Some, refl, option_map, sym, ◌∙◌, ap, subst, append_assoc, arith, length-append, length-drop, length-map, map-set, take-map, drop-map, map_push, take_rest, slice_get-map, slice_get-get_or, get_or_from_slice_get, SymbolRange, seen_at, AreWithin, AreInside, map-seen-more, within-weaken, within-snoc, within-take, within-drop, within-get, within-at, seen-get, length-seen, seen-last, inside-more, inside-none, Results, with_result, IsSaved, seen, AreKept, Keeps, below, top, weight_limit, get-last}
+use Rattle.verify.proofs.Words.{◌≡◌, ℕ, zero, suc, ◌+◌, ◌-◌, ◌<◌, ◌≤◌, List, [], ◌∷◌, ◌++◌, length, map, take, drop, get_or, replicate, slice_get, slice_set, Some, refl, option_map, sym, ◌∙◌, ap, subst, append_assoc, arith, length-append, length-drop, length-map, map-set, take-map, drop-map, map_push, take_rest, slice_get-map, slice_get-get_or, get_or_from_slice_get, SymbolRange, symbols_in, AreWithin, AreInside, map-seen-more, within-weaken, within-snoc, within-take, within-drop, within-get, within-at, seen-get, length-seen, seen-last, inside-more, inside-none, Results, with_result, IsSaved, seen, AreKept, Keeps, below, top, weight_limit, get-last}
 
 pub map-drop : {A B : Type 0} (f : A → B) (k : ℕ) (xs : List A) → map f (drop k xs) ≡ drop k (map f xs)
 map-drop f k xs = sym (drop-map f k xs)
@@ -41,13 +41,13 @@ pushed-kept xs images stack saved stack' w p k b whole =
 
 pub added-seen : (xs ys zs : List ℕ) (stack rest saved stack' : List SymbolRange) (w v : ℕ) (p : SymbolRange) → AreWithin (length xs) saved → AreWithin (length xs) rest
     → zs ≡ xs ++ ys → p.start ≡ length xs → p.end ≡ length zs → stack' ≡ rest ++ p ∷ [] → v ≡ w + length ys
-    → seen zs stack' saved v ≡ with_result (seen xs stack saved w) (map (seen_at xs) rest) ys
+    → seen zs stack' saved v ≡ with_result (seen xs stack saved w) (map (symbols_in xs) rest) ys
 added-seen xs ys zs stack rest saved stack' w v p k r e low high whole weighs =
-    results-same (map (seen_at zs) stack') (map (seen_at xs) rest ++ ys ∷ []) (map (seen_at zs) saved) (map (seen_at xs) saved) v (w + length ys)
-    (ap (map (seen_at zs)) whole ∙ (map_push (seen_at zs) rest p
-    ∙ (ap (λ r. r ++ seen_at zs p ∷ []) (ap (λ s. map (seen_at s) rest) e ∙ map-seen-more xs ys rest r)
-    ∙ ap (λ s. map (seen_at xs) rest ++ s ∷ []) (seen-last xs ys zs p e low high))))
-    (ap (λ s. map (seen_at s) saved) e ∙ map-seen-more xs ys saved k)
+    results-same (map (symbols_in zs) stack') (map (symbols_in xs) rest ++ ys ∷ []) (map (symbols_in zs) saved) (map (symbols_in xs) saved) v (w + length ys)
+    (ap (map (symbols_in zs)) whole ∙ (map_push (symbols_in zs) rest p
+    ∙ (ap (λ r. r ++ symbols_in zs p ∷ []) (ap (λ s. map (symbols_in s) rest) e ∙ map-seen-more xs ys rest r)
+    ∙ ap (λ s. map (symbols_in xs) rest ++ s ∷ []) (seen-last xs ys zs p e low high))))
+    (ap (λ s. map (symbols_in s) saved) e ∙ map-seen-more xs ys saved k)
     weighs
 
 -- ---- a place that is changed
@@ -66,11 +66,11 @@ kept-keep xs images stack saved saved' w k label p a h e =
 pub keep-seen : (xs : List ℕ) (stack saved saved' : List SymbolRange) (w label : ℕ) (p : SymbolRange) → slice_get stack (length stack - 1) ≡ Some p → saved' ≡ slice_set saved label p → Keeps (seen xs stack saved w) (seen xs stack saved' w) label
 keep-seen xs stack saved saved' w label p last set = λ rest e split.
     let low = length stack - 1 in
-    let same : seen_at xs p ≡ e =
-    sym (get_or_from_slice_get (map (seen_at xs) stack) low (seen_at xs p) [] (slice_get-map (seen_at xs) stack low ∙ ap (option_map (seen_at xs)) last))
-    ∙ (ap (λ r. get_or r low []) split ∙ get-last rest e low [] (omega (arith, ap length split, length-append rest (e ∷ []), length-map stack (seen_at xs)))) in
-    results-same (map (seen_at xs) stack) (map (seen_at xs) stack) (map (seen_at xs) saved') (slice_set (map (seen_at xs) saved) label e) w w refl
-    (ap (map (seen_at xs)) set ∙ (map-set (seen_at xs) saved label p ∙ ap (slice_set (map (seen_at xs) saved) label) same)) refl
+    let same : symbols_in xs p ≡ e =
+    sym (get_or_from_slice_get (map (symbols_in xs) stack) low (symbols_in xs p) [] (slice_get-map (symbols_in xs) stack low ∙ ap (option_map (symbols_in xs)) last))
+    ∙ (ap (λ r. get_or r low []) split ∙ get-last rest e low [] (omega (arith, ap length split, length-append rest (e ∷ []), length-map stack (symbols_in xs)))) in
+    results-same (map (symbols_in xs) stack) (map (symbols_in xs) stack) (map (symbols_in xs) saved') (slice_set (map (symbols_in xs) saved) label e) w w refl
+    (ap (map (symbols_in xs)) set ∙ (map-set (symbols_in xs) saved label p ∙ ap (slice_set (map (symbols_in xs) saved) label) same)) refl
 
 -- ---- marked and recalled
 
@@ -100,27 +100,27 @@ get-map-some f xs k d h = slice_get-map f xs k ∙ ap (option_map f) (slice_get-
 
 -- a saved result by its index
 pub recall-seen : (xs : List ℕ) (stack stack' saved : List SymbolRange) (w v k : ℕ) (d p : SymbolRange) → AreWithin (length xs) saved → k < length saved → p ≡ get_or saved k d
-    → stack' ≡ stack ++ p ∷ [] → v ≡ w + (p.end - p.start) → (e : List ℕ) × IsSaved (map (seen_at xs) saved) (suc k) e × (seen xs stack' saved v ≡ with_result (seen xs stack saved w) (map (seen_at xs) stack) e)
+    → stack' ≡ stack ++ p ∷ [] → v ≡ w + (p.end - p.start) → (e : List ℕ) × IsSaved (map (symbols_in xs) saved) (suc k) e × (seen xs stack' saved v ≡ with_result (seen xs stack saved w) (map (symbols_in xs) stack) e)
 recall-seen xs stack stack' saved w v k d p a less at whole weighs =
     let b = saved-at (length xs) k saved p d a less at in
-    let len : length (seen_at xs p) ≡ p.end - p.start = length-seen xs p b.0 b.1 in (
-      seen_at xs p,
-      get-map-some (seen_at xs) saved k d less ∙ ap (λ q. Some (seen_at xs q)) (sym at),
-      results-same (map (seen_at xs) stack') (map (seen_at xs) stack ++ seen_at xs p ∷ []) (map (seen_at xs) saved) (map (seen_at xs) saved) v (w + length (seen_at xs p))
-          (ap (map (seen_at xs)) whole ∙ map_push (seen_at xs) stack p) refl (weighs ∙ ap (λ n. w + n) (sym len)),
+    let len : length (symbols_in xs p) ≡ p.end - p.start = length-seen xs p b.0 b.1 in (
+      symbols_in xs p,
+      get-map-some (symbols_in xs) saved k d less ∙ ap (λ q. Some (symbols_in xs q)) (sym at),
+      results-same (map (symbols_in xs) stack') (map (symbols_in xs) stack ++ symbols_in xs p ∷ []) (map (symbols_in xs) saved) (map (symbols_in xs) saved) v (w + length (symbols_in xs p))
+          (ap (map (symbols_in xs)) whole ∙ map_push (symbols_in xs) stack p) refl (weighs ∙ ap (λ n. w + n) (sym len)),
     )
 
 -- a saved result that is too heavy
 pub recall-heavy : (xs : List ℕ) (saved : List SymbolRange) (w k : ℕ) (d p : SymbolRange) → AreWithin (length xs) saved → w ≤ weight_limit → k < length saved → p ≡ get_or saved k d
-    → weight_limit - w < p.end - p.start → (e : List ℕ) → IsSaved (map (seen_at xs) saved) (suc k) e → weight_limit < w + length e
+    → weight_limit - w < p.end - p.start → (e : List ℕ) → IsSaved (map (symbols_in xs) saved) (suc k) e → weight_limit < w + length e
 recall-heavy xs saved w k d p a light less at heavy e h =
     let b = saved-at (length xs) k saved p d a less at in
-    let len : length (seen_at xs p) ≡ p.end - p.start = length-seen xs p b.0 b.1 in
-    let same : e ≡ seen_at xs p = get-map (seen_at xs) saved k e h d ∙ ap (seen_at xs) (sym at) in
+    let len : length (symbols_in xs p) ≡ p.end - p.start = length-seen xs p b.0 b.1 in
+    let same : e ≡ symbols_in xs p = get-map (symbols_in xs) saved k e h d ∙ ap (symbols_in xs) (sym at) in
     omega (arith, ap length same, len, heavy, light)
 
 -- what is saved at an index has symbols where its place has
-pub some-saved : (xs : List ℕ) (saved : List SymbolRange) (k : ℕ) (p d : SymbolRange) → AreWithin (length xs) saved → k < length saved → p ≡ get_or saved k d → p.start < p.end → 0 < length (get_or (map (seen_at xs) saved) k [])
+pub some-saved : (xs : List ℕ) (saved : List SymbolRange) (k : ℕ) (p d : SymbolRange) → AreWithin (length xs) saved → k < length saved → p ≡ get_or saved k d → p.start < p.end → 0 < length (get_or (map (symbols_in xs) saved) k [])
 some-saved xs saved k p d a within at less =
     let b = within-at (length xs) k saved d a within in
     let more : (get_or saved k d).start < (get_or saved k d).end = subst (λ r. r.start < r.end) at less in
@@ -131,7 +131,7 @@ pub within-none : (n m : ℕ) → AreWithin m (replicate n (let p : SymbolRange 
 within-none zero m = tt
 within-none (suc n) m = (omega arith, omega arith, within-none n m)
 
-pub seen-none : (n : ℕ) → map (seen_at []) (replicate n (let p : SymbolRange = record { start = 0; end = 0 } in p)) ≡ replicate n []
+pub seen-none : (n : ℕ) → map (symbols_in []) (replicate n (let p : SymbolRange = record { start = 0; end = 0 } in p)) ≡ replicate n []
 seen-none zero = refl
 seen-none (suc n) = ap (λ r. [] ∷ r) (seen-none n)
 
@@ -157,8 +157,8 @@ resized-none n m old new e f g =
 pub started-seen : (xs : List ℕ) (n : ℕ) (stack saved : List SymbolRange) → xs ≡ [] → stack ≡ [] → saved ≡ replicate n (let p : SymbolRange = record { start = 0; end = 0 } in p)
     → seen xs stack saved 0 ≡ (let r : Results ℕ = record { stack = []; saved = replicate n []; weight = 0 } in r)
 started-seen xs n stack saved e f g =
-    results-same (map (seen_at xs) stack) [] (map (seen_at xs) saved) (replicate n []) 0 0
-    (ap (map (seen_at xs)) f) (ap (λ s. map (seen_at s) saved) e ∙ (ap (map (seen_at [])) g ∙ seen-none n)) refl
+    results-same (map (symbols_in xs) stack) [] (map (symbols_in xs) saved) (replicate n []) 0 0
+    (ap (map (symbols_in xs)) f) (ap (λ s. map (symbols_in s) saved) e ∙ (ap (map (symbols_in [])) g ∙ seen-none n)) refl
 
 -- ---- the last results
 
@@ -166,25 +166,25 @@ started-seen xs n stack saved e f g =
 pub last-count : {A : Type 0} (k r : ℕ) (s : List A) → r ≤ length s → k ≡ length s - r → length (take (length s - k) (drop k s)) ≡ r
 last-count k r s h e = let a = ap length (take_rest s k) in let b = length-drop k s in omega (arith, a, b, h, e)
 
-pub last-seen : (xs : List ℕ) (k r : ℕ) (s : List SymbolRange) → k ≡ length s - r → map (seen_at xs) (take (length s - k) (drop k s)) ≡ top r (map (seen_at xs) s)
+pub last-seen : (xs : List ℕ) (k r : ℕ) (s : List SymbolRange) → k ≡ length s - r → map (symbols_in xs) (take (length s - k) (drop k s)) ≡ top r (map (symbols_in xs) s)
 last-seen xs k r s e =
-    ap (map (seen_at xs)) (take_rest s k) ∙ (map-drop (seen_at xs) k s
-    ∙ ap (λ n. drop n (map (seen_at xs) s)) (e ∙ ap (λ n. n - r) (sym (length-map s (seen_at xs)))))
+    ap (map (symbols_in xs)) (take_rest s k) ∙ (map-drop (symbols_in xs) k s
+    ∙ ap (λ n. drop n (map (symbols_in xs) s)) (e ∙ ap (λ n. n - r) (sym (length-map s (symbols_in xs)))))
 
 -- the same, for a copy of the places
-pub seen_eq : (xs : List ℕ) (s e : List SymbolRange) (all : List (List ℕ)) (k r : ℕ) → e ≡ s → map (seen_at xs) s ≡ all → k ≡ length s - r → map (seen_at xs) (take (length e - k) (drop k e)) ≡ top r all
-seen_eq xs s e all k r q v l = ap (λ w. map (seen_at xs) (take (length w - k) (drop k w))) q ∙ (last-seen xs k r s l ∙ ap (top r) v)
+pub seen_eq : (xs : List ℕ) (s e : List SymbolRange) (all : List (List ℕ)) (k r : ℕ) → e ≡ s → map (symbols_in xs) s ≡ all → k ≡ length s - r → map (symbols_in xs) (take (length e - k) (drop k e)) ≡ top r all
+seen_eq xs s e all k r q v l = ap (λ w. map (symbols_in xs) (take (length w - k) (drop k w))) q ∙ (last-seen xs k r s l ∙ ap (top r) v)
 
 pub last-within : (n k : ℕ) (s : List SymbolRange) → AreWithin n s → AreWithin n (take (length s - k) (drop k s))
 last-within n k s w = within-take n (length s - k) (drop k s) (within-drop n k s w)
 
 -- one of the last r places, in a copy of the places
-pub seen_place : (xs : List ℕ) (s e : List SymbolRange) (all : List (List ℕ)) (k r i : ℕ) (d : SymbolRange) → e ≡ s → map (seen_at xs) s ≡ all → k ≡ length s - r → r ≤ length all → i < r → AreWithin (length xs) s
-    → (let p : SymbolRange = get_or (take (length e - k) (drop k e)) i d in ((p.start ≤ p.end) × (p.end ≤ length xs)) × (seen_at xs p ≡ get_or (top r all) i []))
+pub seen_place : (xs : List ℕ) (s e : List SymbolRange) (all : List (List ℕ)) (k r i : ℕ) (d : SymbolRange) → e ≡ s → map (symbols_in xs) s ≡ all → k ≡ length s - r → r ≤ length all → i < r → AreWithin (length xs) s
+    → (let p : SymbolRange = get_or (take (length e - k) (drop k e)) i d in ((p.start ≤ p.end) × (p.end ≤ length xs)) × (symbols_in xs p ≡ get_or (top r all) i []))
 seen_place xs s e all k r i d q v l h less w =
     let places = take (length e - k) (drop k e) in
-    let seen : map (seen_at xs) places ≡ top r all = seen_eq xs s e all k r q v l in
-    let there : i < length places = omega (arith, ap length seen, length-map places (seen_at xs), length-drop (length all - r) all, h, less) in
+    let seen : map (symbols_in xs) places ≡ top r all = seen_eq xs s e all k r q v l in
+    let there : i < length places = omega (arith, ap length seen, length-map places (symbols_in xs), length-drop (length all - r) all, h, less) in
     let within = subst (λ t. AreWithin (length xs) (take (length t - k) (drop k t))) (sym q) (last-within (length xs) k s w) in
     (within-at (length xs) i places d within there, sym (seen-get xs i places d there) ∙ ap (λ u. get_or u i []) seen)
 
@@ -201,10 +201,10 @@ apply-kept xs ys zs images stack saved stack' w v k p a e low high whole weighs 
 
 pub apply-seen : (xs ys zs : List ℕ) (images : List (ℕ × SymbolRange)) (stack saved stack' : List SymbolRange) (w v k r : ℕ) (p : SymbolRange) → AreKept xs images stack saved w → k ≡ length stack - r
     → zs ≡ xs ++ ys → p.start ≡ length xs → p.end ≡ length zs → stack' ≡ take k stack ++ p ∷ [] → v ≡ w + length ys
-    → seen zs stack' saved v ≡ with_result (seen xs stack saved w) (below r (map (seen_at xs) stack)) ys
+    → seen zs stack' saved v ≡ with_result (seen xs stack saved w) (below r (map (symbols_in xs) stack)) ys
 apply-seen xs ys zs images stack saved stack' w v k r p a at e low high whole weighs =
     added-seen xs ys zs stack (take k stack) saved stack' w v p a.saved_within (within-take (length xs) k stack a.stack_within) e low high whole weighs
-    ∙ ap (λ b. with_result (seen xs stack saved w) b ys) (sym (take-map (seen_at xs) k stack) ∙ ap (λ n. take n (map (seen_at xs) stack)) (at ∙ ap (λ n. n - r) (sym (length-map stack (seen_at xs)))))
+    ∙ ap (λ b. with_result (seen xs stack saved w) b ys) (sym (take-map (symbols_in xs) k stack) ∙ ap (λ n. take n (map (symbols_in xs) stack)) (at ∙ ap (λ n. n - r) (sym (length-map stack (symbols_in xs)))))
 
 -- other images
 pub kept-read : (xs : List ℕ) (images images' : List (ℕ × SymbolRange)) (stack saved : List SymbolRange) (w : ℕ) → AreKept xs images stack saved w → AreInside (length xs) images' → AreKept xs images' stack saved w

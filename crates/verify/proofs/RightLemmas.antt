@@ -1,5 +1,5 @@
 -- What is answered of a right proof, and of a compressed proof that was read.
-use Rattle.verify.proofs.Words.{◌≡◌, ℕ, ◌≤◌, ◌<◌, ◌↔◌, min, List, [], length, map, get_or, Some, Result, Ok, Err, IfOk, refl, option_map, Bool, true, false, not, ◌∷◌, ◌++◌, take, sym, ◌∙◌, ap, subst, arith, inl, inr, true≢false, length-map, take_at, slice_get-get_or, not-false, not-true, Database, Stmt, HasLabelsOnce, Item, Extent, Node, TreePlan, Derivation, node_count, depth, IsRight, Derives, IsSmall, IsProvable, Says, trees, GrowsBy, pick, built, trees_of, IsPlan, extent_of, below-at, bare, bares, stmt_at, is_provable, before, stmt_at-bares, Name, hypotheses, items_of, share_label, IsHeading, label_or_none, mandatory_labels, Proves, some-same, bare-same, is_compressed, finish, Writes, WritesCompressed, compressed_finished, one_list, Answer, Proved, Wrong}
+use Rattle.verify.proofs.Words.{◌≡◌, ℕ, ◌≤◌, ◌<◌, ◌↔◌, min, List, [], length, map, get_or, Some, Result, Ok, Err, IfOk, refl, option_map, Bool, true, false, not, ◌∷◌, ◌++◌, take, sym, ◌∙◌, ap, subst, arith, inl, inr, true≢false, length-map, take_at, slice_get-get_or, not-false, not-true, Database, Stmt, HasLabelsOnce, Item, Extent, Node, TreePlan, Derivation, node_count, depth, IsRight, Derives, IsSmall, IsProvable, IsAnswerTo, trees, GrowsBy, pick, built, trees_of, IsPlan, extent_of, below-at, bare, bares, stmt_at, is_provable, before, stmt_at-bares, Name, hypotheses, items_of, share_label, IsHeading, label_or_none, mandatory_labels, Proves, some-same, bare-same, is_compressed, finish, Writes, WritesCompressed, compressed_finished, one_list, Answer, Proved, Wrong}
 use Rattle.verify.specs.declared.answer.TreeFault.TheVariants.{Wrong}
 use Rattle.verify.proofs.GrowthLemmas.{spelled_once, leaves, only-number}
 use Rattle.verify.proofs.PlanLemmas.{length-built', child-extent}
@@ -78,8 +78,8 @@ module _ (S : Database) (at : ℕ) (s : Stmt) (tokens : List Name) (provable : I
 
     -- none is: the items of the numbers decide
     pub read-proves : {E : Type 0} (b : Bool) → b ≡ true → b ≡ not (share_label (mandatory_labels S at s) (take count words)) → length (mandatory_labels S at s) ≡ m
-        → (r : Result Answer E) → IfOk r (λ answer. Says answer (IsRight S at (items_of (mandatory_labels S at s ++ take count words) numbers)))
-        → IfOk r (λ answer. Says answer (Proves S at tokens))
+        → (r : Result Answer E) → IfOk r (λ answer. IsAnswerTo answer (IsRight S at (items_of (mandatory_labels S at s ++ take count words) numbers)))
+        → IfOk r (λ answer. IsAnswerTo answer (Proves S at tokens))
     read-proves {E = E} b e is long r says = by r says
       where
         apart : share_label (mandatory_labels S at s) heading.listed ≡ false
@@ -91,7 +91,7 @@ module _ (S : Database) (at : ℕ) (s : Stmt) (tokens : List Name) (provable : I
         written : Writes tokens (mandatory_labels S at s) (items_of (mandatory_labels S at s ++ take count words) numbers)
         written = inl (compressed, (compressed_finished tokens (mandatory_labels S at s) (items_of (mandatory_labels S at s ++ take count words) numbers) writes, writes))
 
-        by : (r : Result Answer E) → IfOk r (λ answer. Says answer (IsRight S at (items_of (mandatory_labels S at s ++ take count words) numbers))) → IfOk r (λ answer. Says answer (Proves S at tokens))
+        by : (r : Result Answer E) → IfOk r (λ answer. IsAnswerTo answer (IsRight S at (items_of (mandatory_labels S at s ++ take count words) numbers))) → IfOk r (λ answer. IsAnswerTo answer (Proves S at tokens))
         by (Err x) h = tt
         by (Ok Proved) h = record { stmt = s; items = items_of (mandatory_labels S at s ++ take count words) numbers; provable = provable; written = written; right = h }
         by (Ok Wrong) h = λ p.

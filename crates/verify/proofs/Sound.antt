@@ -11,30 +11,30 @@ module _ (S : Database) (at : ℕ) where
 
   -- behind the marked derivations, the items spell derivations of these expressions
   pub record Stacked (marked : List Derivation) (items : List Item) (es : List Expr) (after : List Derivation) (weight : ℕ) : Type 0 where
-    pub kids : Derivations
-    pub spelled : SpellsAll S at marked items kids after weight
-    pub concluded : ConcludeAll S at kids es
+    pub children : Derivations
+    pub spelled : SpellsAll S at marked items children after weight
+    pub concluded : ConcludeAll S at children es
 
   -- one more derivation, appended
-  pushed : {marked between after : List Derivation} {front more_items : List Item} {t : Derivation} {front_weight more_weight : ℕ} (kids : Derivations) (below : List Expr) (e : Expr) (items : List Item) (weight : ℕ)
-      → SpellsAll S at marked front kids between front_weight → ConcludeAll S at kids below → Spells S at between more_items t after more_weight → Concludes S at t e
+  pushed : {marked between after : List Derivation} {front more_items : List Item} {t : Derivation} {front_weight more_weight : ℕ} (children : Derivations) (below : List Expr) (e : Expr) (items : List Item) (weight : ℕ)
+      → SpellsAll S at marked front children between front_weight → ConcludeAll S at children below → Spells S at between more_items t after more_weight → Concludes S at t e
       → items ≡ front ++ more_items → weight ≡ front_weight + more_weight → Stacked marked items (below ++ e ∷ []) after weight
   pushed {after = after} {more_items = more_items} {t = t} {more_weight = more_weight} none [] e items weight spells_none p one last whole weighs =
       record {
-        kids = more t none;
+        children = more t none;
         spelled = spells_more more_items [] after more_weight 0 one spells_none (whole ∙ sym (append-nil more_items)) (weighs ∙ (zero-add more_weight ∙ sym (add-zero more_weight)));
         concluded = (last, tt);
       }
-  pushed {more_items = more_items} {more_weight = more_weight} (more u kids) (b ∷ below) e items weight (spells_more first rest middle first_weight rest_weight other all q r) p one last whole weighs =
-      let s = pushed kids below e (rest ++ more_items) (rest_weight + more_weight) all p.1 one last refl refl in
+  pushed {more_items = more_items} {more_weight = more_weight} (more u children) (b ∷ below) e items weight (spells_more first rest middle first_weight rest_weight other all q r) p one last whole weighs =
+      let s = pushed children below e (rest ++ more_items) (rest_weight + more_weight) all p.1 one last refl refl in
       record {
-        kids = more u s.kids;
+        children = more u s.children;
         spelled = spells_more first (rest ++ more_items) middle first_weight (rest_weight + more_weight) other s.spelled
             (whole ∙ (ap (λ is. is ++ more_items) q ∙ append_assoc first rest more_items)) (weighs ∙ (ap (λ w. w + more_weight) r ∙ add_assoc first_weight rest_weight more_weight));
         concluded = (p.0, s.concluded);
       }
   pushed none (b ∷ below) e items weight all p one last whole weighs = absurd p
-  pushed (more u kids) [] e items weight all p one last whole weighs = absurd p
+  pushed (more u children) [] e items weight all p one last whole weighs = absurd p
 
   pub record Cut (marked : List Derivation) (items : List Item) (below tops : List Expr) (after : List Derivation) (weight : ℕ) : Type 0 where
     pub between : List Derivation
@@ -48,40 +48,40 @@ module _ (S : Database) (at : ℕ) where
     pub weighs : weight ≡ front_weight + rest_weight
 
   -- the items can be cut before the derivations of the last expressions
-  cut : {marked after : List Derivation} {items : List Item} {weight : ℕ} (kids : Derivations) (below tops : List Expr)
-      → SpellsAll S at marked items kids after weight → ConcludeAll S at kids (below ++ tops) → Cut marked items below tops after weight
-  cut {marked} {items = items} {weight = weight} kids [] tops all p =
+  cut : {marked after : List Derivation} {items : List Item} {weight : ℕ} (children : Derivations) (below tops : List Expr)
+      → SpellsAll S at marked items children after weight → ConcludeAll S at children (below ++ tops) → Cut marked items below tops after weight
+  cut {marked} {items = items} {weight = weight} children [] tops all p =
       record {
         between = marked;
         front = [];
         rest = items;
         front_weight = 0;
         rest_weight = weight;
-        first = record { kids = none; spelled = spells_none; concluded = tt };
-        second = record { kids = kids; spelled = all; concluded = p };
+        first = record { children = none; spelled = spells_none; concluded = tt };
+        second = record { children = children; spelled = all; concluded = p };
         whole = refl;
         weighs = sym (zero-add weight);
       }
   cut none (b ∷ below) tops all p = absurd p
-  cut (more t kids) (b ∷ below) tops (spells_more first others middle first_weight others_weight one all q r) p =
-      let c = cut kids below tops all p.1 in
+  cut (more t children) (b ∷ below) tops (spells_more first others middle first_weight others_weight one all q r) p =
+      let c = cut children below tops all p.1 in
       record {
         between = c.between;
         front = first ++ c.front;
         rest = c.rest;
         front_weight = first_weight + c.front_weight;
         rest_weight = c.rest_weight;
-        first = record { kids = more t c.first.kids; spelled = spells_more first c.front middle first_weight c.front_weight one c.first.spelled refl refl; concluded = (p.0, c.first.concluded) };
+        first = record { children = more t c.first.children; spelled = spells_more first c.front middle first_weight c.front_weight one c.first.spelled refl refl; concluded = (p.0, c.first.concluded) };
         second = c.second;
         whole = q ∙ (ap (λ r. first ++ r) c.whole ∙ sym (append_assoc first c.front c.rest));
         weighs = r ∙ (ap (λ w. first_weight + w) c.weighs ∙ sym (add_assoc first_weight c.front_weight c.rest_weight));
       }
 
   -- the one derivation of one expression
-  one_of : {marked after : List Derivation} {items : List Item} {weight : ℕ} (kids : Derivations) (e : Expr) → SpellsAll S at marked items kids after weight → ConcludeAll S at kids (e ∷ [])
+  one_of : {marked after : List Derivation} {items : List Item} {weight : ℕ} (children : Derivations) (e : Expr) → SpellsAll S at marked items children after weight → ConcludeAll S at children (e ∷ [])
       → (t : Derivation) × Spells S at marked items t after weight × Concludes S at t e
   one_of none e all p = absurd p
-  one_of (more t (more u kids)) e all p = absurd p.1
+  one_of (more t (more u children)) e all p = absurd p.1
   one_of {marked = marked} {after = after} {items = items} {weight = weight} (more t none) e (spells_more first others middle first_weight others_weight one spells_none q r) p = (
     t,
     subst (λ is. Spells S at marked is t after weight) (sym (q ∙ append-nil first)) (subst (λ w. Spells S at marked first t after w) (sym (r ∙ add-zero first_weight)) one),
@@ -111,14 +111,14 @@ module _ (S : Database) (at : ℕ) where
 
   -- the items before the last results
   backed_cut : (items : List Item) (st : State) (b : Backed items st) (below tops : List Expr) → st.stack ≡ below ++ tops → Cut [] items below tops b.marked st.weight
-  backed_cut items st b below tops whole = cut b.stacked.kids below tops b.stacked.spelled (subst (ConcludeAll S at b.stacked.kids) whole b.stacked.concluded)
+  backed_cut items st b below tops whole = cut b.stacked.children below tops b.stacked.spelled (subst (ConcludeAll S at b.stacked.children) whole b.stacked.concluded)
 
   -- a result that items of their own spell
   backed_new : (items more_items : List Item) (st : State) (b : Backed items st) (t : Derivation) (below : List Expr) (e : Expr)
       → Spells S at b.marked more_items t b.marked (length e) → st.stack ≡ below → Concludes S at t e → Backed (items ++ more_items) (with_result st below e)
   backed_new items more_items st b t below e one same last =
       let s = b.stacked in
-      record { marked = b.marked; stacked = pushed s.kids below e (items ++ more_items) (st.weight + length e) s.spelled (subst (ConcludeAll S at s.kids) same s.concluded) one last refl refl; kept = b.kept }
+      record { marked = b.marked; stacked = pushed s.children below e (items ++ more_items) (st.weight + length e) s.spelled (subst (ConcludeAll S at s.children) same s.concluded) one last refl refl; kept = b.kept }
 
   -- a citation leaves a result with a derivation: the hypothesis, or the assertion over the results that it took
   backed_cite : (items : List Item) (st : State) (label : Name) (below : List Expr) (e : Expr) → Backed items st → Cites S at label st.stack below e
@@ -127,10 +127,10 @@ module _ (S : Database) (at : ℕ) where
       backed_new items (Cite label ∷ []) st b (hyp i) below e (cites_hypothesis s e carries active (s, active, same)) whole (s, active, same)
   backed_cite items st label below e b (of_assertion a s σ carries fits whole same) =
       let c = backed_cut items st b below (premises S a s σ) whole in
-      let ends : Concludes S at (apply a c.second.kids) e = (s, σ, fits, c.second.concluded, same) in
+      let ends : Concludes S at (apply a c.second.children) e = (s, σ, fits, c.second.concluded, same) in
       record {
         marked = b.marked;
-        stacked = pushed c.first.kids below e (items ++ Cite label ∷ []) (st.weight + length e) c.first.spelled c.first.concluded
+        stacked = pushed c.first.children below e (items ++ Cite label ∷ []) (st.weight + length e) c.first.spelled c.first.concluded
             (cites_assertion s e label c.rest c.rest_weight carries (record { earlier = fits.earlier; assertion = fits.assertion }) ends c.second.spelled refl refl) ends
             (ap (λ r. r ++ Cite label ∷ []) c.whole ∙ append_assoc c.front c.rest (Cite label ∷ [])) (ap (λ w. w + length e) c.weighs ∙ add_assoc c.front_weight c.rest_weight (length e));
         kept = b.kept;
@@ -147,11 +147,11 @@ module _ (S : Database) (at : ℕ) where
   backed_mark : (items : List Item) (st : State) (below : List Expr) (e : Expr) → Backed items st → st.stack ≡ below ++ e ∷ [] → Backed (items ++ Mark ∷ []) (with_mark st e)
   backed_mark items st below e b whole =
       let c = backed_cut items st b below (e ∷ []) whole in
-      let o = one_of c.second.kids e c.second.spelled c.second.concluded in
+      let o = one_of c.second.children e c.second.spelled c.second.concluded in
       record {
         marked = b.marked ++ o.0 ∷ [];
         stacked = subst (λ es. Stacked [] (items ++ Mark ∷ []) es (b.marked ++ o.0 ∷ []) st.weight) (sym whole)
-            (pushed c.first.kids below e (items ++ Mark ∷ []) st.weight c.first.spelled c.first.concluded (marks c.rest b.marked o.1 refl refl) o.2
+            (pushed c.first.children below e (items ++ Mark ∷ []) st.weight c.first.spelled c.first.concluded (marks c.rest b.marked o.1 refl refl) o.2
             (ap (λ r. r ++ Mark ∷ []) c.whole ∙ append_assoc c.front c.rest (Mark ∷ [])) c.weighs);
         kept = conclude_snoc b.marked o.0 st.saved e b.kept o.2;
       }
@@ -171,7 +171,7 @@ module _ (S : Database) (at : ℕ) where
 
   -- at the start there are no results
   pub backed_start : Backed [] start
-  backed_start = record { marked = []; stacked = record { kids = none; spelled = spells_none; concluded = tt }; kept = tt }
+  backed_start = record { marked = []; stacked = record { children = none; spelled = spells_none; concluded = tt }; kept = tt }
 
   -- one result at the end
   pub record Spelled (items : List Item) (e : Expr) (weight : ℕ) : Type 0 where
@@ -184,5 +184,5 @@ module _ (S : Database) (at : ℕ) where
   pub sound : (items : List Item) (st : State) (e : Expr) → Runs S at start items st → st.stack ≡ e ∷ [] → Spelled items e st.weight
   sound items st e p one =
       let b : Backed items st = backed_run [] items start st backed_start p in
-      let o = one_of b.stacked.kids e b.stacked.spelled (subst (ConcludeAll S at b.stacked.kids) one b.stacked.concluded) in
+      let o = one_of b.stacked.children e b.stacked.spelled (subst (ConcludeAll S at b.stacked.children) one b.stacked.concluded) in
       record { tree = o.0; after = b.marked; spelled = o.1; concludes = o.2 }

@@ -166,8 +166,8 @@ module _ (S : Database) (names : List Name) (at : ℕ) where
     -- ---- a label before those of the table
 
     module _ (labels : List Name) (number k : ℕ) (front : List LabelEntry) (d : LabelEntry) (by_number : number ≡ suc k) (are : AreEntries S at labels (front ++ table)) (within : k < length front) where
-      pub viewed-on : (ok : Bool) → HasCited S at names (get_or front k d) old new ok → StepsWithTable ok S at names table (item_of labels number) old new
-      viewed-on ok cited =
+      pub viewed_entries-on : (ok : Bool) → HasCited S at names (get_or front k d) old new ok → StepsWithTable ok S at names table (item_of labels number) old new
+      viewed_entries-on ok cited =
           let all = length-append front table in
           let entry = subst (IsEntry S at (get_or labels k [])) (get-front front table k d within) (entry_at S at labels (front ++ table) k d are (omega arith)) in
           let goes = cited.0 (get_or labels k []) entry in (

@@ -5,5 +5,5 @@ use Rattle.verify.specs.declared.tree.Tree.TheVariants.{Hyp, Apply}
 pub derivation-hyp : (i : ℕ) → derivation_of (Hyp i) ≡ hyp i
 derivation-hyp i = ap derivation_of (sym (rolls-Hyp i)) ∙ fold-roll-Tree Derivation derivation_step _
 
-pub derivation-apply : (a : ℕ) (kids : Vec Tree Global) → derivation_of (Apply a kids) ≡ apply a (from_list (map derivation_of kids.items))
-derivation-apply a kids = ap derivation_of (sym (rolls-Apply a kids)) ∙ fold-roll-Tree Derivation derivation_step _
+pub derivation-apply : (a : ℕ) (children : Vec Tree Global) → derivation_of (Apply a children) ≡ apply a (from_list (map derivation_of children.items))
+derivation-apply a children = ap derivation_of (sym (rolls-Apply a children)) ∙ fold-roll-Tree Derivation derivation_step _

@@ -63,30 +63,30 @@ pub use Rattle.std.specs.Ordering.{nat_cmp, ord_max}
 pub use Rattle.std.specs.Prelude.{Err, IfSome, MatchOption, MatchResult, None, Option, Vec, bytes_eq, codes, cond, filter, is_none, is_some, max, min, nat_eq, nat_le, nat_lt, option_map, replicate, slice_index_or, slice_range, slice_set, suc, unwrap_or, zero, ◌&&◌, ◌==◌, ◌^◌, ◌||◌, ◌⊎◌}
 pub use Rattle.std.specs.declared.alloc.AllocError.{AllocError}
 pub use Rattle.std.specs.declared.alloc.Global.{Global}
-pub use Rattle.subst.proofs.DisjointLemmas.{pair_clause}
+pub use Rattle.subst.proofs.DisjointLemmas.{disjoint_condition_law}
 pub use Rattle.subst.proofs.GroupLemmas.{below-drop, below-group}
 pub use Rattle.subst.proofs.ImageRangesLemmas.{image-more, image-none, image-some, inside-more, inside-none, inside-set}
 pub use Rattle.subst.proofs.SubstitutionLemmas.{image-decode, image-named, image-unnamed, substitution_over_names}
 pub use Rattle.subst.proofs.SymbolRangeLemmas.{length-seen, map-seen-more, seen-get, seen-last, within-at, within-drop, within-get, within-snoc, within-take, within-weaken}
 pub use Rattle.subst.specs.Images.{AreOver}
 pub use Rattle.subst.specs.Stored.Written.{Appends}
-pub use Rattle.subst.specs.SymbolRanges.{AreInside, AreWithin, images_at, seen_at}
-pub use Rattle.subst.specs.Vanishing.{is_left}
+pub use Rattle.subst.specs.SymbolRanges.{AreInside, AreWithin, images_at, symbols_in}
+pub use Rattle.subst.specs.Vanishing.{has_nonempty_image}
 pub use Rattle.subst.specs.declared.symbol_range.SymbolRange.{SymbolRange}
 pub use Rattle.verify.specs.Concludes.{ConcludeAll, Concludes}
 pub use Rattle.verify.specs.Derivations.{Derivation, Derivations, apply, depth, depth_in, derivation_of, derivation_step, from_list, hyp, more, node_count, nodes_in, none}
 pub use Rattle.verify.specs.Extents.{extent_of}
-pub use Rattle.verify.specs.Fits.{AreDifferent, AreFloats, AreFront, AreRead, AreStanding, DoFit, FitsOne, IsStanding, IsTyped, Reads}
+pub use Rattle.verify.specs.Fits.{AreDifferent, AreFloats, AreLeadingFloats, AreRead, ArePresent, DoMatch, HypothesisMatches, IsPresent, IsTyped, Reads}
 pub use Rattle.verify.specs.Growth.{Builds, Grew, Grows, GrowsBy, IsKept, Trees, a_hypothesis, an_assertion, trees, with_tree}
-pub use Rattle.verify.specs.KeptLists.{AreKeptFor, AreKeptLists, AreListsOf, AreMadeOf, IsAt, IsCitedBy, Kept, Lists, SaySame, are_covered, is_paired}
-pub use Rattle.verify.specs.LabelTable.{AreEntries, IsEntry, is_hypothesis_among, viewed}
+pub use Rattle.verify.specs.KeptLists.{AreKeptFor, AreKeptLists, AreListsOf, AreMadeOf, IsAt, IsCitedBy, Kept, Lists, AreSameCondition, are_covered, is_paired}
+pub use Rattle.verify.specs.LabelTable.{AreEntries, IsEntry, is_hypothesis_among, viewed_entries}
 pub use Rattle.verify.specs.Laws.{RunsSpell, SpelledOnce, SpellingsRun}
 pub use Rattle.verify.specs.Machine.{Cites, IsSaved, Results, Runs, State, Steps, of_assertion, of_hypothesis, start, with_mark, with_result}
 pub use Rattle.verify.specs.Plan.{AreOrdered, IsAfter, IsPlan, built, built_from, derive, pick, trees_of}
 pub use Rattle.verify.specs.Proves.{Proves, label_or_none, mandatory_labels}
 pub use Rattle.verify.specs.ReadPlaces.{BeginsWith, IsMistyped, ReadTo, ReadsAll, tail_of}
 pub use Rattle.verify.specs.ResultPlaces.{Adds, AreHeld, AreKept, HeldResults, Keeps, Marks, Recalls, Stays, below, held, seen, top}
-pub use Rattle.verify.specs.Right.{Derives, IsProvable, IsRight, IsSmall, Says, weight_limit}
+pub use Rattle.verify.specs.Right.{Derives, IsProvable, IsRight, IsSmall, IsAnswerTo, weight_limit}
 pub use Rattle.verify.specs.Spells.{IsCitable, Spells, SpellsAll, cites_assertion, cites_hypothesis, marks, recalls, spells_more, spells_none}
 pub use Rattle.verify.specs.StepsByNumber.{AreCached, AreKnown, AreNamed, HasCited, IsCached, MayCite, StepsByNumber, StepsWithTable, behind, named}
 pub use Rattle.verify.specs.Stops.{IsOther, StopsAt}

@@ -10,11 +10,11 @@ use Rattle.verify.specs.Derivations.{Derivation, Derivations, hyp, apply, none, 
 abbrev mutual
   pub Concludes : Database → ℕ → Derivation → Expr → Type 0
   Concludes S at (hyp i) e = (s : Stmt) × IsHypothesis S at i s × (e ≡ expr_of s)
-  Concludes S at (apply a kids) e =
-      (s : Stmt) × (σ : Images) × IsInstance S at a s σ × ConcludeAll S at kids (premises S a s σ) × (e ≡ applied σ (expr_of s))
+  Concludes S at (apply a children) e =
+      (s : Stmt) × (σ : Images) × IsInstance S at a s σ × ConcludeAll S at children (premises S a s σ) × (e ≡ applied σ (expr_of s))
 
   pub ConcludeAll : Database → ℕ → Derivations → List Expr → Type 0
   ConcludeAll S at none [] = Unit {0}
   ConcludeAll S at none (e ∷ es) = ⊥
-  ConcludeAll S at (more t kids) [] = ⊥
-  ConcludeAll S at (more t kids) (e ∷ es) = Concludes S at t e × ConcludeAll S at kids es
+  ConcludeAll S at (more t children) [] = ⊥
+  ConcludeAll S at (more t children) (e ∷ es) = Concludes S at t e × ConcludeAll S at children es

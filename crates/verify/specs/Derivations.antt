@@ -23,7 +23,7 @@ from_list (t ∷ ts) = more t (from_list ts)
 -- one node, given the derivations of its children
 abbrev pub derivation_step : Tree-F Derivation → Derivation
 derivation_step (open_tree.Hyp i) = hyp i
-derivation_step (open_tree.Apply a kids) = apply a (from_list kids.items)
+derivation_step (open_tree.Apply a children) = apply a (from_list children.items)
 
 -- the derivation that a tree is
 abbrev pub derivation_of : Tree → Derivation
@@ -33,17 +33,17 @@ derivation_of = fold-Tree Derivation derivation_step
 abbrev mutual
   pub node_count : Derivation → ℕ
   node_count (hyp i) = 1
-  node_count (apply a kids) = 1 + nodes_in kids
+  node_count (apply a children) = 1 + nodes_in children
 
   pub nodes_in : Derivations → ℕ
   nodes_in none = 0
-  nodes_in (more t kids) = node_count t + nodes_in kids
+  nodes_in (more t children) = node_count t + nodes_in children
 
 abbrev mutual
   pub depth : Derivation → ℕ
   depth (hyp i) = 1
-  depth (apply a kids) = 1 + depth_in kids
+  depth (apply a children) = 1 + depth_in children
 
   pub depth_in : Derivations → ℕ
   depth_in none = 0
-  depth_in (more t kids) = max (depth t) (depth_in kids)
+  depth_in (more t children) = max (depth t) (depth_in children)

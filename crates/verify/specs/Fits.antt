@@ -13,19 +13,19 @@ abbrev pub AreFloats : List Hypothesis → ℕ → Type 0
 AreFloats hs n = (k : ℕ) → k < n → (x : ℕ) × (slice_get hs k ≡ Some (Float x))
 
 -- the first n are `$f`, and the next one, if there is one, is not
-pub record AreFront (hs : List Hypothesis) (n : ℕ) : Type 0 where
+pub record AreLeadingFloats (hs : List Hypothesis) (n : ℕ) : Type 0 where
   pub within : n ≤ length hs
   pub floats : AreFloats hs n
   pub last : (x : ℕ) → slice_get hs n ≡ Some (Float x) → ⊥
 
 -- there is a statement at the position of a `$e`
-abbrev pub IsStanding : Database → Hypothesis → Type 0
-IsStanding S (Float x) = Unit {0}
-IsStanding S (Essential p) = (s : Stmt) × (stmt_at S p ≡ Some s)
+abbrev pub IsPresent : Database → Hypothesis → Type 0
+IsPresent S (Float x) = Unit {0}
+IsPresent S (Essential p) = (s : Stmt) × (stmt_at S p ≡ Some s)
 
-abbrev pub AreStanding : Database → List Hypothesis → Type 0
-AreStanding S [] = Unit {0}
-AreStanding S (h ∷ hs) = IsStanding S h × AreStanding S hs
+abbrev pub ArePresent : Database → List Hypothesis → Type 0
+ArePresent S [] = Unit {0}
+ArePresent S (h ∷ hs) = IsPresent S h × ArePresent S hs
 
 -- the statement is at the position, and the codes stand for its expression
 pub record IsExprAt (S : Database) (names : List Name) (at : ℕ) (codes : List ℕ) (s : Stmt) : Type 0 where
@@ -50,9 +50,9 @@ Reads true typecodes hs rs σ = AreRead typecodes hs rs σ
 Reads false typecodes hs rs σ = (k : ℕ) × (x : ℕ) × (slice_get hs k ≡ Some (Float x)) × (IsTyped (get_or typecodes k 0) (get_or rs k []) → ⊥)
 
 -- the result for a `$e` is its expression with the images substituted
-abbrev pub FitsOne : Database → Images → Hypothesis → Expr → Type 0
-FitsOne S σ (Float x) r = Unit {0}
-FitsOne S σ (Essential p) r = r ≡ applied σ (expr_at S p)
+abbrev pub HypothesisMatches : Database → Images → Hypothesis → Expr → Type 0
+HypothesisMatches S σ (Float x) r = Unit {0}
+HypothesisMatches S σ (Essential p) r = r ≡ applied σ (expr_at S p)
 
-pub record DoFit (S : Database) (σ : Images) (hs : List Hypothesis) (rs : List Expr) : Type 0 where
-  pub each : (k : ℕ) (h : Hypothesis) → slice_get hs k ≡ Some h → FitsOne S σ h (get_or rs k [])
+pub record DoMatch (S : Database) (σ : Images) (hs : List Hypothesis) (rs : List Expr) : Type 0 where
+  pub each : (k : ℕ) (h : Hypothesis) → slice_get hs k ≡ Some h → HypothesisMatches S σ h (get_or rs k [])

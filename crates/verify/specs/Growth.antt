@@ -17,8 +17,8 @@ trees stack saved = record { stack = stack; saved = saved }
 -- the citation of a label replaces the derivations above `below` with t
 pub data Builds (S : Database) (at : ℕ) (label : Name) (stack below : List Derivation) (t : Derivation) : Type 0 where
   a_hypothesis : (i : ℕ) (s : Stmt) → Carries S i s label → IsHypothesis S at i s → t ≡ hyp i → stack ≡ below → Builds S at label stack below t
-  an_assertion : (a : ℕ) (s : Stmt) (kids : List Derivation) → Carries S a s label → IsCitable S at a s → length kids ≡ length (hypotheses (before S a) s)
-      → stack ≡ below ++ kids → t ≡ apply a (from_list kids) → Builds S at label stack below t
+  an_assertion : (a : ℕ) (s : Stmt) (children : List Derivation) → Carries S a s label → IsCitable S at a s → length children ≡ length (hypotheses (before S a) s)
+      → stack ≡ below ++ children → t ≡ apply a (from_list children) → Builds S at label stack below t
 
 -- t is the derivation saved as number k, from 1
 abbrev pub IsKept : List Derivation → ℕ → Derivation → Type 0

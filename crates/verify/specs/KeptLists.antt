@@ -15,8 +15,8 @@ abbrev pub are_covered : List (List ℕ) → List ℕ → Bool
 are_covered gs g = list_all (λ x. list_all (is_paired gs x) g) g
 
 -- any images are disjoint as the lists gs require if and only if they are as the lists hs require
-abbrev pub SaySame : List (List ℕ) → List (List ℕ) → Type 0
-SaySame gs hs = (names : List Name) (D : Database) (σ : Images) → are_groups_disjoint D σ (map (decode names) gs) ≡ are_groups_disjoint D σ (map (decode names) hs)
+abbrev pub AreSameCondition : List (List ℕ) → List (List ℕ) → Type 0
+AreSameCondition gs hs = (names : List Name) (D : Database) (σ : Images) → are_groups_disjoint D σ (map (decode names) gs) ≡ are_groups_disjoint D σ (map (decode names) hs)
 
 -- ---- the view of an assertion that a citation reads
 
@@ -40,14 +40,14 @@ pub record Lists : Type 0 where
 -- the lists were made from this view
 pub record AreMadeOf (position : ℕ) (c : AssertionView) (l : Lists) : Type 0 where
   pub at : l.position ≡ position
-  pub heads_same : l.typecodes ≡ c.typecodes.now
-  pub asked_same : l.required ≡ c.hypotheses
-  pub same : SaySame l.groups c.groups
+  pub typecodes_same : l.typecodes ≡ c.typecodes.now
+  pub hypotheses_same : l.required ≡ c.hypotheses
+  pub same : AreSameCondition l.groups c.groups
   pub below : (n : ℕ) → AllBelow n c.groups → AllBelow n l.groups
 
 -- the lists are right for citations of the assertion s at their position
 pub record AreListsOf (S : Database) (names : List Name) (l : Lists) (s : Stmt) : Type 0 where
-  pub asked_of : AreRequired S names (hypotheses (before S l.position) s) l.typecodes l.required
+  pub hypotheses_of : AreRequired S names (hypotheses (before S l.position) s) l.typecodes l.required
   pub disjoint : (D : Database) (σ : Images) → are_groups_disjoint D σ (map (decode names) l.groups) ≡ are_groups_disjoint D σ (mandatory_groups (before S l.position) s)
   pub below_names : AllBelow (length names) l.groups
 

@@ -31,6 +31,6 @@ positions_in (Few positions) = positions.now
 positions_in (Many view) = view.now
 
 -- the meanings of the labels that are found by their index
-abbrev pub viewed : Option (List ℕ) → List LabelEntry
-viewed None = []
-viewed (Some positions) = map Hypothesis positions
+abbrev pub viewed_entries : Option (List ℕ) → List LabelEntry
+viewed_entries None = []
+viewed_entries (Some positions) = map Hypothesis positions

@@ -16,7 +16,7 @@ pick ts k = get_or ts k (hyp 0)
 -- the derivation of a node, given those of earlier nodes
 abbrev pub derive : List Derivation → Node → Derivation
 derive ts (Hyp i) = hyp i
-derive ts (Apply a kids) = apply a (from_list (map (pick ts) kids.items))
+derive ts (Apply a children) = apply a (from_list (map (pick ts) children.items))
 
 -- the derivations of nodes, appended to those of earlier nodes
 abbrev pub built_from : List Derivation → List Node → List Derivation
@@ -29,7 +29,7 @@ built ns = built_from [] ns
 -- the numbers of a node's children are below k
 abbrev pub IsAfter : ℕ → Node → Type 0
 IsAfter k (Hyp i) = Unit {0}
-IsAfter k (Apply a kids) = AreBelow k kids.items
+IsAfter k (Apply a children) = AreBelow k children.items
 
 -- each node is after its children
 abbrev pub AreOrdered : ℕ → List Node → Type 0

@@ -2,7 +2,7 @@
 -- Metamath, 4.2.6: the stack of a proof.
 -- The code keeps the range of each result; here the results are lists of symbols.
 use Rattle.std.specs.Prelude.{◌≡◌, ℕ, ◌+◌, ◌-◌, ◌<◌, ◌≤◌, Bool, true, false, List, [], ◌∷◌, ◌++◌, length, map, drop, take, slice_set, get_or, suc, Option, Some, None}
-use Rattle.verify.specs.Words.{CodeImages, SymbolRange, seen_at, images_at, AreWithin, AreInside, Numbered}
+use Rattle.verify.specs.Words.{CodeImages, SymbolRange, symbols_in, images_at, AreWithin, AreInside, Numbered}
 use Rattle.verify.specs.Machine.{Results, with_result, with_mark, IsSaved}
 use Rattle.verify.specs.Right.{weight_limit}
 
@@ -13,7 +13,7 @@ pub record HeldResults : Type 0 where
   pub about : Numbered
 
 abbrev pub seen : List ℕ → List SymbolRange → List SymbolRange → ℕ → Results ℕ
-seen symbols stack saved weight = record { stack = map (seen_at symbols) stack; saved = map (seen_at symbols) saved; weight = weight }
+seen symbols stack saved weight = record { stack = map (symbols_in symbols) stack; saved = map (symbols_in symbols) saved; weight = weight }
 
 abbrev pub held : List ℕ → List (ℕ × SymbolRange) → List SymbolRange → List SymbolRange → ℕ → Numbered → HeldResults
 held symbols images stack saved weight about = record { results = seen symbols stack saved weight; images = images_at symbols images; about = about }

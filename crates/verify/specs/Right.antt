@@ -38,9 +38,9 @@ abbrev pub IsRight : Database → ℕ → List Item → Type 0
 IsRight S at items = (t : Derivation) × Derives S at items t
 
 -- the meaning of the verifier's answer on whether P holds
-abbrev pub Says : Answer → Type 0 → Type 0
-Says Proved P = P
-Says Wrong P = ¬ P
+abbrev pub IsAnswerTo : Answer → Type 0 → Type 0
+IsAnswerTo Proved P = P
+IsAnswerTo Wrong P = ¬ P
 
 abbrev pub IsSmall : Derivation → Type 0
 IsSmall t = (node_count t ≤ most_nodes) × (depth t ≤ most_depth)

@@ -18,12 +18,12 @@ mutual
     cites_hypothesis : {marked : List Derivation} {i : ℕ} {label : Name}
         → (s : Stmt) (e : Expr) → Carries S i s label → IsHypothesis S at i s → Concludes S at (hyp i) e
         → Spells S at marked (Cite label ∷ []) (hyp i) marked (length e)
-    cites_assertion : {marked after : List Derivation} {items : List Item} {a : ℕ} {kids : Derivations} {weight : ℕ}
+    cites_assertion : {marked after : List Derivation} {items : List Item} {a : ℕ} {children : Derivations} {weight : ℕ}
         → (s : Stmt) (e : Expr) (label : Name) (front : List Item) (front_weight : ℕ)
-        → Carries S a s label → IsCitable S at a s → Concludes S at (apply a kids) e
-        → SpellsAll S at marked front kids after front_weight
+        → Carries S a s label → IsCitable S at a s → Concludes S at (apply a children) e
+        → SpellsAll S at marked front children after front_weight
         → items ≡ front ++ Cite label ∷ [] → weight ≡ front_weight + length e
-        → Spells S at marked items (apply a kids) after weight
+        → Spells S at marked items (apply a children) after weight
     recalls : {marked : List Derivation} {k : ℕ} {t : Derivation}
         → (e : Expr) → slice_get marked k ≡ Some t → Concludes S at t e
         → Spells S at marked (Recall (suc k) ∷ []) t marked (length e)
@@ -35,8 +35,8 @@ mutual
   -- the items spell derivations one after the other
   pub data SpellsAll (S : Database) (at : ℕ) : List Derivation → List Item → Derivations → List Derivation → ℕ → Type 0 where
     spells_none : {marked : List Derivation} → SpellsAll S at marked [] none marked 0
-    spells_more : {marked after : List Derivation} {items : List Item} {t : Derivation} {kids : Derivations} {weight : ℕ}
+    spells_more : {marked after : List Derivation} {items : List Item} {t : Derivation} {children : Derivations} {weight : ℕ}
         → (first rest : List Item) (between : List Derivation) (first_weight rest_weight : ℕ)
-        → Spells S at marked first t between first_weight → SpellsAll S at between rest kids after rest_weight
+        → Spells S at marked first t between first_weight → SpellsAll S at between rest children after rest_weight
         → items ≡ first ++ rest → weight ≡ first_weight + rest_weight
-        → SpellsAll S at marked items (more t kids) after weight
+        → SpellsAll S at marked items (more t children) after weight

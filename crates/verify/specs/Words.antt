@@ -23,5 +23,5 @@ pub use Rattle.scope.specs.Active.{before, expr_of, is_assertion, is_provable, l
 pub use Rattle.scope.specs.Legal.{IsLegal}
 pub use Rattle.std.specs.List.{list_all, list_any}
 pub use Rattle.std.specs.Map.{lookup}
-pub use Rattle.subst.specs.SymbolRanges.{AreInside, AreWithin, images_at, seen_at}
+pub use Rattle.subst.specs.SymbolRanges.{AreInside, AreWithin, images_at, symbols_in}
 pub use Rattle.subst.specs.declared.symbol_range.SymbolRange.{SymbolRange}

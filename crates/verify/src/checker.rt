@@ -8,9 +8,9 @@ ghost use Rattle.proof_code.specs.ItemNumbers.{items_of};
 ghost use Rattle.proof_code.specs.Writes.{is_compressed};
 ghost use Rattle.scope.specs.Active.{before};
 ghost use Rattle.verify.specs.KeptLists.{AreKeptFor};
-ghost use Rattle.verify.specs.LabelTable.{AreEntries, viewed};
+ghost use Rattle.verify.specs.LabelTable.{AreEntries, viewed_entries};
 ghost use Rattle.verify.specs.Proves.{Proves};
-ghost use Rattle.verify.specs.Right.{IsProvable, IsRight, Says};
+ghost use Rattle.verify.specs.Right.{IsProvable, IsRight, IsAnswerTo};
 
 use crate::answer::Answer;
 use crate::citation::{Buffers, Claim};
@@ -116,12 +116,12 @@ impl Checker {
     /// Errors: an allocation fails, or the results would exceed the limit set by `limit`.
     /// Cost: each label is looked up once; a recall and a mark are one step; a citation costs the lengths of its result and
     /// of those that it compares with a `$e`, that of the disjoint variable condition, and if the assertion's lists are
-    /// long that of `Frames::fill_lists`. Source: Metamath, 4.2.6 and appendix B.
+    /// long that of `Frames::fill_for_citing`. Source: Metamath, 4.2.6 and appendix B.
     pub fn check(&mut self, frames: &Frames, at: usize, items: &Items) -> Result<Answer, AllocError>
         requires provable { (s : Statement) × IsProvable frames.now.statements at s }
         requires kept { AreKeptFor frames.now.statements frames.now.names self.old }
         ensures kept { AreKeptFor frames.now.statements frames.now.names self.new }
-        ensures answer { IfOk result (λ answer. Says answer (IsRight frames.now.statements at items.now)) }
+        ensures answer { IfOk result (λ answer. IsAnswerTo answer (IsRight frames.now.statements at items.now)) }
     {
         let parts = items.parts();
         self.record_size(parts.numbers.len());
@@ -143,7 +143,7 @@ impl Checker {
         requires provable { (s : Statement) × IsProvable frames.now.statements at s }
         requires kept { AreKeptFor frames.now.statements frames.now.names self.old }
         ensures kept { AreKeptFor frames.now.statements frames.now.names self.new }
-        ensures answer { IfOk result (λ answer. Says answer (Proves frames.now.statements at tokens.now)) }
+        ensures answer { IfOk result (λ answer. IsAnswerTo answer (Proves frames.now.statements at tokens.now)) }
     {
         self.record_size(tokens.as_text().len());
         if !is_compressed(tokens) {
@@ -183,7 +183,7 @@ impl Checker {
         requires normal { is_compressed tokens.now ≡ false }
         requires kept { AreKeptFor frames.now.statements frames.now.names self.old }
         ensures kept { AreKeptFor frames.now.statements frames.now.names self.new }
-        ensures answer { IfOk result (λ answer. Says answer (Proves frames.now.statements at tokens.now)) }
+        ensures answer { IfOk result (λ answer. IsAnswerTo answer (Proves frames.now.statements at tokens.now)) }
     {
         match normal(self.alloc, tokens) {
             Ok(items) => self.check(frames, at, &items),
@@ -210,7 +210,7 @@ impl Checker {
         requires view { (s : Statement) → IsProvable frames.now.statements at s → view.now ≡ hypotheses (before frames.now.statements at) s }
         requires kept { AreKeptFor frames.now.statements frames.now.names self.old }
         ensures kept { AreKeptFor frames.now.statements frames.now.names self.new }
-        ensures answer { IfOk result (λ answer. Says answer (Proves frames.now.statements at tokens.now)) }
+        ensures answer { IfOk result (λ answer. IsAnswerTo answer (Proves frames.now.statements at tokens.now)) }
     {
         let Some(heading) = self.reader.read(tokens, view.len())? else {
             return Ok(Answer::Wrong);
@@ -238,7 +238,7 @@ impl Checker {
 /// Errors: an allocation fails. Cost: that of `Checker::check`.
 pub fn check(alloc: Global, frames: &Frames, at: usize, items: &Items) -> Result<Answer, AllocError>
     requires { (s : Statement) × IsProvable frames.now.statements at s }
-    ensures { IfOk result (λ answer. Says answer (IsRight frames.now.statements at items.now)) }
+    ensures { IfOk result (λ answer. IsAnswerTo answer (IsRight frames.now.statements at items.now)) }
 {
     Checker::new(alloc).check(frames, at, items)
 }
@@ -260,7 +260,7 @@ fn run_listed(
     requires kept { AreKeptFor frames.now.statements frames.now.names buffers.old.kept }
     ensures kept { AreKeptFor frames.now.statements frames.now.names buffers.new.kept }
     ensures answer { (labels : List Name) → AreEntries frames.now.statements at labels table.now
-        → IfOk result (λ answer. Says answer (IsRight frames.now.statements at (items_of labels numbers.now))) }
+        → IfOk result (λ answer. IsAnswerTo answer (IsRight frames.now.statements at (items_of labels numbers.now))) }
 {
     run(frames, at, None, table, numbers, buffers)
 }
@@ -279,11 +279,11 @@ fn run(
     buffers: &mut Buffers,
 ) -> Result<Answer, AllocError>
     requires provable { (s : Statement) × IsProvable frames.now.statements at s }
-    requires entries { (labels : List Name) × AreEntries frames.now.statements at labels (viewed (option_map (λ v. v.now) view) ++ table.now) }
+    requires entries { (labels : List Name) × AreEntries frames.now.statements at labels (viewed_entries (option_map (λ v. v.now) view) ++ table.now) }
     requires kept { AreKeptFor frames.now.statements frames.now.names buffers.old.kept }
     ensures kept { AreKeptFor frames.now.statements frames.now.names buffers.new.kept }
-    ensures answer { (labels : List Name) → AreEntries frames.now.statements at labels (viewed (option_map (λ v. v.now) view.entry) ++ table.now)
-        → IfOk result (λ answer. Says answer (IsRight frames.now.statements at (items_of labels numbers.now))) }
+    ensures answer { (labels : List Name) → AreEntries frames.now.statements at labels (viewed_entries (option_map (λ v. v.now) view.entry) ++ table.now)
+        → IfOk result (λ answer. IsAnswerTo answer (IsRight frames.now.statements at (items_of labels numbers.now))) }
 {
     let pairs = frames.active_pairs(at);
     let claim = Claim { frames, at, pairs };

@@ -9,7 +9,7 @@ ghost use Rattle.proof_code.specs.ItemNumbers.{item_of};
 ghost use Rattle.scope.specs.Active.{stmt_at};
 ghost use Rattle.verify.specs.StepsByNumber.{AreKnown, AreNamed, StepsWithTable, HasCited, IsReady, MayCite};
 ghost use Rattle.verify.specs.KeptLists.{AreKeptFor, IsAt, IsCitedBy};
-ghost use Rattle.verify.specs.LabelTable.{AreEntries, IsEntry, viewed};
+ghost use Rattle.verify.specs.LabelTable.{AreEntries, IsEntry, viewed_entries};
 ghost use Rattle.verify.specs.ResultPlaces.{Stays};
 ghost use Rattle.verify.specs.declared.label_table.LabelEntry.TheVariants.{Hypothesis};
 
@@ -76,7 +76,7 @@ fn cite_parts(
 
 /// Cites an assertion whose lists are long. Makes them for this citation.
 ///
-/// Errors: an allocation fails. Cost: that of the citation and of `Frames::fill_lists`.
+/// Errors: an allocation fails. Cost: that of the citation and of `Frames::fill_for_citing`.
 #[cold]
 #[inline(never)]
 fn cite_anew(claim: &Claim<'_>, position: usize, buffers: &mut Buffers) -> Result<bool, AllocError>
@@ -97,7 +97,7 @@ fn cite_anew(claim: &Claim<'_>, position: usize, buffers: &mut Buffers) -> Resul
 
 /// Cites an assertion whose lists are long. Keeps them for later citations.
 ///
-/// Errors: an allocation fails. Cost: that of the citation; if the lists are not kept yet, also that of `Frames::fill_lists`
+/// Errors: an allocation fails. Cost: that of the citation; if the lists are not kept yet, also that of `Frames::fill_for_citing`
 /// and `KeptLists::keep`.
 #[cold]
 #[inline(never)]
@@ -124,7 +124,7 @@ fn cite_kept(claim: &Claim<'_>, position: usize, buffers: &mut Buffers) -> Resul
 
 /// Returns the index of the kept lists of an assertion. Makes them if they are not kept yet.
 ///
-/// Errors: an allocation fails. Cost: that of `KeptLists::find`; if the lists are not kept yet, of `Frames::fill_lists` and
+/// Errors: an allocation fails. Cost: that of `KeptLists::find`; if the lists are not kept yet, of `Frames::fill_for_citing` and
 /// `KeptLists::keep`.
 fn kept_index(
     claim: &Claim<'_>,
@@ -159,7 +159,7 @@ fn cite_long(claim: &Claim<'_>, position: usize, buffers: &mut Buffers) -> Resul
     ensures about { buffers.new.results.about ≡ claim.now.pairs }
     ensures kept { AreKeptFor claim.now.frames.now.statements claim.now.frames.now.names buffers.new.kept }
 {
-    if buffers.kept.is_due(position) {
+    if buffers.kept.count_citation(position) {
         cite_kept(claim, position, buffers)
     } else {
         cite_anew(claim, position, buffers)
@@ -235,9 +235,9 @@ pub fn step(
     if let Some(done) = buffers.results.recall(index, table.len())? {
         return Ok(done);
     }
-    let waiting = buffers.results.len();
+    let stack_len = buffers.results.len();
     let done = cite_entry(claim, table[index], buffers)?;
-    if done && waiting < buffers.results.len() {
+    if done && stack_len < buffers.results.len() {
         buffers.results.cache_last(index);
     }
     Ok(done)
@@ -257,10 +257,10 @@ pub fn step_at(
 ) -> Result<bool, AllocError>
     requires ready { IsReady claim.now buffers.old.results.about }
     requires known { AreKnown claim.now.frames.now.statements claim.now.at claim.now.frames.now.names table.now buffers.old.results.results }
-    requires entries { (labels : List Name) × AreEntries claim.now.frames.now.statements claim.now.at labels (viewed (option_map (λ v. v.now) view) ++ table.now) }
+    requires entries { (labels : List Name) × AreEntries claim.now.frames.now.statements claim.now.at labels (viewed_entries (option_map (λ v. v.now) view) ++ table.now) }
     requires kept { AreKeptFor claim.now.frames.now.statements claim.now.frames.now.names buffers.old.kept }
     ensures about { buffers.new.results.about ≡ claim.now.pairs }
-    ensures goes { (labels : List Name) → AreEntries claim.now.frames.now.statements claim.now.at labels (viewed (option_map (λ v. v.now) view.entry) ++ table.now)
+    ensures goes { (labels : List Name) → AreEntries claim.now.frames.now.statements claim.now.at labels (viewed_entries (option_map (λ v. v.now) view.entry) ++ table.now)
         → IfOk result (λ ok. StepsWithTable ok claim.now.frames.now.statements claim.now.at claim.now.frames.now.names table.now (item_of labels number) buffers.old.results.results buffers.new.results.results) }
     ensures stays { IfOk result (λ ok. Stays ok buffers.old.results.results buffers.new.results.results) }
     ensures kept { AreKeptFor claim.now.frames.now.statements claim.now.frames.now.names buffers.new.kept }

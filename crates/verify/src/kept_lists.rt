@@ -12,7 +12,7 @@ ghost use Rattle.mm_lex.specs.Alphabet.{Name};
 ghost use Rattle.mm_read.specs.Statements.{Database};
 ghost use Rattle.mm_read.specs.declared.stmt.Stmt.{Stmt as Statement};
 ghost use Rattle.scope.specs.Active.{stmt_at};
-ghost use Rattle.verify.specs.KeptLists.{AreKeptFor, AreListsOf, AreMadeOf, IsAt, Lists, SaySame, are_covered, is_paired};
+ghost use Rattle.verify.specs.KeptLists.{AreKeptFor, AreListsOf, AreMadeOf, IsAt, Lists, AreSameCondition, are_covered, is_paired};
 
 use crate::pair_places::{PairPlace, PairPlaces};
 use entries::buffer_part::between;
@@ -135,7 +135,7 @@ fn copy_groups(
 ) -> Result<(), AllocError>
     requires empty { (places.old.items ≡ []) × (groups.old.items ≡ []) }
     ensures within { OnOk result (AreSpansIn (length places.new.items) groups.new.items) }
-    ensures same { OnOk result (SaySame (cut places.new.items groups.new.items) from.now) }
+    ensures same { OnOk result (AreSameCondition (cut places.new.items groups.new.items) from.now) }
     ensures below { OnOk result ((n : ℕ) → AllBelow n from.now → AllBelow n (cut places.new.items groups.new.items)) }
 {
     for index in 0..from.len() {
@@ -144,7 +144,7 @@ fn copy_groups(
         if recorded && is_covered(&Groups::new(groups, places), group, pairs) {
             continue;
         }
-        pairs.note(groups.len());
+        pairs.record_list(groups.len());
         add_group(group, places, groups)?;
     }
     Ok(())
@@ -187,7 +187,7 @@ fn is_one_covered(groups: &Groups<'_>, group: &[u32], index: usize, pairs: &Pair
     let x = group[index];
     for other in 0..group.len() {
         let y = group[other];
-        if x != y && !stand_at(groups, pairs.place(index, other), x, y) {
+        if x != y && !are_at(groups, pairs.place(index, other), x, y) {
             return false;
         }
     }
@@ -195,7 +195,7 @@ fn is_one_covered(groups: &Groups<'_>, group: &[u32], index: usize, pairs: &Pair
 }
 
 /// Returns whether two variables are at a place.
-fn stand_at(groups: &Groups<'_>, place: PairPlace, x: u32, y: u32) -> bool
+fn are_at(groups: &Groups<'_>, place: PairPlace, x: u32, y: u32) -> bool
     ensures { result ≡ true → list_any (has_both x y) groups.now ≡ true }
 {
     let index = place.list as usize;
@@ -282,7 +282,7 @@ impl KeptLists {
     /// Counts one more citation of the assertion at a position, whose lists are long, and returns whether these are to be kept.
     ///
     /// Cost: log n for n assertions whose citations are counted.
-    pub fn is_due(&mut self, position: usize) -> bool
+    pub fn count_citation(&mut self, position: usize) -> bool
         ensures { (S : Database) (names : List Name) → AreKeptFor S names self.old → AreKeptFor S names self.new }
     {
         let count = self.count(position);
@@ -319,7 +319,7 @@ impl KeptLists {
 
     /// Fills the buffers with the lists of the assertion at a position, for a citation by `Frames::cited_by`.
     ///
-    /// Errors: an allocation fails. Cost: that of `Frames::fill_lists`.
+    /// Errors: an allocation fails. Cost: that of `Frames::fill_for_citing`.
     pub fn fill(
         &mut self,
         frames: &Frames,
@@ -331,7 +331,7 @@ impl KeptLists {
         ensures kept { AreKeptFor frames.now.statements frames.now.names self.new }
         ensures lists { OnOk result (AreCitingLists frames.now.statements frames.now.names position frame_buffers.new) }
     {
-        frames.fill_lists(position, &mut self.facts, frame_buffers)
+        frames.fill_for_citing(position, &mut self.facts, frame_buffers)
     }
 
     /// Makes and keeps the lists of an assertion, and returns their index. Removes all others first if too many numbers would

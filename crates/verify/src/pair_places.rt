@@ -5,7 +5,7 @@ use std::alloc::{AllocError, Global};
 use std::collections::BTreeMap;
 
 /// The most mandatory hypotheses of an assertion whose pairs are recorded.
-const MOST_VARIABLES: usize = 512;
+const MOST_HYPOTHESES: usize = 512;
 
 /// The most variables of a list whose pairs are recorded.
 const MOST_LISTED: usize = 256;
@@ -19,7 +19,7 @@ pub struct PairPlace {
 }
 
 /// The place of a pair that was not recorded.
-const NOWHERE: PairPlace = PairPlace {
+const NO_PLACE: PairPlace = PairPlace {
     list: u32::MAX,
     first: 0,
     second: 0,
@@ -54,7 +54,7 @@ impl PairPlaces {
     pub fn begin(&mut self, hypotheses: &Hypotheses<'_>) -> Result<(), AllocError> {
         self.variables.clear();
         self.places.clear();
-        if hypotheses.len() > MOST_VARIABLES {
+        if hypotheses.len() > MOST_HYPOTHESES {
             return Ok(());
         }
         for index in 0..hypotheses.len() {
@@ -64,7 +64,7 @@ impl PairPlaces {
             }
         }
         let count = self.variables.len();
-        self.places.resize(count.saturating_mul(count), NOWHERE)?;
+        self.places.resize(count.saturating_mul(count), NO_PLACE)?;
         Ok(())
     }
 
@@ -98,16 +98,16 @@ impl PairPlaces {
         match self.index(first, second) {
             Some(index) => match self.places.get(index) {
                 Some(place) => *place,
-                None => NOWHERE,
+                None => NO_PLACE,
             },
-            None => NOWHERE,
+            None => NO_PLACE,
         }
     }
 
     /// Records the pairs of the list that was looked up, which is kept at an index.
     ///
     /// Cost: the square of the number of its variables.
-    pub fn note(&mut self, list: usize) {
+    pub fn record_list(&mut self, list: usize) {
         let count = self.listed.len();
         for first in 0..count {
             for second in 0..count {

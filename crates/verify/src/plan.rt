@@ -83,8 +83,8 @@ fn cite(frames: &Frames, entry: LabelEntry, plan: &mut TreePlan) -> Result<bool,
                 return Ok(false);
             }
             let keep = plan.stack.len() - count;
-            let kids = plan.stack.split_off(keep)?;
-            add(plan, Node::Apply(position, kids))?;
+            let children = plan.stack.split_off(keep)?;
+            add(plan, Node::Apply(position, children))?;
             Ok(true)
         }
         LabelEntry::Nothing => Ok(false),
@@ -145,12 +145,12 @@ fn extent_at(node: &Node, extents: &[Extent]) -> Extent
     requires measured { (ts : List Derivation) × (extents.now ≡ map extent_of ts) }
     ensures { (ts : List Derivation) → extents.now ≡ map extent_of ts → result ≡ extent_of (derive ts node.now) }
 {
-    let Node::Apply(_, kids) = node else {
+    let Node::Apply(_, children) = node else {
         return Extent { nodes: 1, depth: 1 };
     };
     let mut nodes = 1;
     let mut depth = 1;
-    for kid in kids {
+    for kid in children {
         let extent = numbered(extents, *kid);
         nodes = (nodes + extent.nodes).min(MOST_NODES + 1);
         depth = depth.max((extent.depth + 1).min(MOST_DEPTH + 1));
@@ -242,9 +242,9 @@ fn expand(alloc: Global, nodes: &[Node], number: usize) -> Result<Tree, AllocErr
 {
     match &nodes[number] {
         Node::Hyp(position) => Ok(Tree::Hyp(*position)),
-        Node::Apply(position, kids) => {
-            let mut trees = Vec::with_capacity(alloc, kids.len())?;
-            for kid in kids {
+        Node::Apply(position, children) => {
+            let mut trees = Vec::with_capacity(alloc, children.len())?;
+            for kid in children {
                 trees.push(expand(alloc, nodes, *kid)?)?;
             }
             Ok(Tree::Apply(*position, trees))

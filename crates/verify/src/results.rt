@@ -10,7 +10,7 @@ ghost use Rattle.names.specs.Codes.{AreDistinct, decode};
 ghost use Rattle.std.specs.Map.{lookup};
 ghost use Rattle.subst.specs.Images.{AreOver};
 ghost use Rattle.subst.specs.SymbolRanges.{AreInside, AreWithin};
-ghost use Rattle.verify.specs.Fits.{AreDifferent, AreFront, AreStanding, DoFit, IsExprAt, Reads};
+ghost use Rattle.verify.specs.Fits.{AreDifferent, AreLeadingFloats, ArePresent, DoMatch, IsExprAt, Reads};
 ghost use Rattle.verify.specs.Machine.{IsSaved, with_mark, with_result};
 ghost use Rattle.verify.specs.ReadPlaces.{BeginsWith, IsMistyped, ReadTo, ReadsAll, tail_of};
 ghost use Rattle.verify.specs.ResultPlaces.{Adds, Finds, Keeps, Marks, Stays, below, top};
@@ -21,7 +21,7 @@ use frame::{Frames, LONG_EXPRESSION, Pairs};
 use std::alloc::{AllocError, Global};
 use std::marker::Model;
 use subst::{
-    Buffer, DisjointCache, ImageRanges, Remaining, SYMBOLS_LIMIT, SymbolRange, place_between,
+    Buffer, DisjointCache, ImageRanges, Remaining, SYMBOLS_LIMIT, SymbolRange, range_between,
     symbols_at,
 };
 
@@ -113,7 +113,7 @@ impl Results {
         }
         self.symbols.extend(expr)?;
         self.weight += expr.len();
-        let place = place_between(start, self.symbols.len());
+        let place = range_between(start, self.symbols.len());
         self.cache.record_expr(pairs, &self.symbols, expr, place)?;
         self.stack.push(place)?;
         Ok(true)
@@ -191,7 +191,7 @@ impl Results {
         ensures about { self.new.about ≡ self.old.about }
         ensures same { self.new.results ≡ self.old.results }
         ensures read { IfOk result (λ r. Reads (is_some r) typecodes.now hypotheses.now (top (length hypotheses.now) self.old.results.stack) self.new.images) }
-        ensures floats { IfOk result (λ r. IfSome r (AreFront hypotheses.now)) }
+        ensures floats { IfOk result (λ r. IfSome r (AreLeadingFloats hypotheses.now)) }
     {
         let places = &self.stack[self.stack.len() - hypotheses.len()..];
         let symbols = self.symbols.as_slice();
@@ -210,13 +210,13 @@ impl Results {
         front: usize,
         remaining: &mut Remaining,
     ) -> bool
-        requires front { AreFront hypotheses.now front }
+        requires front { AreLeadingFloats hypotheses.now front }
         requires legal { AreLegal frames.now.statements frames.now.names }
-        requires standing { AreStanding frames.now.statements hypotheses.now }
+        requires standing { ArePresent frames.now.statements hypotheses.now }
         requires count { length hypotheses.now ≤ length self.now.results.stack }
         requires over { AreOver frames.now.names self.now.images }
         requires named { AllBelow (length frames.now.names) self.now.results.stack }
-        ensures { IsTrue result ↔ DoFit frames.now.statements (images_of_names frames.now.names self.now.images) hypotheses.now (map (decode frames.now.names) (top (length hypotheses.now) self.now.results.stack)) }
+        ensures { IsTrue result ↔ DoMatch frames.now.statements (images_of_names frames.now.names self.now.images) hypotheses.now (map (decode frames.now.names) (top (length hypotheses.now) self.now.results.stack)) }
     {
         let places = &self.stack[self.stack.len() - hypotheses.len()..];
         for k in front..hypotheses.len() {
@@ -328,11 +328,11 @@ impl Results {
                 Ok(false)
             };
         }
-        let place = place_between(start, self.symbols.len());
+        let place = range_between(start, self.symbols.len());
         self.weight += self.symbols.len() - start;
         self.cache
             .record_result(pairs, &self.symbols, &self.images, expr, place)?;
-        put_behind(&mut self.stack, keep, place)?;
+        truncate_and_push(&mut self.stack, keep, place)?;
         Ok(true)
     }
 
@@ -395,7 +395,7 @@ impl Results {
 
 /// Truncates to the first `keep` ranges and appends one, mostly by overwriting another.
 #[inline(always)]
-fn put_behind(
+fn truncate_and_push(
     stack: &mut Vec<SymbolRange>,
     keep: usize,
     place: SymbolRange,
@@ -472,7 +472,7 @@ fn read_front(
     requires different { AreDifferent hypotheses.now }
     requires none { images.old ≡ [] }
     ensures read { IfOk result (λ r. MatchOption r (IsMistyped symbols.now typecodes.now hypotheses.now places.now) (λ n. ReadTo n symbols.now typecodes.now hypotheses.now places.now images.new)) }
-    ensures floats { IfOk result (λ r. IfSome r (AreFront hypotheses.now)) }
+    ensures floats { IfOk result (λ r. IfSome r (AreLeadingFloats hypotheses.now)) }
     ensures inside { (n : ℕ) → AreWithin n places.now → AreInside n images.new }
 {
     for k in 0..hypotheses.len() {
@@ -503,7 +503,7 @@ pub fn read_off(
     requires within { AreWithin (length symbols.now) places.now }
     requires different { AreDifferent hypotheses.now }
     ensures ok { IfOk result (λ r. ReadsAll (is_some r) (length hypotheses.now) symbols.now typecodes.now hypotheses.now places.now images.new) }
-    ensures floats { IfOk result (λ r. IfSome r (AreFront hypotheses.now)) }
+    ensures floats { IfOk result (λ r. IfSome r (AreLeadingFloats hypotheses.now)) }
     ensures inside { (n : ℕ) → AreWithin n places.now → AreInside n images.new }
 {
     images.clear();

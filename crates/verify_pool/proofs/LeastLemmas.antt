@@ -1,5 +1,5 @@
 -- The least job that is not right, by index and by job; it is one.
-use Rattle.verify_pool.proofs.Words.{◌≡◌, ℕ, zero, suc, ◌<◌, List, [], ◌∷◌, length, slice_get, Option, Some, None, Result, Ok, Err, IfOk, IfSome, arith, sym, subst, refl, ◌∙◌, same_Some, slice_get_within, Database, Says, Job, IsWrongAt, IsLeast, IsRightJob, IsRightAt, IsBadAt, LeastBad, inl, inr, ap, cases_order}
+use Rattle.verify_pool.proofs.Words.{◌≡◌, ℕ, zero, suc, ◌<◌, List, [], ◌∷◌, length, slice_get, Option, Some, None, Result, Ok, Err, IfOk, IfSome, arith, sym, subst, refl, ◌∙◌, same_Some, slice_get_within, Database, IsAnswerTo, Job, IsWrongAt, IsLeast, IsRightJob, IsRightAt, IsBadAt, LeastBad, inl, inr, ap, cases_order}
 use Rattle.verify.specs.declared.answer.Answer.{Answer}
 use Rattle.verify.specs.declared.answer.Answer.TheVariants.{Proved, Wrong}
 use Rattle.verify_pool.specs.Laws.{OneAnswer}
@@ -17,7 +17,7 @@ module _ (S : Database) (jobs : List Job) where
 
   -- a property of the job is one of its index
   pub job_judged : {E : Type 0} (k : ℕ) (job : Job) (r : Result Answer E) → slice_get jobs k ≡ Some job
-      → IfOk r (λ answer. Says answer (IsRightJob S job)) → IfOk r (λ answer. Says answer (IsRightAt S jobs k))
+      → IfOk r (λ answer. IsAnswerTo answer (IsRightJob S job)) → IfOk r (λ answer. IsAnswerTo answer (IsRightAt S jobs k))
   job_judged k job (Ok Proved) stands h = there_right k job stands h
   job_judged k job (Ok Wrong) stands h = λ right. h (right job stands)
   job_judged k job (Err e) stands h = h

@@ -6,7 +6,7 @@ use verify::Checker;
 
 /// The largest number of symbols of the results of a proof that a worker checks (4 MiB). Heavier proofs are left to the
 /// calling thread.
-pub const SHARE: usize = 1_048_576;
+pub const MOST_WORKER_SYMBOLS: usize = 1_048_576;
 
 /// A worker's checker, and the outcome of the worker's jobs.
 #[derive(Drop)]
@@ -46,8 +46,11 @@ impl Checkers {
 
     /// Sets whether the checker of the calling thread takes proofs that are too heavy for a worker.
     pub(crate) fn admit_heavy(&mut self, are_admitted: bool) {
-        self.calling
-            .limit(if are_admitted { usize::MAX } else { SHARE });
+        self.calling.limit(if are_admitted {
+            usize::MAX
+        } else {
+            MOST_WORKER_SYMBOLS
+        });
     }
 
     /// Gives back the memory that large proofs needed.
@@ -74,7 +77,7 @@ impl Checkers {
     {
         while self.workers.len() < count {
             let mut checker = Checker::new(self.alloc);
-            checker.limit(SHARE);
+            checker.limit(MOST_WORKER_SYMBOLS);
             self.workers.push(Worker {
                 checker,
                 least: Ok(None),

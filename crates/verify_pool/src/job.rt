@@ -2,7 +2,7 @@
 
 ghost use Rattle.std.specs.Prelude.{◌≡◌, IfOk};
 ghost use Rattle.verify.specs.KeptLists.{AreKeptFor};
-ghost use Rattle.verify.specs.Right.{Says};
+ghost use Rattle.verify.specs.Right.{IsAnswerTo};
 ghost use Rattle.verify_pool.specs.Jobs.{AreJobs, IsJob, IsRightAt, IsRightJob, LeastBad};
 
 use crate::checkers::Checkers;
@@ -94,7 +94,7 @@ fn check_job(frames: &Frames, job: &Job, checker: &mut Checker) -> Result<Answer
     requires job { IsJob frames.now.statements job.now }
     requires kept { AreKeptFor frames.now.statements frames.now.names checker.old }
     ensures kept { AreKeptFor frames.now.statements frames.now.names checker.new }
-    ensures answer { IfOk result (λ answer. Says answer (IsRightJob frames.now.statements job.now)) }
+    ensures answer { IfOk result (λ answer. IsAnswerTo answer (IsRightJob frames.now.statements job.now)) }
 {
     match &job.code {
         Some(items) => checker.check(frames, job.at, items),

@@ -2,7 +2,7 @@
 
 ghost use Rattle.std.specs.Prelude.{◌≡◌, ◌<◌, ◌^◌, ℕ, IfOk};
 ghost use Rattle.verify.specs.KeptLists.{Kept};
-ghost use Rattle.verify.specs.Right.{Says};
+ghost use Rattle.verify.specs.Right.{IsAnswerTo};
 
 use std::alloc::AllocError;
 use verify::{Answer, Checker};
@@ -34,5 +34,5 @@ pub trait Work {
         requires index { index < count self.now }
         requires kept { fits self.now checker.old }
         ensures kept { fits self.now checker.new }
-        ensures answer { IfOk result (λ answer. Says answer (right self.now index)) };
+        ensures answer { IfOk result (λ answer. IsAnswerTo answer (right self.now index)) };
 }

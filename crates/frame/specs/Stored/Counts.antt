@@ -36,16 +36,16 @@ IsPlain None = ⊥
 IsPlain (Some s) = (is_open s ≡ false) × (is_close s ≡ false)
 
 -- a symbol that nothing declares
-abbrev pub zero_symbol : Symbol
-zero_symbol = record { float = 0; variable = 0 }
+abbrev pub undeclared_symbol : Symbol
+undeclared_symbol = record { float = 0; variable = 0 }
 
-abbrev pub AreZero : List Symbol → Type 0
-AreZero [] = Unit {0}
-AreZero (x ∷ xs) = (x ≡ zero_symbol) × AreZero xs
+abbrev pub AreUndeclared : List Symbol → Type 0
+AreUndeclared [] = Unit {0}
+AreUndeclared (x ∷ xs) = (x ≡ undeclared_symbol) × AreUndeclared xs
 
 -- the new list is the old one, followed by symbols that nothing declares
 abbrev pub AreZeroAfter : List Symbol → List Symbol → Type 0
-AreZeroAfter old new = (more : List Symbol) × (new ≡ old ++ more) × AreZero more
+AreZeroAfter old new = (more : List Symbol) × (new ≡ old ++ more) × AreUndeclared more
 
 abbrev pub kind_of : Stmt → Kind
 kind_of stmt.Open = Open
@@ -80,7 +80,7 @@ pub record HasRoom (k : Storage) : Type 0 where
   pub few : length (names_in k) < 2 ^ 31
 
 -- names and positions were appended; everything else is as before
-pub record Grown (old new : Storage) : Type 0 where
+pub record HasMoreNames (old new : Storage) : Type 0 where
   pub numbering : Extends old.numbering new.numbering
   pub symbols : AreZeroAfter old.symbols.items new.symbols.items
   pub positions : Extends old.positions.items new.positions.items

@@ -19,12 +19,12 @@ abbrev pub end_of : ℕ → Database → ℕ
 end_of b S = end_from 0 (b + 2) (drop (suc b) S)
 
 -- the list has for each `${` the position at which its block ends
-abbrev pub TellEnds : List ℕ → Database → Type 0
-TellEnds ends S = (b : ℕ) (s : Stmt) → slice_get S b ≡ Some s → is_open s ≡ true → get_or ends b 0 ≡ end_of b S
+abbrev pub AreBlockEnds : List ℕ → Database → Type 0
+AreBlockEnds ends S = (b : ℕ) (s : Stmt) → slice_get S b ≡ Some s → is_open s ≡ true → get_or ends b 0 ≡ end_of b S
 
 pub record AreEnds (ends : List ℕ) (S : Database) : Type 0 where
   pub count : length ends ≡ length S
-  pub tell : TellEnds ends S
+  pub tell : AreBlockEnds ends S
 
 -- a `$}` records `at` as the end of the block that opened at the position `block`
 abbrev pub with_end : Kind → ℕ → ℕ → List ℕ → List ℕ

@@ -56,19 +56,19 @@ abbrev pub IsWith : List Entry → ℕ → ℕ → Type 0
 IsWith es q p = In p (q ∷ kept_at es q)
 
 -- p is the position of an active `$e`, or of a hypothesis kept with one
-abbrev pub IsGiven : List Entry → Database → ℕ → Type 0
-IsGiven es S p = OfSome (IsWith es) (map (λ q. q.0) (actives is_essential S)) p
+abbrev pub IsFromEssentials : List Entry → Database → ℕ → Type 0
+IsFromEssentials es S p = OfSome (IsWith es) (map (λ q. q.0) (actives is_essential S)) p
 
 -- the list has exactly the active `$f` of the symbols; or also the active `$e` and the hypotheses kept with these
 abbrev pub AreFloats : List Entry → Database → List ℕ → List ℕ → Type 0
 AreFloats es S codes list = AreThose (SomeFloat es S codes) list
 
 abbrev pub AreCollected : List Entry → Database → List ℕ → List ℕ → Type 0
-AreCollected es S codes list = AreThose (λ p. SomeFloat es S codes p ⊎ IsGiven es S p) list
+AreCollected es S codes list = AreThose (λ p. SomeFloat es S codes p ⊎ IsFromEssentials es S p) list
 
 -- the new list has exactly those of the old one, the active `$e` and the hypotheses kept with these
 abbrev pub AreWith : List Entry → Database → List ℕ → List ℕ → Type 0
-AreWith es S old new = AreThose (λ p. In p old ⊎ IsGiven es S p) new
+AreWith es S old new = AreThose (λ p. In p old ⊎ IsFromEssentials es S p) new
 
 abbrev pub is_hypothesis_entry : Kind → Bool
 is_hypothesis_entry Float = true

@@ -3,7 +3,7 @@
 use Rattle.std.specs.Prelude.{◌≡◌, ℕ, Bool, true, false, ◌&&◌, ◌||◌, List, map, filter}
 use Rattle.frame.specs.Words.{Name, has_name, Stmt, Expr, Database, separated, expr_of, is_essential, is_variable, Standing}
 use Rattle.mm_read.specs.declared.stmt.Stmt.TheVariants.{Float, Ess}
-use Rattle.frame.specs.FrameOf.{is_mandatory, separates}
+use Rattle.frame.specs.FrameOf.{is_mandatory, has_two_or_more}
 
 -- the new names are the old ones and the variables of the expression
 abbrev pub AreRecorded : Database → List Name → List Name → Expr → Type 0
@@ -18,17 +18,17 @@ abbrev pub is_in_essential : Name → Standing → Bool
 is_in_essential x e = is_essential e.stmt && has_name x (expr_of e.stmt)
 
 -- the statement is an `$e`, or the `$f` of one of the used variables
-abbrev pub asks : List Name → Stmt → Bool
-asks used (Ess label expr) = true
-asks used (Float label constant variable) = has_name variable used
-asks used other = false
+abbrev pub is_needed : List Name → Stmt → Bool
+is_needed used (Ess label expr) = true
+is_needed used (Float label constant variable) = has_name variable used
+is_needed used other = false
 
 abbrev pub required : List Name → List Standing → List ℕ
-required used standing = map (λ e. e.at) (filter (λ e. asks used e.stmt) standing)
+required used standing = map (λ e. e.at) (filter (λ e. is_needed used e.stmt) standing)
 
 -- those of the names that are among the used variables
 abbrev pub among : List Name → List Name → List Name
 among used names = filter (λ x. has_name x used) names
 
 abbrev pub groups_among : List Name → List Standing → List (List Name)
-groups_among used standing = filter separates (map (λ e. among used (separated e.stmt)) standing)
+groups_among used standing = filter has_two_or_more (map (λ e. among used (separated e.stmt)) standing)

@@ -12,7 +12,7 @@ use Rattle.frame.specs.Stored.AssertionParts.{required_at, typecode_at, is_typed
 use Rattle.frame.specs.Stored.EntryMeanings.{names_in, statements_of}
 use Rattle.frame.specs.Stored.Hypotheses.{IsFilledFrom}
 use Rattle.frame.specs.Stored.PairSearch.{are_pair}
-use Rattle.frame.specs.Stored.Stacks.{has_code, having}
+use Rattle.frame.specs.Stored.Stacks.{has_code, positions_with}
 use Rattle.frame.specs.Stored.Whole.{AreStored}
 
 -- ---- the search for a pair, with known facts
@@ -21,10 +21,10 @@ use Rattle.frame.specs.Stored.Whole.{AreStored}
 pub record IsRowOf (k : Storage) (x : ℕ) (row : List ℕ) : Type 0 where
   pub count : ℕ
   pub within : count ≤ length (statements_of k)
-  pub are : row ≡ having k.entries x (actives is_disj (take count (statements_of k)))
+  pub are : row ≡ positions_with k.entries x (actives is_disj (take count (statements_of k)))
 
 -- x and y are variables that are searched for, and the row is that of the `$d` that have x
-pub record IsSoughtIn (k : Storage) (x y : ℕ) (row : List ℕ) : Type 0 where
+pub record IsSearchedIn (k : Storage) (x y : ℕ) (row : List ℕ) : Type 0 where
   pub stored : AreStored k
   pub distinct : AreDistinct (names_in k)
   pub first : x < length (names_in k)
@@ -39,7 +39,7 @@ AreAnswered k y row walked = (i : ℕ) → i ≤ walked.steps → list_any (has_
 -- ---- the lists of two variables
 
 -- pairs can be searched for at the position
-pub record IsPlace (k : Storage) (at : ℕ) : Type 0 where
+pub record IsSearchPosition (k : Storage) (at : ℕ) : Type 0 where
   pub stored : AreStored k
   pub distinct : AreDistinct (names_in k)
   pub above : 1 ≤ at

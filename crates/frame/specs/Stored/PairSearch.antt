@@ -15,7 +15,7 @@ abbrev pub are_pair : Storage → ℕ → ℕ → ℕ → Bool
 are_pair k at x y = is_pair (before (statements_of k) at) (name_at (names_in k) x) (name_at (names_in k) y)
 
 -- x and y are numbers of two names, searched for at a position
-pub record AreSought (k : Storage) (at x y : ℕ) : Type 0 where
+pub record AreSearched (k : Storage) (at x y : ℕ) : Type 0 where
   pub stored : AreStored k
   pub distinct : AreDistinct (names_in k)
   pub above : 1 ≤ at
@@ -26,6 +26,6 @@ pub record AreSought (k : Storage) (at x y : ℕ) : Type 0 where
 
 -- x and y are a pair exactly if one of the `$d` that are left has y
 pub record IsLeft (k : Storage) (at x y : ℕ) (left : List ℕ) : Type 0 where
-  pub sought : AreSought k at x y
+  pub sought : AreSearched k at x y
   pub of_kind : AreOfKind is_disj (statements_of k) left
   pub rest : are_pair k at x y ≡ list_any (has_code k.entries y) left

@@ -15,13 +15,13 @@ having_after found es c [] = found
 having_after found es c (p ∷ ps) = having_after (if has_code es c p.0 then p.0 ∷ found else found) es c ps
 
 -- the positions of those statements that have the symbol c, from the last one back
-abbrev pub having : List Entry → ℕ → List (ℕ × Stmt) → List ℕ
-having es c ps = having_after [] es c ps
+abbrev pub positions_with : List Entry → ℕ → List (ℕ × Stmt) → List ℕ
+positions_with es c ps = having_after [] es c ps
 
 -- the stack of each symbol, at each position, has the active statements of the kind that have the symbol
 pub record AreStacks (kind : Stmt → Bool) (hs : List (List StackVersion)) (es : List Entry) (S : Database) : Type 0 where
   pub until : AreUntil (length es) hs
-  pub each : (c at : ℕ) → 1 ≤ at → at ≤ length es + 1 → stack_at (history hs c) at ≡ having es c (actives kind (take (at - 1) S))
+  pub each : (c at : ℕ) → 1 ≤ at → at ≤ length es + 1 → stack_at (history hs c) at ≡ positions_with es c (actives kind (take (at - 1) S))
 
 -- the statement at the position is of the kind
 pub record IsOfKind (kind : Stmt → Bool) (S : Database) (p : ℕ) : Type 0 where

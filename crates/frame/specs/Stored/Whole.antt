@@ -36,7 +36,7 @@ pub record AreStored (k : Storage) : Type 0 where
   pub variables : AreStacks is_var k.variables k.entries (statements_of k)
 
 -- the stacks of a kind are those of a storage with these entries and these last active statements
-pub record IsWalked (of : Kind) (entries : List Entry) (last_active : LastActive) (hs : List (List StackVersion)) : Type 0 where
+pub record AreStacksOfStorage (of : Kind) (entries : List Entry) (last_active : LastActive) (hs : List (List StackVersion)) : Type 0 where
   pub storage : Storage
   pub stored : AreStored storage
   pub entries_are : entries ≡ storage.entries
@@ -56,5 +56,5 @@ IsKeptOf k s d = IsKeptAs k.entries (statements_of k) s d
 -- the parts found for the statement s; each hypothesis has its number and its typecode
 pub record ArePartsFor (k : Storage) (s : Stmt) (d : Assertion) : Type 0 where
   pub paired : length d.required ≡ length d.hypotheses
-  pub headed : length d.typecodes ≡ length d.hypotheses
+  pub typecodes_counted : length d.typecodes ≡ length d.hypotheses
   pub kept : has_parts (kind_of s) ≡ true → IsKeptOf k s d

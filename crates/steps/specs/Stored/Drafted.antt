@@ -2,7 +2,7 @@
 -- Source: this project's form of a table of steps.
 -- The code keeps all expressions in one buffer, and finds a step by its position and those that it takes.
 use Rattle.std.specs.Prelude.{◌≡◌, ◌≢◌, ℕ, zero, suc, ◌≤◌, ◌⊎◌, List, [], ◌∷◌, ◌++◌, length, map, get_or, Option, Some, None, slice_get}
-use Rattle.steps.specs.Words.{BTreeMap, get_by, slice_cmp, nat_cmp, Vec, Global, Name, Database, AreBelow, CodeImages, code_apply, AssertionView, Item, SymbolRange, seen_at, AreRead, below, top, State, Steps}
+use Rattle.steps.specs.Words.{BTreeMap, get_by, slice_cmp, nat_cmp, Vec, Global, Name, Database, AreBelow, CodeImages, code_apply, AssertionView, Item, SymbolRange, symbols_in, AreRead, below, top, State, Steps}
 use Rattle.steps.specs.declared.table_draft.PlacedStep.{PlacedStep}
 use Rattle.steps.specs.declared.table_draft.TableDraft.{TableDraft}
 use Rattle.steps.specs.StepTable.{Step, Progress, progress, RecordsItem}
@@ -24,7 +24,7 @@ pub record AreKnown (known : BTreeMap (Vec ℕ Global) ℕ) (steps : List Step) 
 -- ---- rows in one buffer
 
 abbrev pub row_of : List ℕ → PlacedStep → Row
-row_of symbols p = record { step = record { position = p.position; taken = p.taken.items }; expr = seen_at symbols p.place }
+row_of symbols p = record { step = record { position = p.position; taken = p.taken.items }; expr = symbols_in symbols p.place }
 
 abbrev pub rows_of : TableDraft → List Row
 rows_of d = map (row_of d.symbols) d.placed.items
@@ -44,17 +44,17 @@ pub record IsDraft (S : Database) (at : ℕ) (names : List Name) (d : TableDraft
   pub saved_below : AreBelow (length d.placed.items) d.saved.items
 
 -- the results of a run are the expressions of the rows
-pub record IsTied (names : List Name) (d : TableDraft) (st : State) : Type 0 where
+pub record AgreesWithRun (names : List Name) (d : TableDraft) (st : State) : Type 0 where
   pub stack : map (expr_in names (rows_of d)) d.stack.items ≡ st.stack
   pub saved : map (expr_in names (rows_of d)) d.saved.items ≡ st.saved
 
 -- a run does the item
 abbrev pub CanDo : Database → ℕ → List Name → TableDraft → Item → Type 0
-CanDo S at names old item = (st : State) × (next : State) × IsTied names old st × Steps S at st item next
+CanDo S at names old item = (st : State) × (next : State) × AgreesWithRun names old st × Steps S at st item next
 
 -- if a run does the item, it was recorded, and the results of the run are the expressions of the rows
 abbrev pub IsDone : Database → ℕ → List Name → TableDraft → Item → TableDraft → Type 0
-IsDone S at names old item new = (st next : State) → IsTied names old st → Steps S at st item next → RecordsItem S at (progress_of old) item (progress_of new) × IsTied names new next
+IsDone S at names old item new = (st next : State) → AgreesWithRun names old st → Steps S at st item next → RecordsItem S at (progress_of old) item (progress_of new) × AgreesWithRun names new next
 
 -- the symbol numbers of the expression of the row at a place
 abbrev pub codes_in : TableDraft → ℕ → List ℕ

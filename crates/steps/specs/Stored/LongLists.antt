@@ -24,12 +24,12 @@ pub record Listed : Type 0 where
 -- they are copied from this view
 pub record AreMadeOf (position : ℕ) (c : AssertionView) (l : Listed) : Type 0 where
   pub at : l.position ≡ position
-  pub heads_same : l.typecodes ≡ c.typecodes.now
-  pub asked_same : l.required ≡ c.hypotheses
+  pub typecodes_same : l.typecodes ≡ c.typecodes.now
+  pub hypotheses_same : l.required ≡ c.hypotheses
 
 -- they are those of the assertion s at their position, whose groups of disjoint variables have symbol numbers
 pub record AreListsOf (S : Database) (names : List Name) (l : Listed) (s : Stmt) : Type 0 where
-  pub asked_of : AreRequired S names (hypotheses (before S l.position) s) l.typecodes l.required
+  pub hypotheses_of : AreRequired S names (hypotheses (before S l.position) s) l.typecodes l.required
   pub groups : List (List ℕ)
   pub are_groups : map (decode names) groups ≡ mandatory_groups (before S l.position) s
   pub below_names : AllBelow (length names) groups

@@ -45,18 +45,18 @@ pub record RecordsWord (old new : List RowWord) (p : ℕ) (w : PlaceWord) : Type
   pub only : (r q : ℕ) → HasFact new r q → HasFact old r q ⊎ ((r ≡ p) × HasBit w q)
 
 -- whether the variable at p is disjoint from each of those at the places of the word
-abbrev pub TellsWord : Numbered → Places → ℕ → PlaceWord → Bool → Type 0
-TellsWord v f p w true = (q : ℕ) → HasBit w q → is_kept v f p q ≡ true
-TellsWord v f p w false = (q : ℕ) × HasBit w q × (is_kept v f p q ≡ false)
+abbrev pub DecidesWord : Numbered → Places → ℕ → PlaceWord → Bool → Type 0
+DecidesWord v f p w true = (q : ℕ) → HasBit w q → is_kept v f p q ≡ true
+DecidesWord v f p w false = (q : ℕ) × HasBit w q × (is_kept v f p q ≡ false)
 
-abbrev pub TellsAll : Numbered → Places → ℕ → List PlaceWord → Bool → Type 0
-TellsAll v f p ws true = (q : ℕ) → HasPlace ws q → is_kept v f p q ≡ true
-TellsAll v f p ws false = (q : ℕ) × HasPlace ws q × (is_kept v f p q ≡ false)
+abbrev pub DecidesAll : Numbered → Places → ℕ → List PlaceWord → Bool → Type 0
+DecidesAll v f p ws true = (q : ℕ) → HasPlace ws q → is_kept v f p q ≡ true
+DecidesAll v f p ws false = (q : ℕ) × HasPlace ws q × (is_kept v f p q ≡ false)
 
-abbrev pub TellsBits : Numbered → Places → PlaceWord → List PlaceWord → Bool → Type 0
-TellsBits v f w ws true = (p q : ℕ) → HasBit w p → HasPlace ws q → is_kept v f p q ≡ true
-TellsBits v f w ws false = (p : ℕ) × (q : ℕ) × HasBit w p × HasPlace ws q × (is_kept v f p q ≡ false)
+abbrev pub DecidesBits : Numbered → Places → PlaceWord → List PlaceWord → Bool → Type 0
+DecidesBits v f w ws true = (p q : ℕ) → HasBit w p → HasPlace ws q → is_kept v f p q ≡ true
+DecidesBits v f w ws false = (p : ℕ) × (q : ℕ) × HasBit w p × HasPlace ws q × (is_kept v f p q ≡ false)
 
-abbrev pub TellsEach : Numbered → Places → List PlaceWord → List PlaceWord → Bool → Type 0
-TellsEach v f own ws true = (p q : ℕ) → HasPlace own p → HasPlace ws q → is_kept v f p q ≡ true
-TellsEach v f own ws false = (p : ℕ) × (q : ℕ) × HasPlace own p × HasPlace ws q × (is_kept v f p q ≡ false)
+abbrev pub DecidesEach : Numbered → Places → List PlaceWord → List PlaceWord → Bool → Type 0
+DecidesEach v f own ws true = (p q : ℕ) → HasPlace own p → HasPlace ws q → is_kept v f p q ≡ true
+DecidesEach v f own ws false = (p : ℕ) × (q : ℕ) × HasPlace own p × HasPlace ws q × (is_kept v f p q ≡ false)

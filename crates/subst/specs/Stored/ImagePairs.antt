@@ -3,7 +3,7 @@
 -- The code keeps the ranges of the two images for a whole proof: the symbols there do not change.
 use Rattle.std.specs.Prelude.{◌≡◌, ℕ, ◌≤◌, ◌⊎◌, true, List, ◌∷◌, [], ◌++◌, length}
 use Rattle.subst.specs.Words.{All, Numbered, decode, are_disjoint}
-use Rattle.subst.specs.SymbolRanges.{seen_at}
+use Rattle.subst.specs.SymbolRanges.{symbols_in}
 use Rattle.subst.specs.declared.symbol_range.SymbolRange.{SymbolRange}
 use Rattle.subst.specs.declared.image_pairs.ImagePair.{ImagePair}
 
@@ -15,12 +15,12 @@ pub record IsInside (symbols : List ℕ) (p : SymbolRange) : Type 0 where
 pub record IsDisjointPair (v : Numbered) (symbols : List ℕ) (p : ImagePair) : Type 0 where
   pub left : IsInside symbols p.left
   pub right : IsInside symbols p.right
-  pub disjoint : are_disjoint v.statements (decode v.names (seen_at symbols p.left)) (decode v.names (seen_at symbols p.right)) ≡ true
+  pub disjoint : are_disjoint v.statements (decode v.names (symbols_in symbols p.left)) (decode v.names (symbols_in symbols p.right)) ≡ true
 
 -- all recorded pairs are disjoint
 pub record AreDisjointPairs (v : Numbered) (symbols : List ℕ) (pairs : List ImagePair) : Type 0 where
   pub each : All (IsDisjointPair v symbols) pairs
 
 -- the pair is appended, or nothing changes
-abbrev pub NotesPair : List ImagePair → List ImagePair → ImagePair → Type 0
-NotesPair old new p = (new ≡ old) ⊎ (new ≡ old ++ p ∷ [])
+abbrev pub RecordsPair : List ImagePair → List ImagePair → ImagePair → Type 0
+RecordsPair old new p = (new ≡ old) ⊎ (new ≡ old ++ p ∷ [])

@@ -3,7 +3,7 @@
 -- The code reads an image once in a citation, and keeps the words of a long one's variables for a whole proof.
 use Rattle.std.specs.Prelude.{◌≡◌, ℕ, ◌<◌, ◌≤◌, ◌⊎◌, List, ◌∷◌, [], ◌++◌, length, get_or}
 use Rattle.subst.specs.Words.{All, Numbered, code_image}
-use Rattle.subst.specs.SymbolRanges.{seen_at, images_at}
+use Rattle.subst.specs.SymbolRanges.{symbols_in, images_at}
 use Rattle.subst.specs.declared.symbol_range.SymbolRange.{SymbolRange}
 use Rattle.subst.specs.declared.place_words.PlaceWord.{PlaceWord}
 use Rattle.subst.specs.declared.image_variables.WordRange.{WordRange}
@@ -38,7 +38,7 @@ pub record IsLong (v : Numbered) (f : Places) (symbols : List ℕ) (words : List
   pub low : e.image.start ≤ e.image.end
   pub high : e.image.end ≤ length symbols
   pub within : e.words.end ≤ kept
-  pub range : IsRangeOf v f words e.words (seen_at symbols e.image)
+  pub range : IsRangeOf v f words e.words (symbols_in symbols e.image)
 
 pub record AreImagesRecorded (v : Numbered) (f : Places) (symbols : List ℕ) (n : RecordedImages) : Type 0 where
   pub kept : n.kept ≤ length n.words

@@ -1,10 +1,10 @@
-use Rattle.frame.proofs.Words.{◌≡◌, ◌∙◌, sym, arith, false, nat_eq, AreSought, ok-weaker}
+use Rattle.frame.proofs.Words.{◌≡◌, ◌∙◌, sym, arith, false, nat_eq, AreSearched, ok-weaker}
 use Rattle.frame.proofs.CitingListLemmas.{pairs-added, pairs-apart, pairs-one, sought-at}
 use Rattle.frame.proofs.PairSearchLemmas.{pair-turn}
 use Rattle.frame.proofs.citing_lists.add_if_pair.Goals as goal
 use Rattle.frame.proofs.citing_lists.add_if_pair.Goals.{Else-x-y}
 
-sought : (c : Else-x-y) → AreSought c.args.storage.now c.args.at c.args.x c.args.y
+sought : (c : Else-x-y) → AreSearched c.args.storage.now c.args.at c.args.x c.args.y
 sought c =
     let differ : nat_eq c.args.x c.args.y ≡ false = let h = c.if-x-y.false in grind (arith, h) in
     sought-at c.args.storage.now c.args.at c.args.x c.args.y c.requires.place c.requires.below.0 c.requires.below.1 differ

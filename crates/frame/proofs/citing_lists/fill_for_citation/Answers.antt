@@ -6,12 +6,12 @@ use Rattle.frame.proofs.citing_lists.fill_for_citation.Goals.{In_ok-variables}
 typed : (c : In_ok-variables) (d : ℕ) → list_any (λ n. n == d) c.in_ok-variables.variables.items ≡ is_typed (map (required_at c.args.storage.now.entries) c.args.buffers.now.hypotheses) d
 typed c = subst (λ ps. (d : ℕ) → list_any (λ n. n == d) c.in_ok-variables.variables.items ≡ is_typed (map (required_at c.args.storage.now.entries) ps) d) (c.deref.ensures.value ∙ ap (λ v. v.hypotheses) c.buffers.view_is) c.in_ok-variables.ensures
 
-pub learn_pairs-requires-clause-below : goal.learn_pairs-requires-clause-below
-learn_pairs-requires-clause-below c =
+pub search_all_pairs-requires-clause-below : goal.search_all_pairs-requires-clause-below
+search_all_pairs-requires-clause-below c =
     let k = c.args.storage.now in
     subst (AreBelow (length (names_in k))) (sym c.deref-2.ensures.value)
     (all-below (length (names_in k)) (length (labels_in k)) k.entries c.args.buffers.now.hypotheses c.in_ok-variables.variables.items c.requires.place.stored.kept.coded c.requires.hypotheses
-    (typed (goal.at.learn_pairs-requires-clause-below c).In_ok-variables))
+    (typed (goal.at.search_all_pairs-requires-clause-below c).In_ok-variables))
 
 pub fill_by_pairs-requires-clause-variables : goal.fill_by_pairs-requires-clause-variables
 fill_by_pairs-requires-clause-variables c = λ d.

@@ -1,4 +1,4 @@
-use Rattle.frame.proofs.Words.{◌≡◌, ◌+◌, ◌-◌, ◌++◌, ◌∙◌, ap, sym, subst, arith, refl, ℕ, List, append-nil, length, length-append, length-map, map, take, take_all, [], ◌∷◌, Some, AreBelow, Entry, seen, last_of, declared_by, take-append_seam, replaced_of, symbol_of, labels_in, names_in, statements_of, TellEnds}
+use Rattle.frame.proofs.Words.{◌≡◌, ◌+◌, ◌-◌, ◌++◌, ◌∙◌, ap, sym, subst, arith, refl, ℕ, List, append-nil, length, length-append, length-map, map, take, take_all, [], ◌∷◌, Some, AreBelow, Entry, seen, last_of, declared_by, take-append_seam, replaced_of, symbol_of, labels_in, names_in, statements_of, AreBlockEnds}
 use Rattle.frame.proofs.EndLemmas.{block-fits, ends-taken, length-with, stored-blocks}
 use Rattle.frame.proofs.DeclareLemmas.{symbol_of-push, IsLeft, left, recorded-last, replaced_of-push, restored}
 use Rattle.frame.proofs.StoredOneMore.{numbered-at}
@@ -85,7 +85,7 @@ loop-storage-init c =
       enough = c.requires.within;
       declared = λ m lt. stored.kept.symbols_kept m (omega (arith, lt, stored.kept.count));
       recorded = stored.kept.replaced_kept;
-      ended = subst (TellEnds k.ends.items) (sym (take_all (length k.entries) (statements_of k) (omega (arith, (stored-blocks k stored).count)))) stored.ended.tell;
+      ended = subst (AreBlockEnds k.ends.items) (sym (take_all (length k.entries) (statements_of k) (omega (arith, (stored-blocks k stored).count)))) stored.ended.tell;
       ends_count = refl;
       count = refl;
       names = (refl, refl);

@@ -1,4 +1,4 @@
-use Rattle.frame.proofs.Words.{◌≡◌, ◌≤◌, length, take, TellEnds, statements_of, Extends, ReadsAs, replaced_of, symbol_of}
+use Rattle.frame.proofs.Words.{◌≡◌, ◌≤◌, length, take, AreBlockEnds, statements_of, Extends, ReadsAs, replaced_of, symbol_of}
 use Rattle.frame.proofs.declare.remove_entries.Given as goal
 
 abbrev pub invariant-loop-storage : goal.invariant-loop-storage
@@ -7,7 +7,7 @@ invariant-loop-storage l = record {
   enough : l.len ≤ length l.storage.entries;
   declared : ReadsAs l.storage.symbols.items (symbol_of l.storage.entries);
   recorded : l.storage.replaced.items ≡ replaced_of l.storage.entries;
-  ended : TellEnds l.storage.ends.items (take (length l.storage.entries) (statements_of l.fn.storage));
+  ended : AreBlockEnds l.storage.ends.items (take (length l.storage.entries) (statements_of l.fn.storage));
   ends_count : length l.storage.ends.items ≡ length l.fn.storage.ends.items;
   count : length l.storage.symbols.items ≡ length l.fn.storage.symbols.items;
   names : (l.storage.numbering ≡ l.fn.storage.numbering) × (l.storage.positions ≡ l.fn.storage.positions);

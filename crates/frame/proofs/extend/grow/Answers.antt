@@ -1,5 +1,5 @@
-use Rattle.frame.proofs.Words.{◌≡◌, ◌∙◌, ap, sym, subst, arith, refl, length, length-append, length-take-le, take, extends-length, on-err, [], ◌∷◌, bare, statements_of, AreGivenSets}
-use Rattle.frame.proofs.GivenSetLemmas.{sets-front, sets-more}
+use Rattle.frame.proofs.Words.{◌≡◌, ◌∙◌, ap, sym, subst, arith, refl, length, length-append, length-take-le, take, extends-length, on-err, [], ◌∷◌, bare, statements_of, AreEssentialSets}
+use Rattle.frame.proofs.EssentialSetLemmas.{sets-front, sets-more}
 use Rattle.frame.proofs.KindWalk.{as-many}
 use Rattle.frame.proofs.extend.grow.Goals as goal
 
@@ -21,7 +21,7 @@ returns-in_err-extend_whole-clause-kept c =
     let statements = c.in_err-extend_whole.ensures.same in
     record {
       stored = c.extend_whole.ensures.stored;
-      sets = subst (λ es. AreGivenSets c.args.given.now es (statements_of new)) (sym entries) (subst (AreGivenSets c.args.given.now old.entries) (sym statements) c.requires.kept.sets);
+      sets = subst (λ es. AreEssentialSets c.args.given.now es (statements_of new)) (sym entries) (subst (AreEssentialSets c.args.given.now old.entries) (sym statements) c.requires.kept.sets);
       count = c.requires.kept.count ∙ sym (ap length entries);
     }
 
@@ -36,6 +36,6 @@ returns-then-is_err-clause-kept c =
     let sets = sets-front h h mid.entries (statements_of mid) front c.record_set-kept.ensures.sets refl refl (omega (arith, many, at)) in
     record {
       stored = c.cut.ensures.stored;
-      sets = subst (λ es. AreGivenSets h es (statements_of new)) (sym c.cut.ensures.entries) (subst (AreGivenSets h (take front mid.entries)) (sym c.cut.ensures.statements) sets);
+      sets = subst (λ es. AreEssentialSets h es (statements_of new)) (sym c.cut.ensures.entries) (subst (AreEssentialSets h (take front mid.entries)) (sym c.cut.ensures.statements) sets);
       count = many ∙ (sym at ∙ (sym (length-take-le front mid.entries (omega (arith, at, longer))) ∙ sym (ap length c.cut.ensures.entries)));
     }

@@ -1,4 +1,4 @@
-use Rattle.library.proofs.Words.{◌∙◌, Ok, Err, ap, sym, forbidden, says_at}
+use Rattle.library.proofs.Words.{◌∙◌, Ok, Err, ap, sym, first_forbidden, says_at}
 use Rattle.library.proofs.entry_text.read_text.Goals as goal
 
 pub returns-in-Some : goal.returns-in-Some
@@ -6,14 +6,14 @@ returns-in-Some g c =
     rw (← c.as_slice-text.ensures) (λ L. (
       _,
       record { short = c.if-text-gt-MOST_BYTES.false; read = (c.requires.1 _ (Ok c.in-Ok.statements) (says_at g.T.Fn c.read.ensures c.in-Ok.is)).0 },
-      ap (forbidden c.args.charter.now c.args.submission.now.author) (sym c.deref.ensures.value) ∙ sym c.in-Some.ensures,
+      ap (first_forbidden c.args.charter.now c.args.submission.now.author) (sym c.deref.ensures.value) ∙ sym c.in-Some.ensures,
     ))
 
 pub returns-in-None : goal.returns-in-None
 returns-in-None g c =
     rw (← c.as_slice-text.ensures) (record {
       readable = record { short = c.if-text-gt-MOST_BYTES.false; read = (c.requires.1 _ (Ok c.in-Ok.statements) (says_at g.T.Fn c.read.ensures c.in-Ok.is)).0 };
-      allowed = ap (forbidden c.args.charter.now c.args.submission.now.author) (sym c.deref.ensures.value) ∙ sym c.in-None.ensures;
+      allowed = ap (first_forbidden c.args.charter.now c.args.submission.now.author) (sym c.deref.ensures.value) ∙ sym c.in-None.ensures;
     })
 
 pub returns-in-Err-Text : goal.returns-in-Err-Text

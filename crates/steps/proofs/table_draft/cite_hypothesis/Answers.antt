@@ -5,13 +5,13 @@ pub returns : goal.returns
 returns c =
     on_ok_weaker c.add_step.result
     (λ h. inr (record {
-      made = record { position = c.args.position; taken = c.new-taken.result; place = c.place_between-place.result };
+      made = record { position = c.args.position; taken = c.new-taken.result; place = c.range_between-place.result };
       is_position = refl;
       is_taken = c.new-taken.ensures.items;
       fresh = ap (place_of c.args.draft.now.known) (sym (c.deref.ensures.value ∙ c.in_ok-key.ensures)) ∙ (sym c.find.ensures ∙ c.in_default.is);
       symbols = h.symbols ∙ c.in_ok-extend.ensures.added;
-      start = c.place_between-place.ensures.0 ∙ c.len-start.ensures.len;
-      end = c.place_between-place.ensures.1 ∙ (c.len.ensures.len ∙ ap (λ s. length s) (sym h.symbols));
+      start = c.range_between-place.ensures.0 ∙ c.len-start.ensures.len;
+      end = c.range_between-place.ensures.1 ∙ (c.len.ensures.len ∙ ap (λ s. length s) (sym h.symbols));
       placed = h.placed;
       stack = h.stack;
       saved = h.saved;

@@ -16,7 +16,7 @@ returns-in_err-end-in-Some-clause-none c =
 pub returns-in_err-end-in-Some-clause-kept : goal.returns-in_err-end-in-Some-clause-kept
 returns-in_err-end-in-Some-clause-kept c =
     let moved = c.loop-symbol.invariant.written.moved in
-    kept-on c.args.symbols.now c.loop-symbol.symbols _ c.args.at c.loop-symbol.end (omega (arith, moved)) c.copy_place.ensures.kept
+    kept-on c.args.symbols.now c.loop-symbol.symbols _ c.args.at c.loop-symbol.end (omega (arith, moved)) c.copy_range.ensures.kept
     (written-kept c.args.symbols.now c.loop-symbol.symbols _ c.args.at c.loop-symbol.end c.requires.inside c.loop-symbol.invariant.written)
 
 pub loop-symbol-preserved : goal.loop-symbol-preserved
@@ -31,7 +31,7 @@ loop-symbol-preserved c =
             (image-some (take l.end l.symbols) a.images.now (get_or a.expr.now l.symbol-index 0) w.in-Some.place (rw c.table-table.ensures at (sym c.get.ensures ∙ w.in-Some.is))) w.in_ok-end-in-Some.ensures.some;
         few = (let last = w.in_ok-end-in-Some.ensures.within in omega (arith, last));
         room = l.invariant.room;
-        count = w.copy_place.ensures.count ∙ l.invariant.count;
+        count = w.copy_range.ensures.count ∙ l.invariant.count;
       })
       | in-None w ↦ rw (w.symbols-is, w.end-is) (record {
         written = fill-on a.symbols.now l.symbols _ _ a.images.now a.expr.now l.symbol-index a.at l.end _ c.requires.within c.requires.inside more l.invariant.written

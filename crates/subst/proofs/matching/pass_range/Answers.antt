@@ -1,4 +1,4 @@
-use Rattle.subst.proofs.Words.{◌≡◌, ◌+◌, ◌-◌, ◌≤◌, true, false, take, drop, arith, sym, ◌∙◌, ap, take_rest, seen_at}
+use Rattle.subst.proofs.Words.{◌≡◌, ◌+◌, ◌-◌, ◌≤◌, true, false, take, drop, arith, sym, ◌∙◌, ap, take_rest, symbols_in}
 use Rattle.subst.proofs.SymbolRangeLemmas.{length-seen}
 use Rattle.subst.proofs.MatchLemmas.{front-goes, front-fails}
 use Rattle.subst.proofs.matching.pass_range.Goals as goal
@@ -6,7 +6,7 @@ use Rattle.subst.proofs.matching.pass_range.Goals as goal
 pub returns-then-end-at-clause-none : goal.returns-then-end-at-clause-none
 returns-then-end-at-clause-none c more =
     let a = c.args in
-    front-fails a.symbols.now (seen_at a.symbols.now a.place) more a.at a.end c.requires.rest.0 c.requires.rest.1
+    front-fails a.symbols.now (symbols_in a.symbols.now a.place) more a.at a.end c.requires.rest.0 c.requires.rest.1
     (λ fits. absurd (omega (arith, fits, length-seen a.symbols.now a.place c.requires.image.0 c.requires.image.1, c.if-end-at.true)))
 
 pub returns-then-begin_alike-clause-some : goal.returns-then-begin_alike-clause-some
@@ -15,14 +15,14 @@ returns-then-begin_alike-clause-some c =
     let s = a.symbols.now in
     let len = a.place.end - a.place.start in
     let fits : a.at + len ≤ a.end = omega (arith, c.requires.rest.0, c.if-end-at.false) in
-    (fits, front-goes s (seen_at s a.place) a.at a.end len fits (ap (take len) (sym (take_rest s a.place.start)) ∙ (c.begin_alike.ensures.0 c.if-begin_alike.true ∙ ap (take len) (take_rest s a.at))))
+    (fits, front-goes s (symbols_in s a.place) a.at a.end len fits (ap (take len) (sym (take_rest s a.place.start)) ∙ (c.have_same_prefix.ensures.0 c.if-begin_alike.true ∙ ap (take len) (take_rest s a.at))))
 
 pub returns-else-begin_alike-clause-none : goal.returns-else-begin_alike-clause-none
 returns-else-begin_alike-clause-none c more =
     let a = c.args in
     let s = a.symbols.now in
     let len = a.place.end - a.place.start in
-    front-fails s (seen_at s a.place) more a.at a.end c.requires.rest.0 c.requires.rest.1
+    front-fails s (symbols_in s a.place) more a.at a.end c.requires.rest.0 c.requires.rest.1
     (λ fits same.
     let equal = same ∙ ap (λ n. take n (drop a.at s)) (length-seen s a.place c.requires.image.0 c.requires.image.1) in
-    let e : false ≡ true = sym c.if-begin_alike.false ∙ c.begin_alike.ensures.1 (ap (take len) (take_rest s a.place.start) ∙ (equal ∙ ap (take len) (sym (take_rest s a.at)))) in cc)
+    let e : false ≡ true = sym c.if-begin_alike.false ∙ c.have_same_prefix.ensures.1 (ap (take len) (take_rest s a.place.start) ∙ (equal ∙ ap (take len) (sym (take_rest s a.at)))) in cc)

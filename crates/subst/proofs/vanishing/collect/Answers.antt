@@ -1,5 +1,5 @@
 use Rattle.std.proofs.Common.{◌≡◌, ℕ, ◌<◌, ◌≤◌, slice_get, arith, ap, sym, ◌∙◌, length, length-append}
-use Rattle.subst.proofs.Words.{refl, get_or, is_left, ◌+◌, ◌-◌}
+use Rattle.subst.proofs.Words.{refl, get_or, has_nonempty_image, ◌+◌, ◌-◌}
 use Rattle.subst.proofs.VanishingLemmas.{all-groups, groups-count, symbol-kept, symbols-passed}
 use Rattle.subst.proofs.vanishing.collect.Goals as goal
 
@@ -10,7 +10,7 @@ loop-at-init c =
     let found = c.next_kept-at.ensures in
     let size = ap length c.symbols-symbols.ensures in (
       c.clear.ensures.items
-          ∙ symbols-passed a.images.now a.expr.now p c.requires 0 c.next_kept-at.result c.next_kept-at.result _ (omega arith) (omega (arith, size, found.within.1)) refl (λ j low high. ap (λ xs. is_left a.images.now (get_or xs j 0)) (sym c.symbols-symbols.ensures) ∙ found.passed j low high),
+          ∙ symbols-passed a.images.now a.expr.now p c.requires 0 c.next_kept-at.result c.next_kept-at.result _ (omega arith) (omega (arith, size, found.within.1)) refl (λ j low high. ap (λ xs. has_nonempty_image a.images.now (get_or xs j 0)) (sym c.symbols-symbols.ensures) ∙ found.passed j low high),
       omega (arith, ap length c.clear.ensures.items),
       found.within.1,
       found.kept,
@@ -30,7 +30,7 @@ loop-at-preserved c =
     let more = c.in_ok-extend_from_slice.ensures.items in
     let found = c.next_kept-at-in-loop-at.ensures in
     let size = ap length c.symbols-symbols.ensures in
-    let same = λ (j : ℕ). ap (λ xs. is_left a.images.now (get_or xs j 0)) (sym c.symbols-symbols.ensures) in
+    let same = λ (j : ℕ). ap (λ xs. has_nonempty_image a.images.now (get_or xs j 0)) (sym c.symbols-symbols.ensures) in
     let kept = symbol-kept a.images.now a.expr.now p c.requires l.at l.indexes.items c.get-group.result.now _ (omega (arith, size, c.loop-at-test.true)) l.invariant.0 (ap (λ gs. slice_get gs l.at) (sym c.groups-groups.ensures) ∙ c.get-group.ensures)
     (same l.at ∙ l.invariant.3 c.loop-at-test.true) more in (
       symbols-passed a.images.now a.expr.now p c.requires (l.at + 1) (c.next_kept-at-in-loop-at.result - (l.at + 1)) c.next_kept-at-in-loop-at.result _ (omega (arith, found.within.0)) (omega (arith, size, found.within.1)) kept (λ j low high. same j ∙ found.passed j low high),

@@ -1,4 +1,4 @@
-use Rattle.verify.proofs.Words.{◌≡◌, ℕ, ◌<◌, ◌↔◌, Bool, true, false, is_some, IsTrue, List, length, map, arith, sym, ap, ◌∙◌, subst, IfOk-weaker, Name, Database, AreDistinct, decode, AllBelow, AreBelow, are_groups_disjoint, CodeImages, images_of_names, AreOver, Hypothesis, Reads, DoFit, Results, below, top, Adds}
+use Rattle.verify.proofs.Words.{◌≡◌, ℕ, ◌<◌, ◌↔◌, Bool, true, false, is_some, IsTrue, List, length, map, arith, sym, ap, ◌∙◌, subst, IfOk-weaker, Name, Database, AreDistinct, decode, AllBelow, AreBelow, are_groups_disjoint, CodeImages, images_of_names, AreOver, Hypothesis, Reads, DoMatch, Results, below, top, Adds}
 use Rattle.verify.proofs.RequiredHypotheses.{required-lengths, required-different, required-standing}
 use Rattle.verify.proofs.CitationLemmas.{over-read, has-cited, not-cited}
 use Rattle.verify.proofs.citation.cite_parts.Goals as goal
@@ -13,8 +13,8 @@ disjoint-by result D E m n σ gs b p q e f =
     ap (λ v. are_groups_disjoint v (images_of_names n σ) (map (decode n) gs)) (sym p) ∙ (ap (λ v. are_groups_disjoint D (images_of_names v σ) (map (decode v) gs)) (sym q) ∙ (sym e ∙ f))
 
 fit-as : (b : Bool) (S : Database) (names : List Name) (σ : CodeImages) (hs : List Hypothesis) (stack stack' : List (List ℕ)) → stack ≡ stack'
-    → IsTrue b ↔ DoFit S (images_of_names names σ) hs (map (decode names) (top (length hs) stack)) → IsTrue b ↔ DoFit S (images_of_names names σ) hs (map (decode names) (top (length hs) stack'))
-fit-as b S names σ hs stack stack' e h = subst (λ v. IsTrue b ↔ DoFit S (images_of_names names σ) hs (map (decode names) (top (length hs) v))) e h
+    → IsTrue b ↔ DoMatch S (images_of_names names σ) hs (map (decode names) (top (length hs) stack)) → IsTrue b ↔ DoMatch S (images_of_names names σ) hs (map (decode names) (top (length hs) stack'))
+fit-as b S names σ hs stack stack' e h = subst (λ v. IsTrue b ↔ DoMatch S (images_of_names names σ) hs (map (decode names) (top (length hs) v))) e h
 
 adds-as : (ok : Bool) (old old' new : Results ℕ) (m n : ℕ) (e : List ℕ) → old ≡ old' → m ≡ n → Adds ok old new (below m old.stack) e → Adds ok old' new (below n old'.stack) e
 adds-as ok old old' new m n e same count h = subst (λ (v : Results ℕ). Adds ok v new (below n v.stack) e) same (subst (λ k. Adds ok old new (below k old.stack) e) count h)

@@ -1,7 +1,7 @@
 use Rattle.verify.proofs.Words.{◌≡◌, ◌-◌, ◌∙◌, ap, sym, subst, arith, [], drop, length-map, map, get_or, get_or_from_slice_get, IfOk-weaker, HasCited, length-append, get_or-map, slice_get_within, Nothing}
 use Rattle.verify.specs.declared.label_table.LabelEntry.TheVariants.{Hypothesis}
-use Rattle.verify.proofs.StepLemmas.{mark-on, viewed-on, rest-entries, item-rest}
-use Rattle.verify.proofs.LabelTableLemmas.{suc_back, viewed-entry}
+use Rattle.verify.proofs.StepLemmas.{mark-on, viewed_entries-on, rest-entries, item-rest}
+use Rattle.verify.proofs.LabelTableLemmas.{suc_back, viewed_entries-entry}
 use Rattle.verify.proofs.citation.step_many.Goals as goal
 
 pub returns-then-number-eq0-clause-goes : goal.returns-then-number-eq0-clause-goes
@@ -11,7 +11,7 @@ returns-then-number-eq0-clause-goes c = λ labels are.
 pub cite_entry-requires-clause-entry : goal.cite_entry-requires-clause-entry
 cite_entry-requires-clause-entry c = (
   get_or c.requires.entries.0 (c.args.number - 1) [],
-  viewed-entry _ _ c.requires.entries.0 c.args.view.now c.args.table.now (c.args.number - 1) c.get-position.result c.requires.entries.1 c.get-position.ensures,
+  viewed_entries-entry _ _ c.requires.entries.0 c.args.view.now c.args.table.now (c.args.number - 1) c.get-position.result c.requires.entries.1 c.get-position.ensures,
 )
 
 pub returns-then-number-many-clause-goes : goal.returns-then-number-many-clause-goes
@@ -24,7 +24,7 @@ returns-then-number-many-clause-goes c = λ labels are.
     let S = c.args.claim.now.frames.now.statements in let names = c.args.claim.now.frames.now.names in let at = c.args.claim.now.at in
     let old = c.args.buffers.now.results.results in let new = c.cite_entry.new.buffers.results.results in
     IfOk-weaker c.cite_entry.result _ _
-    (λ ok cited. viewed-on S names at c.requires.ready.legal c.args.table.now old new c.requires.known labels c.args.number k (map Hypothesis view) Nothing (suc_back c.args.number c.if-number-eq0.false) are (omega arith) ok
+    (λ ok cited. viewed_entries-on S names at c.requires.ready.legal c.args.table.now old new c.requires.known labels c.args.number k (map Hypothesis view) Nothing (suc_back c.args.number c.if-number-eq0.false) are (omega arith) ok
     (subst (λ e. HasCited S at names e old new ok) (sym same) cited)) c.cite_entry.ensures.goes
 
 pub step-requires-clause-entries : goal.step-requires-clause-entries

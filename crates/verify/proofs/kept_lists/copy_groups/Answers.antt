@@ -1,4 +1,4 @@
-use Rattle.verify.proofs.Words.{◌≡◌, ◌+◌, ◌<◌, ◌∙◌, true, ap, sym, subst, arith, length, take, AllBelow, below-group, cut, SaySame, are_covered}
+use Rattle.verify.proofs.Words.{◌≡◌, ◌+◌, ◌<◌, ◌∙◌, true, ap, sym, subst, arith, length, take, AllBelow, below-group, cut, AreSameCondition, are_covered}
 use Rattle.verify.proofs.KeptListsLemmas.{below-added, same-kept, same-left}
 use Rattle.verify.proofs.kept_lists.copy_groups.Goals as goal
 
@@ -23,6 +23,6 @@ loop-index-preserved c =
     let added = c.in_ok-add_group.ensures.added in
     record {
       within = c.in_ok-add_group.ensures.within;
-      same = subst (λ gs. SaySame gs (take (l.index + 1) from)) (sym added) (same-kept (cut l.places.items l.groups.items) from l.index group c.get-group.ensures less l.invariant.same);
+      same = subst (λ gs. AreSameCondition gs (take (l.index + 1) from)) (sym added) (same-kept (cut l.places.items l.groups.items) from l.index group c.get-group.ensures less l.invariant.same);
       below = λ n all. subst (AllBelow n) (sym added) (below-added n (cut l.places.items l.groups.items) group (l.invariant.below n all) (below-group n from l.index group all c.get-group.ensures));
     }

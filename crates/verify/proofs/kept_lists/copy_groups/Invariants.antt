@@ -1,9 +1,9 @@
-use Rattle.verify.proofs.Words.{ℕ, length, take, AllBelow, AreSpansIn, cut, SaySame}
+use Rattle.verify.proofs.Words.{ℕ, length, take, AllBelow, AreSpansIn, cut, AreSameCondition}
 use Rattle.verify.proofs.kept_lists.copy_groups.Given as goal
 
 abbrev pub invariant-loop-index : goal.invariant-loop-index
 invariant-loop-index l = record {
   within : AreSpansIn (length l.places.items) l.groups.items;
-  same : SaySame (cut l.places.items l.groups.items) (take l.index l.from);
+  same : AreSameCondition (cut l.places.items l.groups.items) (take l.index l.from);
   below : (n : ℕ) → AllBelow n l.from → AllBelow n (cut l.places.items l.groups.items);
 }

@@ -6,7 +6,7 @@ use Rattle.verify.proofs.plan.+expand.Goals as goal
 
 pub expand-requires : goal.expand-requires
 expand-requires t c =
-    let low = kid-low c.args.nodes.now c.args.number c.in-Apply.position c.in-Apply.kids c.index-nodes-number.result c.deref-kid-items.result.now c.loop-kid.kid-index c.requires.ordered c.requires.there
+    let low = kid-low c.args.nodes.now c.args.number c.in-Apply.position c.in-Apply.children c.index-nodes-number.result c.deref-kid-items.result.now c.loop-kid.kid-index c.requires.ordered c.requires.there
     c.index-nodes-number.is c.in-Apply.is c.deref-kid-items.ensures.value c.loop-kid-test.true in
     let d = c.decreases in
     let there = c.requires.there in
@@ -19,4 +19,4 @@ pub returns-after-loop-kid : goal.returns-after-loop-kid
 returns-after-loop-kid t c =
     derivation-apply c.in-Apply.position c.loop-kid.trees
     ∙ (ap (λ ks. apply c.in-Apply.position (from_list ks)) (c.loop-kid.invariant ∙ (all-taken (pick (built c.args.nodes.now)) c.deref-kid-items.result.now c.loop-kid.kid-index c.loop-kid-test.false ∙ ap (map (pick (built c.args.nodes.now))) c.deref-kid-items.ensures.value))
-    ∙ sym (picked-apply c.args.nodes.now c.args.number c.in-Apply.position c.in-Apply.kids c.index-nodes-number.result c.requires.ordered c.requires.there c.index-nodes-number.is c.in-Apply.is))
+    ∙ sym (picked-apply c.args.nodes.now c.args.number c.in-Apply.position c.in-Apply.children c.index-nodes-number.result c.requires.ordered c.requires.there c.index-nodes-number.is c.in-Apply.is))

@@ -1,6 +1,6 @@
 use Rattle.verify.proofs.Words.{◌≡◌, ◌-◌, ◌∙◌, length, map, arith, sym, ap, subst, length-map, AreBelow, below-take, below-drop, apply, from_list, with_tree, below, pick, built, trees_of, IsEntry}
 use Rattle.verify.proofs.GrowthLemmas.{too-few, assertion-grows, hypothesis-grows}
-use Rattle.verify.proofs.PlanLemmas.{kids-top, rest-below}
+use Rattle.verify.proofs.PlanLemmas.{children-top, rest-below}
 use Rattle.verify.proofs.plan.cite.Goals as goal
 
 pub returns-then-count-len-clause-grew : goal.returns-then-count-len-clause-grew
@@ -31,7 +31,7 @@ returns-in_ok-add-in-Assertion-clause-grew c = λ at label once is.
     let h = subst (IsEntry c.args.frames.now.statements at label) c.in-Assertion.is is in
     let ts = built c.args.plan.now.nodes.items in
     let stack = c.args.plan.now.stack.items in
-    let kids = c.in_ok-kids-in-Assertion.kids.items in
+    let children = c.in_ok-kids-in-Assertion.children.items in
     let count = c.len-count.result in
     let keep = c.len-in-Assertion.result - count in
     let at_keep : keep ≡ length stack - count = omega (arith, c.len-in-Assertion.ensures) in
@@ -39,5 +39,5 @@ returns-in_ok-add-in-Assertion-clause-grew c = λ at label once is.
     (let m = ap length (c.in_ok-mandatory-in-Assertion.ensures.listed h.0 h.1.stands) in let n = c.len-count.ensures in omega (arith, m, n))
     (let t = c.if-count-len.false in let e = c.len.ensures in let l = length-map stack (pick ts) in omega (arith, t, e, l))
     (c.in_ok-add-in-Assertion.ensures.grew
-    ∙ (ap (λ b. with_tree (trees_of c.args.plan.now) b (apply c.in-Assertion.position (from_list (map (pick ts) kids)))) (rest-below ts stack c.split_off.new.self.items keep count at_keep c.in_ok-kids-in-Assertion.ensures.items)
-    ∙ ap (λ ks. with_tree (trees_of c.args.plan.now) (below count (map (pick ts) stack)) (apply c.in-Assertion.position (from_list ks))) (kids-top ts stack kids keep count at_keep c.in_ok-kids-in-Assertion.ensures.tail)))
+    ∙ (ap (λ b. with_tree (trees_of c.args.plan.now) b (apply c.in-Assertion.position (from_list (map (pick ts) children)))) (rest-below ts stack c.split_off.new.self.items keep count at_keep c.in_ok-kids-in-Assertion.ensures.items)
+    ∙ ap (λ ks. with_tree (trees_of c.args.plan.now) (below count (map (pick ts) stack)) (apply c.in-Assertion.position (from_list ks))) (children-top ts stack children keep count at_keep c.in_ok-kids-in-Assertion.ensures.tail)))

@@ -29,4 +29,4 @@ loop-kid-preserved c =
 
 pub returns : goal.returns
 returns c = λ ts is.
-    so-far-end ts c.deref-kid-items.result.now c.loop-kid.kid-index c.loop-kid.nodes c.loop-kid.depth _ c.in-Apply.kids _ (c.loop-kid.invariant.2 ts is) (omega (arith, c.loop-kid-test.false)) c.deref-kid-items.ensures.value c.in-Apply.is
+    so-far-end ts c.deref-kid-items.result.now c.loop-kid.kid-index c.loop-kid.nodes c.loop-kid.depth _ c.in-Apply.children _ (c.loop-kid.invariant.2 ts is) (omega (arith, c.loop-kid-test.false)) c.deref-kid-items.ensures.value c.in-Apply.is

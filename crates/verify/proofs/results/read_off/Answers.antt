@@ -1,4 +1,4 @@
-use Rattle.verify.proofs.Words.{◌≡◌, ℕ, ◌+◌, ◌∙◌, ap, arith, List, sym, subst, SymbolRange, Some, Float, Essential, AreWithin, AreInside, IsMistyped, ReadTo, AreFront, IfSome, MatchOption}
+use Rattle.verify.proofs.Words.{◌≡◌, ℕ, ◌+◌, ◌∙◌, ap, arith, List, sym, subst, SymbolRange, Some, Float, Essential, AreWithin, AreInside, IsMistyped, ReadTo, AreLeadingFloats, IfSome, MatchOption}
 use Rattle.verify.proofs.ReadImageLemmas.{float-next, front-next, other-next, read-whole, mistyped, place-at, place-within}
 use Rattle.verify.proofs.results.read_off.Goals.{in-Float+in_ok-read_more+else-not-branch, in_default-get}
 use Rattle.verify.proofs.results.read_off.Goals as goal
@@ -6,7 +6,7 @@ use Rattle.verify.proofs.results.read_off.Goals as goal
 pub loop-k-init : goal.loop-k-init
 loop-k-init c =
     let read = subst (λ r. MatchOption r (IsMistyped c.args.symbols.now c.args.typecodes.now c.args.hypotheses.now c.args.places.now) (λ n. ReadTo n c.args.symbols.now c.args.typecodes.now c.args.hypotheses.now c.args.places.now c.read_front.new.images)) c.in-Some.is c.in_ok-front.ensures.read in
-    let front = subst (λ r. IfSome r (AreFront c.args.hypotheses.now)) c.in-Some.is c.in_ok-front.ensures.floats in
+    let front = subst (λ r. IfSome r (AreLeadingFloats c.args.hypotheses.now)) c.in-Some.is c.in_ok-front.ensures.floats in
     (front-next _ _ _ _ _ _ (omega (arith, front.within, c.len-k-end.type_inv, c.len-k-end.ensures)) front c.saturating_add-k.ensures _ read, c.read_front.ensures.inside)
 
 pub read_more-requires : goal.read_more-requires

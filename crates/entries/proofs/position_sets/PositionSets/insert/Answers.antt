@@ -8,4 +8,4 @@ returns-then-has-clause-inserted c = known-set c.args.self.now c.args.set c.args
 
 pub returns-then-is_err-clause-more : goal.returns-then-is_err-clause-more
 returns-then-is_err-clause-more c =
-    ([], c.truncate.ensures ∙ (cut-back c.args.self.now c.put_in-made.new.self c.size-size.result c.put_in-made.ensures.more c.size-size.ensures.size (omega arith) ∙ sym (append-nil _)))
+    ([], c.truncate.ensures ∙ (cut-back c.args.self.now c.insert_node-made.new.self c.size-size.result c.insert_node-made.ensures.more c.size-size.ensures.size (omega arith) ∙ sym (append-nil _)))

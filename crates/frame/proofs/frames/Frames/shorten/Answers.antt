@@ -1,4 +1,4 @@
-use Rattle.frame.proofs.Words.{◌∙◌, ap, sym, subst, length, take, statements_of, AreGivenSets}
+use Rattle.frame.proofs.Words.{◌∙◌, ap, sym, subst, length, take, statements_of, AreEssentialSets}
 use Rattle.frame.proofs.frames.Frames.shorten.Goals as goal
 
 pub invariant_of-self : goal.invariant_of-self
@@ -7,7 +7,7 @@ invariant_of-self c =
     let t = c.truncate.ensures k.entries (statements_of k) c.self.invariant.sets c.self.invariant.count in
     record {
       stored = c.cut.ensures.stored;
-      sets = subst (λ es. AreGivenSets g es (statements_of new)) (sym c.cut.ensures.entries) (subst (AreGivenSets g (take c.args.len k.entries)) (sym c.cut.ensures.statements) t.0);
+      sets = subst (λ es. AreEssentialSets g es (statements_of new)) (sym c.cut.ensures.entries) (subst (AreEssentialSets g (take c.args.len k.entries)) (sym c.cut.ensures.statements) t.0);
       count = t.1 ∙ sym (ap length c.cut.ensures.entries);
     }
 

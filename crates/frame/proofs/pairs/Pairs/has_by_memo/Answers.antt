@@ -1,4 +1,4 @@
-use Rattle.frame.proofs.Words.{◌≡◌, ◌∙◌, arith, false, nat_eq, AreSought}
+use Rattle.frame.proofs.Words.{◌≡◌, ◌∙◌, arith, false, nat_eq, AreSearched}
 use Rattle.frame.proofs.PairSearchLemmas.{left-start, pair-turn, sought-turn}
 use Rattle.frame.proofs.pairs.Pairs.has_by_memo.Goals as goal
 
@@ -7,7 +7,7 @@ search-requires c =
     let k = c.self.inside.storage.now in
     let differ : nat_eq c.args.x c.args.y ≡ false = let h = c.if-x-y.false in grind (arith, h) in
     let both = rw (← c.self.view_is) at c.requires in
-    let s : AreSought k c.self.inside.at c.args.x c.args.y = record { stored = c.self.invariant.0; distinct = c.self.invariant.1; above = c.self.invariant.2; within = c.self.invariant.3; first = both.0; second = both.1; differ = differ } in
+    let s : AreSearched k c.self.inside.at c.args.x c.args.y = record { stored = c.self.invariant.0; distinct = c.self.invariant.1; above = c.self.invariant.2; within = c.self.invariant.3; first = both.0; second = both.1; differ = differ } in
     left-start k c.self.inside.at c.args.x c.args.y c.stack-with_x.result s c.stack-with_x.ensures
 
 pub search-requires-else-len : goal.search-requires-else-len
@@ -15,7 +15,7 @@ search-requires-else-len c =
     let k = c.self.inside.storage.now in
     let differ : nat_eq c.args.x c.args.y ≡ false = let h = c.if-x-y.false in grind (arith, h) in
     let both = rw (← c.self.view_is) at c.requires in
-    let s : AreSought k c.self.inside.at c.args.x c.args.y = record { stored = c.self.invariant.0; distinct = c.self.invariant.1; above = c.self.invariant.2; within = c.self.invariant.3; first = both.0; second = both.1; differ = differ } in
+    let s : AreSearched k c.self.inside.at c.args.x c.args.y = record { stored = c.self.invariant.0; distinct = c.self.invariant.1; above = c.self.invariant.2; within = c.self.invariant.3; first = both.0; second = both.1; differ = differ } in
     left-start k c.self.inside.at c.args.y c.args.x c.stack-with_y.result (sought-turn k c.self.inside.at c.args.x c.args.y s) c.stack-with_y.ensures
 
 pub returns-then-len : goal.returns-then-len
@@ -26,5 +26,5 @@ returns-else-len c =
     let k = c.self.inside.storage.now in
     let differ : nat_eq c.args.x c.args.y ≡ false = let h = c.if-x-y.false in grind (arith, h) in
     let both = rw (← c.self.view_is) at c.requires in
-    let s : AreSought k c.self.inside.at c.args.x c.args.y = record { stored = c.self.invariant.0; distinct = c.self.invariant.1; above = c.self.invariant.2; within = c.self.invariant.3; first = both.0; second = both.1; differ = differ } in
+    let s : AreSearched k c.self.inside.at c.args.x c.args.y = record { stored = c.self.invariant.0; distinct = c.self.invariant.1; above = c.self.invariant.2; within = c.self.invariant.3; first = both.0; second = both.1; differ = differ } in
     rw (← c.self.view_is) (c.search-else-len.ensures ∙ pair-turn k c.self.inside.at c.args.x c.args.y s)

@@ -13,7 +13,7 @@ pub invariant_of-self-2 : goal.invariant_of-self-2
 invariant_of-self-2 c =
     let s = ap length c.in_ok-extend.ensures.added in
     let l = length-append c.self.inside.symbols c.args.expr.now in
-    let b = c.place_between-place.ensures in
+    let b = c.range_between-place.ensures in
     let p = c.len-start.ensures.len in
     let q = c.len.ensures.len in
     subst (AreInBuffer (length c.extend.new.self)) (sym c.in_ok-push.ensures.items)
@@ -21,7 +21,7 @@ invariant_of-self-2 c =
 
 pub returns : goal.returns
 returns c =
-    let b = c.place_between-place.ensures in
+    let b = c.range_between-place.ensures in
     ap (λ ps. map (row_of c.extend.new.self) ps) c.in_ok-push.ensures.items
     ∙ (rows-more c.self.inside.symbols c.args.expr.now c.extend.new.self c.self.inside.placed.items _ (record { position = c.args.position; taken = c.args.taken.items }) c.self.invariant c.in_ok-extend.ensures.added
     (b.0 ∙ c.len-start.ensures.len) (b.1 ∙ c.len.ensures.len) refl refl

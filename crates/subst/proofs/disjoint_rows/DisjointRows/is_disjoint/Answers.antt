@@ -1,4 +1,4 @@
-use Rattle.subst.proofs.Words.{◌<◌, ◌*◌, ◌+◌, ◌^◌, length, get_or, true, rules, refl, arith, ap, subst, HasPlace, no_word, TellsWord}
+use Rattle.subst.proofs.Words.{◌<◌, ◌*◌, ◌+◌, ◌^◌, length, get_or, true, rules, refl, arith, ap, subst, HasPlace, no_word, DecidesWord}
 use Rattle.subst.proofs.BitsLemmas.{zero-none}
 use Rattle.subst.proofs.DisjointRowLemmas.{missing-bit, told-word, told-more, told-all}
 use Rattle.subst.proofs.disjoint_rows.DisjointRows.is_disjoint.Goals as goal
@@ -10,11 +10,11 @@ ask-requires-clause-others c = λ b h.
     let ws = c.args.others.now in
     c.requires.others _ (record { word = k; there = c.loop-word-test.true; has = missing-bit (get_or ws k no_word) c.bits.result _ (record { bit = b; place = refl; set = h }) })
 
-pub returns-then-not-branch-clause-tells : goal.returns-then-not-branch-clause-tells
-returns-then-not-branch-clause-tells c =
+pub returns-then-not-branch-clause-decides : goal.returns-then-not-branch-clause-decides
+returns-then-not-branch-clause-decides c =
     let k = c.loop-word.word-index in
     let ws = c.args.others.now in
-    let told = rw c.if-not-branch.true at c.in_ok-ask.ensures.tells in (
+    let told = rw c.if-not-branch.true at c.in_ok-ask.ensures.decides in (
       told.0,
       record { word = k; there = c.loop-word-test.true; has = missing-bit (get_or ws k no_word) c.bits.result told.0 told.1 },
       told.2,
@@ -33,7 +33,7 @@ loop-word-preserved c =
     let other : c.bits.result < 2 ^ 64 = search rules in
     elim c.else-bits-ne0.branch [
       | else-bits-ne0-via-then-bits-ne0+in_ok-ask+else-not-branch w ↦
-          let told = rw w.if-not-branch.false at w.in_ok-ask.ensures.tells in
+          let told = rw w.if-not-branch.false at w.in_ok-ask.ensures.decides in
           rw w.self-is (
             w.ask.ensures.facts,
             told-more v f p c.args.others.now k l.invariant.1 (told-word v f l.self p word c.bits.result fits other l.invariant.0 c.bits.ensures told),
@@ -45,6 +45,6 @@ loop-word-preserved c =
           )
     ]
 
-pub returns-clause-tells : goal.returns-clause-tells
-returns-clause-tells c =
+pub returns-clause-decides : goal.returns-clause-decides
+returns-clause-decides c =
     told-all c.args.pairs.now c.args.variables.now c.args.place c.args.others.now c.loop-word.word-index c.loop-word-test.false c.loop-word.invariant.1

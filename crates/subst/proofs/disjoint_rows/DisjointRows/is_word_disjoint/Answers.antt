@@ -1,4 +1,4 @@
-use Rattle.subst.proofs.Words.{◌+◌, ◌*◌, true, inl, refl, arith, TellsAll}
+use Rattle.subst.proofs.Words.{◌+◌, ◌*◌, true, inl, refl, arith, DecidesAll}
 use Rattle.subst.proofs.BitsLemmas.{taken-more}
 use Rattle.subst.proofs.DisjointRowLemmas.{told-bits}
 use Rattle.subst.proofs.disjoint_rows.DisjointRows.is_word_disjoint.Goals as goal
@@ -11,10 +11,10 @@ is_disjoint-requires-clause-there c =
     let k = c.lowest-bit.result in
     c.requires.there _ (record { bit = k; place = refl; set = c.loop-rest.invariant.1.only k c.lowest-bit.ensures.set })
 
-pub returns-then-not-branch-clause-tells : goal.returns-then-not-branch-clause-tells
-returns-then-not-branch-clause-tells c =
+pub returns-then-not-branch-clause-decides : goal.returns-then-not-branch-clause-decides
+returns-then-not-branch-clause-decides c =
     let k = c.lowest-bit.result in
-    let told = rw c.if-not-branch.true at c.in_ok-is_disjoint.ensures.tells in
+    let told = rw c.if-not-branch.true at c.in_ok-is_disjoint.ensures.decides in
     (64 * c.args.word.index + k, told.0, record { bit = k; place = refl; set = c.loop-rest.invariant.1.only k c.lowest-bit.ensures.set }, told.1, told.2)
 
 pub loop-rest-preserved : goal.loop-rest-preserved
@@ -22,9 +22,9 @@ loop-rest-preserved c =
     let v = c.args.pairs.now in
     let f = c.args.variables.now in
     let w = c.args.word in
-    let told = rw c.if-not-branch.false at c.in_ok-is_disjoint.ensures.tells in
+    let told = rw c.if-not-branch.false at c.in_ok-is_disjoint.ensures.decides in
     let less = c.without-rest.ensures in
-    (c.is_disjoint.ensures.facts, taken-more (λ b. TellsAll v f (64 * w.index + b) c.args.others.now true) w.bits c.loop-rest.rest c.without-rest.result c.lowest-bit.result c.loop-rest.invariant.1 told less.only less.others)
+    (c.is_disjoint.ensures.facts, taken-more (λ b. DecidesAll v f (64 * w.index + b) c.args.others.now true) w.bits c.loop-rest.rest c.without-rest.result c.lowest-bit.result c.loop-rest.invariant.1 told less.only less.others)
 
-pub returns-clause-tells : goal.returns-clause-tells
-returns-clause-tells c = told-bits c.args.pairs.now c.args.variables.now c.args.word c.args.others.now c.loop-rest.rest (let none = c.loop-rest-test.false in omega (arith, none)) c.loop-rest.invariant.1
+pub returns-clause-decides : goal.returns-clause-decides
+returns-clause-decides c = told-bits c.args.pairs.now c.args.variables.now c.args.word c.args.others.now c.loop-rest.rest (let none = c.loop-rest-test.false in omega (arith, none)) c.loop-rest.invariant.1

@@ -50,4 +50,4 @@ returns-clause-disjoint c =
     let own = range-words v c.image_of.new.variables f c.image_of.new.self n c.in_ok-one.one (code_image σ c.args.first) c.image_of-2.ensures.grows c.image_of-2.ensures.words c.in_ok-one.ensures.range in
     IfOk-weaker c.are_many_disjoint.result _ _
     (λ b told. two-told v f c.image_of-2.ensures.placed (code_image σ c.args.first) (code_image σ c.args.second) n.words c.in_ok-one.one c.in_ok-other.other own c.in_ok-other.ensures.range b told)
-    (rw (c.words_in-words.ensures, c.words_in-others.ensures) at c.are_many_disjoint.ensures.tells)
+    (rw (c.words_in-words.ensures, c.words_in-others.ensures) at c.are_many_disjoint.ensures.decides)

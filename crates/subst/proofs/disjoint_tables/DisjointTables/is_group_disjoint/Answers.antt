@@ -1,4 +1,4 @@
-use Rattle.subst.proofs.Words.{below-take, ◌+◌, sym, ◌∙◌, length, subst, below-at, images_at, image_named, AddsWords, HasPlace, IsIn, TellsEach, true, false}
+use Rattle.subst.proofs.Words.{below-take, ◌+◌, sym, ◌∙◌, length, subst, below-at, images_at, image_named, AddsWords, HasPlace, IsIn, DecidesEach, true, false}
 use Rattle.subst.proofs.VariablePlaceLemmas.{places-below, places-same}
 use Rattle.subst.proofs.DisjointRowLemmas.{facts-grown}
 use Rattle.subst.proofs.ImageVariableLemmas.{listed-in}
@@ -55,8 +55,8 @@ returns-then-not-contains-clause-disjoint c =
     let group = c.args.group.now in
     let set = l.self.before in
     let first = places-same v l.self.variables f (HasPlace set) (HasPlace set) (IsInImages σ group l.index) c.image_of.ensures.grows (λ j h. h) (λ j h. h) l.invariant.2 in
-    let told = subst (λ us. TellsEach v f c.words_in-words.result.now us false) c.as_slice-else-is_costly.ensures (rw c.if-branch.false at c.in_ok-are_disjoint.ensures.tells) in
-    let clash = next-clash v f c.image_of.ensures.placed σ group l.index c.image_of.new.self.words c.in_ok-range.range set first c.in_ok-range.ensures.range (subst (λ xs. TellsEach v f xs set false) c.words_in-words.ensures told) in
+    let told = subst (λ us. DecidesEach v f c.words_in-words.result.now us false) c.as_slice-else-is_costly.ensures (rw c.if-branch.false at c.in_ok-are_disjoint.ensures.decides) in
+    let clash = next-clash v f c.image_of.ensures.placed σ group l.index c.image_of.new.self.words c.in_ok-range.range set first c.in_ok-range.ensures.range (subst (λ xs. DecidesEach v f xs set false) c.words_in-words.ensures told) in
     sym (held-clash v.statements (image_named v.names σ) group l.index clash.0 clash.1 c.loop-index-test.true clash.2 (sym c.contains.ensures ∙ c.if-not-contains.true))
 
 pub loop-index-preserved : goal.loop-index-preserved
@@ -86,13 +86,13 @@ loop-index-preserved c =
             pairwise-next v.statements image group n c.loop-index-test.true l.invariant.3 (sym w.in_ok-is_disjoint.ensures.disjoint ∙ w.if-not-branch.false),
           )
       | else-is_costly+in_ok-are_disjoint+then-branch+in_ok-add_words-2 w ↦
-          let told = subst (λ us. TellsEach v f c.words_in-words.result.now us true) w.as_slice-else-is_costly.ensures (rw w.if-branch.true at w.in_ok-are_disjoint.ensures.tells) in
+          let told = subst (λ us. DecidesEach v f c.words_in-words.result.now us true) w.as_slice-else-is_costly.ensures (rw w.if-branch.true at w.in_ok-are_disjoint.ensures.decides) in
           let adds = subst (AddsWords set w.add_words-then-branch.new.self) c.words_in-words.ensures w.in_ok-add_words-2.ensures in
           rw w.self-is (
             record { placed = placed; recorded = c.image_of.ensures.recorded; facts = w.are_disjoint.ensures.facts; found = l.invariant.0.found },
             c.image_of.ensures.read,
             images-more v f placed σ group n words r set first own w.add_words-then-branch.new.self adds,
-            pairwise-more v.statements image group n l.invariant.3 (next-disjoint v f placed σ group n words r set first own (subst (λ xs. TellsEach v f xs set true) c.words_in-words.ensures told)),
+            pairwise-more v.statements image group n l.invariant.3 (next-disjoint v f placed σ group n words r set first own (subst (λ xs. DecidesEach v f xs set true) c.words_in-words.ensures told)),
           )
       | else-is_costly+in_ok-are_disjoint+else-branch+else-not-contains w ↦
           let any = sym w.contains.ensures ∙ w.if-not-contains.false in

@@ -1,4 +1,4 @@
-use Rattle.subst.proofs.Words.{[], ◌∷◌, arith, bit_or, length, subst, sym, below-at, image_named, images_at, near_word, true, AddsWords, HasPlace, TellsEach}
+use Rattle.subst.proofs.Words.{[], ◌∷◌, arith, bit_or, length, subst, sym, below-at, image_named, images_at, near_word, true, AddsWords, HasPlace, DecidesEach}
 use Rattle.subst.proofs.VariablePlaceLemmas.{places-none, places-same}
 use Rattle.subst.proofs.PlaceSetLemmas.{adds-near, near-none}
 use Rattle.subst.proofs.DisjointRowLemmas.{facts-grown, found-tells}
@@ -59,7 +59,7 @@ loop-k-preserved c =
     let facts = facts-grown v l.self.variables f l.self.rows grows l.invariant.0.facts in
     let new = near_word (bit_or l.before bits) ∷ [] in
     let adds = subst (AddsWords set new) (sym c.in-Some.ensures) (adds-near l.before bits) in
-    let told = subst (λ xs. TellsEach v f xs set true) (sym c.in-Some.ensures) (found-tells v f l.self.rows bits l.before facts (c.are_found.ensures c.if-not-are_found.false)) in (
+    let told = subst (λ xs. DecidesEach v f xs set true) (sym c.in-Some.ensures) (found-tells v f l.self.rows bits l.before facts (c.are_found.ensures c.if-not-are_found.false)) in (
       record { placed = placed; recorded = c.image_of.ensures.recorded; facts = facts; found = l.invariant.0.found },
       c.image_of.ensures.read,
       images-more v f placed σ group n words r set first own new adds,

@@ -1,4 +1,4 @@
-use Rattle.subst.proofs.Words.{◌≡◌, ◌-◌, ◌∷◌, ◌++◌, [], false, Option, Some, None, List, ℕ, length, drop, take, take_all, get_or, ap, refl, sym, ◌∙◌, subst, below-at, code_apply, code_image, images_at, seen_at, AddsImage, HasPlace, SymbolRange, is_some, below-take}
+use Rattle.subst.proofs.Words.{◌≡◌, ◌-◌, ◌∷◌, ◌++◌, [], false, Option, Some, None, List, ℕ, length, drop, take, take_all, get_or, ap, refl, sym, ◌∙◌, subst, below-at, code_apply, code_image, images_at, symbols_in, AddsImage, HasPlace, SymbolRange, is_some, below-take}
 use Rattle.subst.proofs.WrittenImages.{apply-take}
 use Rattle.subst.proofs.ImageRangesLemmas.{image-none}
 use Rattle.subst.proofs.DisjointRowLemmas.{facts-grown}
@@ -13,8 +13,8 @@ not-some (Some x) e = cc
 not-some None e = refl
 
 -- the result, by its first symbol and the images of the others
-seen-first : (symbols : List ℕ) (images : List (ℕ × SymbolRange)) (e : List ℕ) (p : SymbolRange) (x : ℕ) (rest : List ℕ) → seen_at symbols p ≡ code_apply (images_at symbols images) e → e ≡ x ∷ rest → code_image (images_at symbols images) x ≡ x ∷ []
-    → seen_at symbols p ≡ x ∷ code_apply (images_at symbols images) rest
+seen-first : (symbols : List ℕ) (images : List (ℕ × SymbolRange)) (e : List ℕ) (p : SymbolRange) (x : ℕ) (rest : List ℕ) → symbols_in symbols p ≡ code_apply (images_at symbols images) e → e ≡ x ∷ rest → code_image (images_at symbols images) x ≡ x ∷ []
+    → symbols_in symbols p ≡ x ∷ code_apply (images_at symbols images) rest
 seen-first symbols images e p x rest whole first own = whole ∙ (ap (code_apply (images_at symbols images)) first ∙ ap (λ i. i ++ code_apply (images_at symbols images) rest) own)
 
 pub loop-index-init : goal.loop-index-init
@@ -32,16 +32,16 @@ add_image-requires-clause-number c =
     below-at n (rest_of e) c.loop-index.index 0 (below-take n (length e - 1) (drop 1 e) (below-drop n 1 e c.requires.below)) c.loop-index-test.true
 
 pub returns-in_err-stands_before : goal.returns-in_err-stands_before
-returns-in_err-stands_before c = rw c.stands_before.ensures.same c.loop-index.invariant.0
+returns-in_err-stands_before c = rw c.occurs_earlier.ensures.same c.loop-index.invariant.0
 
 pub add_image-requires-clause-recorded : goal.add_image-requires-clause-recorded
-add_image-requires-clause-recorded c = rw c.stands_before.ensures.same c.loop-index.invariant.0.recorded
+add_image-requires-clause-recorded c = rw c.occurs_earlier.ensures.same c.loop-index.invariant.0.recorded
 
 pub returns-in_err-add_image : goal.returns-in_err-add_image
 returns-in_err-add_image c =
     let v = c.args.pairs.now in
     let l = c.loop-index in
-    let keeps = rw c.stands_before.ensures.same at c.add_image.ensures.rest in
+    let keeps = rw c.occurs_earlier.ensures.same at c.add_image.ensures.rest in
     let t = l.invariant.0 in record {
       placed = c.add_image.ensures.placed;
       recorded = recorded-most v l.self.variables c.add_image.new.variables c.args.symbols.now l.self.images c.add_image.new.self c.add_image.ensures.grows (rest-most l.self.images c.add_image.new.self keeps) t.recorded;
@@ -53,14 +53,14 @@ pub loop-index-preserved : goal.loop-index-preserved
 loop-index-preserved c =
     let v = c.args.pairs.now in
     let l = c.loop-index in
-    let keeps = rw c.stands_before.ensures.same at c.add_image.ensures.rest in
+    let keeps = rw c.occurs_earlier.ensures.same at c.add_image.ensures.rest in
     let t = l.invariant.0 in
     let σ = images_at c.args.symbols.now c.args.images.now in
     let rest = rest_of c.args.expr.now in
     let n = l.index in
     let g = c.add_image.new.variables in
     let new = c.add_image.new.self in
-    let added = rw c.stands_before.ensures.same at c.in_ok-add_image.ensures.added in (
+    let added = rw c.occurs_earlier.ensures.same at c.in_ok-add_image.ensures.added in (
       record {
         placed = c.add_image.ensures.placed;
         recorded = recorded-most v l.self.variables g c.args.symbols.now l.self.images new c.add_image.ensures.grows (rest-most l.self.images new keeps) t.recorded;
@@ -80,7 +80,7 @@ loop-index-preserved-then-branch c =
     let rest = rest_of c.args.expr.now in
     let σ = images_at c.args.symbols.now c.args.images.now in
     let stands = c.in_ok-stands_before.ensures.stands c.if-branch.true in
-    rw c.stands_before.ensures.same (l.invariant.0, l.invariant.1, symbol-again v l.self.variables (HasPlace c.begin.new.self.list) (HasPlace l.self.images.list) σ rest stands.0 n stands.1 c.loop-index-test.true stands.2 l.invariant.2)
+    rw c.occurs_earlier.ensures.same (l.invariant.0, l.invariant.1, symbol-again v l.self.variables (HasPlace c.begin.new.self.list) (HasPlace l.self.images.list) σ rest stands.0 n stands.1 c.loop-index-test.true stands.2 l.invariant.2)
 
 pub without_first-requires : goal.without_first-requires
 without_first-requires c =

@@ -1,4 +1,4 @@
-use Rattle.subst.proofs.Words.{length, arith, sym, ◌∙◌, ap, CodeImages, code_image, seen_at}
+use Rattle.subst.proofs.Words.{length, arith, sym, ◌∙◌, ap, CodeImages, code_image, symbols_in}
 use Rattle.subst.proofs.ImageRangesLemmas.{image-some, image-none}
 use Rattle.subst.proofs.images.Subst.image.Goals as goal
 
@@ -10,7 +10,7 @@ symbols_at-requires c =
 pub returns-clause-some : goal.returns-clause-some
 returns-clause-some c =
     c.symbols_at.ensures
-    ∙ (ap (λ s. seen_at s c.in_ok-place.place) c.as_slice.ensures.symbols
+    ∙ (ap (λ s. symbols_in s c.in_ok-place.place) c.as_slice.ensures.symbols
     ∙ (sym (image-some c.self.inside.symbols c.self.inside.images c.args.symbol c.in_ok-place.place (sym c.get.ensures ∙ c.in_ok-place.was))
     ∙ ap (λ (σ : CodeImages). code_image σ c.args.symbol) c.self.view_is))
 

@@ -1,4 +1,4 @@
-use Rattle.verify.proofs.Words.{◌++◌, ◌∙◌, take, sym, subst, IfOk, items_of, mandatory_labels, IsRight, Says, AreEntries}
+use Rattle.verify.proofs.Words.{◌++◌, ◌∙◌, take, sym, subst, IfOk, items_of, mandatory_labels, IsRight, IsAnswerTo, AreEntries}
 use Rattle.verify.proofs.RightLemmas.{unwritten, one-listed, many, read-proves}
 use Rattle.verify.proofs.checker.Checker.prove.Goals as goal
 
@@ -22,7 +22,7 @@ returns-clause-answer c =
     c.in_ok-add_listed.field-0 c.if-not-branch.false (c.in_ok-add_listed.ensures.apart s c.requires.provable.1)
     (many c.args.frames.now.statements c.args.at s c.args.tokens.now c.requires.provable.1 (sym c.is_compressed.ensures ∙ c.if-not-is_compressed.false) c.as_slice-count.result.now (c.as_slice-count.ensures.value ∙ c.in_ok-fill_mandatory.ensures.mandatory s c.requires.provable.1))
     c.run_listed.result
-    (subst (λ ns. IfOk c.run_listed.result (λ answer. Says answer (IsRight c.args.frames.now.statements c.args.at (items_of labels ns)))) c.numbers-numbers.ensures
+    (subst (λ ns. IfOk c.run_listed.result (λ answer. IsAnswerTo answer (IsRight c.args.frames.now.statements c.args.at (items_of labels ns)))) c.numbers-numbers.ensures
     (c.run_listed.ensures.answer labels (subst (AreEntries c.args.frames.now.statements c.args.at labels) (sym c.deref-2.ensures.value)
     (c.in_ok-add_listed.ensures.entries c.if-not-branch.false (mandatory_labels c.args.frames.now.statements c.args.at s) (c.in_ok-fill_mandatory.ensures.entries s c.requires.provable.1)))))
 

@@ -1,4 +1,4 @@
-use Rattle.verify.proofs.Words.{ℕ, List, Name, Stmt, Database, before, hypotheses, LabelEntry, IsProvable, ◌≡◌, ◌++◌, ◌∙◌, [], refl, map, take, sym, subst, arith, IfOk, items_of, mandatory_labels, IsRight, Says, AreEntries, stands-within}
+use Rattle.verify.proofs.Words.{ℕ, List, Name, Stmt, Database, before, hypotheses, LabelEntry, IsProvable, ◌≡◌, ◌++◌, ◌∙◌, [], refl, map, take, sym, subst, arith, IfOk, items_of, mandatory_labels, IsRight, IsAnswerTo, AreEntries, stands-within}
 use Rattle.verify.specs.declared.label_table.LabelEntry.TheVariants.{Hypothesis}
 use Rattle.verify.proofs.LabelTableLemmas.{entries-join}
 use Rattle.verify.proofs.MandatoryEntries.{mandatory-entries}
@@ -46,6 +46,6 @@ returns-clause-answer c =
     c.in_ok-add_listed.field-0 c.if-not-branch.false (c.in_ok-add_listed.ensures.apart s c.requires.provable.1)
     (many S c.args.at s c.args.tokens.now c.requires.provable.1 c.requires.compressed c.args.view.now (c.requires.view s c.requires.provable.1) ∙ sym c.len.ensures)
     c.run.result
-    (subst (λ ns. IfOk c.run.result (λ answer. Says answer (IsRight S c.args.at (items_of labels ns)))) c.numbers-numbers.ensures
+    (subst (λ ns. IfOk c.run.result (λ answer. IsAnswerTo answer (IsRight S c.args.at (items_of labels ns)))) c.numbers-numbers.ensures
     (c.run.ensures.answer labels (entries S c.args.at s c.args.view.now listed c.clear.new.self.items c.add_listed.new.table.items c.deref.result.now c.requires.provable.1 (c.requires.view s c.requires.provable.1) c.clear.ensures.items c.deref.ensures.value
     (c.in_ok-add_listed.ensures.entries c.if-not-branch.false))))

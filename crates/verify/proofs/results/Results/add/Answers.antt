@@ -9,10 +9,10 @@ pub record_expr-requires-clause-over : goal.record_expr-requires-clause-over
 record_expr-requires-clause-over c = recorded-more _ _ _ _ c.self.invariant.recorded c.in_ok-extend.ensures.added
 
 pub record_expr-requires-clause-place : goal.record_expr-requires-clause-place
-record_expr-requires-clause-place c = new-place c.self.inside.symbols c.args.expr.now _ c.place_between-place.result c.in_ok-extend.ensures.added (c.place_between-place.ensures.0 ∙ c.len-start.ensures.len) (c.place_between-place.ensures.1 ∙ c.len.ensures.len)
+record_expr-requires-clause-place c = new-place c.self.inside.symbols c.args.expr.now _ c.range_between-place.result c.in_ok-extend.ensures.added (c.range_between-place.ensures.0 ∙ c.len-start.ensures.len) (c.range_between-place.ensures.1 ∙ c.len.ensures.len)
 
 pub record_expr-requires-clause-whole : goal.record_expr-requires-clause-whole
-record_expr-requires-clause-whole c = seen-last c.self.inside.symbols c.args.expr.now _ c.place_between-place.result c.in_ok-extend.ensures.added (c.place_between-place.ensures.0 ∙ c.len-start.ensures.len) (c.place_between-place.ensures.1 ∙ c.len.ensures.len)
+record_expr-requires-clause-whole c = seen-last c.self.inside.symbols c.args.expr.now _ c.range_between-place.result c.in_ok-extend.ensures.added (c.range_between-place.ensures.0 ∙ c.len-start.ensures.len) (c.range_between-place.ensures.1 ∙ c.len.ensures.len)
 
 pub invariant_of-self-in_err-record_expr : goal.invariant_of-self-in_err-record_expr
 invariant_of-self-in_err-record_expr c = record {
@@ -33,15 +33,15 @@ invariant_of-self-in_err-push c = record {
 pub invariant_of-self-2 : goal.invariant_of-self-2
 invariant_of-self-2 c = record {
   kept =
-      pushed-kept _ c.self.inside.images c.self.inside.stack.items c.self.inside.saved.items _ _ c.place_between-place.result
+      pushed-kept _ c.self.inside.images c.self.inside.stack.items c.self.inside.saved.items _ _ c.range_between-place.result
       (grown-kept c.self.inside.symbols c.args.expr.now _ c.self.inside.images c.self.inside.stack.items c.self.inside.saved.items c.self.inside.weight _ c.self.invariant.kept
       c.in_ok-extend.ensures.added refl (let h = c.if-expr-self.false in let l = c.self.invariant.kept.light in omega (arith, h, l)))
-      (new-place c.self.inside.symbols c.args.expr.now _ c.place_between-place.result c.in_ok-extend.ensures.added (c.place_between-place.ensures.0 ∙ c.len-start.ensures.len) (c.place_between-place.ensures.1 ∙ c.len.ensures.len))
+      (new-place c.self.inside.symbols c.args.expr.now _ c.range_between-place.result c.in_ok-extend.ensures.added (c.range_between-place.ensures.0 ∙ c.len-start.ensures.len) (c.range_between-place.ensures.1 ∙ c.len.ensures.len))
       c.in_ok-push.ensures.items;
   recorded = c.record_expr.ensures.over;
 }
 
 pub returns-clause-adds : goal.returns-clause-adds
 returns-clause-adds c =
-    rw (← c.self.view_is) (added-seen c.self.inside.symbols c.args.expr.now _ c.self.inside.stack.items c.self.inside.stack.items c.self.inside.saved.items _ c.self.inside.weight _ c.place_between-place.result
-    c.self.invariant.kept.saved_within c.self.invariant.kept.stack_within c.in_ok-extend.ensures.added (c.place_between-place.ensures.0 ∙ c.len-start.ensures.len) (c.place_between-place.ensures.1 ∙ c.len.ensures.len) c.in_ok-push.ensures.items refl)
+    rw (← c.self.view_is) (added-seen c.self.inside.symbols c.args.expr.now _ c.self.inside.stack.items c.self.inside.stack.items c.self.inside.saved.items _ c.self.inside.weight _ c.range_between-place.result
+    c.self.invariant.kept.saved_within c.self.invariant.kept.stack_within c.in_ok-extend.ensures.added (c.range_between-place.ensures.0 ∙ c.len-start.ensures.len) (c.range_between-place.ensures.1 ∙ c.len.ensures.len) c.in_ok-push.ensures.items refl)

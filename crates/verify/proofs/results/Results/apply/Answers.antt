@@ -44,13 +44,13 @@ record_result-requires-clause-inside c =
 
 pub record_result-requires-clause-place : goal.record_result-requires-clause-place
 record_result-requires-clause-place c =
-    new-place c.self.inside.symbols _ _ c.place_between-place.result (appended _ _ _ _ _ c.if-not-branch.false c.in_ok-add_applied.ensures.ok).0
-    (c.place_between-place.ensures.0 ∙ c.len-start.ensures.len) (c.place_between-place.ensures.1 ∙ c.len-2.ensures.len)
+    new-place c.self.inside.symbols _ _ c.range_between-place.result (appended _ _ _ _ _ c.if-not-branch.false c.in_ok-add_applied.ensures.ok).0
+    (c.range_between-place.ensures.0 ∙ c.len-start.ensures.len) (c.range_between-place.ensures.1 ∙ c.len-2.ensures.len)
 
 pub record_result-requires-clause-whole : goal.record_result-requires-clause-whole
 record_result-requires-clause-whole c =
     let g = appended _ _ _ _ _ c.if-not-branch.false c.in_ok-add_applied.ensures.ok in
-    seen-last c.self.inside.symbols _ _ c.place_between-place.result g.0 (c.place_between-place.ensures.0 ∙ c.len-start.ensures.len) (c.place_between-place.ensures.1 ∙ c.len-2.ensures.len)
+    seen-last c.self.inside.symbols _ _ c.range_between-place.result g.0 (c.range_between-place.ensures.0 ∙ c.len-start.ensures.len) (c.range_between-place.ensures.1 ∙ c.len-2.ensures.len)
     ∙ sym (applied-more c.self.inside.symbols _ _ c.self.inside.images c.args.expr.now c.self.invariant.kept.images_inside g.0)
 
 pub invariant_of-self-in_err-record_result : goal.invariant_of-self-in_err-record_result
@@ -82,8 +82,8 @@ invariant_of-self-2 c =
     let more = grown c.self.inside.symbols _ _ c.len-start.result c.len-3.result g.0 c.len-start.ensures.len c.len-3.ensures.len in
     record {
       kept =
-          apply-kept c.self.inside.symbols _ _ c.self.inside.images c.self.inside.stack.items c.self.inside.saved.items _ c.self.inside.weight _ (c.len.result - c.args.r) c.place_between-place.result c.self.invariant.kept g.0
-          (c.place_between-place.ensures.0 ∙ c.len-start.ensures.len) (c.place_between-place.ensures.1 ∙ c.len-2.ensures.len) c.in_ok-put_behind.ensures.ok
+          apply-kept c.self.inside.symbols _ _ c.self.inside.images c.self.inside.stack.items c.self.inside.saved.items _ c.self.inside.weight _ (c.len.result - c.args.r) c.range_between-place.result c.self.invariant.kept g.0
+          (c.range_between-place.ensures.0 ∙ c.len-start.ensures.len) (c.range_between-place.ensures.1 ∙ c.len-2.ensures.len) c.in_ok-put_behind.ensures.ok
           (ap (λ n. c.self.inside.weight + n) more) (end_light c.self.inside.weight _ c.len-start.result c.len-3.result _ (omega (arith, c.min-room.ensures)) c.self.invariant.kept.light more g.1);
       recorded = c.record_result.ensures.over;
     }
@@ -92,6 +92,6 @@ pub returns-clause-adds : goal.returns-clause-adds
 returns-clause-adds c =
     let g = appended _ _ _ _ _ c.if-not-branch.false c.in_ok-add_applied.ensures.ok in
     let more = grown c.self.inside.symbols _ _ c.len-start.result c.len-3.result g.0 c.len-start.ensures.len c.len-3.ensures.len in
-    rw (← c.self.view_is) (apply-seen c.self.inside.symbols _ _ c.self.inside.images c.self.inside.stack.items c.self.inside.saved.items _ c.self.inside.weight _ (c.len.result - c.args.r) c.args.r c.place_between-place.result c.self.invariant.kept
-    (omega (arith, c.len.ensures)) g.0 (c.place_between-place.ensures.0 ∙ c.len-start.ensures.len) (c.place_between-place.ensures.1 ∙ c.len-2.ensures.len)
+    rw (← c.self.view_is) (apply-seen c.self.inside.symbols _ _ c.self.inside.images c.self.inside.stack.items c.self.inside.saved.items _ c.self.inside.weight _ (c.len.result - c.args.r) c.args.r c.range_between-place.result c.self.invariant.kept
+    (omega (arith, c.len.ensures)) g.0 (c.range_between-place.ensures.0 ∙ c.len-start.ensures.len) (c.range_between-place.ensures.1 ∙ c.len-2.ensures.len)
     c.in_ok-put_behind.ensures.ok (ap (λ n. c.self.inside.weight + n) more))

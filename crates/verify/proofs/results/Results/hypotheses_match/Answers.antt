@@ -1,4 +1,4 @@
-use Rattle.verify.proofs.Words.{◌≡◌, ◌↔◌, Bool, IsTrue, List, CodeImages, code_apply, sym, subst, same_Some, ℕ, ◌-◌, [], true, false, length, map, get_or, Some, ap, arith, refl, ◌∙◌, slice_get_within, stands-within, decode, images_of_names, Hypothesis, Float, Essential, FitsOne, top}
+use Rattle.verify.proofs.Words.{◌≡◌, ◌↔◌, Bool, IsTrue, List, CodeImages, code_apply, sym, subst, same_Some, ℕ, ◌-◌, [], true, false, length, map, get_or, Some, ap, arith, refl, ◌∙◌, slice_get_within, stands-within, decode, images_of_names, Hypothesis, Float, Essential, HypothesisMatches, top}
 use Rattle.verify.proofs.Named.{all-drop}
 use Rattle.verify.proofs.ResultPlaceLemmas.{seen_place}
 use Rattle.verify.proofs.ReadImageLemmas.{standing-at, fits-essential, one-more}
@@ -10,7 +10,7 @@ short-iff : (b : Bool) (r short whole : List ℕ) (σ ρ : CodeImages) → σ �
 short-iff b r short whole σ ρ images same h = subst (λ v. IsTrue b ↔ (r ≡ v)) same (subst (λ τ. IsTrue b ↔ (r ≡ code_apply τ short)) images h)
 
 pub loop-k-init : goal.loop-k-init
-loop-k-init c j h less at = let x = c.requires.front.floats j less in subst (λ g. FitsOne c.args.frames.now.statements (images_of_names c.args.frames.now.names c.args.self.now.images) g (get_or (map (decode c.args.frames.now.names) (top (length c.args.hypotheses.now) c.args.self.now.results.stack)) j [])) (same_Some (Float x.0) h (sym x.1 ∙ at)) tt
+loop-k-init c j h less at = let x = c.requires.front.floats j less in subst (λ g. HypothesisMatches c.args.frames.now.statements (images_of_names c.args.frames.now.names c.args.self.now.images) g (get_or (map (decode c.args.frames.now.names) (top (length c.args.hypotheses.now) c.args.self.now.results.stack)) j [])) (same_Some (Float x.0) h (sym x.1 ∙ at)) tt
 
 pub expr-whole-requires : goal.expr-whole-requires
 expr-whole-requires c =
@@ -35,7 +35,7 @@ returns-then-not-matches c =
 
 pub loop-k-preserved : goal.loop-k-preserved
 loop-k-preserved c =
-    let P : ℕ → Hypothesis → Type 0 = λ j h. FitsOne c.args.frames.now.statements (images_of_names c.args.frames.now.names c.args.self.now.images) h (get_or (map (decode c.args.frames.now.names) (top (length c.args.hypotheses.now) c.args.self.now.results.stack)) j []) in
+    let P : ℕ → Hypothesis → Type 0 = λ j h. HypothesisMatches c.args.frames.now.statements (images_of_names c.args.frames.now.names c.args.self.now.images) h (get_or (map (decode c.args.frames.now.names) (top (length c.args.hypotheses.now) c.args.self.now.results.stack)) j []) in
     elim c.match-get.branch [
       | in-Essential+else-not-matches w ↦
           let at = c.get.ensures ∙ ap Some w.in-Essential.is in

@@ -1,4 +1,4 @@
-use Rattle.verify.proofs.Words.{◌≡◌, ℕ, Bool, List, [], ◌∷◌, length, filter, sym, ◌∙◌, subst, Name, Expr, decode, decode-injective, expr_of, stands-within, AreBelow, AreDistinct, ArePlacesOf, SymbolGroups, AreExprPlaces, is_left, inl, inr, cases_Bool}
+use Rattle.verify.proofs.Words.{◌≡◌, ℕ, Bool, List, [], ◌∷◌, length, filter, sym, ◌∙◌, subst, Name, Expr, decode, decode-injective, expr_of, stands-within, AreBelow, AreDistinct, ArePlacesOf, SymbolGroups, AreExprPlaces, has_nonempty_image, inl, inr, cases_Bool}
 use Rattle.verify.proofs.results.Results.shorten.Goals as goal
 
 -- the numbers of the expression are those whose places are kept
@@ -26,4 +26,4 @@ returns-in-Some-found-clause-same c = rw (← c.self.view_is) ((rw (c.in-Ok.is, 
 pub returns-in-Some-found-clause-below : goal.returns-in-Some-found-clause-below
 returns-in-Some-found-clause-below c =
     let left = rw (c.in-Ok.is, c.in-Some-found.is) at c.of.ensures.left in
-    subst (AreBelow (length c.args.frames.now.names)) (sym left) (some-below (length c.args.frames.now.names) (is_left c.self.inside.images) c.args.expr.now c.requires.below)
+    subst (AreBelow (length c.args.frames.now.names)) (sym left) (some-below (length c.args.frames.now.names) (has_nonempty_image c.self.inside.images) c.args.expr.now c.requires.below)

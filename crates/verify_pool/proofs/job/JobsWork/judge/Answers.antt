@@ -1,4 +1,4 @@
-use Rattle.verify_pool.proofs.Words.{◌≡◌, ◌<◌, Some, length, slice_get, get_or, refl, subst, sym, IfOk, slice_get_read, Says, IsRightAt}
+use Rattle.verify_pool.proofs.Words.{◌≡◌, ◌<◌, Some, length, slice_get, get_or, refl, subst, sym, IfOk, slice_get_read, IsAnswerTo, IsRightAt}
 use Rattle.verify.specs.KeptLists.{AreKeptFor}
 use Rattle.verify_pool.proofs.LeastLemmas.{job_judged}
 use Rattle.verify_pool.proofs.job.JobsWork.judge.Goals as goal
@@ -10,7 +10,7 @@ returns-clause-answer c =
     let found = c.index-self-index in
     let stands : slice_get jobs c.args.index ≡ Some (get_or jobs c.args.index found.result) =
     subst (λ job. slice_get jobs c.args.index ≡ Some job) found.is (slice_get_read jobs (length jobs) c.args.index found.result refl within found.is) in
-    subst (λ work. IfOk c.check_job.result (λ answer. Says answer (IsRightAt work.statements work.jobs c.args.index))) c.self.view_is
+    subst (λ work. IfOk c.check_job.result (λ answer. IsAnswerTo answer (IsRightAt work.statements work.jobs c.args.index))) c.self.view_is
     (job_judged c.self.inside.frames.now.statements jobs c.args.index (get_or jobs c.args.index found.result) c.check_job.result stands c.check_job.ensures.answer)
 
 pub check_job-requires-clause-kept : goal.check_job-requires-clause-kept

@@ -1,0 +1,230 @@
+-- The sets of the hypotheses that the active `$e` bring along: read at a position, with one statement more, and cut.
+use Rattle.frame.proofs.Words.{◌≡◌, ◌∙◌, ap, sym, subst, arith, refl, inl, inr, ⊎_elim, ⊎_map, ℕ, zero, suc, ◌+◌, ◌-◌, ◌<◌, ◌≤◌, ◌⊎◌, true, false, cond, List, [], ◌∷◌, ◌++◌, length, length-append, length-take, length-take-le, map, map-append, take, take-take, take_all, take-append-le, nat_lt, slice_get, Option, Some, None, take-get, get-push, slice_get_within, Database, Entry, Stmt, LastActive, Ess, actives, last_active_of, is_essential, is_close, stmt_of, names_in, labels_in, statements_of, AreStored, Storage, Extends, extends-length, extends-take, In, Ascends, AreThose, HasMore, OfSome, IsFromEssentials, IsWith, kept_at, option_kept, set_at, with_position, cond_both, max, nat_tests, ascends-with, set_at-extends, EssentialSet, EssentialSets, option_set, kept_set, IsSetFromEssentials, IsEssentialSet, AreEssentialSets}
+use Rattle.frame.proofs.BlockWalkLemmas.{get-take, take-one}
+use Rattle.frame.proofs.CollectLemmas.{last-in, last-out, those-by}
+use Rattle.frame.proofs.KindWalk.{walk-from, essential_chain, as-many}
+use Rattle.frame.proofs.LastActiveLemmas.{actives-push}
+use Rattle.frame.proofs.StackLemmas.{AreIn, actives-in}
+use Rattle.frame.proofs.StoredReading.{get-stmt}
+
+-- ---- a position put into a set
+
+pub in-with : (p q : ℕ) (xs : List ℕ) → In p (with_position q xs) → (p ≡ q) ⊎ In p xs
+in-with p q [] (inl e) = inl e
+in-with p q [] (inr i) = absurd i
+in-with p q (x ∷ xs) i =
+    cond_both (nat_lt q x) _ _ (λ v. In p v → (p ≡ q) ⊎ In p (x ∷ xs)) (λ _. λ j. j)
+    (λ _. cond_both (nat_lt x q) _ _ (λ v. In p v → (p ≡ q) ⊎ In p (x ∷ xs)) (λ _. ⊎_elim (λ e. inr (inl e)) (λ j. ⊎_map (λ e. e) inr (in-with p q xs j))) (λ _. inr)) i
+
+pub with-in : (p q : ℕ) (xs : List ℕ) → (p ≡ q) ⊎ In p xs → In p (with_position q xs)
+with-in p q [] i = i
+with-in p q (x ∷ xs) i =
+    cond_both (nat_lt q x) _ _ (In p) (λ _. i)
+    (λ low. cond_both (nat_lt x q) _ _ (In p)
+    (λ _. ⊎_elim (λ e. inr (with-in p q xs (inl e))) (⊎_map (λ e. e) (λ j. with-in p q xs (inr j))) i)
+    (λ high. ⊎_elim (λ e. let same : p ≡ x = grind (arith, nat_tests, e) in inl same) (λ j. j) i))
+
+-- the positions so far, and one more
+pub with-more : (base old new ps more : List ℕ) (q : ℕ) → HasMore (λ p. In p ps) base old → new ≡ with_position q old → more ≡ ps ++ q ∷ [] → HasMore (λ p. In p more) base new
+with-more base old new ps more q h is one = rw (is, one) (record {
+  stays = λ p i. with-in p q old (inr (h.stays p i));
+  all = λ p i. ⊎_elim (λ e. with-in p q old (inl e)) (λ j. with-in p q old (inr (h.all p j))) (last-out p q ps i);
+  only = λ p i. ⊎_elim (λ e. inr (last-in p q ps (inl e))) (λ j. ⊎_map (λ k. k) (λ k. last-in p q ps (inr k)) (h.only p j)) (in-with p q old i);
+})
+
+-- ---- what is given by the first statements depends on their entries alone
+
+within : (low high q : ℕ) (ps : List (ℕ × Stmt)) → AreIn low high ps → In q (map (λ p. p.0) ps) → (low ≤ q) × (q ≤ high)
+within low high q [] are i = absurd i
+within low high q (p ∷ ps) are (inl e) = let a = are.0.0 in let b = are.0.1 in (omega arith, omega arith)
+within low high q (p ∷ ps) are (inr i) = within low high q ps are.1 i
+
+module _ (es : List Entry) (n m : ℕ) (S : Database) (le : m ≤ n) where
+  kept-same : (q : ℕ) → In q (map (λ p. p.0) (actives is_essential (take m S))) → kept_at (take n es) q ≡ kept_at es q
+  kept-same q i =
+      let w = within 1 n q (actives is_essential (take m S)) (actives-in is_essential 1 1 n (take m S) (omega arith) (omega (arith, length-take {A = Stmt}, le))) i in
+      ap option_kept (get-take (q - 1) n es (let a = w.0 in let b = w.1 in omega arith))
+
+  given-back : (p : ℕ) → IsFromEssentials (take n es) (take m S) p → IsFromEssentials es (take m S) p
+  given-back p g = record { one = g.one; among = g.among; is = subst (λ ks. In p (g.one ∷ ks)) (kept-same g.one g.among) g.is }
+
+  given-forth : (p : ℕ) → IsFromEssentials es (take m S) p → IsFromEssentials (take n es) (take m S) p
+  given-forth p g = record { one = g.one; among = g.among; is = subst (λ ks. In p (g.one ∷ ks)) (sym (kept-same g.one g.among)) g.is }
+
+-- ---- the set that is kept by the last active `$e`
+
+pub given-at : (k : Storage) (g : EssentialSets) (at q : ℕ) (l : LastActive) → AreStored k → AreEssentialSets g k.entries (statements_of k) → 1 ≤ at → at ≤ length (statements_of k) + 1 → l ≡ last_active_of (take (at - 1) (statements_of k)) → q ≡ l.essential
+    → IsSetFromEssentials k.entries (take (at - 1) (statements_of k)) g.sets (kept_set g.kept.items q)
+given-at k g at zero l stored sets low high last_active is some = absurd (some refl)
+given-at k g at (suc i) l stored sets low high last_active is some = by (slice_get g.kept.items i) refl some
+  where
+    by : (o : Option EssentialSet) → slice_get g.kept.items i ≡ o → (kept_set g.kept.items (suc i) ≡ 0 → ⊥) → AreThose (IsFromEssentials k.entries (take (at - 1) (statements_of k))) (set_at g.sets (kept_set g.kept.items (suc i)))
+    by None e some = absurd (some (ap option_set e))
+    by (Some x) e some =
+        let S = statements_of k in
+        let same : kept_set g.kept.items (suc i) ≡ x.set = ap option_set e in
+        let f = walk-from k (at - 1) l essential_chain (omega arith) last_active in
+        let list : actives is_essential (take (suc i) S) ≡ actives is_essential (take (at - 1) S) = ap (λ n. actives is_essential (take n S)) is ∙ f.same in
+        let those = (sets.each i x e).given (λ z. some (same ∙ z)) in
+        let there : (p : ℕ) → IsFromEssentials (take (suc i) k.entries) (take (suc i) S) p → IsFromEssentials k.entries (take (at - 1) S) p
+        = λ p h. subst (λ ps. OfSome (IsWith k.entries) (map (λ r. r.0) ps) p) list (given-back k.entries (suc i) (suc i) S (omega arith) p h) in
+        let back : (p : ℕ) → IsFromEssentials k.entries (take (at - 1) S) p → IsFromEssentials (take (suc i) k.entries) (take (suc i) S) p
+        = λ p h. given-forth k.entries (suc i) (suc i) S (omega arith) p (subst (λ ps. OfSome (IsWith k.entries) (map (λ r. r.0) ps) p) (sym list) h) in
+        subst (λ n. AreThose (IsFromEssentials k.entries (take (at - 1) S)) (set_at g.sets n)) (sym same) (those-by those there back)
+
+-- ---- the next `$e`: what is given before it, it itself, and its own
+
+pub given-next : (k : Storage) (last : ℕ) (e : Entry) (xs new : List ℕ) → length k.entries ≡ suc last → slice_get k.entries last ≡ Some e → e.kind ≡ Ess
+    → AreThose (IsFromEssentials k.entries (take last (statements_of k))) xs → Ascends new → HasMore (λ p. (p ≡ suc last) ⊎ In p e.assertion.hypotheses) xs new → AreThose (IsFromEssentials k.entries (statements_of k)) new
+given-next k last e xs new size got kind those ascends more =
+    let S = statements_of k in
+    let s = stmt_of (names_in k) (labels_in k) e in
+    let essential : is_essential s ≡ true = rw kind refl in
+    let closes : is_close s ≡ false = rw kind refl in
+    let whole : S ≡ take last S ++ s ∷ [] = sym (take_all (suc last) S (omega (arith, as-many k, size))) ∙ take-one S last s (get-stmt (names_in k) (labels_in k) k.entries last e got) in
+    let long : length (take last S) ≡ last = length-take-le last S (omega (arith, as-many k, size)) in
+    let list : actives is_essential S ≡ actives is_essential (take last S) ++ (suc last, s) ∷ [] =
+    ap (actives is_essential) whole ∙ (actives-push is_essential (take last S) s closes ∙ (ap (λ b. actives is_essential (take last S) ++ cond b ((1 + length (take last S), s) ∷ []) []) essential ∙ ap (λ n. actives is_essential (take last S) ++ (n, s) ∷ []) (omega (arith, long)))) in
+    let before = map (λ (r : ℕ × Stmt). r.0) (actives is_essential (take last S)) in
+    let places : map (λ (r : ℕ × Stmt). r.0) (actives is_essential S) ≡ before ++ suc last ∷ [] = ap (map (λ (r : ℕ × Stmt). r.0)) list ∙ map-append (λ (r : ℕ × Stmt). r.0) (actives is_essential (take last S)) ((suc last, s) ∷ []) in
+    let own : kept_at k.entries (suc last) ≡ e.assertion.hypotheses = ap (λ n. option_kept (slice_get k.entries n)) (omega arith) ∙ ap option_kept got in
+    let among : (p : ℕ) → IsFromEssentials k.entries S p → OfSome (IsWith k.entries) (before ++ suc last ∷ []) p = λ p h. subst (λ ps. OfSome (IsWith k.entries) ps p) places h in
+    let joined : (p : ℕ) → OfSome (IsWith k.entries) (before ++ suc last ∷ []) p → IsFromEssentials k.entries S p = λ p h. subst (λ ps. OfSome (IsWith k.entries) ps p) (sym places) h in
+    record {
+      ascends = ascends;
+      all = λ p h. let a = among p h in
+          ⊎_elim
+          (λ here. more.all p (⊎_map (λ i. i) (λ i. subst (In p) own i) (subst (λ q. In p (q ∷ kept_at k.entries q)) here a.is)))
+          (λ i. more.stays p (those.all p (record { one = a.one; among = i; is = a.is })))
+          (last-out a.one (suc last) before a.among);
+      only = λ p i. joined p (⊎_elim
+          (λ j. let o = those.only p j in record { one = o.one; among = last-in o.one (suc last) before (inr o.among); is = o.is })
+          (λ j. record { one = suc last; among = last-in (suc last) (suc last) before (inl refl); is = ⊎_map (λ e. e) (λ h. subst (In p) (sym own) h) j })
+          (more.only p i));
+    }
+
+-- the number of a set is that of one of the sets
+pub kept-within : (g : EssentialSets) (es : List Entry) (S : Database) (q : ℕ) → AreEssentialSets g es S → kept_set g.kept.items q < length g.sets
+kept-within g es S zero are = are.some
+kept-within g es S (suc i) are = by (slice_get g.kept.items i) refl
+  where
+    by : (o : Option EssentialSet) → slice_get g.kept.items i ≡ o → option_set (slice_get g.kept.items i) < length g.sets
+    by None e = subst (λ o. option_set o < length g.sets) (sym e) are.some
+    by (Some x) e = subst (λ o. option_set o < length g.sets) (sym e) (are.each i x e).within
+
+pub kept-ascends : (g : EssentialSets) (es : List Entry) (S : Database) (q : ℕ) → AreEssentialSets g es S → (kept_set g.kept.items q ≡ 0 → ⊥) → Ascends (set_at g.sets (kept_set g.kept.items q))
+kept-ascends g es S zero are some = absurd (some refl)
+kept-ascends g es S (suc i) are some = by (slice_get g.kept.items i) refl some
+  where
+    by : (o : Option EssentialSet) → slice_get g.kept.items i ≡ o → (option_set (slice_get g.kept.items i) ≡ 0 → ⊥) → Ascends (set_at g.sets (option_set (slice_get g.kept.items i)))
+    by None e some = absurd (some (ap option_set e))
+    by (Some x) e some = subst (λ o. Ascends (set_at g.sets (option_set o))) (sym e) ((are.each i x e).given (λ z. some (ap option_set e ∙ z))).ascends
+
+-- the set of the next `$e`: its own are put into the set of the one before, and it itself
+pub set-next : (k : Storage) (g : EssentialSets) (n : ℕ) (e : Entry) (mid new : List (List ℕ)) (set made : ℕ) → AreStored k → AreEssentialSets g k.entries (statements_of k) → n ≡ length k.entries → slice_get k.entries (n - 1) ≡ Some e → e.kind ≡ Ess
+    → (kept_set g.kept.items e.last_active.essential ≡ 0 → ⊥) → Ascends (set_at mid set) → HasMore (λ p. In p e.assertion.hypotheses) (set_at g.sets (kept_set g.kept.items e.last_active.essential)) (set_at mid set) → set_at new made ≡ with_position (n - 1 + 1) (set_at mid set)
+    → AreThose (IsFromEssentials k.entries (statements_of k)) (set_at new made)
+set-next k g n e mid new set made stored sets size got kind some ascends more is =
+    let S = statements_of k in
+    let low = slice_get_within k.entries (n - 1) e got in
+    let last = n - 1 in
+    let long : length k.entries ≡ suc last = omega arith in
+    let before = given-at k g (suc last) e.last_active.essential e.last_active stored sets (omega arith) (omega (arith, as-many k)) (stored.kept.linked last e got ∙ ap (λ m. last_active_of (take m S)) (omega arith)) refl some in
+    let those : AreThose (IsFromEssentials k.entries (take last S)) (set_at g.sets (kept_set g.kept.items e.last_active.essential)) =
+    subst (λ m. AreThose (IsFromEssentials k.entries (take m S)) (set_at g.sets (kept_set g.kept.items e.last_active.essential))) (omega arith) before in
+    let q = last + 1 in
+    let same : q ≡ suc last = omega arith in
+    subst (AreThose (IsFromEssentials k.entries S)) (sym is)
+    (given-next k last e (set_at g.sets (kept_set g.kept.items e.last_active.essential)) (with_position q (set_at mid set)) long got kind those (ascends-with q (set_at mid set) ascends)
+    (record {
+      stays = λ p i. with-in p q (set_at mid set) (inr (more.stays p i));
+      all = λ p. ⊎_elim (λ h. with-in p q (set_at mid set) (inl (h ∙ sym same))) (λ i. with-in p q (set_at mid set) (inr (more.all p i)));
+      only = λ p i. ⊎_elim (λ h. inr (inl (h ∙ same))) (λ j. ⊎_map (λ o. o) inr (more.only p j)) (in-with p q (set_at mid set) i);
+    }))
+
+-- ---- what is kept by the first statements stays where these stay
+
+pub sets-moved : (g h : EssentialSets) (es fs : List Entry) (S T : Database) → AreEssentialSets g es S → h.sets ≡ g.sets → h.kept.items ≡ g.kept.items → length g.kept.items ≤ length fs
+    → ((i : ℕ) → i < length g.kept.items → (take (suc i) es ≡ take (suc i) fs) × (take (suc i) S ≡ take (suc i) T)) → AreEssentialSets h fs T
+sets-moved g h es fs S T are sets kept low same = record {
+  some = subst (λ v. 1 ≤ length v) (sym sets) are.some;
+  within = subst (λ v. length v ≤ length fs) (sym kept) low;
+  each = λ i x at.
+      let there = ap (λ v. slice_get v i) (sym kept) ∙ at in
+      let k = are.each i x there in
+      let fronts = same i (slice_get_within g.kept.items i x there) in
+      rw (sets, kept) (record { some = k.some; before = k.before; within = k.within; earlier = k.earlier; given = rw (← fronts.0, ← fronts.1) k.given });
+}
+
+-- after one statement more
+pub sets-more : (g : EssentialSets) (es fs : List Entry) (S T : Database) → AreEssentialSets g es S → length S ≡ length es → Extends es fs → Extends S T → AreEssentialSets g fs T
+sets-more g es fs S T are long entries statements =
+    let low = are.within in
+    sets-moved g g es fs S T are refl refl (omega (arith, extends-length es fs entries))
+    (λ i lt. (
+      sym (ap (take (suc i)) entries.1 ∙ take-append-le (suc i) es entries.0 (omega arith)),
+      sym (ap (take (suc i)) statements.1 ∙ take-append-le (suc i) S statements.0 (omega arith)),
+    ))
+
+-- with the first n statements alone
+pub sets-front : (g h : EssentialSets) (es : List Entry) (S : Database) (n : ℕ) → AreEssentialSets g es S → h.sets ≡ g.sets → h.kept.items ≡ g.kept.items → length g.kept.items ≤ n → AreEssentialSets h (take n es) (take n S)
+sets-front g h es S n are sets kept low =
+    let within = are.within in
+    sets-moved g h es (take n es) S (take n S) are sets kept (omega (arith, length-take {A = Entry}))
+    (λ i lt. (sym (take-take (suc i) n es (omega arith)), sym (take-take (suc i) n S (omega arith))))
+
+-- the sets that were made since are cut off
+pub sets-cut : (g h : EssentialSets) (es : List Entry) (S : Database) (n : ℕ) (first : EssentialSet) → AreEssentialSets g es S → slice_get g.kept.items n ≡ Some first → h.sets ≡ take (max 1 first.before) g.sets → h.kept.items ≡ take n g.kept.items
+    → AreEssentialSets h (take n es) (take n S)
+sets-cut g h es S n first are here sets kept =
+    let f = are.each n first here in
+    let b = first.before in
+    let fb = f.before in
+    let one = f.some in
+    let is : h.sets ≡ take b g.sets = sets ∙ ap (λ m. take m g.sets) (omega arith) in
+    let long : length h.sets ≡ b = ap length is ∙ length-take-le b g.sets fb in
+    let front : Extends h.sets g.sets = subst (λ v. Extends v g.sets) (sym is) (extends-take b g.sets) in
+    let there = slice_get_within g.kept.items n first here in
+    let low = are.within in
+    let count : length h.kept.items ≡ n = ap length kept ∙ length-take-le n g.kept.items (omega arith) in
+    let each : (i : ℕ) (x : EssentialSet) → slice_get h.kept.items i ≡ Some x → IsEssentialSet h.sets h.kept.items (take n es) (take n S) i x = λ i x at.
+    let t = take-get n i g.kept.items x (ap (λ v. slice_get v i) (sym kept) ∙ at) in
+    let lt = t.0 in
+    let k = are.each i x t.1 in
+    let e = f.earlier i x lt t.1 in
+    let earlier : (j : ℕ) (y : EssentialSet) → j < i → slice_get h.kept.items j ≡ Some y → (y.before ≤ x.before) × (y.set < x.before) = λ j y less got.
+    k.earlier j y less ((take-get n j g.kept.items y (ap (λ v. slice_get v j) (sym kept) ∙ got)).1) in
+    let set = set_at-extends h.sets g.sets x.set front (let a = e.1 in omega arith) in
+    let given : IsSetFromEssentials (take (suc i) (take n es)) (take (suc i) (take n S)) h.sets x.set
+    = rw (take-take (suc i) n es (omega arith), take-take (suc i) n S (omega arith)) (λ z. subst (AreThose (IsFromEssentials (take (suc i) es) (take (suc i) S))) set (k.given z)) in
+    record { some = k.some; before = (let a = e.0 in omega arith); within = (let a = e.1 in omega arith); earlier = earlier; given = given } in
+    record { some = omega arith; within = (let l = length-take-le n es (omega arith) in omega arith); each = each }
+
+-- ---- what is kept by the next statement
+
+pub sets-next : (g h : EssentialSets) (es : List Entry) (S : Database) (x : EssentialSet) → AreEssentialSets g es S → length g.kept.items + 1 ≡ length es → length S ≡ length es → Extends g.sets h.sets → h.kept.items ≡ g.kept.items ++ x ∷ []
+    → x.before ≡ length g.sets → x.set < length h.sets → IsSetFromEssentials es S h.sets x.set → AreEssentialSets h es S
+sets-next g h es S x are next long more kept before within given =
+    let count : length h.kept.items ≡ length g.kept.items + 1 = ap length kept ∙ length-append g.kept.items (x ∷ []) in
+    let wider = extends-length g.sets h.sets more in
+    let some = are.some in
+    let old : (j : ℕ) (y : EssentialSet) → j < length g.kept.items → slice_get h.kept.items j ≡ Some y → slice_get g.kept.items j ≡ Some y = λ j y lt got.
+    ⊎_elim (λ p. p.1) (λ p. absurd (let a = p.0 in omega arith)) (get-push g.kept.items x y j (ap (λ v. slice_get v j) (sym kept) ∙ got)) in
+    let each : (i : ℕ) (y : EssentialSet) → slice_get h.kept.items i ≡ Some y → IsEssentialSet h.sets h.kept.items es S i y = λ i y at.
+    ⊎_elim
+    (λ p. let k = are.each i y p.1 in let lt = p.0 in let kb = k.before in let kw = k.within in record {
+      some = k.some;
+      before = omega arith;
+      within = omega arith;
+      earlier = λ j z less got. k.earlier j z less (old j z (omega arith) got);
+      given = λ z. subst (AreThose (IsFromEssentials (take (suc i) es) (take (suc i) S))) (sym (set_at-extends g.sets h.sets y.set more kw)) (k.given z);
+    })
+    (λ p. let here = p.0 in subst (λ v. IsEssentialSet h.sets h.kept.items es S i v) p.1 (record {
+      some = omega arith;
+      before = omega arith;
+      within = within;
+      earlier = λ j z less got. let k = are.each j z (old j z (omega arith) got) in let kb = k.before in let kw = k.within in (omega arith, omega arith);
+      given = rw (take_all (suc i) es (omega arith), take_all (suc i) S (omega arith)) given;
+    }))
+    (get-push g.kept.items x y i (ap (λ v. slice_get v i) (sym kept) ∙ at)) in
+    record { some = omega arith; within = omega arith; each = each }

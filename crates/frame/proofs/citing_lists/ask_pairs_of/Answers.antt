@@ -1,6 +1,0 @@
-use Rattle.frame.proofs.Words.{arith, length, names_in}
-use Rattle.frame.proofs.ActiveDisjointLemmas.{below-at}
-use Rattle.frame.proofs.citing_lists.ask_pairs_of.Goals as goal
-
-pub ask_pair-requires-clause-below : goal.ask_pair-requires-clause-below
-ask_pair-requires-clause-below c = (c.requires.below.0, below-at (length (names_in c.args.storage.now)) c.args.others.now c.loop-y.y-index 0 c.requires.below.1 (omega arith))

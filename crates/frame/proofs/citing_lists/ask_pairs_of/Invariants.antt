@@ -1,6 +1,0 @@
-use Rattle.frame.specs.PairFacts.{AreFacts}
-use Rattle.frame.specs.Stored.EntryMeanings.{numbered}
-use Rattle.frame.proofs.citing_lists.ask_pairs_of.Given as goal
-
-abbrev pub invariant-loop-y : goal.invariant-loop-y
-invariant-loop-y l = AreFacts (numbered l.storage) l.facts

@@ -1,0 +1,10 @@
+use Rattle.subst.proofs.Words.{length}
+use Rattle.subst.proofs.OneListLemmas.{IsRow}
+use Rattle.subst.proofs.one_list.OneDisjointList.are_in_one.Given as goal
+
+-- each two symbols of a `$d` that is left stand together
+abbrev pub invariant-loop-list : goal.invariant-loop-list
+invariant-loop-list l = IsRow l.pairs l.row
+
+abbrev pub decreases-loop-list : goal.decreases-loop-list
+decreases-loop-list l = length l.row

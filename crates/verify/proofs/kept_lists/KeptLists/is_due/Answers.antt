@@ -1,5 +1,0 @@
-use Rattle.verify.proofs.Words.{subst, sym, AreKeptFor}
-use Rattle.verify.proofs.kept_lists.KeptLists.is_due.Goals as goal
-
-pub returns : goal.returns
-returns c = λ S names kept. subst (AreKeptFor S names) (sym c.self.view_is) (c.make_room.ensures S names kept)
