@@ -1,5 +1,5 @@
 -- Where the run over the items stops, as the first fault.
-use Rattle.explain.proofs.Words.{nat_lt, nat_tests, ◌≡◌, ◌≢◌, Bool, true, false, ℕ, zero, suc, ◌+◌, ◌-◌, ◌<◌, ◌≤◌, List, [], ◌∷◌, ◌++◌, length, map, take, drop, get_or, arith, refl, sym, ◌∙◌, ap, subst, Option, Some, None, slice_get, length-drop, Vec, Name, Stmt, Database, Expr, decode, stmt_at, expr_of, Carries, Item, Cite, Recall, Mark, item_of, items_of, Fault, TooManySymbols, NoMarkedResult, UnknownLabel, Reason, Gives, Fails, RunsWell, IsFirstFault, IsPosition, ArePositions, behind, Results, State, start, IsSaved, Runs, IsStopped, item-cite, get_or_default, same_Some, SYMBOLS_LIMIT}
+use Rattle.explain.proofs.Words.{nat_lt, nat_tests, ◌≡◌, ◌≢◌, Bool, true, false, ℕ, zero, suc, ◌+◌, ◌-◌, ◌<◌, ◌≤◌, List, [], ◌∷◌, ◌++◌, length, map, take, drop, get_or, arith, refl, sym, ◌∙◌, ap, subst, Option, Some, None, slice_get, length-drop, Vec, Name, Stmt, Database, Expr, decode, stmt_at, expr_of, Carries, Item, Cite, Recall, Mark, item_of, items_of, Fault, TooManySymbols, NoMarkedResult, UnknownLabel, Reason, Gives, Fails, RunsWell, IsFirstFault, IsPosition, ArePositions, without_cached, Results, State, start, IsSaved, Runs, IsStopped, item-cite, get_or_default, same_Some, SYMBOLS_LIMIT}
 use Rattle.explain.specs.declared.reason.Reason.TheVariants as reason
 use Rattle.explain.specs.FirstFault.{IsEnd}
 use Rattle.explain.proofs.RunItemLemmas.{mark_fails, recall_heavy, cite_stuck, recall_item, what_is, found-at}
@@ -10,7 +10,7 @@ use Rattle.verify.proofs.Words.{take_all, length-map, slice_get-get_or, slice_ge
 module _ (S : Database) (names : List Name) (at : ℕ) (items : List Item) (k labels : ℕ) (st : Results ℕ) (stopped : IsStopped S at names items k labels st) where
   -- the results before it, by name
   abbrev pub held : State
-  held = named names (behind labels st)
+  held = named names (without_cached labels st)
 
   -- the items before it run well
   pub runs_well : RunsWell S at (take k items) held

@@ -2,7 +2,7 @@
 -- Source: Metamath, 4.2.6; the limit is this project's.
 -- The code has the verifier's results as numbers; here they are expressions.
 use Rattle.std.specs.Prelude.{◌≡◌, ℕ, ◌+◌, ◌<◌, List, ◌++◌, length, map, Some}
-use Rattle.explain.specs.Words.{Stmt, Expr, Database, expr_of, stmt_at, decode, Numbered, IsHypothesis, IsInstance, premises, behind, named, State, HeldResults, SYMBOLS_LIMIT}
+use Rattle.explain.specs.Words.{Stmt, Expr, Database, expr_of, stmt_at, decode, Numbered, IsHypothesis, IsInstance, premises, without_cached, named, State, HeldResults, SYMBOLS_LIMIT}
 use Rattle.frame.specs.Substitution.{Images, apply as applied}
 
 -- a citation of the statement s at i replaces the results above `below` by e
@@ -12,7 +12,7 @@ pub data Gives (S : Database) (at i : ℕ) (s : Stmt) (stack below : List Expr) 
 
 -- the results, by name, after those that are kept for labels
 abbrev pub named_after : Numbered → ℕ → HeldResults → State
-named_after f labels results = named f.names (behind labels results.results)
+named_after f labels results = named f.names (without_cached labels results.results)
 
 -- every result that a citation of the statement at i gives makes the proof too heavy
 abbrev pub CannotCite : Numbered → ℕ → ℕ → HeldResults → Type 0

@@ -34,7 +34,7 @@ module _ (S : Database) (at : ℕ) (single : IsSingle S at) where
   abbrev pub state : List Expr → List Expr → ℕ → State
   state stack saved weight = record { stack = stack; saved = saved; weight = weight }
 
-  -- items behind others, up to the same end
+  -- items after others, up to the same end
   runs_behind : (front rest items : List Item) (st mid end end' : State) → items ≡ front ++ rest → Runs S at st front mid → Runs S at mid rest end → end ≡ end' → Runs S at st items end'
   runs_behind front rest items st mid end end' whole p q same = subst (λ is. Runs S at st is end') (sym whole) (subst (Runs S at st (front ++ rest)) same (runs_append front rest st mid end p q))
 

@@ -17,7 +17,7 @@ module _ (S : Database) (at : ℕ) where
   grows_append [] rest st mid end p q = subst (λ r. GrowsBy S at r rest end) (sym p) q
   grows_append (item ∷ front) rest st mid end p q = (p.0, p.1, grows_append front rest p.0 mid end p.2 q)
 
-  -- items behind others, up to the same end
+  -- items after others, up to the same end
   grows_behind : (front rest items : List Item) (st mid end end' : Trees) → items ≡ front ++ rest → GrowsBy S at st front mid → GrowsBy S at mid rest end → end ≡ end' → GrowsBy S at st items end'
   grows_behind front rest items st mid end end' whole p q same = subst (λ is. GrowsBy S at st is end') (sym whole) (subst (GrowsBy S at st (front ++ rest)) same (grows_append front rest st mid end p q))
 

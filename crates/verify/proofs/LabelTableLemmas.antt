@@ -84,7 +84,7 @@ viewed_entries-entry S at labels positions table k p are there =
     get-front (map Hypothesis positions) table k Nothing (omega arith) ∙ (get_or-map Hypothesis positions k 0 Nothing within ∙ ap Hypothesis (get_or_from_slice_get positions k p 0 there)) in
     subst (IsEntry S at (get_or labels k [])) same (entry_at S at labels (map Hypothesis positions ++ table) k Nothing are (omega arith))
 
--- a number that is not zero is that behind the one before it
+-- a number that is not zero is that after the one before it
 pub suc_back : (n : ℕ) → (n ≡ 0 → ⊥) → n ≡ suc (n - 1)
 suc_back n h = omega (arith, h)
 

@@ -178,7 +178,7 @@ pub measured-length : (ns : List Node) (i : ℕ) (extents : List Extent) → i �
 measured-length ns i extents h so =
     omega (arith, ap length so, length-map (built (take i ns)) extent_of, length-built' (take i ns), Rattle.std.proofs.lemmas.List.length-take-le i ns h)
 
--- nodes behind others change nothing of them
+-- nodes after others change nothing of them
 built-grows : (ts : List Derivation) (ns : List Node) → (us : List Derivation) × (built_from ts ns ≡ ts ++ us)
 built-grows ts [] = ([], sym (Rattle.std.proofs.Common.append-nil ts))
 built-grows ts (n ∷ ns) = let r = built-grows (ts ++ derive ts n ∷ []) ns in (derive ts n ∷ r.0, r.1 ∙ append_assoc ts (derive ts n ∷ []) r.0)

@@ -40,7 +40,7 @@ module _ (symbols typecodes : List ℕ) (hs : List Hypothesis) (places : List Sy
     own = λ x free. r.own x (λ k h. free k (omega (arith, h)));
   }
 
-  -- behind the `$f` that stand first
+  -- after the `$f` that stand first
   pub front-next : (n : ℕ) → i < 2 ^ 64 → AreLeadingFloats hs i → n ≡ min (i + 1) (2 ^ 64 - 1) → (images : List (ℕ × SymbolRange)) → ReadTo i symbols typecodes hs places images → ReadTo n symbols typecodes hs places images
   front-next n low front is images r = split (nat_lt i n) refl
     where
@@ -75,7 +75,7 @@ floats-next hs k x at before j less = split (nat_lt j k) refl
 
 -- ---- places as lists of symbols
 
--- what stands behind the first symbol, as a range of its own
+-- what stands after the first symbol, as a range of its own
 tail-range : (xs : List ℕ) (p : SymbolRange) → p.start < p.end → symbols_in xs (tail_of p) ≡ drop 1 (symbols_in xs p)
 tail-range xs p low =
     let m = p.end - (p.start + 1) in

@@ -22,7 +22,7 @@ grown-kept xs ys zs images stack saved w v k e weighs light =
       light = light;
     }
 
--- behind the symbols over which a cache was filled
+-- after the symbols over which a cache was filled
 pub recorded-more : (over xs ys zs : List ℕ) → (more : List ℕ) × (xs ≡ over ++ more) → zs ≡ xs ++ ys → (more : List ℕ) × (zs ≡ over ++ more)
 recorded-more over xs ys zs recorded e = (recorded.0 ++ ys, e ∙ (ap (λ v. v ++ ys) recorded.1 ∙ append_assoc over recorded.0 ys))
 

@@ -7,9 +7,9 @@ module _ (S : Database) (at : ℕ) where
   AllConclude (t ∷ ts) (e ∷ es) = Concludes S at t e × AllConclude ts es
   AllConclude ts es = ⊥
 
-  -- ---- derivations one behind the other
+  -- ---- derivations one after the other
 
-  -- behind the marked derivations, the items spell derivations of these expressions
+  -- after the marked derivations, the items spell derivations of these expressions
   pub record Stacked (marked : List Derivation) (items : List Item) (es : List Expr) (after : List Derivation) (weight : ℕ) : Type 0 where
     pub children : Derivations
     pub spelled : SpellsAll S at marked items children after weight

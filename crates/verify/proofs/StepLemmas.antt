@@ -1,5 +1,5 @@
 -- What the code knows at each exit of a step, as a fact of the machine.
-use Rattle.verify.proofs.Words.{◌≡◌, ℕ, suc, ◌+◌, ◌-◌, ◌<◌, ◌≤◌, Bool, true, false, List, [], ◌∷◌, ◌++◌, length, map, take, drop, get_or, Some, refl, IsTrue, nat_lt, nat_eq, replicate, slice_get, slice_set, sym, ◌∙◌, ap, subst, arith, true≢false, length-append, nat_tests, length-map, map-append, take-append-drop, take_all, take_more, same_from_push, map_push, append-nil, nil_from_length, drop_all, drop_more, map_more, drop-append-le, drop-set-lt, length-set, length-replicate, get_or-set_same, get_or-set_other, get_or-replicate, get_or_from_slice_get, get_or_default, slice_get-get_or, item-cite, item-recall, Name, Stmt, Database, stmt_at, expr_of, name_at, decode, Item, Cite, Recall, Results, State, start, Cites, of_hypothesis, of_assertion, premises, Expr, Runs, with_result, Adds, Marks, Recalls, Keeps, AreBelow, AllBelow, named, AreNamed, StepsByNumber, behind, HasCited, IsCached, AreCached, AreKnown, StepsWithTable, AreLegal, item_of, IsRight, weight_limit, decode-injective, below-group, LabelEntry, Nothing, IsEntry, AreEntries, get-front, length-drop, get_or-append_right, get_or-drop}
+use Rattle.verify.proofs.Words.{◌≡◌, ℕ, suc, ◌+◌, ◌-◌, ◌<◌, ◌≤◌, Bool, true, false, List, [], ◌∷◌, ◌++◌, length, map, take, drop, get_or, Some, refl, IsTrue, nat_lt, nat_eq, replicate, slice_get, slice_set, sym, ◌∙◌, ap, subst, arith, true≢false, length-append, nat_tests, length-map, map-append, take-append-drop, take_all, take_more, same_from_push, map_push, append-nil, nil_from_length, drop_all, drop_more, map_more, drop-append-le, drop-set-lt, length-set, length-replicate, get_or-set_same, get_or-set_other, get_or-replicate, get_or_from_slice_get, get_or_default, slice_get-get_or, item-cite, item-recall, Name, Stmt, Database, stmt_at, expr_of, name_at, decode, Item, Cite, Recall, Results, State, start, Cites, of_hypothesis, of_assertion, premises, Expr, Runs, with_result, Adds, Marks, Recalls, Keeps, AreBelow, AllBelow, named, AreNamed, StepsByNumber, without_cached, HasCited, IsCached, AreCached, AreKnown, StepsWithTable, AreLegal, item_of, IsRight, weight_limit, decode-injective, below-group, LabelEntry, Nothing, IsEntry, AreEntries, get-front, length-drop, get_or-append_right, get_or-drop}
 use Rattle.verify.proofs.Named.{goes-recall, goes-mark, named-result, result-named, all-drop, all-set, all-snoc, all-none, all-at, get-drop}
 use Rattle.verify.proofs.Decide.{cites_same, refuted_at_end, refuted_at_step, accepts_right}
 use Rattle.verify.proofs.Complete.{runs_append}
@@ -79,13 +79,13 @@ all-taken f xs n h = ap (map f) (take_all n xs h)
 -- ---- results after those of the labels
 
 module _ (S : Database) (names : List Name) (at : ℕ) where
-  named-behind : (n : ℕ) (st : Results ℕ) → named names (behind n st) ≡ (let r : State = record { stack = map (decode names) st.stack; saved = drop n (map (decode names) st.saved); weight = st.weight } in r)
+  named-behind : (n : ℕ) (st : Results ℕ) → named names (without_cached n st) ≡ (let r : State = record { stack = map (decode names) st.stack; saved = drop n (map (decode names) st.saved); weight = st.weight } in r)
   named-behind n st = results-same (map (decode names) st.stack) (map (decode names) st.stack) (map (decode names) (drop n st.saved)) (drop n (map (decode names) st.saved)) st.weight st.weight refl (map-drop (decode names) n st.saved) refl
 
-  pub behind-named : (n : ℕ) (st : Results ℕ) → AreNamed names st → AreNamed names (behind n st)
-  behind-named n st a = record { stack_named = a.stack_named; saved_named = all-drop (length names) n st.saved a.saved_named }
+  pub without_cached-named : (n : ℕ) (st : Results ℕ) → AreNamed names st → AreNamed names (without_cached n st)
+  without_cached-named n st a = record { stack_named = a.stack_named; saved_named = all-drop (length names) n st.saved a.saved_named }
 
-  cite-behind : (n : ℕ) (ok : Bool) (label : Name) (old new : Results ℕ) → StepsByNumber ok S at names (Cite label) old new → StepsByNumber ok S at names (Cite label) (behind n old) (behind n new)
+  cite-behind : (n : ℕ) (ok : Bool) (label : Name) (old new : Results ℕ) → StepsByNumber ok S at names (Cite label) old new → StepsByNumber ok S at names (Cite label) (without_cached n old) (without_cached n new)
   cite-behind n true label old new g = (
     (
       g.0.0,
@@ -94,7 +94,7 @@ module _ (S : Database) (names : List Name) (at : ℕ) where
       named-behind n new ∙ (ap (λ (st : State). (let r : State = record { stack = st.stack; saved = drop n st.saved; weight = st.weight } in r)) g.0.3
           ∙ ap (λ (st : State). with_result st g.0.0 g.0.1) (sym (named-behind n old))),
     ),
-    behind-named n new g.1,
+    without_cached-named n new g.1,
   )
   cite-behind n false label old new g = λ next p.
       let heavy = g (with_result (named names old) p.0 p.1) (p.0, p.1, p.2, refl) in
@@ -102,9 +102,9 @@ module _ (S : Database) (names : List Name) (at : ℕ) where
       omega (arith, heavy, w)
 
   module _ (legal : AreLegal S names) (table : List LabelEntry) (old new : Results ℕ) (known : AreKnown S at names table old) where
-    -- behind the results of the labels, codes stand for names
-    below_named : AreNamed names (behind (length table) old)
-    below_named = behind-named (length table) old known.are_named
+    -- after the results of the labels, codes stand for names
+    below_named : AreNamed names (without_cached (length table) old)
+    below_named = without_cached-named (length table) old known.are_named
 
     -- what is known after an item that was done
     known-if : (P : Bool → Type 0) → (P true → AreKnown S at names table new) → (ok : Bool) → P ok → IsTrue ok → AreKnown S at names table new
@@ -117,7 +117,7 @@ module _ (S : Database) (names : List Name) (at : ℕ) where
       pub cited-on : (ok : Bool) → HasCited S at names (get_or table k d) old new ok → StepsWithTable ok S at names table (item_of labels number) old new
       cited-on ok cited =
           let goes = cited.0 (get_or labels k []) (entry_at S at labels table k d are within) in (
-            cite-number S names at legal (behind (length table) old) (behind (length table) new) ok labels number k by_number (let c = are.count in omega (arith, within, c)) (cite-behind (length table) ok (get_or labels k []) old new goes),
+            cite-number S names at legal (without_cached (length table) old) (without_cached (length table) new) ok labels number k by_number (let c = are.count in omega (arith, within, c)) (cite-behind (length table) ok (get_or labels k []) old new goes),
             λ t. known-if (λ b. StepsByNumber b S at names (Cite (get_or labels k [])) old new) (λ g. record { are_named = g.1; given = subst (AreCached S at names table) (sym (cited.1 t)) known.given }) ok goes t,
           )
 
@@ -159,9 +159,9 @@ module _ (S : Database) (names : List Name) (at : ℕ) where
         pub kept-on : StepsWithTable true S at names table (item_of labels number) old last
         kept-on =
             let on = cited-on true cited in
-            let same : behind (length table) new ≡ behind (length table) last =
-            sym (ap (behind (length table)) kept ∙ results-same new.stack new.stack (drop (length table) (slice_set new.saved k e)) (drop (length table) new.saved) new.weight new.weight refl (drop-set-lt (length table) new.saved k e within) refl) in
-            (subst (StepsByNumber true S at names (item_of labels number) (behind (length table) old)) same on.0, λ t. kept-known (on.1 refl))
+            let same : without_cached (length table) new ≡ without_cached (length table) last =
+            sym (ap (without_cached (length table)) kept ∙ results-same new.stack new.stack (drop (length table) (slice_set new.saved k e)) (drop (length table) new.saved) new.weight new.weight refl (drop-set-lt (length table) new.saved k e within) refl) in
+            (subst (StepsByNumber true S at names (item_of labels number) (without_cached (length table) old)) same on.0, λ t. kept-known (on.1 refl))
 
     -- ---- a label before those of the table
 
@@ -171,7 +171,7 @@ module _ (S : Database) (names : List Name) (at : ℕ) where
           let all = length-append front table in
           let entry = subst (IsEntry S at (get_or labels k [])) (get-front front table k d within) (entry_at S at labels (front ++ table) k d are (omega arith)) in
           let goes = cited.0 (get_or labels k []) entry in (
-            cite-number S names at legal (behind (length table) old) (behind (length table) new) ok labels number k by_number (let c = are.count in omega arith) (cite-behind (length table) ok (get_or labels k []) old new goes),
+            cite-number S names at legal (without_cached (length table) old) (without_cached (length table) new) ok labels number k by_number (let c = are.count in omega arith) (cite-behind (length table) ok (get_or labels k []) old new goes),
             λ t. known-if (λ b. StepsByNumber b S at names (Cite (get_or labels k [])) old new) (λ g. record { are_named = g.1; given = subst (AreCached S at names table) (sym (cited.1 t)) known.given }) ok goes t,
           )
 
@@ -186,20 +186,20 @@ module _ (S : Database) (names : List Name) (at : ℕ) where
     -- one of those that were marked
     recall-on : (labels : List Name) (k number : ℕ) (ok : Bool) → number ≡ suc k → length table ≡ length labels → length table ≤ k → Recalls ok old new (suc k) → StepsWithTable ok S at names table (item_of labels number) old new
     recall-on labels k number ok is count high recalls = (
-      recall-number S names at legal (behind (length table) old) (behind (length table) new) below_named ok labels number k (suc (k - length table)) is (omega (arith, count, high)) (ap (λ n. suc (k - n)) count) (cut-recalls ok recalls),
+      recall-number S names at legal (without_cached (length table) old) (without_cached (length table) new) below_named ok labels number k (suc (k - length table)) is (omega (arith, count, high)) (ap (λ n. suc (k - n)) count) (cut-recalls ok recalls),
       known-if (λ b. Recalls b old new (suc k)) (recall-known k) ok recalls,
     )
       where
-        cut-recalls : (b : Bool) → Recalls b old new (suc k) → Recalls b (behind (length table) old) (behind (length table) new) (suc (k - length table))
-        cut-recalls true h = (h.0, get-drop (length table) k old.saved high ∙ h.1, ap (behind (length table)) h.2)
+        cut-recalls : (b : Bool) → Recalls b old new (suc k) → Recalls b (without_cached (length table) old) (without_cached (length table) new) (suc (k - length table))
+        cut-recalls true h = (h.0, get-drop (length table) k old.saved high ∙ h.1, ap (without_cached (length table)) h.2)
         cut-recalls false h = λ e saved. h e (sym (get-drop (length table) k old.saved high) ∙ saved)
 
     -- the one that is kept for a label
     known-on : (labels : List Name) (k number : ℕ) (ok : Bool) → number ≡ suc k → AreEntries S at labels table → k < length table → 0 < length (get_or old.saved k []) → Recalls ok old new (suc k)
         → StepsWithTable ok S at names table (item_of labels number) old new
     known-on labels k number ok is are within some recalls = (
-      cite-number S names at legal (behind (length table) old) (behind (length table) new) ok labels number k is (let c = are.count in omega (arith, within, c))
-          (given-result S names at legal (behind (length table) old) (behind (length table) new) below_named (get_or labels k []) ok (get_or old.saved k [])
+      cite-number S names at legal (without_cached (length table) old) (without_cached (length table) new) ok labels number k is (let c = are.count in omega (arith, within, c))
+          (given-result S names at legal (without_cached (length table) old) (without_cached (length table) new) below_named (get_or labels k []) ok (get_or old.saved k [])
           (known.given.each k within some (get_or labels k []) (are.each k (let c = are.count in omega (arith, within, c))) (map (decode names) old.stack))
           (below-group (length names) old.saved k (get_or old.saved k []) known.are_named.saved_named there) (adds ok recalls)),
       known-if (λ b. Recalls b old new (suc k)) (recall-known k) ok recalls,
@@ -208,8 +208,8 @@ module _ (S : Database) (names : List Name) (at : ℕ) where
         there : slice_get old.saved k ≡ Some (get_or old.saved k [])
         there = let enough = known.given.enough in slice_get-get_or old.saved k [] (omega (arith, within, enough))
 
-        adds : (b : Bool) → Recalls b old new (suc k) → Adds b (behind (length table) old) (behind (length table) new) old.stack (get_or old.saved k [])
-        adds true h = ap (behind (length table)) (h.2 ∙ ap (with_result old old.stack) (sym (get_or_from_slice_get old.saved k h.0 [] h.1)))
+        adds : (b : Bool) → Recalls b old new (suc k) → Adds b (without_cached (length table) old) (without_cached (length table) new) old.stack (get_or old.saved k [])
+        adds true h = ap (without_cached (length table)) (h.2 ∙ ap (with_result old old.stack) (sym (get_or_from_slice_get old.saved k h.0 [] h.1)))
         adds false h = h (get_or old.saved k []) there
 
     pub has-on : (labels : List Name) (k number : ℕ) (ok : Bool) → number ≡ suc k → AreEntries S at labels table → (k < length table → 0 < length (get_or old.saved k [])) × Recalls ok old new (suc k) → StepsWithTable ok S at names table (item_of labels number) old new
@@ -223,16 +223,16 @@ module _ (S : Database) (names : List Name) (at : ℕ) where
 
     pub mark-on : (labels : List Name) (number : ℕ) (ok : Bool) → number ≡ 0 → Marks ok old new → StepsWithTable ok S at names table (item_of labels number) old new
     mark-on labels number ok is marks = (
-      subst (λ m. StepsByNumber ok S at names (item_of labels m) (behind (length table) old) (behind (length table) new)) (sym is) (goes-mark names S at ok (behind (length table) old) (behind (length table) new) below_named (cut-marks ok marks)),
+      subst (λ m. StepsByNumber ok S at names (item_of labels m) (without_cached (length table) old) (without_cached (length table) new)) (sym is) (goes-mark names S at ok (without_cached (length table) old) (without_cached (length table) new) below_named (cut-marks ok marks)),
       known-if (λ b. Marks b old new) marked ok marks,
     )
       where
-        cut-marks : (b : Bool) → Marks b old new → Marks b (behind (length table) old) (behind (length table) new)
+        cut-marks : (b : Bool) → Marks b old new → Marks b (without_cached (length table) old) (without_cached (length table) new)
         cut-marks true h = (
           h.0,
           h.1,
           h.2,
-          ap (behind (length table)) h.3 ∙ results-same old.stack old.stack (drop (length table) (old.saved ++ h.1 ∷ [])) (drop (length table) old.saved ++ h.1 ∷ []) old.weight old.weight
+          ap (without_cached (length table)) h.3 ∙ results-same old.stack old.stack (drop (length table) (old.saved ++ h.1 ∷ [])) (drop (length table) old.saved ++ h.1 ∷ []) old.weight old.weight
               refl (drop-append-le (length table) old.saved (h.1 ∷ []) known.given.enough) refl,
         )
         cut-marks false h = h
@@ -266,10 +266,10 @@ module _ (S : Database) (names : List Name) (at : ℕ) where
     };
   })
 
-pub start-behind : (n : ℕ) (st : Results ℕ) → st ≡ (let r : Results ℕ = record { stack = []; saved = replicate n []; weight = 0 } in r) → behind n st ≡ (let r : Results ℕ = record { stack = []; saved = []; weight = 0 } in r)
-start-behind n st is = ap (behind n) is ∙ results-same [] [] (drop n (replicate n [])) [] 0 0 refl (drop_all n (replicate n []) (omega (arith, length-replicate n (let r : List ℕ = [] in r)))) refl
+pub start-behind : (n : ℕ) (st : Results ℕ) → st ≡ (let r : Results ℕ = record { stack = []; saved = replicate n []; weight = 0 } in r) → without_cached n st ≡ (let r : Results ℕ = record { stack = []; saved = []; weight = 0 } in r)
+start-behind n st is = ap (without_cached n) is ∙ results-same [] [] (drop n (replicate n [])) [] 0 0 refl (drop_all n (replicate n []) (omega (arith, length-replicate n (let r : List ℕ = [] in r)))) refl
 
--- ---- the labels behind some
+-- ---- the labels after some
 
 pub rest-entries : (S : Database) (at : ℕ) (labels : List Name) (front table : List LabelEntry) (n : ℕ) → n ≡ length front → AreEntries S at labels (front ++ table) → AreEntries S at (drop n labels) table
 rest-entries S at labels front table n is are =

@@ -1,5 +1,5 @@
 -- A run that stops, and whether its items are right.
-use Rattle.verify.proofs.Words.{◌≡◌, ℕ, ◌+◌, ◌<◌, ◌≤◌, false, List, [], ◌∷◌, ◌++◌, length, map, take, drop, get_or, Some, slice_get, sym, ◌∙◌, ap, subst, arith, length-map, take-append-drop, take-map, take_all, drop_more, slice_get-map, slice_get-get_or, slice_get_within, some-same, option_map, Name, Stmt, Database, stmt_at, expr_of, decode, Item, Mark, Results, start, Runs, Steps, AreBelow, named, StepsByNumber, AreLegal, item_of, items_of, IsRight, weight_limit, StopsAt, LabelEntry, AreEntries, behind}
+use Rattle.verify.proofs.Words.{◌≡◌, ℕ, ◌+◌, ◌<◌, ◌≤◌, false, List, [], ◌∷◌, ◌++◌, length, map, take, drop, get_or, Some, slice_get, sym, ◌∙◌, ap, subst, arith, length-map, take-append-drop, take-map, take_all, drop_more, slice_get-map, slice_get-get_or, slice_get_within, some-same, option_map, Name, Stmt, Database, stmt_at, expr_of, decode, Item, Mark, Results, start, Runs, Steps, AreBelow, named, StepsByNumber, AreLegal, item_of, items_of, IsRight, weight_limit, StopsAt, LabelEntry, AreEntries, without_cached}
 use Rattle.verify.proofs.Decide.{refuted_at_step, accepts_right}
 use Rattle.verify.proofs.StepLemmas.{Reached, right-end, wrong-end}
 
@@ -65,7 +65,7 @@ count-items labels numbers items is = sym (ap length is) ∙ length-map numbers 
 -- where it stops, over the items and the table
 pub stopped : (S : Database) (names : List Name) (at : ℕ) (labels : List Name) (numbers : List ℕ) (items : List Item) (table copy : List LabelEntry) (n done : ℕ) (st : Results ℕ)
     → items_of labels numbers ≡ items → copy ≡ table → n ≡ length table → AreEntries S at labels table
-    → ((labels : List Name) → AreEntries S at labels copy → StopsAt S at names (items_of labels numbers) done (behind (length copy) st)) → StopsAt S at names items done (behind n st)
+    → ((labels : List Name) → AreEntries S at labels copy → StopsAt S at names (items_of labels numbers) done (without_cached (length copy) st)) → StopsAt S at names items done (without_cached n st)
 stopped S names at labels numbers items table copy n done st is same count entries stops =
-    subst (λ k. StopsAt S at names items done (behind k st)) (ap length same ∙ sym count)
-    (subst (λ l. StopsAt S at names l done (behind (length copy) st)) is (stops labels (subst (AreEntries S at labels) (sym same) entries)))
+    subst (λ k. StopsAt S at names items done (without_cached k st)) (ap length same ∙ sym count)
+    (subst (λ l. StopsAt S at names l done (without_cached (length copy) st)) is (stops labels (subst (AreEntries S at labels) (sym same) entries)))

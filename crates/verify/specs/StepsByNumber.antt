@@ -31,8 +31,8 @@ HasCited S at names entry old new ok = ((label : Name) → IsEntry S at label en
 -- ---- results that are cached for the labels of the table, saved before those that were marked
 
 -- the results without the n cached ones
-abbrev pub behind : ℕ → Results ℕ → Results ℕ
-behind n st = record { stack = st.stack; saved = drop n st.saved; weight = st.weight }
+abbrev pub without_cached : ℕ → Results ℕ → Results ℕ
+without_cached n st = record { stack = st.stack; saved = drop n st.saved; weight = st.weight }
 
 -- nothing is cached for the label, or the result of its citation, which is the same over any results and pops none
 abbrev pub IsCached : Database → ℕ → List Name → LabelEntry → List ℕ → Type 0
@@ -48,7 +48,7 @@ pub record AreKnown (S : Database) (at : ℕ) (names : List Name) (table : List 
 
 -- the effect of an item if the first saved results are cached for labels
 abbrev pub StepsWithTable : Bool → Database → ℕ → List Name → List LabelEntry → Item → Results ℕ → Results ℕ → Type 0
-StepsWithTable ok S at names table item old new = StepsByNumber ok S at names item (behind (length table) old) (behind (length table) new) × (IsTrue ok → AreKnown S at names table new)
+StepsWithTable ok S at names table item old new = StepsByNumber ok S at names item (without_cached (length table) old) (without_cached (length table) new) × (IsTrue ok → AreKnown S at names table new)
 
 -- ---- the requirements for running an item
 

@@ -3,7 +3,7 @@
 -- The code runs over the items once, up to the first that cannot be done.
 use Rattle.std.specs.Prelude.{◌≡◌, ℕ, ◌<◌, ◌≤◌, List, [], ◌∷◌, length, map, take, slice_get, Some}
 use Rattle.verify.specs.Words.{Name, Stmt, Database, stmt_at, expr_of, Item, decode}
-use Rattle.verify.specs.StepsByNumber.{named, AreNamed, behind}
+use Rattle.verify.specs.StepsByNumber.{named, AreNamed, without_cached}
 use Rattle.verify.specs.Machine.{Results, State, start, Runs, Steps}
 use Rattle.verify.specs.Right.{weight_limit}
 use Rattle.verify.specs.declared.failure.Failure.{Failure}
@@ -22,7 +22,7 @@ IsOther names st s = map (decode names) st.stack ≡ expr_of s ∷ [] → ⊥
 
 -- the run stops after `done` items with these results, within the limit; the first `labels` saved ones are cached for labels
 pub record IsStopped (S : Database) (at : ℕ) (names : List Name) (items : List Item) (done labels : ℕ) (st : Results ℕ) : Type 0 where
-  pub stops : StopsAt S at names items done (behind labels st)
+  pub stops : StopsAt S at names items done (without_cached labels st)
   pub light : st.weight ≤ weight_limit
 
 -- the first item that cannot be done and the results before it, or the results at the end, which are not the expression alone

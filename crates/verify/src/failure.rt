@@ -5,7 +5,7 @@ ghost use Rattle.mm_lex.specs.Alphabet.{Name};
 ghost use Rattle.mm_read.specs.declared.stmt.Stmt.{Stmt as Statement};
 ghost use Rattle.proof_code.specs.ItemNumbers.{items_of};
 ghost use Rattle.verify.specs.KeptLists.{AreKeptFor};
-ghost use Rattle.verify.specs.StepsByNumber.{IsReady, behind};
+ghost use Rattle.verify.specs.StepsByNumber.{IsReady, without_cached};
 ghost use Rattle.verify.specs.LabelTable.{AreEntries, viewed_entries};
 ghost use Rattle.verify.specs.Right.{IsProvable, IsRight};
 ghost use Rattle.verify.specs.Stops.{IsFirstFailure, StopsAt};
@@ -52,7 +52,7 @@ pub(crate) fn run_items(
     requires kept { AreKeptFor claim.now.frames.now.statements claim.now.frames.now.names buffers.old.kept }
     ensures kept { AreKeptFor claim.now.frames.now.statements claim.now.frames.now.names buffers.new.kept }
     ensures stops { (labels : List Name) → AreEntries claim.now.frames.now.statements claim.now.at labels (viewed_entries (option_map (λ v. v.now) view.entry) ++ table.now)
-        → IfOk result (λ done. StopsAt claim.now.frames.now.statements claim.now.at claim.now.frames.now.names (items_of labels numbers.now) done (behind (length table.now) buffers.new.results.results)) }
+        → IfOk result (λ done. StopsAt claim.now.frames.now.statements claim.now.at claim.now.frames.now.names (items_of labels numbers.now) done (without_cached (length table.now) buffers.new.results.results)) }
 {
     buffers.results.start(&claim.pairs, table.len())?;
     for (done, number) in numbers.iter().enumerate() {

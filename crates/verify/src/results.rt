@@ -430,11 +430,11 @@ fn read_one(
     if place.start >= place.end || symbols[place.start as usize] != typecode {
         return Ok(false);
     }
-    let behind = SymbolRange {
+    let without_cached = SymbolRange {
         start: place.start + 1,
         end: place.end,
     };
-    images.set(variable, behind)?;
+    images.set(variable, without_cached)?;
     Ok(true)
 }
 

@@ -1,4 +1,4 @@
-use Rattle.verify.proofs.Words.{◌≡◌, Bool, true, false, Result, Ok, IfOk, get_or, length, map, take, arith, sym, subst, refl, IfOk-at_ok, item_of, behind, StepsWithTable, Stays, ap}
+use Rattle.verify.proofs.Words.{◌≡◌, Bool, true, false, Result, Ok, IfOk, get_or, length, map, take, arith, sym, subst, refl, IfOk-at_ok, item_of, without_cached, StepsWithTable, Stays, ap}
 use Rattle.verify.proofs.StepLemmas.{start-known, start-behind, Reached, reached-start, reached-step, items-more}
 use Rattle.verify.proofs.StopLemmas.{stops-at, stops-end}
 use Rattle.verify.proofs.failure.run_items.Goals as goal
@@ -7,7 +7,7 @@ pub loop-done-init : goal.loop-done-init
 loop-done-init c = (
   c.requires.ready.legal,
   start-known c.args.claim.now.frames.now.statements c.args.claim.now.frames.now.names c.args.claim.now.at c.args.table.now c.start.new.self.results c.in_ok-start.ensures.results,
-  λ labels are. reached-start c.args.claim.now.frames.now.statements c.args.claim.now.frames.now.names c.args.claim.now.at c.requires.ready.legal (behind (length c.args.table.now) c.start.new.self.results) (start-behind (length c.args.table.now) c.start.new.self.results c.in_ok-start.ensures.results),
+  λ labels are. reached-start c.args.claim.now.frames.now.statements c.args.claim.now.frames.now.names c.args.claim.now.at c.requires.ready.legal (without_cached (length c.args.table.now) c.start.new.self.results) (start-behind (length c.args.table.now) c.start.new.self.results c.in_ok-start.ensures.results),
   c.start.ensures.about,
   c.requires.kept,
 )
@@ -23,10 +23,10 @@ loop-done-preserved c = (
       (λ v. StepsWithTable v c.args.claim.now.frames.now.statements c.args.claim.now.at c.args.claim.now.frames.now.names c.args.table.now (item_of c.requires.entries.0 (get_or c.args.numbers.now c.loop-done.done 0)) c.loop-done.buffers.results.results c.step_at.new.buffers.results.results)
       (c.step_at.ensures.goes c.requires.entries.0 c.requires.entries.1) c.in_ok-step_at.was c.if-not-branch.false).1 refl,
   λ labels are.
-      subst (λ is. Reached c.args.claim.now.frames.now.statements c.args.claim.now.frames.now.names c.args.claim.now.at c.loop-done.invariant.0 is (behind (length c.args.table.now) c.step_at.new.buffers.results.results)) (sym (items-more labels c.args.numbers.now c.loop-done.done c.loop-done-test.true))
+      subst (λ is. Reached c.args.claim.now.frames.now.statements c.args.claim.now.frames.now.names c.args.claim.now.at c.loop-done.invariant.0 is (without_cached (length c.args.table.now) c.step_at.new.buffers.results.results)) (sym (items-more labels c.args.numbers.now c.loop-done.done c.loop-done-test.true))
       (reached-step c.args.claim.now.frames.now.statements c.args.claim.now.frames.now.names c.args.claim.now.at c.loop-done.invariant.0
       (map (item_of labels) (take c.loop-done.done c.args.numbers.now)) (item_of labels (get_or c.args.numbers.now c.loop-done.done 0))
-      (behind (length c.args.table.now) c.loop-done.buffers.results.results) (behind (length c.args.table.now) c.step_at.new.buffers.results.results) (c.loop-done.invariant.2 labels are)
+      (without_cached (length c.args.table.now) c.loop-done.buffers.results.results) (without_cached (length c.args.table.now) c.step_at.new.buffers.results.results) (c.loop-done.invariant.2 labels are)
       (went c.step_at.result c.in_ok-step_at.field-0 true
       (λ v. StepsWithTable v c.args.claim.now.frames.now.statements c.args.claim.now.at c.args.claim.now.frames.now.names c.args.table.now (item_of labels (get_or c.args.numbers.now c.loop-done.done 0)) c.loop-done.buffers.results.results c.step_at.new.buffers.results.results)
       (c.step_at.ensures.goes labels are) c.in_ok-step_at.was c.if-not-branch.false).0),
@@ -38,13 +38,13 @@ pub returns-then-not-branch-clause-stops : goal.returns-then-not-branch-clause-s
 returns-then-not-branch-clause-stops c = λ labels are.
     let S = c.args.claim.now.frames.now.statements in let names = c.args.claim.now.frames.now.names in let at = c.args.claim.now.at in let table = c.args.table.now in
     stops-at S names at c.loop-done.invariant.0 labels c.args.numbers.now c.loop-done.done
-    (behind (length table) c.loop-done.buffers.results.results) (behind (length table) c.step_at.new.buffers.results.results) (behind (length table) c.step_at.new.buffers.results.results)
+    (without_cached (length table) c.loop-done.buffers.results.results) (without_cached (length table) c.step_at.new.buffers.results.results) (without_cached (length table) c.step_at.new.buffers.results.results)
     c.loop-done-test.true (c.loop-done.invariant.2 labels are)
     (went c.step_at.result c.in_ok-step_at.field-0 false (λ v. StepsWithTable v S at names table (item_of labels (get_or c.args.numbers.now c.loop-done.done 0)) c.loop-done.buffers.results.results c.step_at.new.buffers.results.results)
     (c.step_at.ensures.goes labels are) c.in_ok-step_at.was c.if-not-branch.true).0
-    (ap (behind (length table)) (went c.step_at.result c.in_ok-step_at.field-0 false (λ v. Stays v c.loop-done.buffers.results.results c.step_at.new.buffers.results.results) c.step_at.ensures.stays c.in_ok-step_at.was c.if-not-branch.true))
+    (ap (without_cached (length table)) (went c.step_at.result c.in_ok-step_at.field-0 false (λ v. Stays v c.loop-done.buffers.results.results c.step_at.new.buffers.results.results) c.step_at.ensures.stays c.in_ok-step_at.was c.if-not-branch.true))
 
 pub returns-clause-stops : goal.returns-clause-stops
 returns-clause-stops c = λ labels are.
     stops-end c.args.claim.now.frames.now.statements c.args.claim.now.frames.now.names c.args.claim.now.at c.loop-done.invariant.0 labels c.args.numbers.now c.loop-done.done _
-    (behind (length c.args.table.now) c.loop-done.buffers.results.results) (omega (arith, c.loop-done-test.false)) (omega arith) (c.loop-done.invariant.2 labels are)
+    (without_cached (length c.args.table.now) c.loop-done.buffers.results.results) (omega (arith, c.loop-done-test.false)) (omega arith) (c.loop-done.invariant.2 labels are)

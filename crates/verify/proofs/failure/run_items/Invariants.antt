@@ -1,13 +1,13 @@
-use Rattle.verify.proofs.Words.{◌≡◌, List, length, map, take, Name, AreLegal, item_of, behind, AreKnown, AreEntries, option_map, ◌++◌, viewed_entries, AreKeptFor}
+use Rattle.verify.proofs.Words.{◌≡◌, List, length, map, take, Name, AreLegal, item_of, without_cached, AreKnown, AreEntries, option_map, ◌++◌, viewed_entries, AreKeptFor}
 use Rattle.verify.proofs.StepLemmas.{Reached}
 use Rattle.verify.proofs.failure.run_items.Given as goal
 
--- behind the items so far
+-- after the items so far
 abbrev pub invariant-loop-done : goal.invariant-loop-done
 invariant-loop-done l =
     (legal : AreLegal l.claim.frames.now.statements l.claim.frames.now.names)
     × AreKnown l.claim.frames.now.statements l.claim.at l.claim.frames.now.names l.table l.buffers.results.results
     × ((labels : List Name) → AreEntries l.claim.frames.now.statements l.claim.at labels (viewed_entries (option_map (λ v. v.now) l.view) ++ l.table)
-    → Reached l.claim.frames.now.statements l.claim.frames.now.names l.claim.at legal (map (item_of labels) (take l.done l.numbers)) (behind (length l.table) l.buffers.results.results))
+    → Reached l.claim.frames.now.statements l.claim.frames.now.names l.claim.at legal (map (item_of labels) (take l.done l.numbers)) (without_cached (length l.table) l.buffers.results.results))
     × (l.buffers.results.about ≡ l.claim.pairs)
     × AreKeptFor l.claim.frames.now.statements l.claim.frames.now.names l.buffers.kept

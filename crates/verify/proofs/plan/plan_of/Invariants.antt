@@ -1,7 +1,7 @@
 use Rattle.verify.proofs.Words.{◌≡◌, [], List, map, take, Name, AreLegal, item_of, items_of, trees, GrowsBy, trees_of, IsPlan, AreEntries}
 use Rattle.verify.proofs.plan.plan_of.Given as goal
 
--- behind the items so far
+-- after the items so far
 abbrev pub invariant-loop-number : goal.invariant-loop-number
 invariant-loop-number l =
     AreLegal l.frames.statements l.frames.names

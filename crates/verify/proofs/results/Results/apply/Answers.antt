@@ -10,7 +10,7 @@ appended false room old new e q a = cc
 grown : (xs ys zs : List ℕ) (start end : ℕ) → zs ≡ xs ++ ys → start ≡ length xs → end ≡ length zs → end - start ≡ length ys
 grown xs ys zs start end e low high = omega (arith, low, high, ap length e, length-append xs ys)
 
--- within the limit, behind what was added
+-- within the limit, after what was added
 end_light : (w room start end n : ℕ) → room ≤ weight_limit - w → w ≤ weight_limit → end - start ≡ n → n ≤ room → w + (end - start) ≤ weight_limit
 end_light w room start end n a b e h = omega (arith, a, b, e, h)
 
