@@ -1,4 +1,4 @@
--- A Prepare and an Accept continue the story: a promise tells the truth of the acceptor's votes, and a vote keeps its promises.
+-- A Prepare and an Accept preserve the invariant: a promise reports the acceptor's votes truthfully, and a vote respects the acceptor's promises.
 use Rattle.net.proofs.Words.{◌≡◌, ℕ, suc, ◌+◌, ◌≤◌, Bool, true, false, List, [], ◌∷◌, length, Option, Some, inl, inr, refl, ap, sym, ◌∙◌, subst, arith, if◌then◌else◌, slice_get, AllByRecursion, entry_at, put_at, In, put_either, put_same, Ballot, SlotReport, Accepted, AcceptedEntry, is_below, pages_of, Node, reports_from, promise_pages, promises, refuses, on_prepare, accepted_entry, accepts_value, on_accept, Under, Upto, upto_self, upto_upto, upto_under, under_is_upto, not_both, under_true, under_false, reports-held, held-reported, Vote, vote}
 use Rattle.net.proofs.Ledger.{begun_as, Promised, proposal, Ledger, HasHigher, IsBacked, OnePromise, IsSound}
 use Rattle.net.proofs.LedgerGrows.{AllPromisedUpto, Grows, with_promise, with_vote, grows-with_promise, grows-with_vote}
@@ -6,7 +6,7 @@ use Rattle.net.proofs.LedgerSteps.{promised_sound, voted_sound}
 use Rattle.net.proofs.Invariant.{IsHeldFrom, NodeHolds, IsTrue, proposer_lasts, learner_lasts}
 use Rattle.net.proofs.StepsContinue.{Continues, same_ledger, true_to_all}
 
--- each page is a page of the promise
+-- the packets that carry the pages of a promise are true
 true_pages : {V : Type 0} (ws : List ℕ) (l : Ledger V) (p : Promised V) (to : ℕ) → In p l.promises → (i : ℕ) (pages : List (List (SlotReport V)))
     → ((d : ℕ) (page : List (SlotReport V)) → slice_get pages d ≡ Some page → slice_get (pages_of p.reports) (i + d) ≡ Some page)
     → AllByRecursion (IsTrue ws l) (promise_pages p.node to p.ballot (length (pages_of p.reports)) (suc i) pages)
@@ -32,18 +32,18 @@ module _ {V : Type 0} {offers : List V} {l : Ledger V} (n : Node V) (sound : IsS
     abbrev made : Promised V
     made = record { node = n.me; ballot = b; first = first; reports = reports_from first 0 n.accepted }
 
-    -- the node has not promised this ballot yet, since it is above all that it promised
+    -- the node has not promised this ballot yet, since it is above all that the node promised
     not_twice : (q : Promised V) → In q l.promises → OnePromise made q → ⊥
     not_twice q i same = not_both b b (subst (λ (c : Ballot). Under c b) (sym same.1) (upto_under q.ballot n.promise b (holds.acceptor.promised q i (sym same.0)) under)) (upto_self b)
 
-    -- the highest vote of a slot is reported
+    -- for each vote of the node from slot `first` on and below the ballot, the promise reports the slot under the vote's ballot or a higher one
     reports_all : (x : Vote V) → In x l.votes → x.node ≡ n.me → first ≤ x.slot → Under x.ballot b → HasHigher made.reports x
     reports_all x i mine from low =
         let kept = holds.acceptor.held_from x i mine in
         let r = held-reported first 0 n.accepted x.slot kept.entry x.slot kept.is_held (omega arith) from in
         record { report = r.report; is_in = r.is_in; slot = r.slot; upto = subst (λ (c : Ballot). Upto x.ballot c) (sym r.ballot) kept.upto }
 
-    -- what is reported was voted
+    -- each report of the promise is of a vote of the node below the ballot
     backs_all : (r : SlotReport V) → In r made.reports → IsBacked l made r
     backs_all r i =
         let from = reports-held first 0 n.accepted r i in
@@ -58,12 +58,12 @@ module _ {V : Type 0} {offers : List V} {l : Ledger V} (n : Node V) (sound : IsS
               (subst (λ (v : Option V). In (vote n.me from.entry.ballot from.index v) l.votes) (sym from.value) voted));
         }
 
-    -- with the new promise, all that the node promised is up to its ballot
+    -- with the new promise, all ballots that the node promised are at most its ballot
     promised_upto : (p : Promised V) → In p (made ∷ l.promises) → p.node ≡ n.me → Upto p.ballot b
     promised_upto p (inl e) mine = subst (λ (p : Promised V). Upto p.ballot b) e (upto_self b)
     promised_upto p (inr i) mine = upto_upto p.ballot n.promise b (holds.acceptor.promised p i mine) (under_is_upto _ _ under)
 
-    -- a promise of a ballot above the one that stands continues the story
+    -- a promise of a ballot above the current promise preserves the invariant
     pub promises_continue : (to : ℕ) → In (begun_as b first) l.begun → Continues n.weights offers n.me l (promises n to b first)
     promises_continue to begun =
         let m : Ledger V = with_promise made l in
@@ -89,25 +89,25 @@ module _ {V : Type 0} {offers : List V} {l : Ledger V} (n : Node V) (sound : IsS
           cast = refl;
         }
 
-  -- a Prepare gets a promise or a refusal, by the test, and both continue the story
+  -- a Prepare is answered by a promise or a refusal, depending on the test, and both preserve the invariant
   prepare_either : (to : ℕ) (b : Ballot) (first : ℕ) → In (begun_as b first) l.begun → (t : Bool) → is_below n.promise b ≡ t
       → Continues n.weights offers n.me l (if t then promises n to b first else refuses n to b)
   prepare_either to b first begun true test = promises_continue b first (under_true _ _ test) to begun
   prepare_either to b first begun false test = same_ledger sound holds (tt, tt) refl
 
-  -- a Prepare of a ballot that was begun continues the story
+  -- a Prepare of a ballot that was begun preserves the invariant
   pub prepare_continues : (to : ℕ) (b : Ballot) (first : ℕ) → In (begun_as b first) l.begun → Continues n.weights offers n.me l (on_prepare n to b first)
   prepare_continues to b first begun = prepare_either to b first begun (is_below n.promise b) refl
 
-  -- An Accept not below the promise.
+  -- An Accept whose ballot is not below the promise.
 
   module _ (b : Ballot) (s : ℕ) (v : Option V) (upto : Upto n.promise b) where
-    -- with the new vote, all that the node voted is up to its ballot
+    -- with the new vote, all ballots under which the node voted are at most its ballot
     voted_upto : (x : Vote V) → In x (vote n.me b s v ∷ l.votes) → x.node ≡ n.me → Upto x.ballot b
     voted_upto x (inl e) mine = subst (λ (x : Vote V). Upto x.ballot b) e (upto_self b)
     voted_upto x (inr i) mine = upto_upto x.ballot n.promise b (holds.acceptor.voted x i mine) upto
 
-    -- what was put is a higher vote of its slot, and leaves the others
+    -- once the new entry is put, each vote of the node has an entry at its slot with the vote's ballot or a higher one
     held_from_put : (x : Vote V) → In x (vote n.me b s v ∷ l.votes) → x.node ≡ n.me → IsHeldFrom (put_at n.accepted s (accepted_entry b v)) x
     held_from_put x (inl e) mine = subst (λ (x : Vote V). IsHeldFrom (put_at n.accepted s (accepted_entry b v)) x) e record { entry = accepted_entry b v; is_held = put_same n.accepted s (accepted_entry b v); upto = upto_self b }
     held_from_put x (inr i) mine = let old = holds.acceptor.held_from x i mine in elim (put_either n.accepted s x.slot (accepted_entry b v)) [
@@ -115,7 +115,7 @@ module _ {V : Type 0} {offers : List V} {l : Ledger V} (n : Node V) (sound : IsS
       | inr same ↦ record { entry = old.entry; is_held = same ∙ old.is_held; upto = old.upto }
     ]
 
-    -- each entry held, once the new one is put, was voted for
+    -- once the new entry is put, each accepted entry was voted for
     put_voted : (t : ℕ) (h : AcceptedEntry V) → entry_at (put_at n.accepted s (accepted_entry b v)) t ≡ Some h → In (vote n.me h.ballot t h.value) (vote n.me b s v ∷ l.votes)
     put_voted t h e = elim (put_either n.accepted s t (accepted_entry b v)) [
       | inl put ↦ let same : accepted_entry b v ≡ h = cc (put.1, e) in
@@ -123,7 +123,7 @@ module _ {V : Type 0} {offers : List V} {l : Ledger V} (n : Node V) (sound : IsS
       | inr same ↦ inr (holds.acceptor.held t h (sym same ∙ e))
     ]
 
-    -- a vote for a proposal under a ballot not below the promise continues the story
+    -- a vote for a proposal whose ballot is not below the promise preserves the invariant
     pub accepts_continue : In (proposal b s v) l.proposals → Continues n.weights offers n.me l (accepts_value n b s v)
     accepts_continue proposed =
         let m : Ledger V = with_vote (vote n.me b s v) l in
@@ -144,12 +144,12 @@ module _ {V : Type 0} {offers : List V} {l : Ledger V} (n : Node V) (sound : IsS
           cast = refl;
         }
 
-  -- an Accept is refused or accepted, by the test, and both continue the story
+  -- an Accept is refused or accepted, depending on the test, and both preserve the invariant
   accept_either : (to : ℕ) (b : Ballot) (s : ℕ) (v : Option V) → In (proposal b s v) l.proposals → (t : Bool) → is_below b n.promise ≡ t
       → Continues n.weights offers n.me l (if t then refuses n to b else accepts_value n b s v)
   accept_either to b s v proposed true test = same_ledger sound holds (tt, tt) refl
   accept_either to b s v proposed false test = accepts_continue b s v (under_false _ _ test) proposed
 
-  -- an Accept of what was proposed continues the story
+  -- an Accept of a proposal in the ledger preserves the invariant
   pub accept_continues : (to : ℕ) (b : Ballot) (s : ℕ) (v : Option V) → In (proposal b s v) l.proposals → Continues n.weights offers n.me l (on_accept n to b s v)
   accept_continues to b s v proposed = accept_either to b s v proposed (is_below b n.promise) refl

@@ -1,4 +1,4 @@
--- Agreement for a history that is taken, and where a run of events stops.
+-- Agreement for a history that is taken, and the place where a run of events stops.
 use Rattle.net.proofs.Words.{◌≡◌, ℕ, suc, List, [], ◌∷◌, ◌++◌, ◌<◌, length, take, Result, Ok, Err, inl, inr, refl, ap, sym, ◌∙◌, subst, arith, append_assoc, length-append, take-append_seam, Yields, into_iter_items, into_iter_steps, IntoIter, IsOk, IfErr, OnOk, Event, StepFault, Memory, World, after, IsAfter, ChosenAgree, LogsAgree, History, world_of, with_event, IsMoment, Agreement, IsMetOrMemory, RunStopsAt}
 use Rattle.net.proofs.Beginnings.{swapped, beginnings_agree}
 use Rattle.net.proofs.OneValue.{ballots_have_one_value}
@@ -7,14 +7,14 @@ use Rattle.net.proofs.ChosenAgree.{chosen_values_agree}
 use Rattle.net.proofs.LogsAgree.{log_entries_are_chosen, logs_of_nodes_agree}
 use Rattle.net.proofs.Offered.{log_entries_were_offered}
 
--- Any two moments of a history: one comes first.
+-- Of any two moments of a history one comes first.
 
 module _ {V : Type 0} (size : V → ℕ) (history : History V) (w x : World V) (m : IsMoment size history w) (n : IsMoment size history x) where
-  -- x comes after the events of a moment of w and those that lead on from there
+  -- if w comes first, the events of its moment and the later ones up to the moment of x lead to x
   later : (first : IsMoment size history w) (late : List (Event V)) (second : IsMoment size history x) → first.early ++ late ≡ second.early → IsAfter size history.weights (first.early ++ late) x
   later first late second e = subst (λ (es : List (Event V)). IsAfter size history.weights es x) (sym e) second.is_after
 
-  -- w comes after the events of the moment of x and those that lead on from there
+  -- if x comes first, the events of its moment and the later ones up to the moment of w lead to w
   earlier : (late : List (Event V)) → n.early ++ late ≡ m.early → IsAfter size history.weights (n.early ++ late) w
   earlier late e = subst (λ (es : List (Event V)). IsAfter size history.weights es w) (sym e) m.is_after
 
@@ -25,14 +25,14 @@ module _ {V : Type 0} (size : V → ℕ) (history : History V) (w x : World V) (
     | inr h ↦ λ s u v c d. sym (chosen_values_agree size history.weights n.early h.0 x w n.is_after (earlier h.0 h.1) s v u d c)
   ]
 
-  -- logs at two moments of a history agree
+  -- the logs at two moments of a history agree
   pub moments_agree : LogsAgree w x
   moments_agree = elim (beginnings_agree m.early n.early history.events m.begins n.begins) [
     | inl h ↦ logs_of_nodes_agree size history.weights m.early h.0 w x m.is_after (later m h.0 n h.1)
     | inr h ↦ λ j k. swapped _ _ (logs_of_nodes_agree size history.weights n.early h.0 x w n.is_after (earlier h.0 h.1) k j)
   ]
 
--- a history that is taken has all that agreement says
+-- agreement holds of a history that is taken
 pub agreement_of : {V : Type 0} (size : V → ℕ) (history : History V) (w : World V) → IsAfter size history.weights history.events w → Agreement size history
 agreement_of size history w is_after = record {
   is_taken = subst IsOk (sym is_after) refl;
@@ -44,36 +44,36 @@ agreement_of size history w is_after = record {
   logs_offered = λ x m. log_entries_were_offered size history.weights m.early x m.is_after;
 }
 
--- Where a run stops: done went before, and e is refused.
+-- Where a run stops: the events in `done` were taken, and e is refused.
 
--- of a list in two parts, as many elements as the first part has are the first part
+-- if a list is xs followed by ys, its first `length xs` elements are xs
 taken_before : {A : Type 0} (xs ys zs : List A) → zs ≡ xs ++ ys → take (length xs) zs ≡ xs
 taken_before xs ys zs is = ap (λ ws. take (length xs) ws) is ∙ take-append_seam xs ys
 
--- of a list with an element between two parts, as many as the first has and one more are that part and the element
+-- if a list is xs followed by x and ys, its first `length xs + 1` elements are xs and x
 taken_with : {A : Type 0} (xs ys zs : List A) (x : A) → zs ≡ xs ++ x ∷ ys → take (suc (length xs)) zs ≡ xs ++ x ∷ []
 taken_with {A} xs ys zs x is =
     let count : length (xs ++ x ∷ []) ≡ suc (length xs) = omega (arith, length-append xs (x ∷ [])) in
     let whole : zs ≡ (xs ++ x ∷ []) ++ ys = is ∙ sym (append_assoc xs (x ∷ []) ys) in
     ap (λ n. take n zs) (sym count) ∙ taken_before (xs ++ x ∷ []) ys zs whole
 
--- a first part with an element behind it is shorter than the list
+-- if a list has an element after its first part, the first part is shorter than the list
 stands_within : {A : Type 0} (xs ys zs : List A) (x : A) → zs ≡ xs ++ x ∷ ys → length xs < length zs
 stands_within {A} xs ys zs x is =
     let count : length zs ≡ length (xs ++ x ∷ ys) = ap (λ (ws : List A). length ws) is in
     omega (arith, count, length-append xs (x ∷ ys))
 
--- the two clauses on a fault as one: it is the one met, or Memory where none is
+-- the fault is the one that is met, or Memory if none is met
 met_or_memory : {V : Type 0} (r : Result (World V) StepFault) (fault : StepFault) → IfErr r (λ met. fault ≡ met) → OnOk r (fault ≡ Memory) → IsMetOrMemory r fault
 met_or_memory (Ok w) fault met memory = memory
 met_or_memory (Err met) fault is memory = is
 
--- an answer that is the fault met has that fault
+-- if the answer is the fault that is met, the fault is the one that is met
 answered_met : {V : Type 0} (r : Result (World V) StepFault) (fault : StepFault) → IfErr r (λ met. let answer : Result ℕ StepFault = Err fault in answer ≡ Err met) → IfErr r (λ met. fault ≡ met)
 answered_met (Ok w) fault h = tt
 answered_met (Err met) fault h = cc
 
--- what the iterator of a vector has given is a beginning of its items
+-- the items that the iterator of a vector has yielded, followed by the remaining ones, are its items
 pub taken_front : {X A : Type 0} (s : IntoIter X A) (xs : List X) (t : IntoIter X A) → Yields into_iter_steps s xs t → into_iter_items s ≡ xs ++ into_iter_items t
 taken_front s [] t y = ap into_iter_items y
 taken_front s (x ∷ xs) t y = y.1.0 ∙ ap (λ ys. x ∷ ys) (taken_front y.0 xs t y.2)

@@ -3,7 +3,7 @@ use Rattle.net.proofs.Words.{◌≡◌, ℕ, zero, suc, ◌+◌, ◌<◌, ◌≤
 use Rattle.net.proofs.EveryEvent.{IfTaken, if_taken, spent_or, node_at, holds_after}
 use Rattle.net.proofs.TwoMoments.{events_result-append, world_lasts}
 
--- New nodes, one after another.
+-- New nodes, one by one.
 
 pub nodes_of-push : {V : Type 0} (cores : List (Core V)) (core : Core V) → nodes_of (cores ++ core ∷ []) ≡ nodes_of cores ++ core.node ∷ []
 nodes_of-push [] core = refl
@@ -17,7 +17,7 @@ nodes_from-take V weights k (suc i) (w ∷ ws) h =
     ap (λ (ns : List (Node V)). new_node k weights ∷ ns) (nodes_from-take V weights (suc k) i ws (le_of_suc-le-suc h)
     ∙ ap (λ (j : ℕ). nodes_from {V = V} weights (suc k) (take i ws) ++ new_node j weights ∷ []) e)
 
--- one node more
+-- if the cores are the first k new nodes, with the new node k they are the first k + 1
 pub new_nodes-push : {V : Type 0} (weights : List ℕ) (k : ℕ) (old new : List (Core V)) (core : Core V) → new ≡ old ++ core ∷ [] → core.node ≡ new_node k weights → nodes_of old ≡ nodes_from weights 0 (take k weights)
     → k < length weights → nodes_of new ≡ nodes_from weights 0 (take (k + 1) weights)
 new_nodes-push {V} weights k old new core pushed is_new before under =
@@ -28,7 +28,7 @@ new_nodes-push {V} weights k old new core pushed is_new before under =
     ∙ sym (nodes_from-take V weights 0 k weights under)
     ∙ ap (λ (i : ℕ). nodes_from {V = V} weights 0 (take i weights)) (sym (add-one k))
 
--- a world of new nodes, of no packets and no events
+-- cores that are new nodes, without packets and events, are of the world at the start
 pub start_of_world : {V : Type 0} (size : V → ℕ) (weights : List ℕ) → IsWeights weights → (cores : List (Core V)) (packets : List (Packet V)) (events : List (Event V)) → nodes_of cores ≡ nodes_from weights 0 weights → events ≡ [] → packets ≡ []
     → AreOfWorld size (record { weights = weights; events = events }) cores packets
 start_of_world {V} size weights are cores packets events new no_events no_packets =
@@ -48,19 +48,19 @@ nodes_of-set [] k core = refl
 nodes_of-set (c ∷ cores) zero core = refl
 nodes_of-set (c ∷ cores) (suc k) core = ap (λ ns. c.node ∷ ns) (nodes_of-set cores k core)
 
--- the node of the core that is read at an index stands there among the nodes
+-- if a core is read at index k, its node is at index k of the nodes
 pub nodes_at : {V : Type 0} (cores : List (Core V)) (k : ℕ) (core : Core V) → k < length cores → core ≡ get_or cores k core → slice_get (nodes_of cores) k ≡ Some core.node
 nodes_at [] k core low is = absurd (omega arith)
 nodes_at {V} (c ∷ cores) zero core low is = ap (λ (x : Core V). let o : Option (Node V) = Some x.node in o) (sym is)
 nodes_at (c ∷ cores) (suc k) core low is = nodes_at cores k core (le_of_suc-le-suc low) is
 
--- past the cores there is no node
+-- past the end of the cores there is no node
 pub nodes_past : {V : Type 0} (cores : List (Core V)) (k : ℕ) → length cores ≤ k → slice_get (nodes_of cores) k ≡ None
 nodes_past [] k past = refl
 nodes_past (c ∷ cores) zero past = absurd (omega arith)
 nodes_past (c ∷ cores) (suc k) past = nodes_past cores k (le_of_suc-le-suc past)
 
--- to set what stands at an index changes nothing
+-- setting the element that is already at an index changes nothing
 pub set_same : {A : Type 0} (xs : List A) (k : ℕ) (x : A) → slice_get xs k ≡ Some x → set xs k x ≡ xs
 set_same [] k x is = refl
 set_same {A} (y ∷ xs) zero x is = let same : y ≡ x = cc in ap (λ (z : A). z ∷ xs) (sym same)
@@ -72,7 +72,7 @@ module _ {V : Type 0} (count : ℕ) (w : World V) (counted : w.event_count ≡ c
   abbrev Counts : Result (World V) StepFault → Type 0
   Counts r = IfTaken r (λ x. x.event_count ≡ count + 1)
 
-  -- what a node makes of itself counts one event more
+  -- the answer of a node raises the count of events by one
   counts_at : (k : ℕ) (make : Node V → Result (StepResult V) Refusal) (o : Option (Node V)) → Counts (at_node w k make o)
   counts_at k make None = tt
   counts_at k make (Some n) = counts_answered (make n) where
@@ -80,23 +80,23 @@ module _ {V : Type 0} (count : ℕ) (w : World V) (counted : w.event_count ≡ c
     counts_answered (Ok step) = ap (λ (i : ℕ). i + 1) counted
     counts_answered (Err refusal) = tt
 
-  -- a delivery counts one event more
+  -- a delivery raises the count of events by one
   counts_delivered : (o : Option (Packet V)) → Counts (delivered w o)
   counts_delivered None = tt
   counts_delivered (Some p) = counts_at p.to (λ n. Ok (on_packet n p)) (slice_get w.nodes p.to)
 
-  -- each event counts one more
+  -- each event raises the count of events by one
   counts_happens_at : (size : V → ℕ) (e : Event V) → Counts (event_result_without_limit size w e)
   counts_happens_at size (Offer k v) = counts_at k (λ n. offered size n v) (slice_get w.nodes k)
   counts_happens_at size (Begin k) = counts_at k begun (slice_get w.nodes k)
   counts_happens_at size (Deliver number) = counts_delivered (slice_get w.packets number)
   counts_happens_at size (Restart k) = counts_at k (λ n. Ok (restarted n)) (slice_get w.nodes k)
 
-  -- each event counts one more, once the limit is tested
+  -- each event raises the count of events by one, with the limit tested first
   counts_happens : (size : V → ℕ) (e : Event V) → Counts (event_result size w e)
   counts_happens size e = spent_or (λ x. x.event_count ≡ count + 1) (event_result_without_limit size w e) (w.event_count == MOST_EVENTS) (counts_happens_at size e)
 
--- a list of events counts as many more as it has
+-- a list of events raises the count by its length
 counts_all : {V : Type 0} (size : V → ℕ) (count : ℕ) (es : List (Event V)) (r : Result (World V) StepFault) → IfTaken r (λ x. x.event_count ≡ count) → IfTaken (events_result size es r) (λ x. x.event_count ≡ count + length es)
 counts_all size count [] (Ok w) h = let e : w.event_count ≡ count + 0 = omega (arith, h) in e
 counts_all size count [] (Err fault) h = tt
@@ -105,16 +105,16 @@ counts_all {V} size count (e ∷ es) (Ok w) h =
     let step : (count + 1) + length es ≡ count + suc (length es) = omega arith in
     subst (λ (n : ℕ). IfTaken (events_result size es (event_result size w e)) (λ (x : World V). x.event_count ≡ n)) step (counts_all size (count + 1) es (event_result size w e) (counts_happens count w h size e))
 
--- the world after a list of events has counted as many as it has
+-- the count of events of the world after a list of events is the length of the list
 pub taken_count : {V : Type 0} (size : V → ℕ) (weights : List ℕ) (es : List (Event V)) (w : World V) → IsAfter size weights es w → w.event_count ≡ length es
 taken_count {V} size weights es w is_after = if_taken (λ (x : World V). x.event_count ≡ 0 + length es) (after size weights es) w is_after (counts_all size 0 es (Ok (start weights)) refl) ∙ omega arith
 
--- One event more.
+-- One more event.
 
 pub after-push : {V : Type 0} (size : V → ℕ) (weights : List ℕ) (es : List (Event V)) (w : World V) (e : Event V) → IsAfter size weights es w → after size weights (es ++ e ∷ []) ≡ event_result size w e
 after-push size weights es w e is_after = events_result-append size es (e ∷ []) (Ok (start weights)) ∙ ap (λ r. events_result size (e ∷ []) r) is_after
 
--- where the test of the limit fails, what an event comes to stays
+-- if the limit is not reached, the test leaves the result of an event as it is
 not_spent : {V : Type 0} (r : Result (World V) StepFault) (t : Bool) → t ≡ false → (if t then Err EventsSpent else r) ≡ r
 not_spent r true e = cc
 not_spent r false e = refl
@@ -131,7 +131,7 @@ event_result-spent {V} size w e spent = all (w.event_count == MOST_EVENTS) (grin
 -- The world after a step.
 
 module _ {V : Type 0} (size : V → ℕ) (old : History V) (cores : List (Core V)) (packets : List (Packet V)) (h : AreOfWorld size old cores packets) where
-  -- another room of the nodes is nothing that is seen
+  -- cores with the same nodes, whatever their rooms, are of the same world
   pub rooms_stay : (others : List (Core V)) → nodes_of others ≡ nodes_of cores → AreOfWorld size old others packets
   rooms_stay others same = record {
     world = h.world;
@@ -142,20 +142,20 @@ module _ {V : Type 0} (size : V → ℕ) (old : History V) (cores : List (Core V
     posts = h.posts;
   }
 
-  -- the core that is read at a number has the state of that node in the world
+  -- the core that is read at number k has the state of node k in the world
   pub node_shown : (k : ℕ) (core : Core V) → k < length cores → core ≡ get_or cores k core → slice_get h.world.nodes k ≡ Some core.node
   node_shown k core in_cores is = ap (λ (ns : List (Node V)). slice_get ns k) h.nodes ∙ nodes_at cores k core in_cores is
 
-  -- past the cores there is no node in the world
+  -- past the end of the cores there is no node in the world
   pub no_node_shown : (k : ℕ) → length cores ≤ k → slice_get h.world.nodes k ≡ None
   no_node_shown k past = ap (λ (ns : List (Node V)). slice_get ns k) h.nodes ∙ nodes_past cores k past
 
   module _ (low : length old.events < MOST_EVENTS) where
-    -- where an event is left, the history with one more comes to what the event makes of the world
+    -- below the limit of events, the history with one more event leads to the result of the event in the world
     pub next_is : (e : Event V) → world_of size (with_event old e) ≡ event_result_without_limit size h.world e
     next_is e = after-push size old.weights old.events h.world e h.is_after ∙ event_result-not_spent size h.world e (let count = taken_count size old.weights old.events h.world h.is_after in omega (arith, count, low))
 
-    -- the step is made
+    -- if an event makes the step, the cores and packets with the step made are of the world after the event
     pub makes : (e : Event V) (k : ℕ) (new : Core V) (step : StepResult V) → event_result_without_limit size h.world e ≡ Ok (after_step h.world k step) → (more : List (Packet V)) → new.node ≡ step.node → more ≡ packets ++ step.posts
         → AllByRecursion (IsPost (length old.weights)) more → AreOfWorld size (with_event old e) (set cores k new) more
     makes e k new step at more node added posts = record {
@@ -167,7 +167,7 @@ module _ {V : Type 0} (size : V → ℕ) (old : History V) (cores : List (Core V
       posts = posts;
     }
 
--- Each node has the world's weights.
+-- Each node has the weights of the world.
 
 -- the weights that a node has are those of the history
 pub own_weights : {V : Type 0} (size : V → ℕ) (old : History V) (cores : List (Core V)) (packets : List (Packet V)) (h : AreOfWorld size old cores packets) (k : ℕ) (core : Core V) → k < length cores → core ≡ get_or cores k core → core.node.weights ≡ old.weights
@@ -177,33 +177,33 @@ own_weights {V} size old cores packets h k core low is =
     (node_at h.world.weights (offers_of old.events) holds.ledger h.world.nodes 0 k core.node at holds.nodes).weights
     ∙ (world_lasts size old.weights [] old.events (start old.weights) h.world refl h.is_after).weights
 
--- with no event left, each event meets EventsSpent
+-- if the limit of events is reached, each event meets EventsSpent
 pub spent_met : {V : Type 0} (size : V → ℕ) (old now : History V) (cores : List (Core V)) (packets : List (Packet V)) → AreOfWorld size old cores packets → old ≡ now → (e : Event V) → length old.events ≡ MOST_EVENTS → world_of size (with_event now e) ≡ Err EventsSpent
 spent_met {V} size old now cores packets h seen e spent =
     let count = taken_count size old.weights old.events h.world h.is_after in
     subst (λ (t : History V). world_of size (with_event t e) ≡ Err EventsSpent) seen (after-push size old.weights old.events h.world e h.is_after ∙ event_result-spent size h.world e (count ∙ spent))
 
--- A run has no more events than it may have.
+-- The events of a run are within the limit.
 
--- where one fact gives another, a world that has the one, if there is one, has the other
+-- if P implies Q and P holds of the world, if the events are taken, so does Q
 if_more : {V : Type 0} (P Q : World V → Type 0) (r : Result (World V) StepFault) → ((x : World V) → P x → Q x) → IfTaken r P → IfTaken r Q
 if_more P Q (Ok x) more h = more x h
 if_more P Q (Err fault) more h = tt
 
--- an event leaves the count of events up to the limit
+-- an event leaves the count of events within the limit
 within_if : {V : Type 0} (size : V → ℕ) (w : World V) (e : Event V) (t : Bool) → (w.event_count == MOST_EVENTS) ≡ t → w.event_count ≤ MOST_EVENTS → IfTaken (if t then Err EventsSpent else event_result_without_limit size w e) (λ x. x.event_count ≤ MOST_EVENTS)
 within_if size w e true test low = tt
 within_if {V} size w e false test low =
     let other : w.event_count < MOST_EVENTS = grind (arith, nat_tests) in
     if_more (λ (x : World V). x.event_count ≡ w.event_count + 1) (λ (x : World V). x.event_count ≤ MOST_EVENTS) (event_result_without_limit size w e) (λ x count. omega (arith, count, other)) (counts_happens_at w.event_count w refl size e)
 
--- events leave the count of events up to the limit
+-- a list of events leaves the count of events within the limit
 within_all : {V : Type 0} (size : V → ℕ) (es : List (Event V)) (r : Result (World V) StepFault) → IfTaken r (λ x. x.event_count ≤ MOST_EVENTS) → IfTaken (events_result size es r) (λ x. x.event_count ≤ MOST_EVENTS)
 within_all size [] r h = h
 within_all size (e ∷ es) (Err fault) h = tt
 within_all size (e ∷ es) (Ok w) h = within_all size es (event_result size w e) (within_if size w e (w.event_count == MOST_EVENTS) refl h)
 
--- a history that is taken has events up to the limit
+-- the events of a history that is taken are within the limit
 pub events_within : {V : Type 0} (size : V → ℕ) (old now : History V) (cores : List (Core V)) (packets : List (Packet V)) → AreOfWorld size old cores packets → old ≡ now → length now.events ≤ MOST_EVENTS
 events_within {V} size old now cores packets h seen =
     let most = if_taken (λ (x : World V). x.event_count ≤ MOST_EVENTS) (after size old.weights old.events) h.world h.is_after (within_all size old.events (Ok (start old.weights)) (omega arith)) in
@@ -221,22 +221,22 @@ length-nodes_of [] = refl
 length-nodes_of (c ∷ cores) = ap suc (length-nodes_of cores)
 
 module _ {V : Type 0} (size : V → ℕ) (old now : History V) (cores : List (Core V)) (packets : List (Packet V)) (h : AreOfWorld size old cores packets) (seen : old ≡ now) where
-  -- the history that is shown leads to the world that the fields are of
+  -- the history that is shown leads to the world of the fields
   world_is : world_of size now ≡ Ok h.world
   world_is = ap (λ (t : History V). world_of size t) (sym seen) ∙ h.is_after
 
-  -- as many as there are weights
+  -- there are as many cores as weights
   pub count_shown : length cores ≡ length now.weights
   count_shown =
       let lasts = (world_lasts size old.weights [] old.events (start old.weights) h.world refl h.is_after).count in
       sym (length-nodes_of cores) ∙ ap (λ (ns : List (Node V)). length ns) (sym h.nodes) ∙ lasts ∙ length-nodes_from V old.weights 0 old.weights ∙ ap (λ (t : History V). length t.weights) seen
 
-  -- the log of the core that is read at a number is that of the node after the history
+  -- the log of the core that is read at number k is that of node k after the history
   pub log_shown : (k : ℕ) (core : Core V) → k < length cores → core ≡ get_or cores k core → log_after (world_of size now) k ≡ log_of core.node
   log_shown k core low at =
       ap (λ (r : Result (World V) StepFault). log_after r k) world_is
       ∙ ap (λ (o : Option (Node V)). log_at o) (ap (λ (ns : List (Node V)). slice_get ns k) h.nodes ∙ nodes_at cores k core low at)
 
-  -- the packets after the history are those that are kept
+  -- the packets after the history are those in the field
   pub packets_shown : packets_after (world_of size now) ≡ packets
   packets_shown = ap (λ (r : Result (World V) StepFault). packets_after r) world_is ∙ h.posted

@@ -6,7 +6,7 @@ use Rattle.net.proofs.Ledger.{Begun, begun_as, Promised, Proposal, proposal, Led
 use Rattle.net.proofs.LedgerGrows.{Grows, begun_lasts, chosen_lasts, free_lasts}
 use Rattle.net.proofs.LedgerSteps.{AllProposedBelow}
 
--- The acceptor: its promise is not below what it promised and voted, and it holds the highest vote of each slot.
+-- The acceptor: its promise is at least each ballot that it promised or voted under, and it holds its highest vote of each slot.
 
 pub record IsHeldFrom {V : Type 0} (accepted : List (Option (AcceptedEntry V))) (x : Vote V) : Type 0 where
   pub entry : AcceptedEntry V
@@ -19,9 +19,9 @@ pub record AcceptorHolds {V : Type 0} (promises : List (Promised V)) (votes : Li
   pub held_from : (x : Vote V) → In x votes → x.node ≡ k → IsHeldFrom accepted x
   pub held : (s : ℕ) (h : AcceptedEntry V) → entry_at accepted s ≡ Some h → In (vote k h.ballot s h.value) votes
 
--- The proposer: preparing, it had true pages and proposed nothing yet; leading, it may propose anything from its next slot on.
+-- The proposer: while it prepares, its pages are true and it has proposed nothing; as a leader, it may propose any value from its next slot on.
 
--- the page is the one of that index, from 0, of node k's promise
+-- the page is the one at this index, from 0, of node k's promise of b
 pub record IsPage {V : Type 0} (l : Ledger V) (k : ℕ) (b : Ballot) (index : ℕ) (page : List (SlotReport V)) : Type 0 where
   pub promise : Promised V
   pub is_in : In promise l.promises
@@ -29,7 +29,7 @@ pub record IsPage {V : Type 0} (l : Ledger V) (k : ℕ) (b : Ballot) (index : �
   pub ballot : promise.ballot ≡ b
   pub place : slice_get (pages_of promise.reports) index ≡ Some page
 
--- what was heard of the node is all that its promise reports
+-- the reports are all that node k's promise of b reports
 pub record IsHeard {V : Type 0} (l : Ledger V) (b : Ballot) (k : ℕ) (reports : List (SlotReport V)) : Type 0 where
   pub promise : Promised V
   pub is_in : In promise l.promises
@@ -60,7 +60,7 @@ pub record ProposerHolds {V : Type 0} (ws : List ℕ) (offers : List V) (l : Led
   pub as_role : RoleHolds ws l k role pages heard
   pub offered : AllByRecursion (λ v. In v offers) waiting
 
--- The learner: whom it counted voted, and what it learned is chosen.
+-- The learner: each node that it counts voted, and each value that it learned is chosen.
 
 pub record HasVoted {V : Type 0} (votes : List (Vote V)) (k : ℕ) (b : Ballot) (s : ℕ) : Type 0 where
   pub value : Option V
@@ -79,7 +79,7 @@ pub record NodeHolds {V : Type 0} (ws : List ℕ) (offers : List V) (l : Ledger 
   pub proposer : ProposerHolds ws offers l k n.round n.role n.pages n.heard n.waiting
   pub learner : LearnerHolds ws l.votes n.tallies n.learned
 
--- a packet of a promise, numbered from 1
+-- the page of a Promise packet, numbered from 1, is that page of node k's promise of b
 pub record IsPagePacket {V : Type 0} (l : Ledger V) (k : ℕ) (b : Ballot) (number count : ℕ) (page : List (SlotReport V)) : Type 0 where
   pub promise : Promised V
   pub is_in : In promise l.promises
@@ -90,7 +90,7 @@ pub record IsPagePacket {V : Type 0} (l : Ledger V) (k : ℕ) (b : Ballot) (numb
   pub is_number : number ≡ suc index
   pub place : slice_get (pages_of promise.reports) index ≡ Some page
 
--- what a body says was done by its sender k
+-- the ledger confirms the body of a packet from node k: a ballot begun, a page of a promise, a proposal, a vote or a chosen value
 abbrev pub SaysTrue : {V : Type 0} → List ℕ → Ledger V → ℕ → Body V → Type 0
 SaysTrue ws l k (Prepare b first) = In (begun_as b first) l.begun
 SaysTrue ws l k (Promise b number count page) = IsPagePacket l k b number count page
@@ -103,7 +103,7 @@ SaysTrue ws l k (Told s v) = IsChosen ws l.votes s v
 abbrev pub IsTrue : {V : Type 0} → List ℕ → Ledger V → Packet V → Type 0
 IsTrue ws l p = SaysTrue ws l p.from p.body
 
--- the nodes, the first of which is node k
+-- the invariant holds of each of the nodes, the first of which is node k
 abbrev pub NodesHold : {V : Type 0} → List ℕ → List V → Ledger V → ℕ → List (Node V) → Type 0
 NodesHold ws offers l k [] = Unit {0}
 NodesHold ws offers l k (n ∷ ns) = NodeHolds ws offers l k n × NodesHold ws offers l (suc k) ns
@@ -115,23 +115,23 @@ pub record WorldHolds {V : Type 0} (offers : List V) (w : World V) : Type 0 wher
   pub packets : AllByRecursion (IsTrue w.weights ledger) w.packets
   pub votes_cast : ledger.votes ≡ w.votes_cast
 
--- Each of these lasts as the ledger grows.
+-- Each of these still holds when the ledger grows.
 
--- what is old or node k's is old, where it is another node's
+-- an element that is old or of node k is old, if it is of another node
 not_new : {A : Type 0} {x j k : ℕ} → A ⊎ (x ≡ k) → x ≡ j → j ≢ k → A
 not_new (inl old) e other = old
 not_new (inr d) e other = absurd (other (sym e ∙ d))
 
 module _ {V : Type 0} {k : ℕ} {l m : Ledger V} (g : Grows k l m) where
-  -- a page of a promise stays a page of it
+  -- a page of a promise remains one
   page_lasts : (j : ℕ) (b : Ballot) (i : ℕ) (page : List (SlotReport V)) → IsPage l j b i page → IsPage m j b i page
   page_lasts j b i page h = record { promise = h.promise; is_in = g.promises.old _ h.is_in; node = h.node; ballot = h.ballot; place = h.place }
 
-  -- what was heard of a node stays all that its promise reports
+  -- the reports heard from a node remain all that its promise reports
   heard_lasts : (b : Ballot) (j : ℕ) (reports : List (SlotReport V)) → IsHeard l b j reports → IsHeard m b j reports
   heard_lasts b j reports h = record { promise = h.promise; is_in = g.promises.old _ h.is_in; node = h.node; ballot = h.ballot; all = h.all }
 
-  -- a role lasts where its ballot has no new proposals
+  -- the invariant of a role still holds if its node proposes nothing new
   role_lasts : (ws : List ℕ) (j : ℕ) (role : Role) (pages : List (List (Option (List (SlotReport V))))) (heard : List Heard)
       → ((p : Proposal V) → In p m.proposals → p.ballot.node ≡ j → In p l.proposals) → RoleHolds ws l j role pages heard → RoleHolds ws m j role pages heard
   role_lasts ws j Idle pages heard old h = tt
@@ -149,7 +149,7 @@ module _ {V : Type 0} {k : ℕ} {l m : Ledger V} (g : Grows k l m) where
     free = λ s le. free_lasts g (h.free s le);
   }
 
-  -- what holds of a proposer lasts where its node began and proposed nothing new
+  -- the invariant of a proposer still holds if its node begins no ballot and proposes nothing new
   pub proposer_lasts : (ws : List ℕ) (offers : List V) (j round : ℕ) (role : Role) (pages : List (List (Option (List (SlotReport V))))) (heard : List Heard) (waiting : List V)
       → ((x : Begun) → In x m.begun → x.ballot.node ≡ j → In x l.begun) → ((p : Proposal V) → In p m.proposals → p.ballot.node ≡ j → In p l.proposals)
       → ProposerHolds ws offers l j round role pages heard waiting → ProposerHolds ws offers m j round role pages heard waiting
@@ -159,14 +159,14 @@ module _ {V : Type 0} {k : ℕ} {l m : Ledger V} (g : Grows k l m) where
     offered = h.offered;
   }
 
-  -- what holds of a learner lasts: votes stay, and what is chosen stays chosen
+  -- the invariant of a learner still holds: votes remain, and what is chosen remains chosen
   pub learner_lasts : (ws : List ℕ) (tallies : List (Option (List Tally))) (learned : List (Option (Option V))) → LearnerHolds ws l.votes tallies learned → LearnerHolds ws m.votes tallies learned
   learner_lasts ws tallies learned h = record {
     voters = λ s b j e. let v = h.voters s b j e in record { value = v.value; voted = g.votes.old _ v.voted };
     chosen = λ s v e. chosen_lasts g (h.chosen s v e);
   }
 
-  -- what another node does leaves what holds of this one
+  -- the invariant of a node still holds after another node acts
   pub node_lasts : (ws : List ℕ) (offers : List V) (j : ℕ) → j ≢ k → (n : Node V) → NodeHolds ws offers l j n → NodeHolds ws offers m j n
   node_lasts ws offers j other n h =
       let old_vote : (x : Vote V) → In x m.votes → x.node ≡ j → In x l.votes = λ x i e. elim (g.votes.new x i) [ inl old ↦ old | inr new ↦ absurd (other (sym e ∙ new.0)) ] in
@@ -183,7 +183,7 @@ module _ {V : Type 0} {k : ℕ} {l m : Ledger V} (g : Grows k l m) where
         learner = learner_lasts ws n.tallies n.learned h.learner;
       }
 
-  -- what a body says of its sender stays true
+  -- a true body remains true
   pub truth_lasts : (ws : List ℕ) (j : ℕ) (body : Body V) → SaysTrue ws l j body → SaysTrue ws m j body
   truth_lasts ws j (Prepare b first) h = g.begun.old _ h
   truth_lasts ws j (Promise b number count page) h = record { promise = h.promise; is_in = g.promises.old _ h.is_in; node = h.node; ballot = h.ballot; counted = h.counted; index = h.index; is_number = h.is_number; place = h.place }

@@ -1,9 +1,9 @@
--- The ledger of a run: what was begun, promised, proposed and voted, four lists that only grow, the newest first.
--- The proof alone keeps it, beside the world; the argument over it needs no node and no packet.
+-- The ledger of a run: ballots begun, promises, proposals and votes, in four lists that only grow, the newest first.
+-- It exists only in the proof, beside the world; the argument about it needs no nodes and no packets.
 use Rattle.net.proofs.Words.{◌≡◌, ℕ, Bool, true, List, [], ◌∷◌, Option, Some, None, ◌⊎◌, inl, ◌≤◌, In, Ballot, SlotReport, is_quorum, Under, Upto, Vote, vote}
 use Rattle.net.proofs.GrowingLists.{Settles}
 
--- a ballot was begun from a slot on
+-- a ballot was begun, for the slots from `first` on
 pub record Begun : Type 0 where
   pub ballot : Ballot
   pub first : ℕ
@@ -11,7 +11,7 @@ pub record Begun : Type 0 where
 abbrev pub begun_as : Ballot → ℕ → Begun
 begun_as b first = record { ballot = b; first = first }
 
--- a node promised a ballot, and reported its votes from a slot on
+-- a node promised a ballot, and reported its votes from slot `first` on
 pub record Promised (V : Type 0) : Type 0 where
   pub node : ℕ
   pub ballot : Ballot
@@ -44,52 +44,52 @@ pub record HasPromised {V : Type 0} (l : Ledger V) (k : ℕ) (b : Ballot) : Type
 abbrev pub NoneVoted : {V : Type 0} → Ledger V → (ℕ → Bool) → Ballot → ℕ → Type 0
 NoneVoted {V} l quorum b s = (x : Vote V) → In x l.votes → quorum x.node ≡ true → x.slot ≡ s → Under x.ballot b → ⊥
 
--- under a ballot below b an older proposal gives v to slot s, and no node of the quorum voted there in between
+-- an older proposal, under a ballot below b, is for v at slot s, and no node of the quorum voted there under a ballot in between
 pub record HighestVoted {V : Type 0} (l : Ledger V) (older : List (Proposal V)) (quorum : ℕ → Bool) (b : Ballot) (s : ℕ) (v : Option V) : Type 0 where
   pub ballot : Ballot
   pub under : Under ballot b
   pub proposed : In (proposal ballot s v) older
   pub highest : (x : Vote V) → In x l.votes → quorum x.node ≡ true → x.slot ≡ s → Under x.ballot b → Upto x.ballot ballot
 
--- a quorum promised b, and of its votes below b at s there are none, or the highest is for v
+-- a quorum promised b, and its votes at s below b are none, or the highest is for v
 pub record IsGrounded {V : Type 0} (ws : List ℕ) (l : Ledger V) (older : List (Proposal V)) (b : Ballot) (s : ℕ) (v : Option V) : Type 0 where
   pub quorum : ℕ → Bool
   pub majority : is_quorum ws quorum ≡ true
   pub promised : (k : ℕ) → quorum k ≡ true → HasPromised l k b
   pub picks : NoneVoted l quorum b s ⊎ HighestVoted l older quorum b s v
 
--- any value may be proposed at s under b
+-- any value may be proposed at s under b: a quorum promised b and cast no votes at s below b
 pub record IsFree {V : Type 0} (ws : List ℕ) (l : Ledger V) (b : Ballot) (s : ℕ) : Type 0 where
   pub quorum : ℕ → Bool
   pub majority : is_quorum ws quorum ≡ true
   pub promised : (k : ℕ) → quorum k ≡ true → HasPromised l k b
   pub none : NoneVoted l quorum b s
 
--- where any value may be proposed, each that is proposed is grounded
+-- if any value may be proposed at s under b, each proposal there is grounded
 pub free_grounded : {V : Type 0} {ws : List ℕ} {l : Ledger V} {b : Ballot} {s : ℕ} (older : List (Proposal V)) (v : Option V) → IsFree ws l b s → IsGrounded ws l older b s v
 free_grounded older v free = record { quorum = free.quorum; majority = free.majority; promised = free.promised; picks = inl free.none }
 
--- each proposal is grounded on those older than itself
+-- each proposal is grounded in those older than itself
 abbrev pub AllGrounded : {V : Type 0} → List ℕ → Ledger V → List (Proposal V) → Type 0
 AllGrounded ws l [] = Unit {0}
 AllGrounded ws l (p ∷ older) = IsGrounded ws l older p.ballot p.slot p.value × AllGrounded ws l older
 
--- The facts that a promise states.
+-- What a promise states.
 
--- one of the reports is of the vote's slot, under a ballot not below the vote's
+-- one of the reports is of the vote's slot, under the vote's ballot or a higher one
 pub record HasHigher {V : Type 0} (reports : List (SlotReport V)) (x : Vote V) : Type 0 where
   pub report : SlotReport V
   pub is_in : In report reports
   pub slot : report.slot ≡ x.slot
   pub upto : Upto x.ballot report.ballot
 
--- the report is of a vote of the node that promises, below its ballot
+-- the report is of a vote of the promising node, below the promised ballot and at a slot not below `first`
 pub record IsBacked {V : Type 0} (l : Ledger V) (p : Promised V) (r : SlotReport V) : Type 0 where
   pub first : p.first ≤ r.slot
   pub under : Under r.ballot p.ballot
   pub voted : In (vote p.node r.ballot r.slot r.value) l.votes
 
--- at each slot from the first on the promise reports the highest vote of its node below its ballot, and votes alone
+-- at each slot from `first` on the promise reports the highest vote of its node below its ballot, and it reports votes only
 pub record IsTruthful {V : Type 0} (l : Ledger V) (p : Promised V) : Type 0 where
   pub begun : In (begun_as p.ballot p.first) l.begun
   pub reported : (x : Vote V) → In x l.votes → x.node ≡ p.node → p.first ≤ x.slot → Under x.ballot p.ballot → HasHigher p.reports x
@@ -101,7 +101,7 @@ pub record IsBegun {V : Type 0} (l : Ledger V) (b : Ballot) : Type 0 where
   pub first : ℕ
   pub is_in : In (begun_as b first) l.begun
 
--- a no-operation, or one of what was offered
+-- the value is a no-operation or was offered
 abbrev pub IsBrought : {V : Type 0} → List V → Option V → Type 0
 IsBrought offers None = Unit {0}
 IsBrought offers (Some v) = In v offers

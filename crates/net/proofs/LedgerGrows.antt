@@ -1,25 +1,25 @@
--- The ledger grows by what one node does, and what was true of it lasts.
--- The heart: who promised a ballot casts no new vote below it, so a quorum's promises settle once and for all what was voted below.
+-- The ledger grows by what one node does, and the facts about it still hold.
+-- A node that promised a ballot casts no new vote below it, so after the promises of a quorum its votes below are final.
 use Rattle.net.proofs.Words.{◌≡◌, ℕ, Bool, true, List, [], ◌∷◌, Option, inl, inr, refl, sym, ◌∙◌, subst, In, Contains-in, In-contains, Ballot, Under, Upto, not_both, Vote, IsChosen}
 use Rattle.net.proofs.GrowingLists.{Adds, adds_none, adds_one, adds_both}
 use Rattle.net.proofs.Ledger.{Begun, Promised, Proposal, Ledger, HasPromised, NoneVoted, IsGrounded, IsFree, AllGrounded, IsTruthful, IsBegun}
 
--- all that k promised is up to b
+-- all ballots that node k promised are at most b
 abbrev pub AllPromisedUpto : {V : Type 0} → List (Promised V) → ℕ → Ballot → Type 0
 AllPromisedUpto {V} promises k b = (p : Promised V) → In p promises → p.node ≡ k → Upto p.ballot b
 
--- l grew to m by what node k did
+-- ledger m is l with additions by node k
 pub record Grows {V : Type 0} (k : ℕ) (l m : Ledger V) : Type 0 where
   pub begun : Adds (λ x. x.ballot.node ≡ k) l.begun m.begun
   pub promises : Adds (λ x. x.node ≡ k) l.promises m.promises
   pub proposals : Adds (λ x. x.ballot.node ≡ k) l.proposals m.proposals
   pub votes : Adds (λ x. (x.node ≡ k) × AllPromisedUpto l.promises k x.ballot) l.votes m.votes
 
--- a ledger that stays as it is has grown by nothing
+-- a ledger that stays the same has grown
 pub grows_none : {V : Type 0} (k : ℕ) (l : Ledger V) → Grows k l l
 grows_none k l = record { begun = adds_none; promises = adds_none; proposals = adds_none; votes = adds_none }
 
--- two additions by one node, one after another, are one
+-- additions by one node in two steps are additions by that node
 pub grows_both : {V : Type 0} {k : ℕ} {l m n : Ledger V} → Grows k l m → Grows k m n → Grows k l n
 grows_both g h = record {
   begun = adds_both (λ x e. e) (λ x e. e) g.begun h.begun;
@@ -54,9 +54,9 @@ grows-with_proposal x l k mine = record { begun = adds_none; promises = adds_non
 pub grows-with_vote : {V : Type 0} (x : Vote V) (l : Ledger V) → AllPromisedUpto l.promises x.node x.ballot → Grows x.node l (with_vote x l)
 grows-with_vote x l upto = record { begun = adds_none; promises = adds_none; proposals = adds_none; votes = adds_one (refl, upto) }
 
--- The facts that last.
+-- Facts that still hold in a ledger that grew.
 
--- what is chosen stays chosen with more votes
+-- what is chosen remains chosen with more votes
 pub chosen_with_more : {V : Type 0} {ws : List ℕ} {s : ℕ} {v : Option V} (old new : List (Vote V)) → ((x : Vote V) → In x old → In x new) → IsChosen ws old s v → IsChosen ws new s v
 chosen_with_more old new more h = record {
   ballot = h.ballot;
@@ -68,22 +68,22 @@ chosen_with_more old new more h = record {
 }
 
 module _ {V : Type 0} {k : ℕ} {l m : Ledger V} (g : Grows k l m) where
-  -- a node that promised a ballot has promised it for good
+  -- if a node promised a ballot, it has promised it in the larger ledger
   pub promised_lasts : {j : ℕ} {b : Ballot} → HasPromised l j b → HasPromised m j b
   promised_lasts h = record { promise = h.promise; is_in = g.promises.old _ h.is_in; node = h.node; ballot = h.ballot }
 
-  -- a vote below a ballot that its node promised is no new one
+  -- a vote below a ballot that its node promised is an old one
   pub vote_is_old : (x : Vote V) (b : Ballot) → HasPromised l x.node b → In x m.votes → Under x.ballot b → In x l.votes
   vote_is_old x b h i under = elim (g.votes.new x i) [
     | inl old ↦ old
     | inr new ↦ absurd (not_both x.ballot b under (subst (λ (c : Ballot). Upto c x.ballot) h.ballot (new.1 h.promise h.is_in (h.node ∙ new.0))))
   ]
 
-  -- nodes that promised a ballot, and cast no vote below it at a slot, cast none there later
+  -- if the nodes of a quorum promised a ballot and cast no vote below it at a slot, they cast none there later
   pub none_lasts : {b : Ballot} {s : ℕ} (quorum : ℕ → Bool) → ((j : ℕ) → quorum j ≡ true → HasPromised l j b) → NoneVoted l quorum b s → NoneVoted m quorum b s
   none_lasts {b} quorum promised none x i q e under = none x (vote_is_old x b (promised x.node q) i under) q e under
 
-  -- where any value may be proposed, any may be later
+  -- if any value may be proposed at a slot under a ballot, any value may be proposed there later
   pub free_lasts : {ws : List ℕ} {b : Ballot} {s : ℕ} → IsFree ws l b s → IsFree ws m b s
   free_lasts h = record {
     quorum = h.quorum;
@@ -92,7 +92,7 @@ module _ {V : Type 0} {k : ℕ} {l m : Ledger V} (g : Grows k l m) where
     none = none_lasts h.quorum h.promised h.none;
   }
 
-  -- a grounded proposal stays so, with as many older proposals or more
+  -- a grounded proposal remains grounded, also with more older proposals
   pub grounded_lasts : {ws : List ℕ} {b : Ballot} {s : ℕ} {v : Option V} (older newer : List (Proposal V)) → ((p : Proposal V) → In p older → In p newer)
       → IsGrounded ws l older b s v → IsGrounded ws m newer b s v
   grounded_lasts {b = b} older newer more h = record {
@@ -110,12 +110,12 @@ module _ {V : Type 0} {k : ℕ} {l m : Ledger V} (g : Grows k l m) where
     ];
   }
 
-  -- each proposal of a list stays grounded on those older than itself
+  -- each proposal of a list remains grounded in those older than itself
   pub all_grounded_last : (ws : List ℕ) (ps : List (Proposal V)) → AllGrounded ws l ps → AllGrounded ws m ps
   all_grounded_last ws [] h = tt
   all_grounded_last ws (p ∷ ps) h = (grounded_lasts ps ps (λ q i. i) h.0, all_grounded_last ws ps h.1)
 
-  -- a promise stays truthful: its node casts no new vote below its ballot
+  -- a promise remains truthful, since its node casts no new vote below its ballot
   pub truthful_lasts : (p : Promised V) → In p l.promises → IsTruthful l p → IsTruthful m p
   truthful_lasts p i h = record {
     begun = g.begun.old _ h.begun;
@@ -123,10 +123,10 @@ module _ {V : Type 0} {k : ℕ} {l m : Ledger V} (g : Grows k l m) where
     backed = λ r j. let b = h.backed r j in record { first = b.first; under = b.under; voted = g.votes.old _ b.voted };
   }
 
-  -- a ballot that was begun stays begun
+  -- a ballot that was begun remains begun
   pub begun_lasts : (b : Ballot) → IsBegun l b → IsBegun m b
   begun_lasts b h = record { first = h.first; is_in = g.begun.old _ h.is_in }
 
-  -- a value that the votes of the ledger choose stays chosen
+  -- a value that is chosen by the votes of the ledger remains chosen
   pub chosen_lasts : {ws : List ℕ} {s : ℕ} {v : Option V} → IsChosen ws l.votes s v → IsChosen ws m.votes s v
   chosen_lasts h = chosen_with_more l.votes m.votes (λ x i. g.votes.old x i) h

@@ -4,7 +4,7 @@ use Rattle.synod.specs.State.{state_of}
 use Rattle.net.specs.NodeStates.{state_after}
 use Rattle.net.proofs.HistoryLemmas.{node_shown}
 
--- the core that is read at a number tells what the node tells after the history
+-- the state that the core at number k reports is that of node k in the world after the history
 pub state_shown : {V : Type 0} (size : V → ℕ) (old now : History V) (cores : List (Core V)) (packets : List (Packet V)) (h : AreOfWorld size old cores packets) → old ≡ now
     → (k : ℕ) (core : Core V) → k < length cores → core ≡ get_or cores k core → state_after (world_of size now) k ≡ Some (state_of core.node)
 state_shown {V} size old now cores packets h seen k core low at =

@@ -1,5 +1,5 @@
--- A page of a Promise continues the story: it is kept as the true page that it is, its sender is heard once all pages are there,
--- and with a quorum heard the proposer leads, by proposals that are each grounded.
+-- A page of a Promise preserves the invariant: it is a true page and is kept as such, its sender is heard once all its pages are there,
+-- and with a quorum heard the proposer leads, with proposals each of which is grounded.
 use Rattle.net.proofs.Words.{◌≡◌, ◌≢◌, ℕ, zero, suc, ◌+◌, ◌-◌, ◌≤◌, Bool, true, false, not, ◌&&◌, List, [], ◌∷◌, ◌++◌, map, take, drop, length, Option, Some, inl, inr, refl, ap, sym, ◌∙◌, subst, arith, if◌then◌else◌, slice_get, length-map, nat_tests, AllByRecursion, and_parts, not-true, SLOTS, entry_at, front_of, In, Ballot, SlotReport, Heard, Role, Idle, Preparing, Leading, is_same, is_quorum, pages_of, joined_pages, are_received, accept_posts, Node, StepResult, unchanged, pages_from, page_of, with_page, is_heard, top_or_first, proposed_values, all_reports, leads, adds_page, completes_promise, on_complete_promise, on_promise_page, on_promise_as, on_promise, same_true, page_either, other_pages, pages-all, joined-all, are_received-front, first_to_top, length-proposed_values, all_append}
 use Rattle.net.proofs.Ledger.{Promised, Ledger, IsFree, IsBegun, IsBrought, IsSound}
 use Rattle.net.proofs.LedgerGrows.{Grows, grows_both, begun_lasts, free_lasts}
@@ -9,19 +9,19 @@ use Rattle.net.proofs.StepsContinue.{Continues, same_ledger, true_accepts}
 use Rattle.net.proofs.QuorumHeard.{AllHeard, IsQuorumHeard, fills_grounded, fills_brought, free_above, reported_from}
 use Rattle.net.proofs.ProposerSteps.{after_batch}
 
--- what is so of each element is so of each of the first
+-- what holds of each element holds of each of the first i
 all_take : {A : Type 0} (P : A → Type 0) (i : ℕ) (xs : List A) → AllByRecursion P xs → AllByRecursion P (take i xs)
 all_take P zero xs h = tt
 all_take P (suc i) [] h = tt
 all_take P (suc i) (x ∷ xs) h = (h.0, all_take P i xs h.1)
 
--- what is so of each element is so of each behind the first
+-- what holds of each element holds of each after the first i
 all_drop : {A : Type 0} (P : A → Type 0) (i : ℕ) (xs : List A) → AllByRecursion P xs → AllByRecursion P (drop i xs)
 all_drop P zero xs h = h
 all_drop P (suc i) [] h = tt
 all_drop P (suc i) (x ∷ xs) h = all_drop P i xs h.1
 
--- values that were offered are brought, as values to propose
+-- values that were offered are allowed as values to propose
 all_offered : {V : Type 0} (offers vs : List V) → AllByRecursion (λ v. In v offers) vs → AllByRecursion (IsBrought offers) (map (λ v. Some v) vs)
 all_offered offers [] h = tt
 all_offered offers (v ∷ vs) h = (h.0, all_offered offers vs h.1)
@@ -30,9 +30,9 @@ module _ {V : Type 0} {offers : List V} {l : Ledger V} (n : Node V) (sound : IsS
   abbrev Goes : StepResult V → Type 0
   Goes step = Continues n.weights offers n.me l step
 
-  -- A quorum is heard: first the reported slots are filled, and then what waits takes slots.
+  -- A quorum is heard: first the reported slots are filled, and then the waiting values take slots.
 
-  -- a node that heard a quorum leads, and this continues the story
+  -- if a node has heard a quorum, leading preserves the invariant
   leads_continues : (b : Ballot) (first : ℕ) (pages : List (List (Option (List (SlotReport V))))) (heard : List Heard) → IsPreparing l n.me b first pages heard → is_quorum n.weights (is_heard heard) ≡ true
       → Goes (leads n b first (all_reports pages heard) (top_or_first first (all_reports pages heard)))
   leads_continues b first pages heard preparing quorum =
@@ -73,9 +73,9 @@ module _ {V : Type 0} {offers : List V} {l : Ledger V} (n : Node V) (sound : IsS
         cast = two.votes ∙ one.votes;
       }
 
-  -- A node that goes on preparing.
+  -- A node that continues to prepare.
 
-  -- what holds of the node holds of it with these pages and nodes heard, as it goes on preparing
+  -- the invariant holds of a preparing node with these pages and nodes heard
   prepares_on : (b : Ballot) (first : ℕ) (pages : List (List (Option (List (SlotReport V))))) (heard : List Heard) → n.role ≡ Preparing b first → IsPreparing l n.me b first pages heard
       → NodeHolds n.weights offers l n.me (record n { pages = pages; heard = heard })
   prepares_on b first pages heard role preparing = record {
@@ -90,21 +90,21 @@ module _ {V : Type 0} {offers : List V} {l : Ledger V} (n : Node V) (sound : IsS
     };
   }
 
-  -- with these nodes heard it leads or goes on preparing, by the test of a quorum; both continue the story
+  -- with these nodes heard the node leads or continues to prepare, depending on the test of a quorum; both preserve the invariant
   hears_either : (b : Ballot) (first : ℕ) (pages : List (List (Option (List (SlotReport V))))) (heard : List Heard) → n.role ≡ Preparing b first → IsPreparing l n.me b first pages heard
       → (t : Bool) → is_quorum n.weights (is_heard heard) ≡ t
       → Goes (if t then leads n b first (all_reports pages heard) (top_or_first first (all_reports pages heard)) else completes_promise n pages heard)
   hears_either b first pages heard role preparing true quorum = leads_continues b first pages heard preparing quorum
   hears_either b first pages heard role preparing false quorum = same_ledger sound (prepares_on b first pages heard role preparing) tt refl
 
-  -- A page comes of a node p that is not heard.
+  -- A page comes from a node p that is not heard.
 
   module _ (p : ℕ) (b : Ballot) (number count : ℕ) (reports : List (SlotReport V)) (packet : IsPagePacket l p b number count reports) (first : ℕ) (role : n.role ≡ Preparing b first)
       (preparing : IsPreparing l n.me b first n.pages n.heard) (unheard : is_heard n.heard p ≡ false) where
     abbrev had : List (List (Option (List (SlotReport V))))
     had = with_page n.pages p (number - 1) reports
 
-    -- each page had, the new one with the others, is a page of its node's promise
+    -- each page received, including the new one, is a page of its node's promise
     true_page : (j i : ℕ) (page : List (SlotReport V)) → page_of had j i ≡ Some page → IsPage l j b i page
     true_page j i page e = elim (page_either n.pages p (number - 1) reports j i page e) [
       | inl old ↦ preparing.each_page j i page old
@@ -119,7 +119,7 @@ module _ {V : Type 0} {offers : List V} {l : Ledger V} (n : Node V) (sound : IsS
           }
     ]
 
-    -- the pages of those heard before are not touched
+    -- the pages of the nodes heard before stay the same
     still_heard : (hs : List Heard) → is_heard hs p ≡ false → AllHeard l b n.pages hs → AllHeard l b had hs
     still_heard [] none h = tt
     still_heard (x ∷ hs) none h =
@@ -128,7 +128,7 @@ module _ {V : Type 0} {offers : List V} {l : Ledger V} (n : Node V) (sound : IsS
           still_heard hs (grind (arith, nat_tests)) h.1,
         )
 
-    -- with all pages there, what they join to is what the node reports
+    -- if all pages are there, their join is all that the node reports
     whole_heard : are_received (pages_from had p) count ≡ true → IsHeard l b p (joined_pages (pages_from had p) count)
     whole_heard all =
         let promise : Promised V = packet.promise in
@@ -146,7 +146,7 @@ module _ {V : Type 0} {offers : List V} {l : Ledger V} (n : Node V) (sound : IsS
           all = sym (subst (λ (c : ℕ). joined_pages (pages_from had p) c ≡ promise.reports) (sym packet.counted) joined);
         }
 
-    -- the sender is heard where all its pages are there, else the page is kept; both continue the story
+    -- the sender is heard if all its pages are there, else the page is kept; both preserve the invariant
     gathers_either : (t : Bool) → are_received (pages_from had p) count ≡ t → Goes (if t then on_complete_promise n b first had (n.heard ++ record { node = p; count = count } ∷ []) else adds_page n had)
     gathers_either true all = hears_either b first had (n.heard ++ record { node = p; count = count } ∷ []) role
         record {
@@ -168,7 +168,7 @@ module _ {V : Type 0} {offers : List V} {l : Ledger V} (n : Node V) (sound : IsS
         })
         tt refl
 
-  -- a page is gathered, if it is of the ballot and its sender is not heard, or nothing happens
+  -- a page is gathered if it is for the ballot and its sender is not heard, else nothing happens; both preserve the invariant
   comes_either : (p : ℕ) (b : Ballot) (number count : ℕ) (reports : List (SlotReport V)) → IsPagePacket l p b number count reports → (c : Ballot) (first : ℕ) → n.role ≡ Preparing c first
       → IsPreparing l n.me c first n.pages n.heard → (t : Bool) → (is_same b c && not (is_heard n.heard p)) ≡ t
       → Goes (if t then on_promise_page n p c first count (with_page n.pages p (number - 1) reports) else unchanged n)
@@ -178,13 +178,13 @@ module _ {V : Type 0} {offers : List V} {l : Ledger V} (n : Node V) (sound : IsS
       let here : IsPagePacket l p c number count reports = subst (λ (d : Ballot). IsPagePacket l p d number count reports) (same_true b c tests.0) packet in
       gathers_either p c number count reports here first role preparing (not-true (is_heard n.heard p) tests.1) (are_received (pages_from (with_page n.pages p (number - 1) reports) p) count) refl
 
-  -- a page of a promise continues the story in each role
+  -- a page of a promise preserves the invariant in each role
   promise_as : (p : ℕ) (b : Ballot) (number count : ℕ) (reports : List (SlotReport V)) → IsPagePacket l p b number count reports → (role : Role) → n.role ≡ role
       → RoleHolds n.weights l n.me role n.pages n.heard → Goes (on_promise_as role n p b number count reports)
   promise_as p b number count reports packet Idle role h = same_ledger sound holds tt refl
   promise_as p b number count reports packet (Leading c next) role h = same_ledger sound holds tt refl
   promise_as p b number count reports packet (Preparing c first) role h = comes_either p b number count reports packet c first role h (is_same b c && not (is_heard n.heard p)) refl
 
-  -- a Promise that carries a true page continues the story
+  -- a Promise that carries a true page preserves the invariant
   pub promise_continues : (p : ℕ) (b : Ballot) (number count : ℕ) (reports : List (SlotReport V)) → IsPagePacket l p b number count reports → Goes (on_promise n p b number count reports)
   promise_continues p b number count reports packet = promise_as p b number count reports packet n.role refl holds.proposer.as_role

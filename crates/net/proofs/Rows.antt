@@ -1,5 +1,5 @@
--- Worked runs, computed: after each event the count of packets posted so far, then what single packets say, and what is learned.
--- An entry stands for its author and serial, as 71 for serial 1 of author 7.
+-- Worked runs, computed: the count of packets posted so far after each event, then the contents of single packets, and the logs.
+-- An entry is written as a number made of its author and serial: 71 is serial 1 of author 7.
 use Rattle.net.proofs.Words.{◌≡◌, ℕ, zero, suc, List, [], ◌∷◌, ◌++◌, length, Option, Some, None, Result, Ok, Err, refl, slice_get, Ballot, SlotReport, Packet, Prepare, Promise, Accept, Nack, Ask, Told, packet, Event, Offer, Begin, Deliver, Restart, StepFault, NoNode, NoPacket, World, start, event_result, after, log}
 
 abbrev size : ℕ → ℕ
@@ -13,7 +13,7 @@ counts_on (Err fault) es = []
 counts_on (Ok w) [] = length w.packets ∷ []
 counts_on (Ok w) (e ∷ es) = length w.packets ∷ counts_on (event_result size w e) es
 
--- how many packets there are before the first event, and after each
+-- the count of packets before the first event, and after each
 abbrev counts : List ℕ → List (Event ℕ) → List ℕ
 counts weights events = counts_on (Ok (start weights)) events
 
@@ -62,7 +62,7 @@ first_acceptor_reports = refl
 second_acceptor_reports : packet_after (run three third_leader) 26 ≡ Some (packet 1 2 (Promise (ballot 3 2) 1 1 (report 0 (ballot 2 1) 81 ∷ [])))
 second_acceptor_reports = refl
 
--- of the two values reported node 2 proposes the one of the higher ballot
+-- of the two reported values node 2 proposes the one with the higher ballot
 higher_value_is_proposed : packet_after (run three third_leader) 27 ≡ Some (packet 2 0 (Accept (ballot 3 2) 0 (Some 81)))
 higher_value_is_proposed = refl
 
@@ -74,15 +74,15 @@ first_leader = Begin 0 ∷ Deliver 0 ∷ Deliver 1 ∷ Deliver 3 ∷ Deliver 4 �
 abbrev restarted_leader : List (Event ℕ)
 restarted_leader = first_leader ++ Restart 0 ∷ Begin 0 ∷ Deliver 11 ∷ Deliver 6 ∷ Deliver 14 ∷ []
 
--- an Accept from before the restart comes late and gets one Nack
+-- an Accept from before the restart comes late and is answered with a Nack
 old_ballot_is_refused : counts three restarted_leader ≡ 0 ∷ 3 ∷ 4 ∷ 5 ∷ 5 ∷ 5 ∷ 8 ∷ 10 ∷ 13 ∷ 14 ∷ 15 ∷ 15 ∷ []
 old_ballot_is_refused = refl
 
--- the restarted node prepares the next round, since it kept the last
+-- the restarted node prepares the next round, since its round survives the restart
 new_ballot_is_higher : packet_after (run three restarted_leader) 11 ≡ Some (packet 0 1 (Prepare (ballot 2 0) 0))
 new_ballot_is_higher = refl
 
--- node 1 refuses the old ballot with the one that it promised since
+-- node 1 refuses the old ballot and names the one that it promised since
 refusal_names_the_promise : packet_after (run three restarted_leader) 14 ≡ Some (packet 1 0 (Nack (ballot 1 0) (ballot 2 0)))
 refusal_names_the_promise = refl
 
@@ -91,7 +91,7 @@ refusal_names_the_promise = refl
 abbrev split_votes : List (Event ℕ)
 split_votes = two_leaders ++ Deliver 10 ∷ Deliver 10 ∷ Deliver 21 ∷ []
 
--- a vote under each of two ballots, one of them counted twice, is no quorum
+-- one vote under each of two ballots, one of them counted twice, is no quorum
 votes_of_two_ballots_do_not_add : log_after (run three split_votes) 2 ≡ Some []
 votes_of_two_ballots_do_not_add = refl
 
@@ -99,16 +99,16 @@ votes_of_two_ballots_do_not_add = refl
 votes_of_one_ballot_add : log_after (run three (split_votes ++ Deliver 18 ∷ Deliver 24 ∷ [])) 2 ≡ Some (Some 81 ∷ [])
 votes_of_one_ballot_add = refl
 
--- of these deliveries to node 2 the Accept alone makes it post
+-- of these deliveries to node 2 only that of the Accept makes it post
 split_votes_post : counts_on (run three two_leaders) (Deliver 10 ∷ Deliver 10 ∷ Deliver 21 ∷ Deliver 18 ∷ Deliver 24 ∷ []) ≡ 22 ∷ 22 ∷ 22 ∷ 22 ∷ 25 ∷ 25 ∷ []
 split_votes_post = refl
 
--- One node alone, and what it keeps over a restart.
+-- One node alone, and its state after a restart.
 
 abbrev alone : List (Event ℕ)
 alone = Offer 0 71 ∷ Offer 0 71 ∷ Begin 0 ∷ Deliver 0 ∷ Deliver 1 ∷ Deliver 2 ∷ Deliver 3 ∷ Deliver 4 ∷ Deliver 5 ∷ []
 
--- values offered before there is a leader are proposed once it leads
+-- values offered before there is a leader are proposed once the node leads
 waiting_values_are_proposed : counts one alone ≡ 0 ∷ 0 ∷ 0 ∷ 1 ∷ 2 ∷ 4 ∷ 5 ∷ 6 ∷ 6 ∷ 6 ∷ []
 waiting_values_are_proposed = refl
 
@@ -127,7 +127,7 @@ restart_forgets_what_was_learned = refl
 accepted_entries_are_reported_again : packet_after (run one alone_again) 7 ≡ Some (packet 0 0 (Promise (ballot 2 0) 1 1 (report 0 (ballot 1 0) 71 ∷ report 1 (ballot 1 0) 71 ∷ [])))
 accepted_entries_are_reported_again = refl
 
--- after the restart a ballot, a promise, two Accepts and a vote are posted
+-- after the restart the node posts a Prepare, a promise, two Accepts and a vote
 restarted_node_goes_on : counts_on (run one alone) (Restart 0 ∷ Begin 0 ∷ Deliver 6 ∷ Deliver 7 ∷ Deliver 8 ∷ Deliver 10 ∷ []) ≡ 6 ∷ 6 ∷ 7 ∷ 8 ∷ 10 ∷ 11 ∷ 11 ∷ []
 restarted_node_goes_on = refl
 
@@ -143,7 +143,7 @@ with_gap = first_leader ++ Offer 0 72 ∷ Deliver 5 ∷ Deliver 6 ∷ Deliver 8 
 abbrev gap_filled : List (Event ℕ)
 gap_filled = with_gap ++ Deliver 23 ∷ Deliver 25 ∷ []
 
--- two Asks are posted where a gap is left, a Told to the first, and an Ask once more
+-- two Asks are posted if a gap is left, a Told answers the first, and another Ask follows
 gap_is_asked_for : counts three gap_filled ≡ 0 ∷ 3 ∷ 4 ∷ 5 ∷ 5 ∷ 5 ∷ 8 ∷ 11 ∷ 14 ∷ 17 ∷ 20 ∷ 23 ∷ 23 ∷ 23 ∷ 23 ∷ 25 ∷ 26 ∷ 27 ∷ []
 gap_is_asked_for = refl
 
@@ -151,19 +151,19 @@ gap_is_asked_for = refl
 nothing_above_a_gap : log_after (run three with_gap) 2 ≡ Some []
 nothing_above_a_gap = refl
 
--- the Ask is of the least slot that is not learned
+-- the Ask is for the least slot that is not learned
 least_gap_is_named : packet_after (run three with_gap) 23 ≡ Some (packet 2 0 (Ask 0))
 least_gap_is_named = refl
 
--- node 0 answers the Ask with what it learned
+-- node 0 answers the Ask with the value that it learned
 learned_value_is_told : packet_after (run three gap_filled) 25 ≡ Some (packet 0 2 (Told 0 (Some 71)))
 learned_value_is_told = refl
 
--- who is told asks for the next slot that it has not learned
+-- the receiver of a Told asks for the next slot that it has not learned
 next_gap_is_asked_for : packet_after (run three gap_filled) 26 ≡ Some (packet 2 0 (Ask 2))
 next_gap_is_asked_for = refl
 
--- with the gap filled the log has both values
+-- once the gap is filled the log has both values
 gap_ends : log_after (run three gap_filled) 2 ≡ Some (Some 71 ∷ Some 72 ∷ [])
 gap_ends = refl
 
@@ -173,17 +173,17 @@ leader_has_its_own_log = refl
 
 -- No such node, no such packet.
 
--- a delivery of a packet that was never posted meets NoPacket
+-- the delivery of a packet that was never posted meets NoPacket
 no_such_packet : run one (Deliver 0 ∷ []) ≡ Err NoPacket
 no_such_packet = refl
 
--- a begin of a node that is not there meets NoNode
+-- a begin of a node that does not exist meets NoNode
 no_such_node : run one (Begin 1 ∷ []) ≡ Err NoNode
 no_such_node = refl
 
 -- Promises in pages: 257 values, each accepted, and the promise of a second ballot.
 
--- 1 to n, the last first
+-- offers of the values from 1 to n, before these events
 abbrev offers_to : ℕ → List (Event ℕ) → List (Event ℕ)
 offers_to zero es = es
 offers_to (suc n) es = offers_to n (Offer 0 (suc n) ∷ es)
@@ -198,15 +198,15 @@ many = Begin 0 ∷ Deliver 0 ∷ Deliver 1 ∷ offers_to 257 (deliveries 2 257)
 abbrev second_page_first : List (Event ℕ)
 second_page_first = many ++ Begin 0 ∷ Deliver 516 ∷ Deliver 518 ∷ Deliver 518 ∷ []
 
--- beside a Prepare and a promise, an Accept and a vote are posted for each of 257 values
+-- in addition to a Prepare and a promise, an Accept and a vote are posted for each of 257 values
 many_are_accepted : count_after (run one many) ≡ Some 516
 many_are_accepted = refl
 
--- the second page of the promise has the one report that the first has no room for
+-- the second page of the promise has the one report for which the first has no room
 second_page_has_the_rest : packet_after (run one second_page_first) 518 ≡ Some (packet 0 0 (Promise (ballot 2 0) 2 2 (report 256 (ballot 1 0) 257 ∷ [])))
 second_page_has_the_rest = refl
 
--- the second page alone, though it comes twice, makes no leader
+-- the second page alone, even if it comes twice, makes no leader
 one_page_is_no_promise : count_after (run one second_page_first) ≡ Some 519
 one_page_is_no_promise = refl
 
@@ -214,7 +214,7 @@ one_page_is_no_promise = refl
 both_pages_are : count_after (run one (second_page_first ++ Deliver 517 ∷ [])) ≡ Some 776
 both_pages_are = refl
 
--- the last Accept is of the slot and the value on the second page
+-- the last Accept has the slot and the value from the second page
 last_value_is_proposed_again : packet_after (run one (second_page_first ++ Deliver 517 ∷ [])) 775 ≡ Some (packet 0 0 (Accept (ballot 2 0) 256 (Some 257)))
 last_value_is_proposed_again = refl
 
@@ -228,7 +228,7 @@ heavy_node_is_a_quorum = refl
 heavy_vote_is_enough : log_after (run (3 ∷ 1 ∷ 1 ∷ []) (Begin 0 ∷ Deliver 0 ∷ Deliver 3 ∷ Offer 0 71 ∷ Deliver 4 ∷ Deliver 8 ∷ [])) 1 ≡ Some (Some 71 ∷ [])
 heavy_vote_is_enough = refl
 
--- 2 of 4 is not: the value waits for another node
+-- weight 2 of 4 is no quorum: the value waits for another node
 half_is_not_enough : counts (2 ∷ 1 ∷ 1 ∷ []) (Begin 0 ∷ Deliver 0 ∷ Deliver 3 ∷ Offer 0 71 ∷ Deliver 1 ∷ Deliver 4 ∷ []) ≡ 0 ∷ 3 ∷ 4 ∷ 4 ∷ 4 ∷ 5 ∷ 8 ∷ []
 half_is_not_enough = refl
 
@@ -237,7 +237,7 @@ half_is_not_enough = refl
 abbrev several : List (Event ℕ)
 several = Begin 0 ∷ Deliver 0 ∷ Deliver 1 ∷ Offer 0 61 ∷ Offer 0 72 ∷ Offer 0 81 ∷ Offer 0 82 ∷ Offer 0 83 ∷ Offer 0 91 ∷ deliveries 2 12
 
--- one node alone: an Accept and a vote for each of six values
+-- with one node alone, an Accept and a vote are posted for each of six values
 several_post : counts one several ≡ 0 ∷ 1 ∷ 2 ∷ 2 ∷ 3 ∷ 4 ∷ 5 ∷ 6 ∷ 7 ∷ 8 ∷ 9 ∷ 10 ∷ 11 ∷ 12 ∷ 13 ∷ 14 ∷ 14 ∷ 14 ∷ 14 ∷ 14 ∷ 14 ∷ 14 ∷ []
 several_post = refl
 

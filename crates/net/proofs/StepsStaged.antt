@@ -1,13 +1,13 @@
--- A step that a node made ready, seen of the whole net.
+-- A step that a node has readied, in the view of the whole net.
 use Rattle.net.proofs.Words.{◌≡◌, ℕ, ◌<◌, ◌≤◌, List, [], ◌∷◌, length, get_or, set, slice_get, Option, Some, None, Result, Ok, Err, refl, ap, sym, ◌∙◌, subst, arith, append-nil, slice_get_within, slice_get_read, AllByRecursion, Packet, Refusal, IsPost, Node, StepResult, Core, HasNoLessRoom, ReadyView, offered, begun, on_packet, restarted, same_room, MOST_EVENTS, Event, Offer, Begin, Deliver, Restart, StepFault, NoNode, NoPacket, World, after_step_or_fault, at_node, delivered, event_result_without_limit, node_of_event, History, AreOfWorld, world_of, with_event, steps, StagedEvent, posts_of, step_of, IsOfEvent, HasResult, IsStagedAt, IsStagingResultAt, IsStagingResultOfEvent, NetView, ChangeOnlyRooms, ChangesOnlyRoom, IsStaged, IsStagingResultInNet}
 use Rattle.synod.specs.Ready.{IsStagingResult as ReadiesStep}
 use Rattle.net.proofs.GrowingLists.{at_set}
 use Rattle.net.proofs.HistoryLemmas.{next_is, node_shown, no_node_shown, own_weights, rooms_stay}
 use Rattle.net.proofs.EventsStaged.{comes_offer, comes_begin, comes_restart, comes_packet, not_mapped, mapped, more_room, still_same, still_set, nodes_still}
 
--- A step that a node made ready.
+-- A step that a node has readied.
 
--- the step that a node made ready is ready as the work of its event
+-- a step that a node has readied is ready as the work of its event
 pub made_staged : {V : Type 0} (old new : Core V) (k : ℕ) (e f : Event V) (r : Result (StepResult V) Refusal) (made : ReadyView V) → ReadiesStep new r (Ok made) → f ≡ e → IsOfEvent e (steps made) → AllByRecursion (IsPost (length old.node.weights)) made.step.posts
     → IsStagingResultAt old new k e r (Ok (record { at = k; event = f; work = steps made }))
 made_staged {V} old new k e f (Ok step) made h same kind posts = record {
@@ -20,26 +20,26 @@ made_staged {V} old new k e f (Ok step) made h same kind posts = record {
 }
 made_staged old new k e f (Err refusal) made h same kind posts = elim h [ ]
 
--- the packet at a number
+-- a packet read at a number is the one that a look-up at this number gives
 pub packet_is : {V : Type 0} (ps : List (Packet V)) (number : ℕ) (p q : Packet V) → p ≡ get_or ps number p → slice_get ps number ≡ Some q → p ≡ q
 packet_is ps number p q is at = let both : Some p ≡ Some q = sym (slice_get_read ps (length ps) number p refl (slice_get_within ps number q at) is) ∙ at in cc
 
--- From a node's answer to the net, `view` being the fields.
+-- From the answer of a node to that of the net, `view` being the fields.
 
 module _ {V : Type 0} (size : V → ℕ) (view now : NetView V) (seen : view ≡ now) (h : AreOfWorld size view.history view.cores view.packets) (low : length now.history.events < MOST_EVENTS) where
-  -- the history of the fields has an event left
+  -- the history of the fields is below the limit of events
   still_low : length view.history.events < MOST_EVENTS
   still_low = subst (λ (n : NetView V). length n.history.events < MOST_EVENTS) (sym seen) low
 
-  -- what the event comes to in the world is what the history with it comes to
+  -- the history with the event leads to the result of the event in the world
   met_is : (e : Event V) (r : Result (World V) StepFault) → event_result_without_limit size h.world e ≡ r → world_of size (with_event now.history e) ≡ r
   met_is e r is = ap (λ (n : NetView V). world_of size (with_event n.history e)) (sym seen) ∙ next_is size view.history view.cores view.packets h still_low e ∙ is
 
-  -- the fault that an event meets in the world is a right answer
+  -- if an event meets a fault in the world, this fault is a right answer
   gives_fault : (e : Event V) (fault : StepFault) → event_result_without_limit size h.world e ≡ Err fault → (net : NetView V) → IsStagingResultInNet size net e (world_of size (with_event now.history e)) (Err fault)
   gives_fault e fault meets net = subst (λ (r : Result (World V) StepFault). IsStagingResultInNet size net e r (Err fault)) (sym (met_is e (Err fault) meets)) refl
 
-  -- no such packet
+  -- if the packet does not exist, NoPacket is a right answer
   pub gives_no_packet : (e : Event V) → node_of_event view.packets e ≡ None → (net : NetView V) → IsStagingResultInNet size net e (world_of size (with_event now.history e)) (Err NoPacket)
   gives_no_packet (Deliver number) none net =
       gives_fault (Deliver number) NoPacket (ap (λ (o : Option (Packet V)). delivered h.world o) (ap (λ (ps : List (Packet V)). slice_get ps number) h.posted ∙ not_mapped (slice_get view.packets number) none)) net
@@ -47,16 +47,16 @@ module _ {V : Type 0} (size : V → ℕ) (view now : NetView V) (seen : view ≡
   gives_no_packet (Begin k) none net = let no : Some k ≡ None = none in cc
   gives_no_packet (Restart k) none net = let no : Some k ≡ None = none in cc
 
-  -- a delivery of a packet that is there is what the node that it is for makes of it
+  -- the result of delivering packet p is the answer of the node to which p is addressed
   delivered_at : (number : ℕ) (p : Packet V) → slice_get view.packets number ≡ Some p → event_result_without_limit size h.world (Deliver number) ≡ at_node h.world p.to (λ n. Ok (on_packet n p)) (slice_get h.world.nodes p.to)
   delivered_at number p is = ap (λ (o : Option (Packet V)). delivered h.world o) (ap (λ (ps : List (Packet V)). slice_get ps number) h.posted ∙ is)
 
-  -- no such node
+  -- if the node does not exist, NoNode is a right answer
   gives_nowhere : (k : ℕ) (e : Event V) (make : Node V → Result (StepResult V) Refusal) → event_result_without_limit size h.world e ≡ at_node h.world k make (slice_get h.world.nodes k) → length view.cores ≤ k
       → (net : NetView V) → IsStagingResultInNet size net e (world_of size (with_event now.history e)) (Err NoNode)
   gives_nowhere k e make at past = gives_fault e NoNode (at ∙ ap (λ (o : Option (Node V)). at_node h.world k make o) (no_node_shown size view.history view.cores view.packets h k past))
 
-  -- for an event of a node past the cores NoNode is a right answer
+  -- if the number of an event's node is past the end of the cores, NoNode is a right answer
   pub gives_no_node : (k : ℕ) (e : Event V) → node_of_event view.packets e ≡ Some k → length view.cores ≤ k → (net : NetView V) → IsStagingResultInNet size net e (world_of size (with_event now.history e)) (Err NoNode)
   gives_no_node k (Offer j v) at past = gives_nowhere j (Offer j v) (λ n. offered size n v) refl (let same : j ≡ k = cc in omega (arith, past, same))
   gives_no_node k (Begin j) at past = gives_nowhere j (Begin j) begun refl (let same : j ≡ k = cc in omega (arith, past, same))
@@ -65,16 +65,16 @@ module _ {V : Type 0} (size : V → ℕ) (view now : NetView V) (seen : view ≡
       gives_nowhere p.0.to (Deliver number) (λ n. Ok (on_packet n p.0)) (delivered_at number p.0 p.1) (let to = p.2 in omega (arith, past, to))
   gives_no_node k (Restart j) at past = gives_nowhere j (Restart j) (λ n. Ok (restarted n)) refl (let same : j ≡ k = cc in omega (arith, past, same))
 
-  -- each packet is a post by the weights of any node that is there
+  -- each packet is a post by the weights of any existing node
   pub posts_at : (k : ℕ) (core : Core V) → k < length view.cores → core ≡ get_or view.cores k core → AllByRecursion (IsPost (length core.node.weights)) view.packets
   posts_at k core in_cores is = subst (λ (ws : List ℕ). AllByRecursion (IsPost (length ws)) view.packets) (sym (own_weights size view.history view.cores view.packets h k core in_cores is)) h.posts
 
-  -- node k, once it has made its additions
+  -- The cores with `new`, which has the same node, at number k.
   module _ (k : ℕ) (core new : Core V) (in_cores : k < length view.cores) (is : core ≡ get_or view.cores k core) (same : new.node ≡ core.node) where
     abbrev left : NetView V
     left = record view { cores = set view.cores k new }
 
-    -- what is staged at node k is staged in the net
+    -- an event that is staged at node k is staged in the net
     staged_here : (e : Event V) (step : StepResult V) → HasResult size view.packets k core.node e (Ok step) → (staged : StagedEvent V) → IsStagedAt core new k e step staged → IsStaged size left staged
     staged_here e step has_result staged d = record {
       core = new;
@@ -87,7 +87,7 @@ module _ {V : Type 0} (size : V → ℕ) (view now : NetView V) (seen : view ≡
       posts = subst (λ (ws : List ℕ). AllByRecursion (IsPost (length ws)) (posts_of staged.work)) (own_weights size view.history view.cores view.packets h k core in_cores is) d.posts;
     }
 
-    -- an answer that is right by the node's step or refusal is right by the world's
+    -- an answer that is right for the node's step or refusal is right for the result in the world
     by_answer : (e : Event V) (r : Result (StepResult V) Refusal) → HasResult size view.packets k core.node e r → (result : Result (StagedEvent V) StepFault) → IsStagingResultAt core new k e r result
         → (met : Result (World V) StepFault) → met ≡ after_step_or_fault h.world k r → IsStagingResultInNet size left e met result
     by_answer e (Ok step) has_result (Ok staged) d met is = subst (λ (x : Result (World V) StepFault). IsStagingResultInNet size left e x (Ok staged)) (sym is) (staged_here e step has_result staged d, d.event, d.kind)
@@ -95,14 +95,14 @@ module _ {V : Type 0} (size : V → ℕ) (view now : NetView V) (seen : view ≡
     by_answer e (Err refusal) has_result (Ok staged) d met is = elim d [ ]
     by_answer e (Err refusal) has_result (Err fault) d met is = subst (λ (x : Result (World V) StepFault). IsStagingResultInNet size left e x (Err fault)) (sym is) d
 
-    -- an answer that is right by what an event comes to at the node is right by the history
+    -- an answer that is right for the result of the event at the node is right for the history
     gives_node : (e : Event V) (r : Result (StepResult V) Refusal) → HasResult size view.packets k core.node e r → (result : Result (StagedEvent V) StepFault) → IsStagingResultAt core new k e r result
         → IsStagingResultInNet size left e (world_of size (with_event now.history e)) result
     gives_node e r has_result result readies =
         by_answer e r has_result result readies (world_of size (with_event now.history e))
         (met_is e (after_step_or_fault h.world k r) (has_result h.world [] (h.posted ∙ sym (append-nil view.packets)) (node_shown size view.history view.cores view.packets h k core in_cores is)).event_result)
 
-    -- for each event of node k, an answer that is right by its state is right by the history
+    -- for each event of node k, an answer that is right for the node is right for the history
     pub gives_event_here : (e : Event V) → node_of_event view.packets e ≡ Some k → (result : Result (StagedEvent V) StepFault) → IsStagingResultOfEvent size view.packets core new k e result → IsStagingResultInNet size left e (world_of size (with_event now.history e)) result
     gives_event_here (Offer j v) at result readies =
         let same : j ≡ k = cc in
@@ -117,7 +117,7 @@ module _ {V : Type 0} (size : V → ℕ) (view now : NetView V) (seen : view ≡
         let same : j ≡ k = cc in
         gives_node (Restart j) (Ok (restarted core.node)) (subst (λ (i : ℕ). HasResult size view.packets k core.node (Restart i) (Ok (restarted core.node))) (sym same) (comes_restart size view.packets k core.node)) result readies
 
-    -- nothing has changed but that node k may have more room
+    -- only rooms change, if node k has no less room
     pub still_here : HasNoLessRoom core new → ChangesOnlyRoom now left
     still_here room = subst (λ (n : NetView V). ChangesOnlyRoom n left) seen record {
       history = refl;
@@ -127,11 +127,11 @@ module _ {V : Type 0} (size : V → ℕ) (view now : NetView V) (seen : view ≡
       event_room = omega arith;
     }
 
-    -- with more room for node k, nodes and packets are still those of the world
+    -- if node k has no less room, the cores and packets are still of the world
     pub of_world_here : HasNoLessRoom core new → AreOfWorld size view.history (set view.cores k new) view.packets
     of_world_here room = rooms_stay size view.history view.cores view.packets h (set view.cores k new) (nodes_still view.cores (set view.cores k new) (still_set view.cores k core new is same room))
 
--- more room for packets and events
+-- if packets and events get more room, only rooms change
 pub still_room : {V : Type 0} (view now : NetView V) (packets : List (Packet V)) (events : List (Event V)) (packet_room event_room : ℕ) → view ≡ now → packets ≡ view.packets → events ≡ view.history.events
     → view.packet_room ≤ packet_room → view.event_room ≤ event_room
     → ChangesOnlyRoom now (record { history = record { weights = view.history.weights; events = events }; cores = view.cores; packets = packets; packet_room = packet_room; event_room = event_room })
@@ -145,11 +145,11 @@ still_room {V} view now packets events packet_room event_room seen same_packets 
       event_room = e;
     }
 
--- where the fields show the same, nothing has changed
+-- if two views are equal, only rooms differ
 pub not_moved : {V : Type 0} (view now : NetView V) → view ≡ now → ChangesOnlyRoom now view
 not_moved view now seen = still_room view now view.packets view.history.events view.packet_room view.event_room seen refl refl (omega arith) (omega arith)
 
--- where nothing has changed twice but the room, nothing has but the room
+-- changing only rooms is transitive
 pub still_more : {V : Type 0} (a b c : NetView V) → ChangesOnlyRoom a b → ChangesOnlyRoom b c → ChangesOnlyRoom a c
 still_more a b c one two = record {
   history = two.history ∙ one.history;

@@ -1,4 +1,4 @@
--- From one moment of a run to a later one the weights stay, and what was voted stays voted; so what is chosen stays chosen.
+-- From one moment of a run to a later one the weights stay, and votes that were cast remain cast; so what is chosen remains chosen.
 use Rattle.net.proofs.Words.{◌≡◌, ℕ, List, [], ◌∷◌, ◌++◌, Option, Some, None, Result, Ok, Err, inr, refl, ap, sym, ◌∙◌, subst, length, slice_get, length-set, AllByRecursion, In, Change, Round, Entry, Packet, Refusal, Node, StepResult, offered, begun, on_packet, restarted, Event, Offer, Begin, Deliver, Restart, StepFault, Vote, IsChosen, World, start, votes_after, after_step_or_fault, at_node, delivered, event_result_without_limit, event_result, events_result, after, IsAfter}
 use Rattle.synod.specs.declared.change.Change.TheVariants.{Promise}
 use Rattle.net.proofs.LedgerGrows.{chosen_with_more}
@@ -9,7 +9,7 @@ pub record Lasts {V : Type 0} (w x : World V) : Type 0 where
   pub count : length x.nodes ≡ length w.nodes
   pub votes : (v : Vote V) → In v w.votes_cast → In v x.votes_cast
 
--- a change of a node takes no vote out
+-- the votes after a change of a node include those before
 votes_stay : {V : Type 0} (k : ℕ) (change : Option (Change V)) (votes : List (Vote V)) (v : Vote V) → In v votes → In v (votes_after k change votes)
 votes_stay k None votes v i = i
 votes_stay k (Some (Round r)) votes v i = i
@@ -17,29 +17,29 @@ votes_stay k (Some (Promise b)) votes v i = i
 votes_stay k (Some (Entry s h)) votes v i = inr i
 
 module _ {V : Type 0} (first w : World V) (h : Lasts first w) where
-  -- weights, the count of nodes and votes last over a node's answer
+  -- weights, the count of nodes and votes are preserved by the answer of a node
   lasts_answered : (k : ℕ) (r : Result (StepResult V) Refusal) → IfTaken (after_step_or_fault w k r) (Lasts first)
   lasts_answered k (Ok step) = record { weights = h.weights; count = length-set w.nodes k step.node ∙ h.count; votes = λ v i. votes_stay k step.change w.votes_cast v (h.votes v i) }
   lasts_answered k (Err refusal) = tt
 
-  -- weights, the count of nodes and votes last over what a node makes of itself
+  -- weights, the count of nodes and votes are preserved by the answer of a node, if it exists
   lasts_at : (k : ℕ) (make : Node V → Result (StepResult V) Refusal) (o : Option (Node V)) → IfTaken (at_node w k make o) (Lasts first)
   lasts_at k make None = tt
   lasts_at k make (Some n) = lasts_answered k (make n)
 
-  -- weights, the count of nodes and votes last over a delivery
+  -- weights, the count of nodes and votes are preserved by a delivery
   lasts_delivered : (o : Option (Packet V)) → IfTaken (delivered w o) (Lasts first)
   lasts_delivered None = tt
   lasts_delivered (Some p) = lasts_at p.to (λ n. Ok (on_packet n p)) (slice_get w.nodes p.to)
 
-  -- weights, the count of nodes and votes last over each event
+  -- weights, the count of nodes and votes are preserved by each event
   lasts_happens : (size : V → ℕ) (e : Event V) → IfTaken (event_result_without_limit size w e) (Lasts first)
   lasts_happens size (Offer k v) = lasts_at k (λ n. offered size n v) (slice_get w.nodes k)
   lasts_happens size (Begin k) = lasts_at k begun (slice_get w.nodes k)
   lasts_happens size (Deliver number) = lasts_delivered (slice_get w.packets number)
   lasts_happens size (Restart k) = lasts_at k (λ n. Ok (restarted n)) (slice_get w.nodes k)
 
--- of each event nothing is asked
+-- the trivial condition holds of each event
 each_event : {V : Type 0} (es : List (Event V)) → AllByRecursion (λ e. Unit {0}) es
 each_event [] = tt
 each_event (e ∷ es) = (tt, each_event es)
@@ -50,16 +50,16 @@ events_result-append size (e ∷ es) [] (Err fault) = refl
 events_result-append size (e ∷ es) (d ∷ ds) (Err fault) = refl
 events_result-append size (e ∷ es) ds (Ok w) = events_result-append size es ds (event_result size w e)
 
--- the later events go on from the earlier moment
+-- the later events lead from the world of the earlier moment to the result of all
 pub later_events : {V : Type 0} (size : V → ℕ) (ws : List ℕ) (early late : List (Event V)) (w : World V) (r : Result (World V) StepFault) → IsAfter size ws early w → after size ws (early ++ late) ≡ r → events_result size late (Ok w) ≡ r
 later_events size ws early late w r first then = ap (λ r. events_result size late r) (sym first) ∙ sym (events_result-append size early late (Ok (start ws))) ∙ then
 
 module _ {V : Type 0} (size : V → ℕ) (ws : List ℕ) (early late : List (Event V)) (w x : World V) (first : IsAfter size ws early w) (then : IsAfter size ws (early ++ late) x) where
-  -- weights, the count of nodes and votes last from the earlier moment to the later
+  -- weights, the count of nodes and votes are preserved from the earlier moment to the later
   pub world_lasts : Lasts w x
   world_lasts = if_taken (Lasts w) (events_result size late (Ok w)) x (later_events size ws early late w (Ok x) first then)
       (all_keep size (Lasts w) (λ e. Unit {0}) (λ y e u h. lasts_happens w y h size e) late (each_event late) (Ok w) record { weights = refl; count = refl; votes = λ v i. i })
 
-  -- what is chosen at the earlier moment is chosen at the later
+  -- if a value is chosen at the earlier moment, it is chosen at the later
   pub stays_chosen : (s : ℕ) (v : Option V) → IsChosen w.weights w.votes_cast s v → IsChosen x.weights x.votes_cast s v
   stays_chosen s v chosen = subst (λ (ws : List ℕ). IsChosen ws x.votes_cast s v) (sym world_lasts.weights) (chosen_with_more w.votes_cast x.votes_cast world_lasts.votes chosen)

@@ -1,4 +1,4 @@
--- The words in which this crate is proved, passed on from one place.
+-- The names used in the proofs of this crate, re-exported from one place.
 pub use Rattle.net.specs.Agree.{Agree, ChosenAgree, IsAfter, IsPrefixOf, IsProposed, LogsAgree}
 pub use Rattle.net.specs.Chosen.{IsChosen, IsChosenAt, Vote, vote}
 pub use Rattle.net.specs.Agreement.{Agreement, IsMetOrMemory, IsMoment, RunStopsAt}

@@ -1,7 +1,7 @@
--- Packets to several nodes, one after another.
+-- Packets to several nodes, one by one.
 use Rattle.synod.proofs.Words.{◌≡◌, ℕ, suc, ◌+◌, ◌<◌, ◌==◌, Bool, true, false, List, [], ◌∷◌, ◌++◌, length, drop, refl, ap, sym, ◌∙◌, append_assoc, add-one, drop-cons, if◌then◌else◌, Packet, Body, packet, to_others_from, to_node, to_nodes_from}
 
--- a packet before those to the nodes behind it
+-- the packets to the nodes from i on are the one to node i and those to the nodes after it
 node_first : {V : Type 0} (others : Bool) (me i : ℕ) (body : Body V) (w : ℕ) (ws : List ℕ) → to_node others me i body ++ to_nodes_from others me body (suc i) ws ≡ to_nodes_from others me body i (w ∷ ws)
 node_first false me i body w ws = refl
 node_first {V} true me i body w ws = by (i == me) where
@@ -9,7 +9,7 @@ node_first {V} true me i body w ws = by (i == me) where
   by true = refl
   by false = refl
 
--- the packet to node i is posted, and those behind it are left
+-- once the packet to node i is posted, those to the nodes after it remain to be posted
 pub broadcast_next : {V : Type 0} (posts more : List (Packet V)) (others : Bool) (me to i : ℕ) (body : Body V) (ws : List ℕ) → more ≡ posts ++ to_node others me to body → to ≡ i → i < length ws
     → more ++ to_nodes_from others me body (i + 1) (drop (i + 1) ws) ≡ posts ++ to_nodes_from others me body i (drop i ws)
 broadcast_next {V} posts more others me to i body ws posted at within =

@@ -1,4 +1,4 @@
--- Pages that are all there are the whole list.
+-- If all its pages are received, a list is their join.
 use Rattle.synod.proofs.Words.{◌≡◌, ℕ, zero, suc, ◌+◌, ◌-◌, ◌*◌, ◌<◌, ◌≤◌, List, [], ◌∷◌, ◌++◌, length, take, drop, Option, Some, None, ◌⊎◌, inl, inr, refl, ap, sym, ◌∙◌, arith, le_of_suc-le-suc, length-drop, drop-drop, eq-zero-or-pos, ap₂, true, nat_tests, entry_at, front_of, onto_first, pages_with_room, pages_of, joined_pages, are_received}
 use Rattle.std.proofs.Common.{slice_get}
 
@@ -18,7 +18,7 @@ pages_with_room-all (x ∷ xs) (suc room) = onto_first-all x (pages_with_room ro
 pub pages-all : {T : Type 0} (xs : List T) → append_all (pages_of xs) ≡ xs
 pages-all xs = pages_with_room-all xs 256
 
--- where as many pages are received as there are, and each is one of these, they join to all
+-- if all pages are received, and each received one is the page at its index, they join to the whole list
 pub joined-all : {T : Type 0} (pages : List (List T)) (had : List (Option (List T))) → ((i : ℕ) (page : List T) → entry_at had i ≡ Some page → slice_get pages i ≡ Some page)
     → length pages ≤ front_of had → joined_pages had (length pages) ≡ append_all pages
 joined-all [] had each all = refl
@@ -32,7 +32,7 @@ joined-all (page ∷ pages) (Some x ∷ had) each all =
 pub are_received-front : {T : Type 0} (had : List (Option (List T))) (count : ℕ) → are_received had count ≡ true → count ≤ front_of had
 are_received-front had count h = grind (arith, nat_tests)
 
--- Page i, from 0, is what stands from 256 * i on, at most 256 of it.
+-- Page i, from 0, has at most 256 elements, from index 256 * i on.
 
 onto_first-head : {T : Type 0} (x : T) (ps : List (List T)) (p : List T) → slice_get ps 0 ≡ Some p → slice_get (onto_first x ps) 0 ≡ Some (x ∷ p)
 onto_first-head x [] p h = cc

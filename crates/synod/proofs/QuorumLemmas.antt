@@ -4,7 +4,7 @@ use Rattle.synod.proofs.Words.{◌≡◌, ℕ, ◌+◌, ◌*◌, ◌<◌, Bool, 
 abbrev pub Shared : (ℕ → Bool) → (ℕ → Bool) → Type 0
 Shared p q = (k : ℕ) × (p k ≡ true) × (q k ≡ true)
 
--- both sets have the first node, or without it they still weigh more than the nodes that are left
+-- either both sets have the first node, or without it they still weigh more than the remaining nodes
 first : (p q : ℕ → Bool) (a b : Bool) → p 0 ≡ a → q 0 ≡ b → (w x y s : ℕ)
     → w + s < ((if a then w else 0) + x) + ((if b then w else 0) + y)
     → Shared p q ⊎ (s < x + y)
@@ -13,7 +13,7 @@ first p q true false e f w x y s h = inr (omega arith)
 first p q false true e f w x y s h = inr (omega arith)
 first p q false false e f w x y s h = inr (omega arith)
 
--- two sets of nodes that together weigh more than all nodes share one
+-- two sets of nodes that together weigh more than all nodes share a node
 pub overlap : (p q : ℕ → Bool) (ws : List ℕ) → weigh (λ k. true) ws < weigh p ws + weigh q ws → Shared p q
 overlap p q [] h = absurd (omega arith)
 overlap p q (w ∷ ws) h =

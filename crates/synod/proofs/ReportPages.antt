@@ -2,12 +2,12 @@
 use Rattle.synod.proofs.Words.{◌≡◌, ℕ, zero, suc, ◌+◌, ◌-◌, ◌<◌, ◌≤◌, ◌≢◌, Bool, true, false, nat_lt, List, [], ◌∷◌, ◌++◌, length, drop, Option, Some, None, refl, ap, sym, ◌∙◌, subst, arith, if◌then◌else◌, append_assoc, append-nil, add-one, le_of_suc-le-suc, length-append, drop_of_length-le, nat_tests, SLOTS, entry_at, MOST_PAGES, Ballot, SlotReport, Packet, Promise, AcceptedEntry, packet, onto_first, pages_with_room, pages_of, reports_from, promise_pages}
 use Rattle.synod.proofs.PageInvariant.{reports_few, pages_few}
 
--- a page that was begun, and the pages after it
+-- the pages after the first one was begun with `page`
 abbrev pub onto_front : {T : Type 0} → List T → List (List T) → List (List T)
 onto_front page [] = page ∷ []
 onto_front page (next ∷ pages) = (page ++ next) ∷ pages
 
--- all pages, where some are full, one was begun and these reports are left
+-- all pages, given the full ones, the one begun and the reports that are left
 abbrev pub pages_with : {T : Type 0} → List (List T) → List T → List T → List (List T)
 pages_with full page rest = full ++ onto_front page (pages_with_room (256 - length page) rest)
 
@@ -23,12 +23,12 @@ onto_front-one : {T : Type 0} (x : T) (pages : List (List T)) → onto_front (x 
 onto_front-one x [] = refl
 onto_front-one x (next ∷ pages) = refl
 
--- at first
+-- at the start there are no full pages, and all reports are left
 pub pages_with-none : {T : Type 0} (rest : List T) → pages_with [] [] rest ≡ pages_of rest
 pages_with-none [] = refl
 pages_with-none (x ∷ rest) = onto_front-none x (pages_with_room 255 rest)
 
--- one more, on a page that has room
+-- the next report goes onto the page begun, if that has room
 pub pages_with-add : {T : Type 0} (full : List (List T)) (page : List T) (x : T) (rest : List T) → length page < 256 → pages_with full page (x ∷ rest) ≡ pages_with full (page ++ x ∷ []) rest
 pages_with-add {T} full page x rest low =
     let count : length (page ++ x ∷ []) ≡ length page + 1 = length-append page (x ∷ []) in
@@ -36,7 +36,7 @@ pages_with-add {T} full page x rest low =
     ap (λ (pages : List (List T)). full ++ pages)
     (ap (λ (r : ℕ). onto_front page (pages_with_room r (x ∷ rest))) room ∙ onto_front-onto_first page x (pages_with_room (256 - length (page ++ x ∷ [])) rest))
 
--- one more, on a new page
+-- the next report begins a new page, if the page begun is full
 pub pages_with-new : {T : Type 0} (full : List (List T)) (page : List T) (x : T) (rest : List T) → length page ≡ 256 → pages_with full page (x ∷ rest) ≡ pages_with (full ++ page ∷ []) (x ∷ []) rest
 pages_with-new {T} full page x rest whole =
     let room : 256 - length page ≡ 0 = omega (arith, whole) in
@@ -49,7 +49,7 @@ pages_with_room-none : {T : Type 0} (room : ℕ) → pages_with_room {T = T} roo
 pages_with_room-none zero = refl
 pages_with_room-none (suc room) = refl
 
--- none is left
+-- without reports left, the pages are the full ones and the one begun
 pub pages_with-last : {T : Type 0} (full : List (List T)) (page : List T) → pages_with full page [] ≡ full ++ page ∷ []
 pages_with-last {T} full page = ap (λ (pages : List (List T)). full ++ pages) (ap (λ (pages : List (List T)). onto_front page pages) (pages_with_room-none (256 - length page)) ∙ ap (λ (p : List T). p ∷ []) (append-nil page))
 
@@ -104,14 +104,14 @@ promise_pages-push {V} me to b count i (next ∷ pages) page =
     ap (λ (ps : List (Packet V)). packet me to (Promise b i count next) ∷ ps)
     (promise_pages-push me to b count (suc i) pages page ∙ ap (λ (j : ℕ). promise_pages me to b count (suc i) pages ++ packet me to (Promise b j count page) ∷ []) e)
 
--- as many pages as may be sent
+-- there are no more pages than may be sent
 pub pages-within : {V : Type 0} (first : ℕ) (accepted : List (Option (AcceptedEntry V))) → length accepted ≤ SLOTS → length (pages_of (reports_from first 0 accepted)) ≤ MOST_PAGES
 pages-within first accepted low =
     let few = reports_few first 0 accepted in
     let count = (pages_few 256 (reports_from first 0 accepted)).0 in
     omega (arith, low, few, count)
 
--- The invariant of the loop over the slots: the pages so far, the page begun and the reports of the slots to come are all pages.
+-- The invariant of the loop over the slots: the full pages, the page begun and the reports of the slots to come are all pages.
 pub record Gathers {V : Type 0} (first s : ℕ) (accepted : List (Option (AcceptedEntry V))) (full : List (List (SlotReport V))) (page : List (SlotReport V)) : Type 0 where
   pub from : first ≤ s
   pub low : length page ≤ 256
@@ -144,7 +144,7 @@ module _ {V : Type 0} (first s : ℕ) (accepted : List (Option (AcceptedEntry V)
     abbrev here : SlotReport V
     here = record { slot = s; ballot = x.ballot; value = x.value }
 
-    -- the pages of what is gathered, the report of this slot and those to come are all pages
+    -- the full pages, the page begun, the report of this slot and those of the slots to come are all pages
     with_here : pages_with full page (here ∷ rest) ≡ pages_of (reports_from first 0 accepted)
     with_here = ap (λ (rs : List (SlotReport V)). pages_with full page rs) (sym (reports-some first s s accepted x h.from is)) ∙ h.all
 

@@ -1,15 +1,15 @@
--- The room of a node after one of its parts has grown, and what that leaves of a step that is ready.
+-- The room of a node after one of its parts has grown, and why a step that was ready stays so.
 use Rattle.synod.proofs.Words.{◌≡◌, ℕ, zero, suc, ◌≤◌, List, [], ◌∷◌, length, get_or, set, Option, Some, None, Result, Ok, Err, ap, sym, subst, arith, SlotsView, Change, Round, Entry, ProposerUpdate, AddWaiting, Propose, Begin, Page, AddHeard, CompletePromise, Lead, LearnerUpdate, Count, Choose, Learn, StagedStep, RecordView, HasRoomFor, Node, StepResult, Refusal, Core, ProposerView, LearnerView, core_of, rooms_of, CanUpdateProposer, CanCount, CanUpdateLearner, RoomsGrow, HasNoLessRoom, IsNode, ReadyView, IsStagingResult, staged_node, proposer_of, learner_of, CanCommit}
 use Rattle.synod.specs.declared.change.Change.TheVariants.{Promise}
 use Rattle.synod.specs.declared.proposer.ProposerUpdate.TheVariants.{Idle}
 
 -- A map of pages has more room.
 
--- rooms that stay the same are at least what they were
+-- rooms that stay the same are no less
 pub rooms_same : (rooms : List ℕ) → RoomsGrow rooms rooms
 rooms_same rooms = λ k. omega arith
 
--- where one map has more room, each room is at least what it was
+-- if one map has more room, each room is no less than before
 pub rooms_grow : {T : Type 0} (maps : List (SlotsView T)) (k : ℕ) (m more : SlotsView T) → m ≡ get_or maps k m → m.room ≤ more.room → RoomsGrow (rooms_of maps) (rooms_of (set maps k more))
 rooms_grow {T} maps k m more read grows = λ j. grow_at maps k m more read grows j where
   grow_at : {T : Type 0} (maps : List (SlotsView T)) (k : ℕ) (m more : SlotsView T) → m ≡ get_or maps k m → m.room ≤ more.room → (j : ℕ) → get_or (rooms_of maps) j 0 ≤ get_or (rooms_of (set maps k more)) j 0
@@ -21,7 +21,7 @@ rooms_grow {T} maps k m more read grows = λ j. grow_at maps k m more read grows
 
 -- A part of a node has more room.
 
--- a node has at least its own room
+-- a node has no less room than itself
 pub same_room : {V : Type 0} (c : Core V) → HasNoLessRoom c c
 same_room c = record {
   accepted = omega arith;
@@ -37,15 +37,15 @@ module _ {V : Type 0} (me : ℕ) (weights : List ℕ) (r : RecordView V) (p : Pr
   abbrev Grows : Core V → Type 0
   Grows new = HasNoLessRoom now new
 
-  -- what has at least the room of the parts has at least that of the node that is seen
+  -- if a core has no less room than the parts, it has no less than the node that they make
   back : (new : Core V) → HasNoLessRoom (core_of me weights r p l) new → Grows new
   back new h = subst (λ (c : Core V). HasNoLessRoom c new) seen h
 
-  -- no part has grown
+  -- the node has no less room, if no part has grown
   pub no_more_room : Grows (core_of me weights r p l)
   no_more_room = back (core_of me weights r p l) (same_room (core_of me weights r p l))
 
-  -- the record has more room
+  -- the node has no less room, if the record has more
   pub record_room : (more : RecordView V) → r.room ≤ more.room → Grows (core_of me weights more p l)
   record_room more grows = back (core_of me weights more p l) record {
     accepted = grows;
@@ -57,7 +57,7 @@ module _ {V : Type 0} (me : ℕ) (weights : List ℕ) (r : RecordView V) (p : Pr
     learned = omega arith;
   }
 
-  -- the proposer has more room
+  -- the node has no less room, if the proposer has more
   pub proposer_room : (more : ProposerView V) → RoomsGrow p.page_rooms more.page_rooms → p.heard_room ≤ more.heard_room → p.waiting_room ≤ more.waiting_room → Grows (core_of me weights r more l)
   proposer_room more pages heard waiting = back (core_of me weights r more l) record {
     accepted = omega arith;
@@ -69,7 +69,7 @@ module _ {V : Type 0} (me : ℕ) (weights : List ℕ) (r : RecordView V) (p : Pr
     learned = omega arith;
   }
 
-  -- the learner has more room
+  -- the node has no less room, if the learner has more
   pub learner_room : (more : LearnerView V) → l.tallies_room ≤ more.tallies_room → l.other_room ≤ more.other_room → l.learned_room ≤ more.learned_room → Grows (core_of me weights r p more)
   learner_room more tallies other_tallies learned = back (core_of me weights r p more) record {
     accepted = omega arith;
@@ -81,14 +81,14 @@ module _ {V : Type 0} (me : ℕ) (weights : List ℕ) (r : RecordView V) (p : Pr
     learned = learned;
   }
 
--- what was just made ready has no more room than the node
+-- the node has no less room than when the step was readied
 pub ready_room : {V : Type 0} (core : Core V) (r : Result (StepResult V) Refusal) (made : ReadyView V) → IsStagingResult core r (Ok made) → HasNoLessRoom made.before core
 ready_room {V} core (Ok step) made h = subst (λ (c : Core V). HasNoLessRoom c core) (sym h.0) (same_room core)
 ready_room core (Err met) made h = elim h [ ]
 
--- A plan can be followed where there is as much room.
+-- A staged step can be committed with at least as much room.
 
--- as to the change of the record
+-- the change of the record
 record_has_room : {V : Type 0} (room more : ℕ) (change : Option (Change V)) → room ≤ more → HasRoomFor room change → HasRoomFor more change
 record_has_room room more None grows h = tt
 record_has_room room more (Some (Round r)) grows h = tt
@@ -96,7 +96,7 @@ record_has_room room more (Some (Promise b)) grows h = tt
 record_has_room room more (Some (Entry s entry)) grows h = omega (arith, grows, h)
 
 module _ {V : Type 0} (c d : Core V) (same : d.node ≡ c.node) (h : HasNoLessRoom c d) where
-  -- as to what is proposed
+  -- the update of the proposer
   proposer_has_room : (update : Option (ProposerUpdate V)) → CanUpdateProposer (proposer_of c) update → CanUpdateProposer (proposer_of d) update
   proposer_has_room None room = tt
   proposer_has_room (Some (AddWaiting v)) room = let count = ap (λ (n : Node V). length n.waiting) same in let more = h.waiting in omega (arith, count, more, room)
@@ -112,18 +112,18 @@ module _ {V : Type 0} (c d : Core V) (same : d.node ≡ c.node) (h : HasNoLessRo
   proposer_has_room (Some (Lead b next proposed)) room = let count = ap (λ (n : Node V). length n.waiting) same in omega (arith, count, room)
   proposer_has_room (Some Idle) room = tt
 
-  -- as to a vote
+  -- the count of a vote
   has_room_to_count : (s k : ℕ) → CanCount (learner_of c) s k → CanCount (learner_of d) s k
   has_room_to_count s k can = let first = h.tallies in let other_tallies = h.other_tallies in record { slot = omega (arith, first, can.slot); other_tallies = omega (arith, other_tallies, can.other_tallies); node = can.node }
 
-  -- as to what is learned
+  -- the update of the learner
   learner_has_room : (update : Option (LearnerUpdate V)) → CanUpdateLearner (learner_of c) update → CanUpdateLearner (learner_of d) update
   learner_has_room None room = tt
   learner_has_room (Some (Count s b k)) room = has_room_to_count s k room
   learner_has_room (Some (Choose s b k v)) room = let more = h.learned in (has_room_to_count s k room.0, omega (arith, more, room.1))
   learner_has_room (Some (Learn s v)) room = let more = h.learned in omega (arith, more, room)
 
-  -- as to all its parts
+  -- all parts of the step
   pub can_commit : (staged : StagedStep V) → CanCommit c staged → CanCommit d staged
   can_commit staged can = record {
     change = record_has_room c.accepted_room d.accepted_room staged.change h.accepted can.change;

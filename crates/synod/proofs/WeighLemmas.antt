@@ -1,7 +1,7 @@
--- The weight of the nodes that a test picks, counted from some node on.
+-- The weight of the nodes that a test picks, from some node on.
 use Rattle.synod.proofs.Words.{◌≡◌, ℕ, suc, ◌+◌, ◌*◌, ◌<◌, nat_lt, Bool, List, [], ◌∷◌, length, refl, ap, ◌∙◌, arith, if◌then◌else◌, true, weigh, is_quorum}
 
--- the nodes being numbered from i
+-- the weight of the nodes that a test picks, numbered from i on
 abbrev pub weigh_from : (ℕ → Bool) → ℕ → List ℕ → ℕ
 weigh_from picks i [] = 0
 weigh_from picks i (w ∷ ws) = (if picks i then w else 0) + weigh_from picks (suc i) ws
@@ -15,7 +15,7 @@ weigh_from-zero picks [] = refl
 weigh_from-zero picks (w ∷ ws) =
     ap (λ n. (if picks 0 then w else 0) + n) (weigh_from-suc picks 0 ws ∙ weigh_from-zero (λ k. picks (suc k)) ws)
 
--- only the nodes that there are count
+-- two tests that agree on all existing nodes give the same weight
 pub weigh-same : (p q : ℕ → Bool) (ws : List ℕ) → ((k : ℕ) → k < length ws → p k ≡ q k) → weigh p ws ≡ weigh q ws
 weigh-same p q [] same = refl
 weigh-same p q (w ∷ ws) same =

@@ -1,4 +1,4 @@
--- The words in which this crate is proved, passed on from one place.
+-- The names used in the proofs of this crate, re-exported from one place.
 pub use Rattle.indexmap.specs.IndexMap.{insert_entry}
 pub use Rattle.slots.proofs.FiniteMapLemmas.{front_of-le, top_of-put_at}
 pub use Rattle.slots.proofs.Lists.{In}

@@ -1,4 +1,4 @@
--- A value that has no bytes and owns nothing may go to another thread.
+-- A value that has no bytes and owns nothing may be sent to another thread.
 use denote.RattleType.{RattleType}
 use denote.Param.Send.{IsSend}
 use Rattle.synod.specs.contracts.ready.GhostValue.{the_row}

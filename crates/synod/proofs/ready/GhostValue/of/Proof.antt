@@ -1,4 +1,4 @@
--- `of` makes a value of no bytes, whose ghost field is what the reference shows.
+-- `of` makes a value of no bytes, whose ghost field is the referenced value.
 use mathlib.Core.Path.{refl, sym, subst}
 use Prim.Native.Nat.{ℕ}
 use mathlib.Core.List.{List, [], ◌∷◌, ◌++◌}
