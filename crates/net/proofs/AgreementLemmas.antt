@@ -7,7 +7,7 @@ use Rattle.net.proofs.ChosenAgree.{chosen_values_agree}
 use Rattle.net.proofs.LogsAgree.{log_entries_are_chosen, logs_of_nodes_agree}
 use Rattle.net.proofs.Offered.{log_entries_were_offered}
 
--- Of any two moments of a history one comes first.
+-- One of any two moments of a history comes first.
 
 module _ {V : Type 0} (size : V → ℕ) (history : History V) (w x : World V) (m : IsMoment size history w) (n : IsMoment size history x) where
   -- if w comes first, the events of its moment and the later ones up to the moment of x lead to x

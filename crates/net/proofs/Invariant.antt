@@ -159,7 +159,7 @@ module _ {V : Type 0} {k : ℕ} {l m : Ledger V} (g : Grows k l m) where
     offered = h.offered;
   }
 
-  -- the invariant of a learner still holds: votes remain, and what is chosen remains chosen
+  -- the invariant of a learner still holds: votes remain, and a chosen value remains chosen
   pub learner_lasts : (ws : List ℕ) (tallies : List (Option (List Tally))) (learned : List (Option (Option V))) → LearnerHolds ws l.votes tallies learned → LearnerHolds ws m.votes tallies learned
   learner_lasts ws tallies learned h = record {
     voters = λ s b j e. let v = h.voters s b j e in record { value = v.value; voted = g.votes.old _ v.voted };

@@ -39,7 +39,7 @@ pub record Happens {V : Type 0} (size : V → ℕ) (w : World V) (k : ℕ) (e : 
   pub other : node_of w e ≢ Some k → kept_part x k ≡ kept_part w k
 
 module _ {V : Type 0} (size : V → ℕ) (w : World V) (k : ℕ) where
-  -- the two facts agree if node j is the node of the event
+  -- if the step is one of node j, and j is the node of the event, the kept part of node k changes by the event
   as_happens : (e : Event V) (j : ℕ) → node_of w e ≡ Some j → (r : Result (World V) StepFault) → IfTaken r (Moves w j k (change_of size w e)) → IfTaken r (Happens size w k e)
   as_happens e j is_of (Ok x) h = record {
     own = λ d. h.own (let same : j ≡ k = cc in same);

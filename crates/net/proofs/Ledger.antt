@@ -74,7 +74,7 @@ abbrev pub AllGrounded : {V : Type 0} → List ℕ → Ledger V → List (Propos
 AllGrounded ws l [] = Unit {0}
 AllGrounded ws l (p ∷ older) = IsGrounded ws l older p.ballot p.slot p.value × AllGrounded ws l older
 
--- What a promise states.
+-- The facts that a promise states.
 
 -- one of the reports is of the vote's slot, under the vote's ballot or a higher one
 pub record HasHigher {V : Type 0} (reports : List (SlotReport V)) (x : Vote V) : Type 0 where

@@ -15,7 +15,7 @@ pub record Grows {V : Type 0} (k : ℕ) (l m : Ledger V) : Type 0 where
   pub proposals : Adds (λ x. x.ballot.node ≡ k) l.proposals m.proposals
   pub votes : Adds (λ x. (x.node ≡ k) × AllPromisedUpto l.promises k x.ballot) l.votes m.votes
 
--- a ledger that stays the same has grown
+-- a ledger grows to itself, with no additions
 pub grows_none : {V : Type 0} (k : ℕ) (l : Ledger V) → Grows k l l
 grows_none k l = record { begun = adds_none; promises = adds_none; proposals = adds_none; votes = adds_none }
 
@@ -56,7 +56,7 @@ grows-with_vote x l upto = record { begun = adds_none; promises = adds_none; pro
 
 -- Facts that still hold in a ledger that grew.
 
--- what is chosen remains chosen with more votes
+-- a chosen value remains chosen with more votes
 pub chosen_with_more : {V : Type 0} {ws : List ℕ} {s : ℕ} {v : Option V} (old new : List (Vote V)) → ((x : Vote V) → In x old → In x new) → IsChosen ws old s v → IsChosen ws new s v
 chosen_with_more old new more h = record {
   ballot = h.ballot;

@@ -9,13 +9,13 @@ use Rattle.net.proofs.StepsContinue.{Continues, same_ledger, true_accepts}
 use Rattle.net.proofs.QuorumHeard.{AllHeard, IsQuorumHeard, fills_grounded, fills_brought, free_above, reported_from}
 use Rattle.net.proofs.ProposerSteps.{after_batch}
 
--- what holds of each element holds of each of the first i
+-- if P holds of each element, it holds of each of the first i
 all_take : {A : Type 0} (P : A → Type 0) (i : ℕ) (xs : List A) → AllByRecursion P xs → AllByRecursion P (take i xs)
 all_take P zero xs h = tt
 all_take P (suc i) [] h = tt
 all_take P (suc i) (x ∷ xs) h = (h.0, all_take P i xs h.1)
 
--- what holds of each element holds of each after the first i
+-- if P holds of each element, it holds of each after the first i
 all_drop : {A : Type 0} (P : A → Type 0) (i : ℕ) (xs : List A) → AllByRecursion P xs → AllByRecursion P (drop i xs)
 all_drop P zero xs h = h
 all_drop P (suc i) [] h = tt

@@ -62,7 +62,7 @@ first_acceptor_reports = refl
 second_acceptor_reports : packet_after (run three third_leader) 26 ≡ Some (packet 1 2 (Promise (ballot 3 2) 1 1 (report 0 (ballot 2 1) 81 ∷ [])))
 second_acceptor_reports = refl
 
--- of the two reported values node 2 proposes the one with the higher ballot
+-- node 2 proposes the reported value with the higher ballot
 higher_value_is_proposed : packet_after (run three third_leader) 27 ≡ Some (packet 2 0 (Accept (ballot 3 2) 0 (Some 81)))
 higher_value_is_proposed = refl
 
@@ -99,7 +99,7 @@ votes_of_two_ballots_do_not_add = refl
 votes_of_one_ballot_add : log_after (run three (split_votes ++ Deliver 18 ∷ Deliver 24 ∷ [])) 2 ≡ Some (Some 81 ∷ [])
 votes_of_one_ballot_add = refl
 
--- of these deliveries to node 2 only that of the Accept makes it post
+-- only the delivery of the Accept makes node 2 post
 split_votes_post : counts_on (run three two_leaders) (Deliver 10 ∷ Deliver 10 ∷ Deliver 21 ∷ Deliver 18 ∷ Deliver 24 ∷ []) ≡ 22 ∷ 22 ∷ 22 ∷ 22 ∷ 25 ∷ 25 ∷ []
 split_votes_post = refl
 

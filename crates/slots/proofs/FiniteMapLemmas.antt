@@ -1,7 +1,7 @@
 -- The finite map of a list of options: its entries, its front and its top after each change.
 use Rattle.slots.proofs.Words.{◌≡◌, ℕ, zero, suc, ◌+◌, ◌<◌, ◌≤◌, max, List, [], ◌∷◌, ◌++◌, length, get_or, set, drop, replicate, Option, Some, None, refl, ap, ◌∙◌, arith, le_of_suc-le-suc, sym, entry_at, put_at, trim_head, trimmed, entries_to_gap, front_of, top_of}
 
--- One entry is put.
+-- Putting an entry.
 
 put-trim_head : {T : Type 0} (x : Option T) (ys : List (Option T)) (s : ℕ) (v : T) → trim_head x (put_at ys s v) ≡ put_at (trim_head x ys) (suc s) v
 put-trim_head None [] zero v = refl
@@ -62,7 +62,7 @@ entry_at-past [] s h = refl
 entry_at-past (x ∷ xs) zero h = absurd (omega arith)
 entry_at-past (x ∷ xs) (suc s) h = entry_at-past xs s (le_of_suc-le-suc h)
 
--- Empty slots behind the list.
+-- Empty slots after the end of the list.
 
 trimmed-gaps : {T : Type 0} (n : ℕ) → trimmed {T = T} (replicate n None) ≡ []
 trimmed-gaps zero = refl
@@ -109,14 +109,14 @@ front_of-drop-front_of [] = refl
 front_of-drop-front_of (None ∷ xs) = refl
 front_of-drop-front_of (Some x ∷ xs) = front_of-drop-front_of xs
 
--- after a put the front is found from the old front on
+-- after a put the front is found by counting on from the old front
 pub front_of-set : {T : Type 0} (xs : List (Option T)) (s : ℕ) (v : T) → front_of xs + front_of (drop (front_of xs) (set xs s (Some v))) ≡ front_of (set xs s (Some v))
 front_of-set [] s v = refl
 front_of-set (None ∷ xs) s v = omega arith
 front_of-set (Some x ∷ xs) zero v = let here = front_of-drop-front_of xs in omega (arith, here)
 front_of-set (Some x ∷ xs) (suc s) v = let more = front_of-set xs s v in omega (arith, more)
 
--- the front once there is an entry at a slot
+-- The front after a put.
 
 pub front_of-put_at-other : {T : Type 0} (xs : List (Option T)) (s : ℕ) (v : T) → (s ≡ front_of xs → ⊥) → front_of (put_at xs s v) ≡ front_of xs
 front_of-put_at-other [] zero v other = absurd (other refl)

@@ -19,13 +19,13 @@ In-append x [] ys i = inr i
 In-append x (z ∷ xs) ys (inl e) = inl (inl e)
 In-append x (z ∷ xs) ys (inr i) = elim (In-append x xs ys i) [ inl j ↦ inl (inr j) | inr j ↦ inr j ]
 
--- the same as std's `Contains`
+-- if x is in the list by recursion, it is so by std's `Contains`
 pub In-contains : {A : Type 0} (x : A) (xs : List A) → In x xs → Contains xs x
 In-contains x [] i = elim i [ ]
 In-contains x (y ∷ xs) (inl e) = (0, omega arith, e)
 In-contains x (y ∷ xs) (inr i) = let h = In-contains x xs i in (suc h.0, omega (arith, h.1), h.2)
 
--- what stands at a place of a list is in it
+-- the element at an index is in the list
 in_at : {A : Type 0} (x : A) (xs : List A) (k : ℕ) → k < length xs → slice_index_or xs k x ≡ x → In x xs
 in_at x [] k u e = absurd (omega arith)
 in_at x (y ∷ xs) zero u e = inl e

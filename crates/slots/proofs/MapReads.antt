@@ -1,7 +1,7 @@
 -- A finite map read after a write, and its log read at a slot.
 use Rattle.slots.proofs.Words.{◌≡◌, ℕ, zero, suc, List, [], ◌∷◌, Option, Some, None, ◌⊎◌, inl, inr, refl, ap, slice_get, entry_at, put_at, entries_to_gap}
 
--- the two cases at a slot, told of the slot after it
+-- the two cases for a slot give those for the slot after it
 one_on : {P Q : Type 0} {t s : ℕ} → ((t ≡ s) × P) ⊎ Q → ((suc t ≡ suc s) × P) ⊎ Q
 one_on (inl h) = inl (ap suc h.0, h.1)
 one_on (inr q) = inr q
@@ -24,7 +24,7 @@ put_same [] (suc s) v = put_same [] s v
 put_same (x ∷ xs) zero v = refl
 put_same (x ∷ xs) (suc s) v = put_same xs s v
 
--- an entry before the gap is the entry at its slot
+-- if the log has v at index s, the map has v at slot s
 pub before_gap : {T : Type 0} (xs : List (Option T)) (s : ℕ) (v : T) → slice_get (entries_to_gap xs) s ≡ Some v → entry_at xs s ≡ Some v
 before_gap [] s v h = cc
 before_gap (None ∷ xs) s v h = cc

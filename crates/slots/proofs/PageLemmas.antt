@@ -5,7 +5,7 @@ use Rattle.slots.specs.FiniteMap.{entry_at}
 use Rattle.slots.specs.Stored.Pages.{padded}
 use Rattle.slots.specs.declared.page.TheConstants.{PAGE_SLOTS}
 
--- an empty slot more, which is one fewer behind
+-- with one more empty slot stored and one fewer padded, the page is the same
 pub one_more : {T : Type 0} (xs more : List (Option T)) (count : ℕ) → more ≡ xs ++ None ∷ [] → length xs < count
     → more ++ replicate (count - length more) None ≡ xs ++ replicate (count - length xs) None
 one_more {T} xs more count is low =
@@ -14,7 +14,7 @@ one_more {T} xs more count is low =
     ∙ append_assoc xs (None ∷ []) (replicate (count - length more) None)
     ∙ ap (λ (ys : List (Option T)). xs ++ ys) (ap (λ (n : ℕ). replicate n (let none : Option T = None in none)) (let e : suc (count - length more) ≡ count - length xs = omega arith in e))
 
--- where none is behind
+-- a page of which all slots are stored has no padding
 pub none_more : {T : Type 0} (xs : List (Option T)) (count : ℕ) → count ≤ length xs → xs ≡ xs ++ replicate (count - length xs) None
 none_more {T} xs count all = sym (ap (λ (n : ℕ). xs ++ replicate n (let none : Option T = None in none)) (let e : count - length xs ≡ 0 = omega arith in e) ∙ append-nil xs)
 
@@ -24,13 +24,13 @@ entry_at-replicate zero s = refl
 entry_at-replicate (suc n) zero = refl
 entry_at-replicate (suc n) (suc s) = entry_at-replicate n s
 
--- a stored slot
+-- the entry at a stored slot is the one stored
 pub entry_at-stored : {T : Type 0} (xs ys : List (Option T)) (s : ℕ) (d : Option T) → s < length xs → entry_at (xs ++ ys) s ≡ get_or xs s d
 entry_at-stored [] ys s d low = absurd (omega arith)
 entry_at-stored (x ∷ xs) ys zero d low = refl
 entry_at-stored (x ∷ xs) ys (suc s) d low = entry_at-stored xs ys s d (le_of_suc-le-suc low)
 
--- a slot that is not stored
+-- a slot that is not stored has no entry
 pub entry_at-past : {T : Type 0} (xs : List (Option T)) (n s : ℕ) → length xs ≤ s → entry_at (xs ++ replicate n None) s ≡ None
 entry_at-past [] n s past = entry_at-replicate n s
 entry_at-past (x ∷ xs) n zero past = absurd (omega arith)
@@ -47,7 +47,7 @@ padded-pad_to {T} xs s low =
     ∙ ap (λ (n : ℕ). replicate n none) (omega (arith, count, low)))
 
 module _ {T : Type 0} (xs ys : List (Option T)) (s : ℕ) (low : s < PAGE_SLOTS) (filled : ys ≡ xs ++ replicate (s + 1 - length xs) None) where
-  -- the slot is stored
+  -- slot s is stored
   stored : s < length ys
   stored =
       let none : Option T = None in
@@ -57,13 +57,13 @@ module _ {T : Type 0} (xs ys : List (Option T)) (s : ℕ) (low : s < PAGE_SLOTS)
   same_page : padded ys ≡ padded xs
   same_page = ap padded filled ∙ padded-pad_to xs s low
 
-  -- an entry is put there
+  -- setting the entry at a stored slot sets it in the page
   pub padded-put : (v : Option T) → padded (set ys s v) ≡ set (padded xs) s v
   padded-put v =
       ap (λ (n : ℕ). set ys s v ++ replicate (PAGE_SLOTS - n) (let none : Option T = None in none)) (length-set ys s v)
       ∙ sym (set-append_left ys (replicate (PAGE_SLOTS - length ys) None) s v stored)
       ∙ ap (λ (zs : List (Option T)). set zs s v) same_page
 
-  -- the entry that was there
+  -- the entry read at a stored slot is that of the page
   pub padded-get : (d : Option T) → get_or ys s d ≡ entry_at (padded xs) s
   padded-get d = sym (entry_at-stored ys (replicate (PAGE_SLOTS - length ys) None) s d stored) ∙ ap (λ (zs : List (Option T)). entry_at zs s) same_page

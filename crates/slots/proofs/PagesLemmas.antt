@@ -1,4 +1,4 @@
--- Pages of 256 slots, one behind the other, as one list.
+-- Pages of 256 slots, joined in order into one list.
 use Rattle.slots.proofs.Words.{◌≡◌, ℕ, zero, suc, ◌+◌, ◌-◌, ◌*◌, ◌<◌, List, [], ◌∷◌, ◌++◌, length, get_or, set, Option, refl, ap, sym, ◌∙◌, arith, le_of_suc-le-suc, append_assoc, append-nil, length-append, set-append_left, set-append_right, entry_at, joined, AreFullSize}
 
 pub length-joined : {T : Type 0} (pages : List (List T)) → AreFullSize pages → length (joined pages) ≡ 256 * length pages
@@ -43,7 +43,7 @@ entry_at-append_right {T} [] ys s t e = let same : s ≡ t = omega arith in ap (
 entry_at-append_right (x ∷ xs) ys zero t e = absurd (omega arith)
 entry_at-append_right (x ∷ xs) ys (suc s) t e = entry_at-append_right xs ys s t (omega arith)
 
--- slot s is slot r of page q
+-- slot 256 * q + r is slot r of page q
 pub entry_at-joined : {T : Type 0} (pages : List (List (Option T))) (d : List (Option T)) (q r s : ℕ) → AreFullSize pages → q < length pages → r < 256 → s ≡ 256 * q + r → entry_at (joined pages) s ≡ entry_at (get_or pages q d) r
 entry_at-joined [] d q r s full_size in_pages in_page at = absurd (omega arith)
 entry_at-joined {T} (page ∷ pages) d zero r s full_size in_pages in_page at =

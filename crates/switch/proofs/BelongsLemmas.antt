@@ -1,8 +1,8 @@
--- A prefix of a node's log stays one, whatever event comes, but for a restart of that node.
+-- A prefix of a node's log remains one after any event other than a restart of that node.
 use Rattle.switch.proofs.Words.{◌≡◌, ◌≢◌, ℕ, ◌<◌, ◌==◌, Bool, true, false, List, [], ◌∷◌, ◌++◌, length, slice_get, inl, inr, Option, Some, None, Result, Ok, Err, refl, ap, sym, ◌∙◌, subst, arith, nat_lt, ◌+◌, IsSome, OnErr, option_map, nat_tests, length-set, Packet, Change, Refusal, Node, StepResult, offered, begun, on_packet, restarted, MOST_EVENTS, Event, Offer, Begin, Deliver, Restart, StepFault, World, at_node, delivered, event_result_without_limit, event_result, log, log_after, events_result, start, IsAfter, IsPrefixOf, node_of, change_of, IfTaken, if_taken, spent_or, events_result-append, after-push, log_grows, then_begins, Status, up, down, StoreView, SwitchView, world_of, with_store, IsViewOf, AreStores, is_down, is_down_view, is_down_at, owed_on_failure, change_of_owed, owed_events, FailsAt, TakesAt, IsEffectAtUpNode, RevivesAt, Revives, IsEffectAtDownNode, IsEffect, IsLogPrefix, StaysBelonging, KeepsLogs, append-nil}
 use Rattle.switch.specs.Switch.{with_event}
 
--- The node of an event that is taken is there.
+-- The node of an event that is taken exists.
 
 pub record IsOfNode {V : Type 0} (w : World V) (e : Event V) : Type 0 where
   pub k : ℕ
@@ -10,7 +10,7 @@ pub record IsOfNode {V : Type 0} (w : World V) (e : Event V) : Type 0 where
   pub there : IsSome (slice_get w.nodes k)
 
 module _ {V : Type 0} (size : V → ℕ) (w : World V) where
-  -- where an event of node k is taken, node k is there
+  -- if an event of node k is taken, node k exists
   there_at : (e : Event V) (k : ℕ) → node_of w e ≡ Some k → (make : Node V → Result (StepResult V) Refusal) (o : Option (Node V)) → slice_get w.nodes k ≡ o → IfTaken (at_node w k make o) (λ x. IsOfNode w e)
   there_at e k is make None none = tt
   there_at e k is make (Some n) some = anyway (at_node w k make (Some n)) where
@@ -18,34 +18,34 @@ module _ {V : Type 0} (size : V → ℕ) (w : World V) where
     anyway (Ok x) = record { k = k; node = is; there = ap (λ (o : Option (Node V)). let t : Bool = elim o as (λ p. Bool) [ None ↦ false | Some m ↦ true ] in t) some }
     anyway (Err fault) = tt
 
-  -- where a delivery is taken, the node that the packet is addressed to is there
+  -- if a delivery is taken, the node to which the packet is addressed exists
   there_delivered : (number : ℕ) (o : Option (Packet V)) → slice_get w.packets number ≡ o → IfTaken (delivered w o) (λ x. IsOfNode w (Deliver number))
   there_delivered number None none = tt
   there_delivered number (Some p) some = there_at (Deliver number) p.to (ap (λ (o : Option (Packet V)). option_map (λ p. p.to) o) some) (λ n. Ok (on_packet n p)) (slice_get w.nodes p.to) refl
 
-  -- the same for each event, the limit of events aside
+  -- if an event is taken, its node exists, the limit of events aside
   there_happens_at : (e : Event V) → IfTaken (event_result_without_limit size w e) (λ x. IsOfNode w e)
   there_happens_at (Offer k v) = there_at (Offer k v) k refl (λ n. offered size n v) (slice_get w.nodes k) refl
   there_happens_at (Begin k) = there_at (Begin k) k refl begun (slice_get w.nodes k) refl
   there_happens_at (Deliver number) = there_delivered number (slice_get w.packets number) refl
   there_happens_at (Restart k) = there_at (Restart k) k refl (λ n. Ok (restarted n)) (slice_get w.nodes k) refl
 
-  -- the node of an event that happens is there
+  -- the node of an event that happens exists
   pub node_there : (e : Event V) (x : World V) → event_result size w e ≡ Ok x → IsOfNode w e
   node_there e x happened = if_taken (λ (y : World V). IsOfNode w e) (event_result size w e) x happened (spent_or (λ (y : World V). IsOfNode w e) (event_result_without_limit size w e) (w.event_count == MOST_EVENTS) (there_happens_at e))
 
--- an event that is no restart of node j leaves its log a beginning of the new one
+-- the log of node j before an event other than its restart is a prefix of the log after it
 log_goes_on : {V : Type 0} (size : V → ℕ) (w : World V) (e : Event V) (x : World V) → event_result size w e ≡ Ok x → (j : ℕ) → e ≢ Restart j → IsPrefixOf (log w j) (log x j)
 log_goes_on {V} size w e x happened j other = if_taken (λ (y : World V). IsPrefixOf (log w j) (log y j)) (event_result size w e) x happened (log_grows size w j e other)
 
 -- The logs after a call.
 
 module _ {V : Type 0} (size : V → ℕ) (old : SwitchView V) where
-  -- where nothing has changed, what begins a log still begins it
+  -- if nothing changes, each prefix of a log remains one
   pub same_stays : (new : SwitchView V) → new ≡ old → StaysBelonging size old new
   same_stays new is k entries h = subst (λ (s : SwitchView V). IsLogPrefix size s k entries) (sym is) h
 
-  -- only a store changes
+  -- if only a store changes, each prefix of a log remains one
   view_stays : (new : SwitchView V) (k : ℕ) (view : StoreView V) → new ≡ with_store old k view → StaysBelonging size old new
   view_stays new k view is j entries h = subst (λ (s : SwitchView V). IsLogPrefix size s j entries) (sym is) record {
     node = subst (λ (n : ℕ). j < n) (sym (length-set old.stores k view)) h.node;
@@ -53,7 +53,7 @@ module _ {V : Type 0} (size : V → ℕ) (old : SwitchView V) where
   }
 
   module _ (w : World V) (was : world_of size old ≡ Ok w) where
-    -- a history of which x is the world
+    -- if the log of node j in w is a prefix of that in x, each prefix of it remains one in a history that leads to x
     longer_stays : (new : SwitchView V) (x : World V) → world_of size new ≡ Ok x → length new.stores ≡ length old.stores → (j : ℕ) (entries : List (Option V)) → IsPrefixOf (log w j) (log x j) → IsLogPrefix size old j entries → IsLogPrefix size new j entries
     longer_stays new x is count j entries grows h = record {
       node = subst (λ (n : ℕ). j < n) (sym count) h.node;
@@ -63,7 +63,7 @@ module _ {V : Type 0} (size : V → ℕ) (old : SwitchView V) where
           subst (λ (es : List (Option V)). IsPrefixOf entries es) (sym then) (then_begins entries (log w j) (log x j) (subst (λ (es : List (Option V)). IsPrefixOf entries es) now h.begins) grows);
     }
 
-    -- where the event is taken, and is no restart of node j, what begins the log of j begins the longer one
+    -- if an event other than a restart of node j is taken, each prefix of the log of j remains one
     taken_stays : (new : SwitchView V) (k : ℕ) (view : StoreView V) (change : Option (Change V)) (e : Event V) (x : World V) → event_result size w e ≡ Ok x → new ≡ with_event old k view change e
         → (j : ℕ) (entries : List (Option V)) → e ≢ Restart j → IsLogPrefix size old j entries → IsLogPrefix size new j entries
     taken_stays new k view change e x happened is j entries other h =
@@ -73,7 +73,7 @@ module _ {V : Type 0} (size : V → ℕ) (old : SwitchView V) where
         j entries (log_goes_on size w e x happened j other) h
 
     module _ (stores : AreStores size w old.stores) where
-      -- a node that is there has its store
+      -- each node that exists has a store
       view_there : (k : ℕ) → IsSome (slice_get w.nodes k) → (view : StoreView V) × (slice_get old.stores k ≡ Some view)
       view_there k there = both (slice_get w.nodes k) (slice_get old.stores k) refl there (stores k) where
         both : (n : Option (Node V)) (o : Option (StoreView V)) → slice_get old.stores k ≡ o → IsSome n → IsViewOf size w n o → (view : StoreView V) × (slice_get old.stores k ≡ Some view)
@@ -83,7 +83,7 @@ module _ {V : Type 0} (size : V → ℕ) (old : SwitchView V) where
 
 -- A restart.
 
--- what holds anyway holds where the result is an error
+-- if P holds, it holds if the result is an error
 on_err : {A E P : Type 0} (r : Result A E) → P → OnErr r P
 on_err (Ok a) p = tt
 on_err (Err e) p = p
@@ -102,7 +102,7 @@ before {V} size ws es e x is = from (events_result size es (Ok (start ws))) refl
   from (Err fault) at last = let no : Err fault ≡ Ok x = last in cc
 
 module _ {V : Type 0} (size : V → ℕ) (old : SwitchView V) (e : Event V) (new : SwitchView V) (result : Result ℕ StepFault) where
-  -- an event that changes nothing leaves each log
+  -- an event that changes nothing keeps the logs
   logs_same : new ≡ old → KeepsLogs size e old new result
   logs_same is = record {
     others = λ k entries other b. same_stays size old new is k entries b;
@@ -110,7 +110,7 @@ module _ {V : Type 0} (size : V → ℕ) (old : SwitchView V) (e : Event V) (new
     nodes = ap (λ (s : SwitchView V). length s.stores) is;
   }
 
-  -- an event that changes only one store leaves each log
+  -- an event that changes only one store keeps the logs
   logs_store : (j : ℕ) (view : StoreView V) → new ≡ with_store old j view → KeepsLogs size e old new result
   logs_store j view is = record {
     others = λ k entries other b. view_stays size old new j view is k entries b;
@@ -118,12 +118,12 @@ module _ {V : Type 0} (size : V → ℕ) (old : SwitchView V) (e : Event V) (new
     nodes = ap (λ (s : SwitchView V). length s.stores) is ∙ length-set old.stores j view;
   }
 
-  -- an event at which a call of the keep failed leaves each log
+  -- an event at which a call of the keep fails keeps the logs
   logs_fail : (j : ℕ) (view : StoreView V) (change : Option (Change V)) (left : Status (Event V)) → FailsAt old new j view change left → KeepsLogs size e old new result
   logs_fail j view change left h = logs_store j (record { kept = h.kept; failures = view.failures + 1; status = left }) h.rest
 
 module _ {V : Type 0} (size : V → ℕ) (old : SwitchView V) (w : World V) (was : world_of size old ≡ Ok w) (stores : AreStores size w old.stores) (new : SwitchView V) where
-  -- an event that happens at a node that is up
+  -- an event that happens at a node that is up keeps the logs
   takes_logs : (e : Event V) (x : World V) → event_result size w e ≡ Ok x → (k : ℕ) (view : StoreView V) (r : Result ℕ StepFault) → TakesAt old new e k view (change_of size w e) x r → KeepsLogs size e old new r
   takes_logs e x happened k view (Ok count) h = record {
     others = λ i entries other b. taken_stays size old w was new k view (change_of size w e) e x happened h.0 i entries other b;
@@ -133,7 +133,7 @@ module _ {V : Type 0} (size : V → ℕ) (old : SwitchView V) (w : World V) (was
   takes_logs e x happened k view (Err fault) (inl h) = logs_same size old e new (Err fault) h.1
   takes_logs e x happened k view (Err fault) (inr h) = logs_fail size old e new (Err fault) k view (change_of size w e) (down (owed_on_failure e)) h.1
 
-  -- an event whose node is up, whether it happens or meets a fault
+  -- an event whose node is up keeps the logs, whether it happens or meets a fault
   up_logs : (e : Event V) (result : Result ℕ StepFault) → IsEffectAtUpNode size w old new e result → KeepsLogs size e old new result
   up_logs e result effect = by_world (event_result size w e) refl where
     by_world : (r : Result (World V) StepFault) → event_result size w e ≡ r → KeepsLogs size e old new result
@@ -143,7 +143,7 @@ module _ {V : Type 0} (size : V → ℕ) (old : SwitchView V) (w : World V) (was
         let view = view_there size old w was stores of.k of.there in
         takes_logs e x happened of.k view.0 result (effect.taken x happened of.k of.node view.0 view.1)
 
-  -- the logs of other nodes go on where the event that node j owes is taken
+  -- if the event that node j owes is taken, the log of each other node is a prefix of the one after it
   owed_goes_on : (j : ℕ) (e : Option (Event V)) → ((ev : Event V) → e ≡ Some ev → node_of w ev ≡ Some j) → (m : World V) → IsAfter size old.weights (old.history ++ owed_events e) m → (k : ℕ) → k ≢ j → IsPrefixOf (log w k) (log m k)
   owed_goes_on j None owed m is k other =
       let both : Ok w ≡ Ok m = sym was ∙ ap (λ (es : List (Event V)). world_of size (record { weights = old.weights; history = es; stores = old.stores })) (sym (append-nil old.history)) ∙ is in
@@ -154,7 +154,7 @@ module _ {V : Type 0} (size : V → ℕ) (old : SwitchView V) (w : World V) (was
       let not : ev ≢ Restart k = λ same. (let both : Some j ≡ Some k = sym (owed ev refl) ∙ ap (λ (e : Event V). node_of w e) same in let number : j ≡ k = cc in other (sym number)) in
       log_goes_on size w ev m happened k not
 
-  -- a restart that takes what is owed first, or finds no memory, or finds that its keep fails
+  -- a restart of a node that is down keeps the logs, whether it takes the owed event first or finds no memory or a failing keep
   revived_logs : (j : ℕ) (view : StoreView V) (e : Option (Event V)) → ((ev : Event V) → e ≡ Some ev → node_of w ev ≡ Some j) → (r : Result ℕ StepFault) → RevivesAt size w old new j view e r → KeepsLogs size (Restart j) old new r
   revived_logs j view e owed (Ok count) h = record {
     others = λ k entries other b.
@@ -172,7 +172,7 @@ module _ {V : Type 0} (size : V → ℕ) (old : SwitchView V) (w : World V) (was
 
   -- An event that a node owes is one of its own events.
   module _ (owed : (j : ℕ) (view : StoreView V) → slice_get old.stores j ≡ Some view → (ev : Event V) → view.status ≡ down (Some ev) → node_of w ev ≡ Some j) where
-    -- an event whose node is down
+    -- an event whose node is down keeps the logs
     down_logs : (e : Event V) (result : Result ℕ StepFault) → is_down_at old.stores (node_of w e) ≡ true → IsEffectAtDownNode size w old new e result → KeepsLogs size e old new result
     down_logs (Offer k v) result test effect = logs_same size old (Offer k v) new result effect.1
     down_logs (Begin k) result test effect = logs_same size old (Begin k) new result effect.1
@@ -191,7 +191,7 @@ module _ {V : Type 0} (size : V → ℕ) (old : SwitchView V) (w : World V) (was
       by_view None none = let no : false ≡ true = sym (ap (λ (o : Option (StoreView V)). is_down_view o) none) ∙ test in cc
       by_view (Some view) at = by_standing view at view.status refl
 
-    -- every event
+    -- each event keeps the logs
     pub acts_logs : (e : Event V) (result : Result ℕ StepFault) → IsEffect size w old new e result → KeepsLogs size e old new result
     acts_logs e result effect = by_test (is_down_at old.stores (node_of w e)) refl where
       by_test : (t : Bool) → is_down_at old.stores (node_of w e) ≡ t → KeepsLogs size e old new result

@@ -1,4 +1,4 @@
--- The answer of a call on one node: contracts see the fields, and the world is the one after the history.
+-- The answer of a call on one node, in the world after the history; contracts see only the fields.
 use Rattle.switch.proofs.Words.{◌≡◌, ℕ, ◌+◌, ◌<◌, false, List, [], ◌∷◌, ◌++◌, length, set, slice_get, inl, inr, Option, Some, None, Result, Ok, Err, refl, ap, sym, ◌∙◌, subst, arith, IfErr, OnOk, IsOkUnless, ForOk, slice_get_within, Packet, Change, Kept, changed_by, Node, StepResult, kept_of, MOST_EVENTS, Event, StepFault, Memory, Device, World, after_step, event_result, packets_after, History, world_of_taken, node_of_event, node_of, change_of, StagedEvent, NetView, IsStaged, IsEventAt, ChangesOnlyRoom, IsTaken, change_in, step_of, after-push, length-nodes_of, Status, up, down, StoreState, IsRecordOf, IsWithOrWithout, Fails, change_owed, StoreView, SwitchView, event_owed, status_seen, view_of, views_of, IsOwing, IsSwitch, world_of, IsRecordIn, IsViewOf, AreStores, is_down_at, with_store, owed_on_failure, TakesAt, IsEffectAtUpNode, with_event}
 use Rattle.switch.proofs.StoresLemmas.{views_of-set, view_at, view_past, item_at, up_at}
 use Rattle.switch.proofs.SwitchLemmas.{switch_view, other_store, committed, node_is, at, happens_is, change_is, change_told, changes}
@@ -8,7 +8,7 @@ pub view_is_same : {V : Type 0} (ws us : List ℕ) (hs gs : List (Event V)) (som
     → let s : SwitchView V = record { weights = ws; history = hs; stores = some } in s ≡ record { weights = us; history = gs; stores = others }
 view_is_same ws us hs gs some others weights history stores = cc
 
--- a net that is changed in its rooms alone shows the same
+-- if only rooms change, the view of the switch stays the same
 pub still_view : {V : Type 0} (a b : NetView V) (stores : List (StoreState V)) → ChangesOnlyRoom a b → switch_view b stores ≡ switch_view a stores
 still_view {V} a b stores only_room = ap (λ (t : History V). let s : SwitchView V = record { weights = t.weights; history = t.events; stores = views_of stores } in s) only_room.history
 
@@ -19,22 +19,22 @@ module _ {V : Type 0} (size : V → ℕ) (net : NetView V) (stores : List (Store
   abbrev old : SwitchView V
   old = switch_view net stores
 
-  -- a fact of the world after the history
+  -- a fact of the view and the world of the fields holds of every world after the history of the view
   pub of_world : (P : SwitchView V → World V → Type 0) → P old w → ForOk (world_of size now) (λ x. P now x)
   of_world P p = λ x d.
       let both : Ok w ≡ Ok x = sym h.world.is_after ∙ ap (λ (s : SwitchView V). world_of size s) seen ∙ d in
       let same : w ≡ x = cc in
       subst (λ (y : World V). P now y) same (subst (λ (s : SwitchView V). P s w) seen p)
 
-  -- the world that the switch keeps is the one after the history that is seen
+  -- the history of the view leads to the world of the fields
   pub after_is : world_of size now ≡ Ok w
   after_is = ap (λ (s : SwitchView V). world_of size s) (sym seen) ∙ h.world.is_after
 
-  -- the world after one event more is what the event makes of this one
+  -- the world after the history with one more event is the result of the event in this world
   next_is : (e : Event V) → world_of_taken size (with_event net.history e) ≡ event_result size w e
   next_is e = after-push size net.history.weights net.history.events w e h.world.is_after
 
-  -- the node of an event
+  -- the node of an event is the same by the packets of the fields and in the world
   pub node_seen : (e : Event V) (o : Option ℕ) → o ≡ node_of_event net.packets e → ForOk (world_of size now) (λ x. node_of x e ≡ o)
   node_seen e o is = of_world (λ s x. node_of x e ≡ o) (ap (λ (ps : List (Packet V)). node_of_event ps e) h.world.posted ∙ sym is)
 
@@ -58,7 +58,7 @@ module _ {V : Type 0} (size : V → ℕ) (net : NetView V) (stores : List (Store
       let cores = length-nodes_of net.cores in
       omega (arith, low, count, nodes, cores))
 
-  -- a keep that fits its node fits it with the change that the world tells of the event owed
+  -- if the record of a keep fits its node, it also fits by the change that the world gives for the owed event
   record_in : (n : Node V) (k : ℕ) (s : Status (StagedEvent V)) (kept : Kept V) → IsRecordOf n s kept → IsOwing size net k s → IsRecordIn size w n (status_seen s) kept
   record_in n k up kept fits owing = fits
   record_in n k (down None) kept fits owing = fits
@@ -76,14 +76,14 @@ module _ {V : Type 0} (size : V → ℕ) (net : NetView V) (stores : List (Store
       subst (λ (o : Option (Node V)). IsViewOf size w o (slice_get (views_of stores) k)) (sym nowhere)
       (subst (λ (o : Option (StoreView V)). IsViewOf size w None o) (sym (view_past stores k none)) tt)
 
-  -- the views that are seen are those of the world after the history
+  -- the views are those of the world after the history
   pub stores_are : ForOk (world_of size now) (λ x. AreStores size x now.stores)
   stores_are = of_world (λ s x. AreStores size x s.stores) (λ k. store_seen k (slice_get w.nodes k) refl (slice_get stores k) refl)
 
-  -- An event that was not made ready.
+  -- An event that was not readied.
 
   module _ (e : Event V) (fault : StepFault) (r : Result (StagedEvent V) StepFault) (is_err : r ≡ Err fault) (new : SwitchView V) (same : new ≡ old) where
-    -- what is answered is the fault that the event meets, or Memory where it meets none
+    -- if the answer is the fault that the event meets, or Memory if it meets none, the answer is right at a node that is up
     not_ready : (x : Result (World V) StepFault) → event_result size w e ≡ x → IfErr x (λ met. r ≡ Err met) → OnOk x (IsOkUnless r Memory) → IsEffectAtUpNode size w old new e (Err fault)
     not_ready (Err met) happened refused memory =
         let both : Err met ≡ Err fault = sym refused ∙ is_err in
@@ -99,26 +99,26 @@ module _ {V : Type 0} (size : V → ℕ) (net : NetView V) (stores : List (Store
           taken = λ x d k node view found. inl (is_memory, same);
         }
 
-    -- the same, as the net answers it: by the world after the events taken and this one
+    -- the same, with the fault given by the history with the event
     pub ready_fails : IfErr (world_of_taken size (with_event net.history e)) (λ met. r ≡ Err met) → OnOk (world_of_taken size (with_event net.history e)) (IsOkUnless r Memory) → ForOk (world_of size now) (λ x. IsEffectAtUpNode size x now new e (Err fault))
     ready_fails refused memory = of_world (λ s x. IsEffectAtUpNode size x s new e (Err fault))
         (not_ready (event_result size w e) refl (subst (λ (x : Result (World V) StepFault). IfErr x (λ met. r ≡ Err met)) (next_is e) refused) (subst (λ (x : Result (World V) StepFault). OnOk x (IsOkUnless r Memory)) (next_is e) memory))
 
-  -- An event that is staged, at a node that is up.
+  -- An event that is staged at a node that is up.
 
   module _ (d1 : StagedEvent V) (d : IsStaged size net d1) (low : length net.history.events < MOST_EVENTS) (e : Event V) (is_e : d1.event ≡ e) (store : StoreState V) (is : slice_get stores d1.at ≡ Some store) where
     abbrev step : StepResult V
     step = step_of d1.work d.core.node
 
-    -- what the event comes to at its node is the step
+    -- the result of the event at its node is the step
     at_e : IsEventAt size w d1.at e (Ok step)
     at_e = subst (λ (f : Event V). IsEventAt size w d1.at f (Ok step)) is_e (at size net stores h d1 d)
 
-    -- the world after the event is this one with the step made
+    -- the world after the event is this world with the step made
     happens_e : event_result size w e ≡ Ok (after_step w d1.at step)
     happens_e = ap (λ (f : Event V). event_result size w f) (sym is_e) ∙ happens_is size net stores h d1 d low
 
-    -- where the node of the event is not seen as down, its store is up
+    -- if the node of the event is not down in the view, its store is up
     pub is_up_at : is_down_at now.stores (node_of w e) ≡ false → store.status ≡ up
     is_up_at test = up_at stores d1.at store is (ap (λ (o : Option ℕ). is_down_at (views_of stores) o) (sym at_e.node) ∙ ap (λ (s : SwitchView V). is_down_at s.stores (node_of w e)) seen ∙ test)
 
@@ -127,7 +127,7 @@ module _ {V : Type 0} (size : V → ℕ) (net : NetView V) (stores : List (Store
       pub kept_up : store.kept ≡ kept_of d.core.node
       kept_up = subst (λ (s : Status (StagedEvent V)). IsRecordOf d.core.node s store.kept) is_up (h.each d1.at d.core.node store (node_is size net stores h d1 d) is).fits
 
-      -- what is told of the step by its own number, view and world is told by those that are found
+      -- if the event is taken at the node, view and world of the step, its answer is right at a node that is up
       told : (new : SwitchView V) (result : Result ℕ StepFault) → TakesAt old new e d1.at (view_of store) (change_in d1.work) (after_step w d1.at step) result → IsEffectAtUpNode size w old new e result
       told new result takes = record {
         refused = λ fault f. let no : Ok (after_step w d1.at step) ≡ Err fault = sym happens_e ∙ f in cc;
@@ -144,9 +144,9 @@ module _ {V : Type 0} (size : V → ℕ) (net : NetView V) (stores : List (Store
             (subst (λ (i : ℕ). TakesAt old new e i (view_of store) (change_in d1.work) (after_step w d1.at step) result) is_j takes)));
       }
 
-      -- a call of the keep failed, and o is owed
+      -- A call of the keep failed, and o is owed.
       module _ (o : Option (StagedEvent V)) (change : Option (Change V)) (is_change : change ≡ change_in d1.work) (owes : change_owed o ≡ change) (is_staged : event_owed o ≡ owed_on_failure e) (owing : IsOwing size net d1.at (down o)) (new : StoreState V) (fails : Fails store change (down o) new) where
-        -- the stores still make a switch
+        -- the net and the stores are still a switch
         pub failed : IsSwitch size net (set stores d1.at new)
         failed = other_store size net stores h d1.at d.core.node store new (node_is size net stores h d1 d) is record {
           fits = subst (λ (s : Status (StagedEvent V)). IsRecordOf d.core.node s new.kept) (sym (ap (λ (s : StoreState V). s.status) fails.rest))
@@ -154,7 +154,7 @@ module _ {V : Type 0} (size : V → ℕ) (net : NetView V) (stores : List (Store
           owing = subst (λ (s : Status (StagedEvent V)). IsOwing size net d1.at s) (sym (ap (λ (s : StoreState V). s.status) fails.rest)) owing;
         }
 
-        -- Device is what an event answers there, and its node is down with what it owes
+        -- Device is the right answer to the event, and its node is down with the event that it owes
         pub failed_acts : ForOk (world_of size now) (λ x. IsEffectAtUpNode size x now (switch_view net (set stores d1.at new)) e (Err Device))
         failed_acts = of_world (λ s x. IsEffectAtUpNode size x s (switch_view net (set stores d1.at new)) e (Err Device)) (told (switch_view net (set stores d1.at new)) (Err Device) (inr (
           refl,
@@ -167,19 +167,19 @@ module _ {V : Type 0} (size : V → ℕ) (net : NetView V) (stores : List (Store
           },
         )))
 
-      -- the keep has made the change, and the event is taken
+      -- The keep has made the change, and the event is taken.
       module _ (new : StoreState V) (stored : new ≡ record { kept = changed_by store.kept (change_in d1.work); failures = store.failures; status = store.status }) (b : NetView V) (t : IsTaken net b d1) where
-        -- the net and the stores make a switch again
+        -- the net and the stores are a switch again
         pub played : IsSwitch size b (set stores d1.at new)
         played = committed size net stores h d1 d low b t store new is
             (ap (λ (s : StoreState V). s.kept) stored ∙ ap (λ (k : Kept V). changed_by k (change_in d1.work)) kept_up ∙ sym (changes size net stores h d1 d low))
             (ap (λ (s : StoreState V). s.status) stored ∙ is_up)
 
-        -- its world is the one before with the step made
+        -- the world is the one before with the step made
         world_then : world_of_taken size b.history ≡ Ok (after_step w d1.at step)
         world_then = ap (λ (x : History V). world_of_taken size x) t.history ∙ next_is d1.event ∙ happens_is size net stores h d1 d low
 
-        -- the count of its packets is what an event answers there
+        -- the count of packets is the right answer to the event
         pub played_acts : (count : ℕ) → count ≡ length (packets_after (world_of_taken size b.history)) → ForOk (world_of size now) (λ x. IsEffectAtUpNode size x now (switch_view b (set stores d1.at new)) e (Ok count))
         played_acts count counted = of_world (λ s x. IsEffectAtUpNode size x s (switch_view b (set stores d1.at new)) e (Ok count)) (told (switch_view b (set stores d1.at new)) (Ok count) (
           view_is_same _ _ _ _ _ _ (ap (λ (x : History V). x.weights) t.history) (ap (λ (x : History V). x.events) t.history ∙ ap (λ (f : Event V). net.history.events ++ f ∷ []) is_e)

@@ -1,55 +1,55 @@
--- How many nodes there are, the dispatch of an event by its node, and a call as its function has it.
+-- The count of nodes, the dispatch of an event by its node, and a call in terms of the variables of its function.
 use Rattle.switch.proofs.Words.{◌≡◌, ℕ, ◌<◌, Bool, true, false, List, length, get_or, set, slice_get, Option, Some, Result, Ok, Err, refl, ap, sym, ◌∙◌, subst, arith, ForOk, slice_get_within, slice_get_read, Change, changed_by, kept_of, MOST_EVENTS, Event, Offer, Begin, Deliver, Restart, StepFault, Device, Down, World, packets_after, History, world_of_taken, node_of, StagedEvent, NetView, IsStaged, ChangesOnlyRoom, IsTaken, change_in, count_shown, up, down, StoreState, Fails, change_owed, SwitchView, event_owed, IsOwing, IsSwitch, world_of, is_down_at, owed_on_failure, IsEffectAtUpNode, IsEffectAtDownNode, IsEffect}
 use Rattle.switch.proofs.StoresLemmas.{count_views}
 use Rattle.switch.proofs.SwitchLemmas.{switch_view, still_switch}
 use Rattle.switch.proofs.CallLemmas.{still_view, after_is, is_up_at, kept_up, failed, failed_acts, played, played_acts}
 
--- as many stores are seen as there are weights
+-- there are as many stores as weights
 pub count_now : {V : Type 0} (size : V → ℕ) (net : NetView V) (stores : List (StoreState V)) (h : IsSwitch size net stores) (now : SwitchView V) (seen : switch_view net stores ≡ now) → length now.stores ≡ length net.history.weights
 count_now {V} size net stores h now seen = ap (λ (s : SwitchView V). length s.stores) (sym seen) ∙ count_views stores ∙ h.count ∙ count_shown size net.history net.history net.cores net.packets h.world refl
 
 -- The dispatch of an event by its node.
 
 module _ {V : Type 0} (size : V → ℕ) (now : SwitchView V) (e : Event V) (o : Option ℕ) (node : (x : World V) → world_of size now ≡ Ok x → node_of x e ≡ o) where
-  -- a test of the node that was found is a test of the node of the event
+  -- the node that was found is down exactly if the node of the event is
   pub test_at : (t : Bool) → is_down_at now.stores o ≡ t → (x : World V) → world_of size now ≡ Ok x → is_down_at now.stores (node_of x e) ≡ t
   test_at t test x d = ap (λ (p : Option ℕ). is_down_at now.stores p) (node x d) ∙ test
 
   module _ (new : SwitchView V) (result : Result ℕ StepFault) where
-    -- an event whose node is down does what it does there
+    -- an event whose node is down has the effect of an event at a node that is down
     pub down_acts : is_down_at now.stores o ≡ true → ForOk (world_of size now) (λ x. IsEffectAtDownNode size x now new e result) → ForOk (world_of size now) (λ x. IsEffect size x now new e result)
     down_acts test effect = λ x d. record { is_down = λ yes. effect x d; is_up = λ no. (let never : true ≡ false = sym (test_at true test x d) ∙ no in cc) }
 
-    -- an event whose node is not down does what it does at a node that is up
+    -- an event whose node is not down has the effect of an event at a node that is up
     pub up_acts : is_down_at now.stores o ≡ false → ForOk (world_of size now) (λ x. IsEffectAtUpNode size x now new e result) → ForOk (world_of size now) (λ x. IsEffect size x now new e result)
     up_acts test effect = λ x d. record { is_down = λ yes. (let never : false ≡ true = sym (test_at false test x d) ∙ yes in cc); is_up = λ no. effect x d }
 
--- an event that is no restart is itself what is owed where its store fails
+-- if its store fails, an event other than a restart is itself the one that is owed
 pub no_restart : {V : Type 0} (e : Event V) → ((k : ℕ) → e ≡ Restart k → ⊥) → owed_on_failure e ≡ Some e
 no_restart (Offer k v) other = refl
 no_restart (Begin k) other = refl
 no_restart (Deliver number) other = refl
 no_restart (Restart k) other = absurd (other k refl)
 
--- an event that is no restart is refused at a node that is down
+-- an event other than a restart is refused at a node that is down
 pub refused_down : {V : Type 0} (size : V → ℕ) (now : SwitchView V) (e : Event V) → owed_on_failure e ≡ Some e → ForOk (world_of size now) (λ x. IsEffectAtDownNode size x now now e (Err Down))
 refused_down size now (Offer k v) is = λ x d. (refl, refl)
 refused_down size now (Begin k) is = λ x d. (refl, refl)
 refused_down size now (Deliver number) is = λ x d. (refl, refl)
 refused_down size now (Restart k) is = cc
 
--- A call as its function has it: the net was made ready, and the store is found by its number.
+-- A call in terms of the variables of its function: the event was readied, and the store is found by its number.
 
 module _ {V : Type 0} (size : V → ℕ) (a b : NetView V) (only_room : ChangesOnlyRoom a b) (stores : List (StoreState V)) (h : IsSwitch size a stores) (now : SwitchView V) (seen : switch_view a stores ≡ now) (d1 : StagedEvent V) (d : IsStaged size b d1) (k : ℕ) (is_at : k ≡ d1.at) where
-  -- the stores make a switch with the net as it is then
+  -- the readied net and the stores are a switch
   hb : IsSwitch size b stores
   hb = still_switch size a stores h b only_room
 
-  -- what is seen of it is what was seen before
+  -- the view is the one before the event was readied
   seen_b : switch_view b stores ≡ now
   seen_b = still_view a b stores only_room ∙ seen
 
-  -- there is a store of this number
+  -- there is a store at this number
   pub in_stores : k < length stores
   in_stores = let low = slice_get_within b.cores d1.at d.core d.at in let count = hb.count in omega (arith, low, count, is_at)
 
@@ -58,19 +58,19 @@ module _ {V : Type 0} (size : V → ℕ) (a b : NetView V) (only_room : ChangesO
     found : slice_get stores d1.at ≡ Some store
     found = ap (λ (i : ℕ). slice_get stores i) (sym is_at) ∙ slice_get_read stores (length stores) k store refl in_stores is
 
-    -- the history is still below the limit of events
+    -- the history is below the limit of events
     low : length b.history.events < MOST_EVENTS
     low = let same = ap (λ (t : History V). length t.events) only_room.history in omega (arith, same, few)
 
-    -- where the node of the event is not seen as down, this store is up
+    -- if the node of the event is not down in the view, this store is up
     pub is_up : store.status ≡ up
     is_up = is_up_at size b stores hb now seen_b d1 d low e is_e store found (up_now hb.world.world (after_is size b stores hb now seen_b))
 
-    -- its keep has the kept part of the node
+    -- the record of its keep is the kept part of the node
     pub kept_is : store.kept ≡ kept_of d.core.node
     kept_is = kept_up size b stores hb now seen_b d1 d low e is_e store found is_up
 
-    -- a call of the keep failed: the stores still make a switch, and Device is what an event answers there
+    -- if a call of the keep failed, the net and the stores are still a switch, and Device is the right answer
     pub call_failed : (o : Option (StagedEvent V)) (change : Option (Change V)) → change ≡ change_in d1.work → change_owed o ≡ change → event_owed o ≡ owed_on_failure e → IsOwing size b d1.at (down o) → (new : StoreState V) → Fails store change (down o) new
         → IsSwitch size b (set stores k new) × ForOk (world_of size now) (λ x. IsEffectAtUpNode size x now (switch_view b (set stores k new)) e (Err Device))
     call_failed o change is_change owes is_staged owing new fails =
@@ -79,7 +79,7 @@ module _ {V : Type 0} (size : V → ℕ) (a b : NetView V) (only_room : ChangesO
           failed_acts size b stores hb now seen_b d1 d low e is_e store found is_up o change is_change owes is_staged owing new fails,
         )
 
-    -- the keep made the change and the event was taken: a switch again, and the count of its packets is what an event answers
+    -- if the keep made the change and the event was taken, the net and the stores are a switch, and the count of packets is the right answer
     pub call_played : (new : StoreState V) → new ≡ record { kept = changed_by store.kept (change_in d1.work); failures = store.failures; status = store.status } → (c : NetView V) → IsTaken b c d1 → (count : ℕ) → count ≡ length (packets_after (world_of_taken size c.history))
         → IsSwitch size c (set stores k new) × ForOk (world_of size now) (λ x. IsEffectAtUpNode size x now (switch_view c (set stores k new)) e (Ok count))
     call_played new stored c t count counted =

@@ -1,17 +1,17 @@
 -- A restart that starts from a loaded record.
 use Rattle.switch.proofs.Words.{◌≡◌, ℕ, List, length, Some, None, Ok, refl, ap, sym, subst, AllByRecursion, Packet, Kept, Node, StepResult, kept_of, Restart, StagedWork, steps, restarts, StagedEvent, NetView, IsStaged, IsReadyAt, IsOfEvent, HasResult, change_in, posts_of, step_of, with_loaded, with_record, Core, IsPost, reloaded}
 
--- a restart makes no change of the kept part
+-- a restart makes no change to the kept part
 pub load_change : {V : Type 0} (j : ℕ) (work : StagedWork V) → IsOfEvent (Restart j) work → change_in work ≡ None
 load_change j (steps made) kind = elim kind [ ]
 load_change j (restarts posts loaded) kind = refl
 
--- nor does it with a record loaded
+-- a restart with a loaded record makes no change to the kept part
 pub loaded_change : {V : Type 0} (j : ℕ) (work : StagedWork V) (kept : Kept V) → IsOfEvent (Restart j) work → change_in (with_loaded work kept) ≡ None
 loaded_change j (steps made) kept kind = elim kind [ ]
 loaded_change j (restarts posts loaded) kept kind = refl
 
--- a record that is loaded changes no posts
+-- loading a record leaves the posts
 pub load_posts : {V : Type 0} (work : StagedWork V) (kept : Kept V) → posts_of (with_loaded work kept) ≡ posts_of work
 load_posts (steps made) kept = refl
 load_posts (restarts posts loaded) kept = refl

@@ -1,4 +1,4 @@
--- The restart of a node that is down: what is owed is taken first.
+-- The restart of a node that is down: the event that it owes is taken first.
 use Rattle.switch.proofs.Words.{◌≡◌, ℕ, ◌+◌, ◌<◌, ◌≤◌, true, List, [], ◌∷◌, ◌++◌, length, get_or, set, slice_get, inl, inr, Option, Some, None, Result, Ok, Err, refl, ap, sym, ◌∙◌, subst, arith, length-append, AllByRecursion, option_map, ForOk, length-set, slice_get_read, Packet, Ask, Change, IsPost, to_others, Kept, changed_by, Node, StepResult, kept_of, Core, reloaded, restarted, MOST_EVENTS, Event, Restart, StepFault, Memory, Device, World, packets_after, IsAfter, History, world_of_taken, kept_part, StagedWork, steps, restarts, StagedEvent, NetView, HasRoom, IsStaged, IsReadyAt, IsOfEvent, IsEventAt, HasResult, IsTaken, posts_of, step_of, with_loaded, with_record, at_set, set_twice, comes_restart, set_same, Status, up, down, StoreState, owed_in, change_owed, posts_owed, IsRecordOf, IsWithOrWithout, Fails, StoreView, SwitchView, event_owed, status_seen, view_of, views_of, IsOwing, IsStore, IsSwitch, CanTakeOwed, TakesOwed, world_of, is_down_at, owed_events, with_store, RevivesAt, Revives}
 use Rattle.switch.proofs.KeepLemmas.{either_twice}
 use Rattle.switch.proofs.StoresLemmas.{views_of-set, view_at, item_at, down_at, few_staged}
@@ -7,7 +7,7 @@ use Rattle.switch.proofs.CallLemmas.{view_is_same, of_world}
 use Rattle.switch.proofs.LoadLemmas.{load_posts}
 use Rattle.switch.proofs.OwedLemmas.{owed_change, can_take, owed_taken}
 
--- The switch before, stores and net being as they are when the keep is called.
+-- The switch before, with stores and net as they are when the keep is called.
 module _ {V : Type 0} (size : V → ℕ) (net : NetView V) (stores : List (StoreState V)) (h : IsSwitch size net stores) (now : SwitchView V) (seen : switch_view net stores ≡ now)
     (d1 : StagedEvent V) (d : IsStaged size net d1) (j : ℕ) (is_e : d1.event ≡ Restart j) (kind : IsOfEvent (Restart j) d1.work) (k : ℕ) (is_at : k ≡ d1.at) (store : StoreState V) (is : store ≡ get_or stores k store) (low_k : k < length stores)
     (test : is_down_at now.stores (Some j) ≡ true) (room : length net.history.events + 2 ≤ MOST_EVENTS) where
@@ -17,7 +17,7 @@ module _ {V : Type 0} (size : V → ℕ) (net : NetView V) (stores : List (Store
   abbrev old : SwitchView V
   old = switch_view net stores
 
-  -- what the restart comes to at its node, as it was made ready
+  -- the result of the restart at its node is the step that was readied
   at_e : IsEventAt size w d1.at (Restart j) (Ok (step_of d1.work d.core.node))
   at_e = subst (λ (f : Event V). IsEventAt size w d1.at f (Ok (step_of d1.work d.core.node))) is_e (at size net stores h d1 d)
 
@@ -29,34 +29,34 @@ module _ {V : Type 0} (size : V → ℕ) (net : NetView V) (stores : List (Store
   found : slice_get stores k ≡ Some store
   found = slice_get_read stores (length stores) k store refl low_k is
 
-  -- the world has the node at which the restart is staged
+  -- the node at which the restart is staged is in the world
   node_k : slice_get w.nodes k ≡ Some d.core.node
   node_k = ap (λ (i : ℕ). slice_get w.nodes i) is_at ∙ node_is size net stores h d1 d
 
-  -- the keep fits this node, and so does what is owed
+  -- the record of the keep and the owed event fit this node
   own : IsStore size net k d.core.node store
   own = h.each k d.core.node store node_k found
 
-  -- the store is down, with an event that is owed or none
+  -- the store is down, and may owe an event
   is_down : (o : Option (StagedEvent V)) × (store.status ≡ down o)
   is_down = down_at stores k store found (ap (λ (i : ℕ). is_down_at (views_of stores) (Some i)) (sym is_j) ∙ ap (λ (s : SwitchView V). is_down_at s.stores (Some j)) seen ∙ test)
 
   abbrev o : Option (StagedEvent V)
   o = is_down.0
 
-  -- that is what the store owes
+  -- o is the event that the store owes
   owed_is : owed_in store.status ≡ o
   owed_is = ap (λ (s : Status (StagedEvent V)). owed_in s) is_down.1
 
-  -- the record of the keep is that of the node, with or without the change that is owed
+  -- the record of the keep is that of the node, with or without the change of the owed event
   fits : IsRecordOf d.core.node (down o) store.kept
   fits = subst (λ (s : Status (StagedEvent V)). IsRecordOf d.core.node s store.kept) is_down.1 own.fits
 
-  -- what is owed is staged at the node
+  -- the owed event is staged at the node
   owing : IsOwing size net k (down o)
   owing = subst (λ (s : Status (StagedEvent V)). IsOwing size net k s) is_down.1 own.owing
 
-  -- the view that is seen
+  -- if the restart revives the node in the view of this store, it does so in the view of the switch
   of_view : (new : SwitchView V) (result : Result ℕ StepFault) → RevivesAt size w old new j (view_of store) (event_owed o) result
       → ForOk (world_of size now) (λ x. (view : StoreView V) → slice_get now.stores j ≡ Some view → (e : Option (Event V)) → view.status ≡ down e → Revives size x now new j view e result)
   of_view new result revives = of_world size net stores h now seen (λ s x. (view : StoreView V) → slice_get s.stores j ≡ Some view → (e : Option (Event V)) → view.status ≡ down e → Revives size x s new j view e result)
@@ -70,7 +70,7 @@ module _ {V : Type 0} (size : V → ℕ) (net : NetView V) (stores : List (Store
         revived = λ le. subst (λ (f : Option (Event V)). RevivesAt size w old new j view f result) is_f (subst (λ (p : StoreView V). RevivesAt size w old new j p (event_owed o) result) is_view revives);
       })
 
-  -- there is no memory
+  -- if there is no memory, Memory is the right answer
   pub no_memory : (new : SwitchView V) → new ≡ old → ForOk (world_of size now) (λ x. (view : StoreView V) → slice_get now.stores j ≡ Some view → (e : Option (Event V)) → view.status ≡ down e → Revives size x now new j view e (Err Memory))
   no_memory new same = of_view new (Err Memory) (inl (
     refl,
@@ -82,9 +82,9 @@ module _ {V : Type 0} (size : V → ℕ) (net : NetView V) (stores : List (Store
     },
   ))
 
-  -- a call of the keep failed
+  -- A call of the keep failed.
   module _ (new : StoreState V) (fails : Fails store (change_owed (owed_in store.status)) store.status new) where
-    -- its record is the one before, with or without the change that is owed
+    -- the record of the keep is the one before, with or without the change of the owed event
     either : IsWithOrWithout store.kept (change_owed o) new.kept
     either = subst (λ (p : Option (StagedEvent V)). IsWithOrWithout store.kept (change_owed p) new.kept) owed_is fails.kept
 
@@ -92,14 +92,14 @@ module _ {V : Type 0} (size : V → ℕ) (net : NetView V) (stores : List (Store
     stands : new.status ≡ down o
     stands = ap (λ (s : StoreState V). s.status) fails.rest ∙ is_down.1
 
-    -- the stores still make a switch
+    -- the net and the stores are still a switch
     pub stays_down : IsSwitch size net (set stores k new)
     stays_down = other_store size net stores h k d.core.node store new node_k found record {
       fits = subst (λ (s : Status (StagedEvent V)). IsRecordOf d.core.node s new.kept) (sym stands) (either_twice (kept_of d.core.node) store.kept new.kept (change_owed o) fits either);
       owing = subst (λ (s : Status (StagedEvent V)). IsOwing size net k s) (sym stands) owing;
     }
 
-    -- Device is what the restart answers there, and the node stays down
+    -- Device is the right answer to the restart, and the node stays down
     pub stays_acts : ForOk (world_of size now) (λ x. (view : StoreView V) → slice_get now.stores j ≡ Some view → (e : Option (Event V)) → view.status ≡ down e → Revives size x now (switch_view net (set stores k new)) j view e (Err Device))
     stays_acts = of_view (switch_view net (set stores k new)) (Err Device) (inr (
       refl,
@@ -112,16 +112,16 @@ module _ {V : Type 0} (size : V → ℕ) (net : NetView V) (stores : List (Store
       },
     ))
 
-  -- what the call found to be owed can be taken, where there is room for its posts and two events
+  -- the owed event can be taken, if there is room for its posts and two events
   pub can_take_owed : (owed : Option (StagedEvent V)) → owed ≡ owed_in store.status → (posts more : ℕ) → posts ≡ length (posts_owed (owed_in store.status)) → HasRoom net (posts + more) 2 → CanTakeOwed size net owed
   can_take_owed owed is_owed posts more count r =
       subst (λ (p : Option (StagedEvent V)). CanTakeOwed size net p) (sym (is_owed ∙ owed_is))
       (can_take size net stores h k room o owing more (subst (λ (i : ℕ). HasRoom net (i + more) 2) (count ∙ ap (λ (p : Option (StagedEvent V)). length (posts_owed p)) owed_is) r))
 
-  -- The keep has made what is owed, and it is taken.
+  -- The keep has made the change of the owed event, and the event is taken.
   module _ (new : StoreState V) (repaired : new ≡ record { kept = changed_by store.kept (change_owed (owed_in store.status)); failures = store.failures; status = up }) (m : NetView V) (owed : Option (StagedEvent V)) (is_owed : owed ≡ owed_in store.status)
       (takes : TakesOwed net m owed) where
-    -- the record of the keep is the one before with the change that was owed
+    -- the record of the keep is the one before with the change of the owed event
     new_kept_is : new.kept ≡ changed_by store.kept (change_owed o)
     new_kept_is = ap (λ (s : StoreState V). s.kept) repaired ∙ ap (λ (p : Option (StagedEvent V)). changed_by store.kept (change_owed p)) owed_is
 
@@ -129,7 +129,7 @@ module _ {V : Type 0} (size : V → ℕ) (net : NetView V) (stores : List (Store
     new_up : new.status ≡ up
     new_up = ap (λ (s : StoreState V). s.status) repaired
 
-    -- what was taken is what the store owed
+    -- the event that was taken is the one that the store owed
     takes_o : TakesOwed net m o
     takes_o = subst (λ (p : Option (StagedEvent V)). TakesOwed net m p) (is_owed ∙ owed_is) takes
 
@@ -140,11 +140,11 @@ module _ {V : Type 0} (size : V → ℕ) (net : NetView V) (stores : List (Store
     abbrev hm : IsSwitch size m (set stores k new)
     hm = mid.0
 
-    -- the net still has a node of this number
+    -- the net still has a core at this number
     core_m : (c : Core V) × (slice_get m.cores k ≡ Some c)
     core_m = item_at m.cores k (let count = hm.count in let l = length-set stores k new in let low = low_k in omega (arith, count, l, low))
 
-    -- the world after what was owed has this node
+    -- the world after the owed event has the node of this core
     node_m : slice_get hm.world.world.nodes k ≡ Some core_m.0.node
     node_m = core_node size m (set stores k new) hm k core_m.0 core_m.1
 
@@ -156,7 +156,7 @@ module _ {V : Type 0} (size : V → ℕ) (net : NetView V) (stores : List (Store
     kept_m : new.kept ≡ kept_of core_m.0.node
     kept_m = subst (λ (s : Status (StagedEvent V)). IsRecordOf core_m.0.node s new.kept) new_up (hm.each k core_m.0.node new node_m new_at).fits
 
-    -- the history has room for the restart behind what was owed
+    -- the history has room for the restart after the owed event
     pub low_m : length m.history.events < MOST_EVENTS
     low_m =
         let count = ap (λ (es : List (Event V)). length es) mid.2 in
@@ -164,7 +164,7 @@ module _ {V : Type 0} (size : V → ℕ) (net : NetView V) (stores : List (Store
         let one = few_staged (event_owed o) in
         omega (arith, count, more, one, room)
 
-    -- the restart is staged there
+    -- the posts of the restart ask all other nodes for the first entry
     asks : (work : StagedWork V) → IsOfEvent (Restart j) work → IsReadyAt d.core work → posts_of work ≡ to_others k m.history.weights (Ask 0)
     asks (steps made) q r = elim q [ ]
     asks (restarts posts None) q r =
@@ -187,7 +187,7 @@ module _ {V : Type 0} (size : V → ℕ) (net : NetView V) (stores : List (Store
     step_then (restarts posts loaded) kept q same = ap (λ (x : Kept V). reloaded core_m.0.node x) (sym (same ∙ kept_m))
 
     module _ (kept : Kept V) (same_kept : kept ≡ changed_by store.kept (change_owed (owed_in store.status))) where
-      -- the record that was loaded is the one that the keep has
+      -- the loaded record is the one of the keep
       is_new_kept : kept ≡ new.kept
       is_new_kept = same_kept ∙ sym (ap (λ (s : StoreState V). s.kept) repaired)
 
@@ -223,21 +223,21 @@ module _ {V : Type 0} (size : V → ℕ) (net : NetView V) (stores : List (Store
           record { for_packets = omega (arith, p, l, q, then, a, r1, count, all); for_events = omega (arith, e, g, one, b, r2) }
 
       module _ (z : NetView V) (t : IsTaken m z d2) where
-        -- the restart leaves the node the record of its keep as kept part
+        -- after the restart the kept part of the node is the record of its keep
         kept_then : (work : StagedWork V) (n : Node V) → IsOfEvent (Restart j) work → new.kept ≡ kept_of (step_of (with_loaded work kept) n).node
         kept_then (steps made) n q = elim q [ ]
         kept_then (restarts posts loaded) n q = sym is_new_kept
 
-        -- the same store, put once more, changes nothing
+        -- setting the same store once more changes nothing
         stores_same : set (set stores k new) d1.at new ≡ set stores k new
         stores_same = ap (λ (i : ℕ). set (set stores k new) i new) (sym is_at) ∙ set_twice stores k new new
 
-        -- once the restart is taken too, the net and the stores make a switch
+        -- once the restart is taken too, the net and the stores are a switch
         pub revived : IsSwitch size z (set stores k new)
         revived = subst (λ (us : List (StoreState V)). IsSwitch size z us) stores_same
             (committed size m (set stores k new) hm d2 staged_m low_m z t new new (ap (λ (i : ℕ). slice_get (set stores k new) i) (sym is_at) ∙ new_at) (kept_then d1.work staged_m.core.node kind) new_up)
 
-        -- the count of its packets is what the restart answers there, and the node is up
+        -- the count of packets is the right answer to the restart, and the node is up
         pub revived_acts : (count : ℕ) → count ≡ length (packets_after (world_of_taken size z.history))
             → ForOk (world_of size now) (λ x. (view : StoreView V) → slice_get now.stores j ≡ Some view → (e : Option (Event V)) → view.status ≡ down e → Revives size x now (switch_view z (set stores k new)) j view e (Ok count))
         revived_acts count counted =

@@ -1,16 +1,16 @@
--- A restart of a node that is down and finds no room in the history, or no memory.
+-- A restart of a node that is down when there is no room in the history, or no memory.
 use Rattle.switch.proofs.Words.{◌≡◌, ℕ, ◌+◌, ◌<◌, ◌≤◌, true, false, List, length, slice_get, inl, Option, Some, None, Result, Ok, Err, refl, ap, sym, ◌∙◌, subst, arith, ForOk, OnOk, IsOkUnless, Node, restarted, MOST_EVENTS, Event, Restart, StepFault, Memory, EventsSpent, World, after_step, at_node, world_of_taken, StagedEvent, NetView, set_same, next_is, down, StoreState, StoreView, SwitchView, views_of, IsSwitch, world_of, is_down_at, is_down_view, with_store, Revives, with_event}
 use Rattle.switch.proofs.StoresLemmas.{view_past}
 use Rattle.switch.proofs.SwitchLemmas.{switch_view}
 use Rattle.switch.proofs.CallLemmas.{of_world, node_there}
 
--- no two events are left
+-- if fewer than two events are left, EventsSpent is the right answer
 pub revive_spent : {V : Type 0} (size : V → ℕ) (net : NetView V) (stores : List (StoreState V)) (h : IsSwitch size net stores) (now : SwitchView V) (seen : switch_view net stores ≡ now) (j : ℕ) → MOST_EVENTS < length net.history.events + 2
     → ForOk (world_of size now) (λ x. (view : StoreView V) → slice_get now.stores j ≡ Some view → (e : Option (Event V)) → view.status ≡ down e → Revives size x now now j view e (Err EventsSpent))
 revive_spent {V} size net stores h now seen j spent = of_world size net stores h now seen (λ s x. (view : StoreView V) → slice_get s.stores j ≡ Some view → (e : Option (Event V)) → view.status ≡ down e → Revives size x s s j view e (Err EventsSpent))
     (λ view found e stands. record { spent = λ more. (refl, refl); revived = λ room. absurd (omega (arith, spent, room)) })
 
--- the restart was not made ready: there is no memory
+-- if the restart was not readied, the fault is Memory, which is the right answer
 pub revive_unready : {V : Type 0} (size : V → ℕ) (net : NetView V) (stores : List (StoreState V)) (h : IsSwitch size net stores) (now : SwitchView V) (seen : switch_view net stores ≡ now) (j : ℕ) → is_down_at now.stores (Some j) ≡ true
     → length net.history.events + 2 ≤ MOST_EVENTS → (fault : StepFault) (r : Result (StagedEvent V) StepFault) → r ≡ Err fault → (new : SwitchView V) → new ≡ switch_view net stores → OnOk (world_of_taken size (with_event net.history (Restart j))) (IsOkUnless r Memory)
     → ForOk (world_of size now) (λ x. (view : StoreView V) → slice_get now.stores j ≡ Some view → (e : Option (Event V)) → view.status ≡ down e → Revives size x now new j view e (Err fault))

@@ -1,4 +1,4 @@
--- Stores and their views, one after another and one by one.
+-- Stores and their views, as lists and one by one.
 use Rattle.switch.proofs.Words.{◌≡◌, ◌≢◌, ℕ, zero, suc, ◌+◌, ◌<◌, ◌≤◌, ◌==◌, Bool, true, false, List, [], ◌∷◌, ◌++◌, length, get_or, set, slice_get, Option, Some, None, refl, ap, sym, ◌∙◌, subst, arith, le_of_suc-le-suc, AllByRecursion, nat_tests, Kept, new_kept, Node, Event, StagedEvent, at_set, at_set_other, Status, up, down, StoreState, StoreView, status_seen, view_of, views_of, new_views, new_stores, is_down, is_down_view, is_down_at, owed_events}
 
 pub views_of-set : {V : Type 0} (stores : List (StoreState V)) (k : ℕ) (store : StoreState V) → views_of (set stores k store) ≡ set (views_of stores) k (view_of store)
@@ -6,13 +6,13 @@ views_of-set [] k store = refl
 views_of-set (s ∷ stores) zero store = refl
 views_of-set (s ∷ stores) (suc k) store = ap (λ ps. view_of s ∷ ps) (views_of-set stores k store)
 
--- the view of a store has its index
+-- the view of the store at index k is at index k of the views
 pub view_at : {V : Type 0} (stores : List (StoreState V)) (k : ℕ) (store : StoreState V) → slice_get stores k ≡ Some store → slice_get (views_of stores) k ≡ Some (view_of store)
 view_at [] k store e = cc
 view_at {V} (s ∷ stores) zero store e = let same : s ≡ store = cc in ap (λ (x : StoreState V). let o : Option (StoreView V) = Some (view_of x) in o) same
 view_at (s ∷ stores) (suc k) store e = view_at stores k store e
 
--- where there is no store, there is no view
+-- if there is no store at an index, there is no view
 pub view_past : {V : Type 0} (stores : List (StoreState V)) (k : ℕ) → slice_get stores k ≡ None → slice_get (views_of stores) k ≡ None
 view_past [] k e = refl
 view_past (s ∷ stores) zero e = cc
@@ -23,19 +23,19 @@ pub count_views : {V : Type 0} (stores : List (StoreState V)) → length (views_
 count_views [] = refl
 count_views (s ∷ stores) = ap suc (count_views stores)
 
--- the store of a node that is there
+-- there is an element at each index below the length
 pub item_at : {A : Type 0} (xs : List A) (k : ℕ) → k < length xs → (x : A) × (slice_get xs k ≡ Some x)
 item_at [] k low = absurd (omega arith)
 item_at (x ∷ xs) zero low = (x, refl)
 item_at (x ∷ xs) (suc k) low = item_at xs k (le_of_suc-le-suc low)
 
--- two reads at one index of a list give one element
+-- two elements that are read at one index are equal
 pub same_at : {A : Type 0} (xs : List A) (k : ℕ) (x y : A) → k < length xs → x ≡ get_or xs k x → y ≡ get_or xs k y → x ≡ y
 same_at [] k x y low is other = absurd (omega arith)
 same_at (z ∷ xs) zero x y low is other = is ∙ sym other
 same_at (z ∷ xs) (suc k) x y low is other = same_at xs k x y (le_of_suc-le-suc low) is other
 
--- A fact of each node and its store, once one of the stores has changed.
+-- If a fact holds of the changed store and its node, and of all others, it holds of each node and its store after the change.
 pub each_after : {V : Type 0} (nodes : List (Node V)) (stores : List (StoreState V)) (P : ℕ → Node V → StoreState V → Type 0) (k : ℕ) (store new : StoreState V) → slice_get stores k ≡ Some store
     → ((m : Node V) → slice_get nodes k ≡ Some m → P k m new) → ((j : ℕ) (m : Node V) (s : StoreState V) → k ≢ j → slice_get nodes j ≡ Some m → slice_get stores j ≡ Some s → P j m s)
     → (j : ℕ) (m : Node V) (s : StoreState V) → slice_get nodes j ≡ Some m → slice_get (set stores k new) j ≡ Some s → P j m s
@@ -53,7 +53,7 @@ each_after {V} nodes stores P k store new is own others j m s at is_s = by_test 
 
 -- A node that is not down is up.
 
--- what is not seen as down is up
+-- a status that is not seen as down is up
 up_of : {V : Type 0} (s : Status (StagedEvent V)) → is_down (status_seen s) ≡ false → s ≡ up
 up_of up e = refl
 up_of (down o) e = cc
@@ -62,7 +62,7 @@ up_of (down o) e = cc
 pub up_at : {V : Type 0} (stores : List (StoreState V)) (k : ℕ) (store : StoreState V) → slice_get stores k ≡ Some store → is_down_at (views_of stores) (Some k) ≡ false → store.status ≡ up
 up_at stores k store is e = up_of store.status (sym (ap (λ o. is_down_view o) (view_at stores k store is)) ∙ e)
 
--- a store whose view is down is down, with an event that is owed or none
+-- a store whose view is down is down, and may owe an event
 pub down_at : {V : Type 0} (stores : List (StoreState V)) (k : ℕ) (store : StoreState V) → slice_get stores k ≡ Some store → is_down_at (views_of stores) (Some k) ≡ true → (o : Option (StagedEvent V)) × (store.status ≡ down o)
 down_at stores k store is e = down_owing store.status (sym (ap (λ o. is_down_view o) (view_at stores k store is)) ∙ e) where
   down_owing : {V : Type 0} (s : Status (StagedEvent V)) → is_down (status_seen s) ≡ true → (o : Option (StagedEvent V)) × (s ≡ down o)
@@ -71,12 +71,12 @@ down_at stores k store is e = down_owing store.status (sym (ap (λ o. is_down_vi
 
 -- New stores.
 
--- one keep more
+-- the new stores for keeps with one more are those for the keeps and the one for that keep
 pub new_stores-push : {V K : Type 0} (kept : K → Kept V) (failures : K → ℕ) (keeps : List K) (keep : K) → new_stores kept failures (keeps ++ keep ∷ []) ≡ new_stores kept failures keeps ++ new_stores kept failures (keep ∷ [])
 new_stores-push kept failures [] keep = refl
 new_stores-push {V} kept failures (k ∷ keeps) keep = ap (λ (ss : List (StoreState V)). (let s : StoreState V = record { kept = kept k; failures = failures k; status = up } in s) ∷ ss) (new_stores-push kept failures keeps keep)
 
--- keeps that all have the record of a new node give the views of new nodes
+-- if each keep has the record of a new node, the views of the new stores are new views
 pub views_new : {V K : Type 0} (kept : K → Kept V) (failures : K → ℕ) (keeps : List K) → AllByRecursion (λ keep. kept keep ≡ new_kept) keeps → views_of (new_stores kept failures keeps) ≡ new_views failures keeps
 views_new kept failures [] h = refl
 views_new {V} kept failures (keep ∷ keeps) h =

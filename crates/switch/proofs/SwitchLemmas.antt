@@ -5,13 +5,13 @@ use Rattle.switch.proofs.StoresLemmas.{each_after, new_at, count_stores}
 abbrev pub switch_view : {V : Type 0} → NetView V → List (StoreState V) → SwitchView V
 switch_view net stores = record { weights = net.history.weights; history = net.history.events; stores = views_of stores }
 
--- the world stays, where only rooms change
+-- if only rooms change, the net is of the same world
 still_world : {V : Type 0} (size : V → ℕ) (a b : NetView V) → ChangesOnlyRoom a b → AreOfWorld size a.history a.cores a.packets → AreOfWorld size b.history b.cores b.packets
 still_world {V} size a b only_room h =
     subst (λ (t : History V). AreOfWorld size t b.cores b.packets) (sym only_room.history)
     (subst (λ (ps : List (Packet V)). AreOfWorld size a.history b.cores ps) (sym only_room.packets) (rooms_stay size a.history a.cores a.packets h b.cores (nodes_still a.cores b.cores only_room.cores)))
 
--- nodes that are changed in their rooms alone are as many as before
+-- if only rooms change, there are as many cores as before
 still_count : {V : Type 0} (cs ds : List (Core V)) → ChangeOnlyRooms cs ds → length ds ≡ length cs
 still_count [] [] h = refl
 still_count (c ∷ cs) (d ∷ ds) h = ap suc (still_count cs ds h.2)
@@ -24,7 +24,7 @@ new_node_at weights j k [] n at = cc
 new_node_at {V} weights j zero (w ∷ ws) n at = let same : new_node j weights ≡ n = cc in ap (λ (m : Node V). kept_of m) (sym same)
 new_node_at weights j (suc k) (w ∷ ws) n at = new_node_at weights (suc j) k ws n at
 
--- a switch of new nodes
+-- a net of new nodes and their new stores are a switch
 pub starts : {V K : Type 0} (size : V → ℕ) (kept : K → Kept V) (failures : K → ℕ) (net : NetView V) (weights : List ℕ) (keeps : List K) (stores : List (StoreState V)) → AreOfWorld size net.history net.cores net.packets
     → net.history ≡ record { weights = weights; events = [] } → length net.cores ≡ length net.history.weights → length keeps ≡ length weights → AllByRecursion (λ keep. kept keep ≡ new_kept) keeps → stores ≡ new_stores kept failures keeps → IsSwitch size net stores
 starts {V} size kept failures net weights keeps stores h is cores count new are = subst (λ (us : List (StoreState V)). IsSwitch size net us) (sym are) record {
@@ -51,11 +51,11 @@ module _ {V : Type 0} (size : V → ℕ) (net : NetView V) (stores : List (Store
   pub taken_is : w.event_count ≡ length net.history.events
   taken_is = taken_count size net.history.weights net.history.events w h.world.is_after
 
-  -- below that limit an event is what its node makes of it
+  -- below the limit of events, the test of the limit leaves the result of an event as it is
   pub has_room : (e : Event V) → length net.history.events < MOST_EVENTS → event_result size w e ≡ event_result_without_limit size w e
   has_room e low = event_result-not_spent size w e (let c = taken_is in omega (arith, c, low))
 
-  -- the node of the net at a number is the node of the world there
+  -- the node of the core at a number is the node of the world at this number
   pub core_node : (k : ℕ) (c : Core V) → slice_get net.cores k ≡ Some c → slice_get w.nodes k ≡ Some c.node
   core_node k c at = ap (λ (ns : List (Node V)). slice_get ns k) h.world.nodes ∙ nodes_found net.cores k c at
 
@@ -63,7 +63,7 @@ module _ {V : Type 0} (size : V → ℕ) (net : NetView V) (stores : List (Store
   pub same_world : (x : World V) → IsAfter size net.history.weights net.history.events x → w ≡ x
   same_world x is = let both : Ok w ≡ Ok x = sym h.world.is_after ∙ is in cc
 
-  -- the number and the weights of a node
+  -- each node has the weights of the history
   pub own_weights : (k : ℕ) (n : Node V) → slice_get w.nodes k ≡ Some n → n.weights ≡ net.history.weights
   own_weights k n at =
       let holds = holds_after size net.history.weights net.history.events w h.world.is_after in
@@ -78,13 +78,13 @@ module _ {V : Type 0} (size : V → ℕ) (net : NetView V) (stores : List (Store
 
   -- Only rooms change.
 
-  -- what is owed is still staged
+  -- the owed event is still staged
   still_owing : (b : NetView V) → ChangesOnlyRoom net b → (k : ℕ) (s : Status (StagedEvent V)) → IsOwing size net k s → IsOwing size b k s
   still_owing b only_room k up o = tt
   still_owing b only_room k (down None) o = tt
   still_owing b only_room k (down (Some staged)) o = (o.0, staged_still size net b staged only_room o.1)
 
-  -- the stores still make a switch with the net
+  -- the net and the stores are still a switch
   pub still_switch : (b : NetView V) → ChangesOnlyRoom net b → IsSwitch size b stores
   still_switch b only_room =
       let there = still_world size net b only_room h.world in
@@ -99,7 +99,7 @@ module _ {V : Type 0} (size : V → ℕ) (net : NetView V) (stores : List (Store
 
   -- One store changes.
 
-  -- a new store that fits its node leaves a switch
+  -- with a new store that fits its node, the net and the stores are a switch
   pub other_store : (k : ℕ) (n : Node V) (store new : StoreState V) → slice_get w.nodes k ≡ Some n → slice_get stores k ≡ Some store → IsStore size net k n new → IsSwitch size net (set stores k new)
   other_store k n store new at is own = record {
     world = h.world;
@@ -114,15 +114,15 @@ module _ {V : Type 0} (size : V → ℕ) (net : NetView V) (stores : List (Store
     abbrev step : StepResult V
     step = step_of staged.work d.core.node
 
-    -- the world has the node at which it is staged
+    -- the node at which the event is staged is in the world
     pub node_is : slice_get w.nodes staged.at ≡ Some d.core.node
     node_is = core_node staged.at d.core d.at
 
-    -- what the event comes to at this node is the step
+    -- the result of the event at this node is the step
     pub at : IsEventAt size w staged.at staged.event (Ok step)
     at = d.has_result w [] (h.world.posted ∙ sym (append-nil net.packets)) node_is
 
-    -- the change of what was made ready is that of its step at any node
+    -- the change of staged work is that of its step at any node
     change_work : (work : StagedWork V) (n : Node V) → change_in work ≡ (step_of work n).change
     change_work (steps made) n = refl
     change_work (restarts posts None) n = refl
@@ -132,16 +132,16 @@ module _ {V : Type 0} (size : V → ℕ) (net : NetView V) (stores : List (Store
     pub change_is : change_in staged.work ≡ step.change
     change_is = change_work staged.work d.core.node
 
-    -- the change, as the world tells it
+    -- the change of the staged event is that of the event in the world
     pub change_told : change_in staged.work ≡ change_of size w staged.event
     change_told = change_is ∙ sym at.change
 
     module _ (low : length net.history.events < MOST_EVENTS) where
-      -- below the limit of events the event happens, and makes the step
+      -- below the limit of events, the result of the event is the world with the step made
       pub happens_is : event_result size w staged.event ≡ Ok (after_step w staged.at step)
       happens_is = has_room staged.event low ∙ at.event_result
 
-      -- the step leaves the kept part with this change
+      -- the step makes this change to the kept part
       pub changes : kept_of step.node ≡ changed_by (kept_of d.core.node) (change_in staged.work)
       changes =
           let k = staged.at in
@@ -154,19 +154,19 @@ module _ {V : Type 0} (size : V → ℕ) (net : NetView V) (stores : List (Store
           cc
 
       module _ (b : NetView V) (t : IsTaken net b staged) where
-        -- the node that took the event is the one at which it was staged
+        -- the core that took the event is the one at which it was staged
         was_core : t.was ≡ d.core
         was_core = let both : Some t.was ≡ Some d.core = sym t.at ∙ d.at in cc
 
-        -- it is then the node that the step leaves
+        -- its node is now the one after the step
         node_then : t.core.node ≡ step.node
         node_then = t.node ∙ ap (λ (c : Core V). (step_of staged.work c.node).node) was_core
 
-        -- the posts of the step are added to the packets
+        -- the posts of the step are appended to the packets
         posts_are : b.packets ≡ net.packets ++ step.posts
         posts_are = t.packets ∙ ap (λ (ps : List (Packet V)). net.packets ++ ps) (posts_same d.core staged.work d.ready)
 
-        -- the nodes and the packets are those of the world with the event
+        -- the cores and the packets are of the world after the event
         pub taken_world : AreOfWorld size b.history b.cores b.packets
         taken_world =
             subst (λ (x : History V). AreOfWorld size x b.cores b.packets) (sym t.history)
@@ -174,12 +174,12 @@ module _ {V : Type 0} (size : V → ℕ) (net : NetView V) (stores : List (Store
             (makes size net.history net.cores net.packets h.world low staged.event staged.at t.core step at.event_result b.packets node_then posts_are
             (subst (λ (ps : List (Packet V)). AllByRecursion (IsPost (length net.history.weights)) ps) (sym t.packets) (all_append (IsPost (length net.history.weights)) net.packets (posts_of staged.work) h.world.posts d.posts))))
 
-        -- the nodes of that world are those before, with one as the step leaves it
+        -- the nodes of that world are those before, with the one that took the event as the step leaves it
         nodes_then : taken_world.world.nodes ≡ set w.nodes staged.at step.node
         nodes_then = taken_world.nodes ∙ ap (λ (cs : List (Core V)). nodes_of cs) t.cores ∙ nodes_of-set net.cores staged.at t.core
             ∙ ap (λ (n : Node V). set (nodes_of net.cores) staged.at n) node_then ∙ ap (λ (ns : List (Node V)). set ns staged.at step.node) (sym h.world.nodes)
 
-        -- another node's staged event is still staged
+        -- an event that is staged at another node is still staged
         other_staged : (other : StagedEvent V) → staged.at ≢ other.at → IsStaged size net other → IsStaged size b other
         other_staged other apart o = record {
           core = o.core;
@@ -189,13 +189,13 @@ module _ {V : Type 0} (size : V → ℕ) (net : NetView V) (stores : List (Store
           posts = subst (λ (x : History V). AllByRecursion (IsPost (length x.weights)) (posts_of other.work)) (sym t.history) o.posts;
         }
 
-        -- what another node owes is still staged
+        -- an event that another node owes is still staged
         other_owing : (j : ℕ) → staged.at ≢ j → (s : Status (StagedEvent V)) → IsOwing size net j s → IsOwing size b j s
         other_owing j apart up o = tt
         other_owing j apart (down None) o = tt
         other_owing j apart (down (Some other)) o = (o.0, other_staged other (λ e. apart (e ∙ o.0)) o.1)
 
-        -- the node is up, and its keep has made the change
+        -- if the node is up and its keep has made the change, the net and the stores are a switch
         pub committed : (store new : StoreState V) → slice_get stores staged.at ≡ Some store → new.kept ≡ kept_of step.node → new.status ≡ up → IsSwitch size b (set stores staged.at new)
         committed store new is kept is_up = record {
           world = taken_world;

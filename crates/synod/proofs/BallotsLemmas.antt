@@ -50,6 +50,6 @@ upto_splits a b (inl h) = inl (inl h)
 upto_splits a b (inr (e, h)) =
     elim (eq-or-lt_of_le h) [ inl n ↦ inr (same_ballots a b e n) | inr l ↦ inl (inr (e, l)) ]
 
--- of two ballots a and b, a is below b or b is at most a
+-- for any two ballots a and b, a is below b or b is at most a
 pub total : (a b : Ballot) → Under a b ⊎ Upto b a
 total a b = grind arith

@@ -14,7 +14,7 @@ abbrev pub joined_with : {V : Type 0} → Option (SlotReport V) → SlotReport V
 joined_with None r = Some r
 joined_with (Some q) r = if is_below q.ballot r.ballot then Some r else Some q
 
--- reading x before q and r, and r last, gives the same highest report in either order
+-- with x put in front and r at the end, the highest report is the same in either order
 higher-joined_if : {V : Type 0} (x q r : SlotReport V) (a b d : Bool) → (a ≡ true → b ≡ true → d ≡ true) → (a ≡ false → b ≡ false → d ≡ false) → is_below q.ballot r.ballot ≡ a → is_below x.ballot q.ballot ≡ b → is_below x.ballot r.ballot ≡ d
     → higher x (if a then Some r else Some q) ≡ joined_with (if b then Some q else Some x) r
 higher-joined_if {V} x q r true true d both none ea eb ed =
@@ -32,7 +32,7 @@ higher-joined x None r = refl
 higher-joined x (Some q) r = higher-joined_if x q r (is_below q.ballot r.ballot) (is_below x.ballot q.ballot) (is_below x.ballot r.ballot)
     (λ a b. under-under x.ballot q.ballot r.ballot b a) (λ a b. not-under x.ballot q.ballot r.ballot b a) refl refl refl
 
--- the same, with x read only if it is of the slot
+-- the same, with x put in front only if it is of the slot
 at_slot : {V : Type 0} (x : SlotReport V) (t : Bool) (o p : Option (SlotReport V)) (r : SlotReport V) → p ≡ joined_with o r → (if t then higher x p else p) ≡ joined_with (if t then higher x o else o) r
 at_slot {V} x true o p r e = ap (λ (q : Option (SlotReport V)). higher x q) e ∙ higher-joined x o r
 at_slot x false o p r e = e

@@ -71,7 +71,7 @@ first_vote : (b c : Ballot) (p k : ℕ) (t : Bool) → is_same b c ≡ t → (if
 first_vote b c p k true same h = (sym (same_true b c same), elim (set_voter no_voters p k h) [ inl old ↦ absurd (no_voter 9 k old) | inr new ↦ new ])
 first_vote b c p k false same h = cc
 
--- the vote is counted in the first tally, which is of its ballot
+-- if the first tally is of the vote's ballot, each voter counted was counted before or is that of the vote
 same_tally : (t : Tally) (ts : List Tally) (b c : Ballot) (p k : ℕ) (u : Bool) → is_same t.ballot b ≡ true → is_same t.ballot c ≡ u
     → (if u then is_voter (set t.voters p true) k else voted_in ts c k) ≡ true → ((if u then is_voter t.voters k else voted_in ts c k) ≡ true) ⊎ IsCount b p c k
 same_tally t ts b c p k false same other h = inl h
@@ -80,13 +80,13 @@ same_tally t ts b c p k true same other h = elim (set_voter t.voters p k h) [
   | inr new ↦ inr (sym (same_true t.ballot c other) ∙ same_true t.ballot b same, new)
 ]
 
--- the vote is counted in a later tally, the first being of another ballot
+-- if the first tally is of another ballot, the same follows from the later tallies
 other_tally : (t : Tally) (ts us : List Tally) (b c : Ballot) (p k : ℕ) (u : Bool) → (voted_in us c k ≡ true → (voted_in ts c k ≡ true) ⊎ IsCount b p c k)
     → (if u then is_voter t.voters k else voted_in us c k) ≡ true → ((if u then is_voter t.voters k else voted_in ts c k) ≡ true) ⊎ IsCount b p c k
 other_tally t ts us b c p k true more h = inl h
 other_tally t ts us b c p k false more h = more h
 
--- the vote is counted in a list of tallies, whether or not the first is of its ballot
+-- the same for a list of tallies, whether or not the first is of the vote's ballot
 counted_tally : (t : Tally) (ts : List Tally) (b c : Ballot) (p k : ℕ) (u : Bool) → is_same t.ballot b ≡ u → (voted_in (counted_in ts b p) c k ≡ true → (voted_in ts c k ≡ true) ⊎ IsCount b p c k)
     → voted_in (if u then (record { ballot = t.ballot; voters = set t.voters p true } ∷ ts) else (t ∷ counted_in ts b p)) c k ≡ true → (voted_in (t ∷ ts) c k ≡ true) ⊎ IsCount b p c k
 counted_tally t ts b c p k true same more h = same_tally t ts b c p k (is_same t.ballot c) same refl h

@@ -61,7 +61,7 @@ an_accept_raises_the_promise = refl
 pub no_reports_are_one_page : length (pages_of {T = ℕ} []) ≡ 1
 no_reports_are_one_page = refl
 
--- of 257 reports the first page has 256, and the second has one
+-- 257 reports make a page of 256 and a second page of one
 pub a_page_has_256 : map (λ (page : List ℕ). length page) (pages_of (replicate 257 0)) ≡ 256 ∷ 1 ∷ []
 a_page_has_256 = refl
 
