@@ -1,9 +1,9 @@
--- The tie between cells and switch: what it gives, and how a call keeps it.
+-- The relation between cells and switch: what follows from it, and how a call preserves it.
 use Rattle.cluster.proofs.Words.{◌≡◌, ℕ, suc, ◌<◌, ◌≤◌, nat_lt, Bool, true, false, List, [], ◌∷◌, ◌++◌, length, slice_get, Option, Some, None, Result, Ok, Err, refl, ap, sym, ◌∙◌, subst, arith, append_assoc, IsOk, MatchOption, is_err, option_map, Bor, nat_tests, StepFault, NoNode, log_after, IsPrefixOf, SwitchView, world_of, IsLogPrefix, Carried, carried_size, NodeLibrary, Cell, new_cell, AddsEntry, TakesOver, Belongs}
 
 -- A log, as a switch shows it.
 
--- what is shown of a slot is the entry of the log there, or none
+-- the value shown for a slot is the entry of the log at this slot, or None
 pub shown_is : (log : List (Option Carried)) (slot : ℕ) (found : Option (Bor (Option Carried))) → MatchOption found (slice_get log slot ≡ None) (λ (e : Bor (Option Carried)). slice_get log slot ≡ Some e.now)
     → option_map (λ (e : Bor (Option Carried)). e.now) found ≡ slice_get log slot
 shown_is log slot None h = sym h
@@ -16,26 +16,26 @@ restarted_belongs old new was now is count b = subst (λ (c : Cell). Belongs c n
   begins = (log_after (world_of carried_size now) old.node, refl);
 }
 
--- One entry more is taken over.
+-- One more entry is taken over.
 
--- the element after a first part is the first element of the rest
+-- the element at index `length xs` of xs followed by `rest` is the first of `rest`
 get_past : {A : Type 0} (xs rest : List A) (x : A) → slice_get (xs ++ rest) (length xs) ≡ Some x → (more : List A) × (rest ≡ x ∷ more)
 get_past [] [] x is = cc
 get_past [] (y ∷ more) x is = let same : y ≡ x = cc in (more, ap (λ z. z ∷ more) same)
 get_past (y ∷ xs) rest x is = get_past xs rest x is
 
--- a prefix of a list with the next element of the list is a prefix
+-- a prefix of a list followed by the next element of the list is a prefix
 one_more_begins : {A : Type 0} (xs ys : List A) (x : A) → IsPrefixOf xs ys → slice_get ys (length xs) ≡ Some x → IsPrefixOf (xs ++ x ∷ []) ys
 one_more_begins {A} xs ys x h at =
     let rest = get_past xs h.0 x (ap (λ (zs : List A). slice_get zs (length xs)) h.1 ∙ at) in
     (rest.0, append_assoc xs (x ∷ []) rest.0 ∙ ap (λ (zs : List A). xs ++ zs) (sym rest.1) ∙ h.1)
 
 module _ (s : SwitchView Carried) (k : ℕ) (old new : List (Option Carried)) (b : IsLogPrefix carried_size s k old) where
-  -- entries that are the same begin the log
+  -- entries that stay the same are a prefix of the log
   as_begun : new ≡ old → IsLogPrefix carried_size s k new
   as_begun is = subst (λ (es : List (Option Carried)). IsLogPrefix carried_size s k es) (sym is) b
 
-  -- whatever is answered, what is left begins the log
+  -- whatever the answer, the entries afterwards are a prefix of the log
   pub taken_belongs : (next : Option (Option Carried)) (result : Result Bool StepFault) (slot : ℕ) → slot ≡ length old → next ≡ slice_get (log_after (world_of carried_size s) k) slot → AddsEntry old new next result → IsLogPrefix carried_size s k new
   taken_belongs (Some entry) (Ok true) slot is shows adds = record {
     node = b.node;
@@ -53,7 +53,7 @@ module _ (s : SwitchView Carried) (k : ℕ) (old new : List (Option Carried)) (b
 abbrev cell_of : ℕ → List (Option Carried) → NodeLibrary → Cell
 cell_of k entries node = record { node = k; entries = entries; replica = node }
 
--- the cell takes over the next entry of its node's log, as it is shown
+-- the cell takes over the next entry of its node's log, as the switch shows it
 pub takes_over : (s : SwitchView Carried) (k : ℕ) (node : NodeLibrary) (es : List (Option Carried)) (now : Cell) → cell_of k es node ≡ now → (fs : List (Option Carried)) (found : Option (Bor (Option Carried))) (slot : ℕ) → slot ≡ length es
     → MatchOption found (slice_get (log_after (world_of carried_size s) k) slot ≡ None) (λ (e : Bor (Option Carried)). slice_get (log_after (world_of carried_size s) k) slot ≡ Some e.now)
     → (result : Result Bool StepFault) → AddsEntry es fs (option_map (λ (e : Bor (Option Carried)). e.now) found) result
@@ -65,7 +65,7 @@ takes_over s k node es now seen fs found slot is shown result adds =
 
 -- Entries found one by one.
 
--- a list is a prefix of another that has each of its elements at the same index
+-- if ys has each element of xs at the same index, xs is a prefix of ys
 pub all_found : {A : Type 0} (xs ys : List A) → ((i : ℕ) → i < length xs → slice_get ys i ≡ slice_get xs i) → IsPrefixOf xs ys
 all_found [] ys each = (ys, refl)
 all_found (x ∷ xs) [] each = let no : None ≡ Some x = each 0 (omega arith) in cc
@@ -75,7 +75,7 @@ all_found {A} (x ∷ xs) (y ∷ ys) each =
     let rest = all_found xs ys (λ i low. each (suc i) (omega (arith, low))) in
     (rest.0, ap (λ (z : A). z ∷ (xs ++ rest.0)) (sym same) ∙ ap (λ (zs : List A). y ∷ zs) rest.1)
 
--- A result that is an error, or is none.
+-- A result that is not an error is Ok.
 pub no_err : {A E : Type 0} (r : Result A E) → is_err r ≡ false → IsOk r
 no_err (Ok x) e = refl
 no_err (Err f) e = cc
@@ -88,7 +88,7 @@ pub no_ok : {A E : Type 0} (r : Result A E) → is_err r ≡ true → IsOk r →
 no_ok (Ok x) e ok = let no : false ≡ true = e in cc
 no_ok (Err f) e ok = let no : false ≡ true = ok in cc
 
--- a number that is answered with no fault is that of a node
+-- a number for which the answer is no fault is that of a node
 pub in_switch : {A : Type 0} (k n : ℕ) (r : Result A StepFault) → IsOk r → (n ≤ k → r ≡ Err NoNode) → k < n
 in_switch k n r ok past = by_test (nat_lt k n) refl where
   by_test : (t : Bool) → nat_lt k n ≡ t → k < n

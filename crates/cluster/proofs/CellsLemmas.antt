@@ -1,4 +1,4 @@
--- New cells, one after another.
+-- New cells, one by one.
 use Rattle.cluster.proofs.Words.{◌≡◌, ℕ, zero, suc, ◌+◌, ◌<◌, List, [], ◌∷◌, ◌++◌, length, take, slice_get, Some, refl, ap, sym, ◌∙◌, subst, arith, add-one, le_of_suc-le-suc, log_after, SwitchView, new_views, world_of, Carried, carried_size, Cell, new_cell, Belongs, EachBelongs, new_cells}
 
 new_cells-take : (k i : ℕ) (ws : List ℕ) → i < length ws → new_cells k (take (suc i) ws) ≡ new_cells k (take i ws) ++ new_cell (k + i) ∷ []
@@ -14,9 +14,9 @@ new_cells-push ws k old new pushed before low =
     pushed ∙ ap (λ (cs : List Cell). cs ++ new_cell k ∷ []) before ∙ ap (λ (j : ℕ). new_cells 0 (take k ws) ++ new_cell j ∷ []) z
     ∙ sym (new_cells-take 0 k ws low) ∙ ap (λ (i : ℕ). new_cells 0 (take i ws)) (sym (add-one k))
 
--- Each of them belongs to a switch of as many nodes.
+-- Each of them belongs to a switch with as many nodes.
 
--- a cell that is found among the new ones is the new one of its number, and a weight stands for it
+-- the new cell at index k has the number j + k, and there is a weight at this index
 new_cell_at : (j k : ℕ) (ws : List ℕ) (c : Cell) → slice_get (new_cells j ws) k ≡ Some c → (c ≡ new_cell (j + k)) × (k < length ws)
 new_cell_at j k [] c at = cc
 new_cell_at j zero (w ∷ ws) c at = let same : new_cell j ≡ c = cc in let e : j ≡ j + 0 = omega arith in (sym same ∙ ap (λ (i : ℕ). new_cell i) e, omega arith)
@@ -30,7 +30,7 @@ pub count_new_views : (V : Type 0) {K : Type 0} (failures : K → ℕ) (keeps : 
 count_new_views V failures [] = refl
 count_new_views V failures (keep ∷ keeps) = ap suc (count_new_views V failures keeps)
 
--- each new cell is of a switch with as many views: it has no entries yet
+-- each new cell belongs to a switch with as many nodes, since it has no entries yet
 pub new_belong : (ws : List ℕ) (cells : List Cell) (switch : SwitchView Carried) → cells ≡ new_cells 0 ws → length switch.stores ≡ length ws → EachBelongs cells switch
 new_belong ws cells switch are count k c at =
     let is = new_cell_at 0 k ws c (ap (λ (cs : List Cell). slice_get cs k) (sym are) ∙ at) in

@@ -1,11 +1,11 @@
--- If two cells are of one switch, the library of one is a prefix of that of the other.
+-- If two cells belong to one switch, the library of one is a prefix of that of the other.
 use Rattle.cluster.proofs.Words.{◌≡◌, ◌+◌, ◌<◌, ◌≤◌, true, false, List, [], ◌∷◌, ◌++◌, length, inl, inr, Option, Result, Ok, Err, refl, ap, sym, ◌∙◌, subst, arith, append-nil, length-append, IsOk, Database, Carried, StepFault, World, log, log_after, IsPrefixOf, Agree, History, IsMoment, carried_size, entries_of, IsOfLog, Headline, entries_begin, headline_holds, of_longer, SwitchView, world_of, Cell, IsCell, Belongs}
 
 module _ (s : SwitchView Carried) (w : World Carried) (is : world_of carried_size s ≡ Ok w) where
   abbrev history : History Carried
   history = record { weights = s.weights; events = s.history }
 
-  -- the library is that of the node's log
+  -- the library of a cell is that of the log of its node
   of_log : (c : Cell) → Belongs c s → IsCell c → IsOfLog (entries_of (log w c.node)) c.replica
   of_log c b h = of_longer (entries_of c.entries) (entries_of (log w c.node)) c.replica
       (entries_begin c.entries (log w c.node) (subst (λ (es : List (Option Carried)). IsPrefixOf c.entries es) (ap (λ (r : Result (World Carried) StepFault). log_after r c.node) is) b.begins)) h.of_entries
@@ -29,24 +29,24 @@ cells_agree one other s ok b d h k = from (world_of carried_size s) refl ok wher
 -- The counts of statements decide which library is ahead.
 
 module _ (xs ys : Database) where
-  -- where the first of two lists that agree is longer, the second begins it
+  -- if two lists agree and the first is longer, the second is a prefix of it
   pub is_first : Agree xs ys → length ys < length xs → IsPrefixOf ys xs × (length ys < length xs)
   is_first (inl h) more = let count : length xs + length h.0 ≡ length ys = sym (length-append xs h.0) ∙ ap (λ (zs : Database). length zs) h.1 in absurd (omega (arith, count, more))
   is_first (inr h) more = (h, more)
 
-  -- where the second of two lists that agree is longer, the first begins it
+  -- if two lists agree and the second is longer, the first is a prefix of it
   pub is_second : Agree xs ys → length xs < length ys → IsPrefixOf xs ys × (length xs < length ys)
   is_second (inl h) more = (h, more)
   is_second (inr h) more = let count : length ys + length h.0 ≡ length xs = sym (length-append ys h.0) ∙ ap (λ (zs : Database). length zs) h.1 in absurd (omega (arith, count, more))
 
--- a prefix that is no shorter than the list is the list
+-- if a list is a prefix of one that is no longer, the two are equal
 all_begun : (xs ys : Database) → IsPrefixOf xs ys → length ys ≤ length xs → xs ≡ ys
 all_begun xs ys h few = by_rest h.0 h.1 where
   by_rest : (rest : Database) → xs ++ rest ≡ ys → xs ≡ ys
   by_rest [] is = sym (append-nil xs) ∙ is
   by_rest (s ∷ rest) is = let count : length xs + length (s ∷ rest) ≡ length ys = sym (length-append xs (s ∷ rest)) ∙ ap (λ (zs : Database). length zs) is in absurd (omega (arith, count, few))
 
--- lists that agree, neither shorter than the other, are the same
+-- if two lists agree and neither is shorter than the other, they are equal
 pub are_same : (xs ys : Database) → Agree xs ys → length xs ≤ length ys → length ys ≤ length xs → xs ≡ ys
 are_same xs ys (inl h) few most = all_begun xs ys h most
 are_same xs ys (inr h) few most = sym (all_begun ys xs h few)

@@ -1,4 +1,4 @@
--- The words in which this crate is proved, and the lemmas of std and of the layers below, passed on from one place.
+-- The names used in the proofs of this crate, with lemmas of std and of the layers below, re-exported from one place.
 pub use Rattle.cluster.specs.Belongs.{Belongs, EachBelongs, IsAhead}
 pub use Rattle.cluster.specs.Cell.{AddsEntry, Cell, IsCell, TakesOver, new_cell, next_entry}
 pub use Rattle.cluster.specs.Cells.{new_cells}

@@ -1,4 +1,4 @@
--- As many locks as there are nodes.
+-- There are as many locks as nodes.
 use Rattle.nodes.proofs.Words.{◌≡◌, ℕ, suc, List, [], ◌∷◌, length, refl, ap, new_cells}
 
 pub new_cells-length : (k : ℕ) (weights : List ℕ) → length (new_cells k weights) ≡ length weights

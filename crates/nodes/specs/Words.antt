@@ -1,4 +1,4 @@
--- The words of the layers below in which this crate's definitions are written, passed on from one place.
+-- The definitions of the layers below that this crate's definitions use, re-exported from one place.
 pub use Rattle.cluster.specs.Belongs.{Belongs, IsAhead}
 pub use Rattle.cluster.specs.Cell.{Cell, IsCell}
 pub use Rattle.cluster.specs.declared.compare.Ahead.{Ahead}

@@ -3,33 +3,33 @@ use Rattle.world.proofs.Words.{◌≡◌, ℕ, List, set, slice_get, Option, Som
 use Rattle.world.proofs.EntryLogs.{entries_of-get, entries_of-none}
 use Rattle.world.proofs.WorldViewLemmas.{of_log_applied, applied_are_replicas}
 
--- the next entry of a log, as it is shown
+-- the entry found at a slot of a log of values is the one at the same index of the log of entries
 pub entry_next : (log : List (Option Carried)) (s t : ℕ) (found : Option (Bor (Option Carried))) → t ≡ s
     → MatchOption found (slice_get log t ≡ None) (λ (e : Bor (Option Carried)). slice_get log t ≡ Some e.now)
     → option_map (λ (e : Bor (Option Carried)). entry_of e.now) found ≡ slice_get (entries_of log) s
 entry_next log s t None at h = sym (ap (λ (i : ℕ). slice_get (entries_of log) i) (sym at) ∙ entries_of-none log t h)
 entry_next log s t (Some e) at h = sym (ap (λ (i : ℕ). slice_get (entries_of log) i) (sym at) ∙ entries_of-get log t e.now h)
 
--- The answer of a call that applies the next entry at node k: node is its library before, next after.
+-- The answer of a call that applies the next entry at node k: `node` is its library before, `next` after.
 
 module _ (old : WorldView) (k : ℕ) (node next : NodeLibrary) (result : Result (Option Verdict) StepFault) (is : slice_get old.libraries k ≡ Some node)
     (from : AppliesNext node next (slice_get (log_entries old.history k) node.applied) result) where
   abbrev becomes : WorldView
   becomes = record { history = old.history; libraries = set old.libraries k next }
 
-  -- the entry next for the library of node k is the next entry of the replicas
+  -- the next entry for the library of node k is that of the world
   next_at : slice_get (log_entries old.history k) node.applied ≡ next_entry old k
   next_at = sym (ap (λ (o : Option NodeLibrary). next_of (log_entries old.history k) o) is)
 
-  -- what the library did is right by the next entry of the replicas
+  -- the library changes as the next entry of the world requires
   applies : AppliesNext node next (next_entry old k) result
   applies = subst (λ (o : Option (Option Entry)). AppliesNext node next o result) next_at from
 
-  -- where the library stays, the replicas do
+  -- if the library stays the same, the world does
   unmoved : next ≡ node → becomes ≡ old
   unmoved same = ap (λ (ls : List NodeLibrary). let r : WorldView = record { history = old.history; libraries = ls } in r) (ap (λ (l : NodeLibrary). set old.libraries k l) same ∙ set_same old.libraries k node is)
 
-  -- an entry that is there, with a verdict on it, is applied at node k
+  -- if there is an entry and the call returns a verdict, the entry is applied at node k
   applied_at : (o : Option (Option Entry)) (r : Result (Option Verdict) StepFault) → AppliesNext node next o r → IfSome o (λ entry. IfOk r (λ answer. IsSomeAnd answer (λ verdict. IsApplied old k entry verdict becomes)))
   applied_at None r h = tt
   applied_at (Some entry) (Err fault) h = tt
@@ -42,22 +42,22 @@ module _ (old : WorldView) (k : ℕ) (node next : NodeLibrary) (result : Result 
     becomes = ap (λ (n : ℕ). let r : WorldView = record { history = old.history; libraries = set old.libraries k (record { applied = n; library = next.library }) } in r) h.1;
   }
 
-  -- the next entry, with the verdict that is answered, is applied at node k
+  -- if there is a next entry and the call returns a verdict, the entry is applied at node k
   pub call_applies : IfSome (next_entry old k) (λ entry. IfOk result (λ answer. IsSomeAnd answer (λ verdict. IsApplied old k entry verdict becomes)))
   call_applies = applied_at (next_entry old k) result applies
 
-  -- where there is no entry, none is applied and the replicas stay
+  -- if there is no entry, the call returns None and the world stays the same
   none_at : (o : Option (Option Entry)) (r : Result (Option Verdict) StepFault) → AppliesNext node next o r → o ≡ None → (r ≡ Ok None) × (becomes ≡ old)
   none_at None (Ok None) h missing = (refl, unmoved h)
   none_at None (Ok (Some verdict)) h missing = elim h [ ]
   none_at None (Err fault) h missing = elim h [ ]
   none_at (Some entry) r h missing = cc
 
-  -- where there is no next entry, the call answers none and the replicas stay
+  -- if there is no next entry, the call returns None and the world stays the same
   pub call_none : next_entry old k ≡ None → (result ≡ Ok None) × (becomes ≡ old)
   call_none missing = none_at (next_entry old k) result applies missing
 
-  -- whatever the answer, the library after it is that of first entries of the log
+  -- whatever the answer, the library is that of the first entries of the log
   of_log_at : (o : Option (Option Entry)) → slice_get (log_entries old.history k) node.applied ≡ o → (r : Result (Option Verdict) StepFault) → AppliesNext node next o r → IsOfLog (log_entries old.history k) node
       → IsOfLog (log_entries old.history k) next
   of_log_at None at (Ok None) h log = subst (λ (l : NodeLibrary). IsOfLog (log_entries old.history k) l) (sym h) log
@@ -67,6 +67,6 @@ module _ (old : WorldView) (k : ℕ) (node next : NodeLibrary) (result : Result 
   of_log_at (Some entry) at (Ok None) h log = elim h [ ]
   of_log_at (Some entry) at (Ok (Some verdict)) h log = of_log_applied (log_entries old.history k) node entry verdict next log at h.0 h.1
 
-  -- the call leaves each library that of its log
+  -- after the call each library is still that of its log
   pub call_keeps : AreLibrariesOfLogs old → AreLibrariesOfLogs becomes
   call_keeps h = applied_are_replicas old k next h (of_log_at (slice_get (log_entries old.history k) node.applied) refl result from (h.of_logs k node is))

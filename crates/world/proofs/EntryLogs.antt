@@ -1,4 +1,4 @@
--- Events and logs of entries, as those of the values that carry them.
+-- Events and logs of entries, in terms of the values that carry them.
 use Rattle.world.proofs.Words.{◌≡◌, ℕ, zero, suc, List, [], ◌∷◌, ◌++◌, slice_get, Option, Some, None, inl, inr, refl, ap, sym, ◌∙◌, Entry, Carried, Event, IsPrefixOf, Agree, value_event, value_events, entry_of, entries_of}
 
 pub value_events-append : (es ds : List (Event Entry)) → value_events (es ++ ds) ≡ value_events es ++ value_events ds
@@ -9,7 +9,7 @@ pub entries_of-append : (vs us : List (Option Carried)) → entries_of (vs ++ us
 entries_of-append [] us = refl
 entries_of-append (v ∷ vs) us = ap (λ es. entry_of v ∷ es) (entries_of-append vs us)
 
--- a beginning of a log of values is, as entries, a beginning of the log of entries
+-- a prefix of a log of values is, as entries, a prefix of the log of entries
 pub entries_begin : (vs us : List (Option Carried)) → IsPrefixOf vs us → IsPrefixOf (entries_of vs) (entries_of us)
 entries_begin vs us h = (entries_of h.0, sym (entries_of-append vs h.0) ∙ ap (λ ws. entries_of ws) h.1)
 

@@ -1,26 +1,26 @@
--- The headline: logs of entries agree, the library of a log begins that of a longer one, and each library of a log is good.
+-- The headline: logs of entries agree, the library of a log is a prefix of that of a longer one, and each library of a log is good.
 use Rattle.world.proofs.Words.{◌≡◌, ℕ, zero, suc, true, false, List, [], ◌∷◌, take, Option, Result, Ok, Err, inl, inr, refl, ap, sym, subst, IsOk, Entry, Replica, IsLibraryOf, library-begins, library-good, Carried, StepFault, World, log, IsPrefixOf, Agree, History, world_of, Agreement, carried_size, entries_of, Headline, HeadlineHolds, then_begins, beginnings_agree, agreement_of}
 use Rattle.world.proofs.EntryLogs.{entries_agree}
 
--- the first elements of a list are a beginning of it
+-- the first n elements of a list are a prefix of it
 take_begins : {A : Type 0} (n : ℕ) (xs : List A) → IsPrefixOf (take n xs) xs
 take_begins zero xs = (xs, refl)
 take_begins (suc n) [] = ([], refl)
 take_begins (suc n) (x ∷ xs) = let rest = take_begins n xs in (rest.0, ap (λ ys. x ∷ ys) rest.1)
 
--- the first parts of two lists that agree
+-- the first elements of two lists that agree do so too
 takes_agree : {A : Type 0} (m n : ℕ) (xs ys : List A) → Agree xs ys → Agree (take m xs) (take n ys)
 takes_agree m n xs ys (inl h) = beginnings_agree (take m xs) (take n ys) ys (then_begins (take m xs) xs ys (take_begins m xs) h) (take_begins n ys)
 takes_agree m n xs ys (inr h) = beginnings_agree (take m xs) (take n ys) xs (take_begins m xs) (then_begins (take n ys) ys xs (take_begins n ys) h)
 
--- the statements of the libraries of two logs that agree do so
+-- if two logs agree, the statements of their libraries do
 statements_agree : (xs ys : List (Option Entry)) (one other : Replica) → Agree xs ys → IsLibraryOf xs one → IsLibraryOf ys other → Agree one.statements other.statements
 statements_agree xs ys one other (inl h) p q =
     let more = library-begins xs h.0 one other p (subst (λ (es : List (Option Entry)). IsLibraryOf es other) (sym h.1) q) in inl (more.0, sym more.1)
 statements_agree xs ys one other (inr h) p q =
     let more = library-begins ys h.0 other one q (subst (λ (es : List (Option Entry)). IsLibraryOf es one) (sym h.1) p) in inr (more.0, sym more.1)
 
--- the headline of a history on which there is agreement
+-- the headline holds of a history for which agreement holds
 pub headline_of : (history : History Carried) → Agreement carried_size history → Headline history
 headline_of history agreement = record {
   agreement = agreement;
@@ -35,7 +35,7 @@ headline_of history agreement = record {
       record { stmt = proved.right.1.stmt; derivation = proved.right.0; stands = proved.right.1.stands; concludes = proved.right.1.concludes };
 }
 
--- the headline of each history that is taken
+-- the headline holds of each history that is taken
 pub headline_holds : HeadlineHolds
 headline_holds history is = from_world (world_of carried_size history) refl is where
   from_world : (r : Result (World Carried) StepFault) → world_of carried_size history ≡ r → IsOk r → Headline history

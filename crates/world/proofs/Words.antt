@@ -1,4 +1,4 @@
--- The words in which this crate is proved, and the lemmas of std and of the layers below, passed on from one place.
+-- The names used in the proofs of this crate, with lemmas of std and of the layers below, re-exported from one place.
 pub use Rattle.library.proofs.LibraryLemmas.{library-begins, library-good, library-more}
 pub use Rattle.library.specs.LibraryOf.{Applies, IsLibraryOf, Replica}
 pub use Rattle.library.specs.declared.entry.Entry.{Entry}

@@ -1,14 +1,14 @@
--- The libraries of a world: each is that of its log, whatever event comes and whichever entry is applied.
+-- The libraries of a world: each is that of its log, after any event and any entry applied.
 use Rattle.world.proofs.Words.{◌≡◌, ◌≢◌, ℕ, zero, suc, ◌+◌, ◌==◌, Bool, true, false, List, [], ◌∷◌, ◌++◌, length, take, replicate, set, slice_get, Option, Some, None, Result, Ok, Err, refl, ap, sym, ◌∙◌, subst, arith, add-one, length-append, IsOk, IfErr, nat_tests, length-set, length-replicate, take-append-le, slice_get_within, take_next, Entry, Verdict, Applies, IsLibraryOf, library-more, Carried, Event, Offer, Begin, Deliver, Restart, StepFault, World, start, event_result, events_result, log, log_after, IsPrefixOf, History, world_of, with_event, carried_size, value_event, value_events, entries_of, NodeLibrary, WorldView, new_node_library, new_node_libraries, restarts, with_library_reset, after_event, log_entries, IsOfLog, AreLibrariesOfLogs, if_taken, events_result-append, after-push, log_grows, at_set_other}
 use Rattle.world.proofs.EntryLogs.{value_events-append, entries_begin}
 
 -- A library and its log.
 
--- a new library is that of no entries of a log
+-- a new library is that of the first zero entries of any log
 pub new_is_of_log : (log : List (Option Entry)) → IsOfLog log new_node_library
 new_is_of_log log = record { within = omega arith; library = refl }
 
--- it is that of a longer log too
+-- a library of a log is also one of each longer log
 pub of_longer : (log longer : List (Option Entry)) (node : NodeLibrary) → IsPrefixOf log longer → IsOfLog log node → IsOfLog longer node
 of_longer log longer node begins h = record {
   within = let count : length log + length begins.0 ≡ length longer = sym (length-append log begins.0) ∙ ap (λ (es : List (Option Entry)). length es) begins.1 in
@@ -16,7 +16,7 @@ of_longer log longer node begins h = record {
   library = subst (λ (es : List (Option Entry)). IsLibraryOf es node.library) (sym (take-append-le node.applied log begins.0 h.within) ∙ ap (λ (es : List (Option Entry)). take node.applied es) begins.1) h.library;
 }
 
--- with the next entry applied
+-- with the next entry applied, a library of a log is still one of that log
 pub of_log_applied : (log : List (Option Entry)) (node : NodeLibrary) (entry : Option Entry) (verdict : Verdict) (next : NodeLibrary) → IsOfLog log node → slice_get log node.applied ≡ Some entry → Applies node.library entry verdict next.library → next.applied ≡ node.applied + 1
     → IsOfLog log next
 of_log_applied log node entry verdict next h is applies one_more =
@@ -29,7 +29,7 @@ of_log_applied log node entry verdict next h is applies one_more =
 
 -- The libraries of all nodes.
 
--- what is found at an index where an element was set is that element
+-- the element found at the index that was set is the one that was set
 set_new : {A : Type 0} (xs : List A) (i : ℕ) (y z : A) → slice_get (set xs i y) i ≡ Some z → z ≡ y
 set_new [] i y z got = cc
 set_new (v ∷ xs) zero y z got = cc
@@ -40,14 +40,14 @@ get-replicate zero k x y is = cc
 get-replicate (suc n) zero x y is = cc
 get-replicate (suc n) (suc k) x y is = get-replicate n k x y is
 
--- new libraries, one a node, are those of their logs
+-- new libraries, one for each node, are those of their logs
 pub new_are_replicas : (history : History Carried) (nodes : ℕ) → nodes ≡ length history.weights → (libraries : List NodeLibrary) → libraries ≡ replicate nodes new_node_library → AreLibrariesOfLogs (record { history = history; libraries = libraries })
 new_are_replicas history nodes count libraries new = subst (λ (ls : List NodeLibrary). AreLibrariesOfLogs (record { history = history; libraries = ls })) (sym new) record {
   one_each = length-replicate nodes new_node_library ∙ count;
   of_logs = λ k node is. subst (λ (n : NodeLibrary). IsOfLog (log_entries history k) n) (sym (get-replicate nodes k new_node_library node is)) (new_is_of_log (log_entries history k));
 }
 
--- One event more.
+-- One more event.
 
 -- an event that restarts node n is no restart of another node
 restart_other : (k : ℕ) (e : Event Carried) (n : ℕ) → restarts e ≡ Some n → n ≢ k → e ≢ Restart k
@@ -68,18 +68,18 @@ module _ (history : History Carried) (w x : World Carried) (was : world_of carri
   happened : event_result carried_size w e ≡ Ok x
   happened = sym (after-push carried_size history.weights history.events w e was) ∙ is
 
-  -- an event but a restart of node k leaves the log of its entries a beginning of the new one
+  -- the log of node k before an event other than its restart is a prefix of the log after it
   log_longer : (k : ℕ) → e ≢ Restart k → IsPrefixOf (log_entries history k) (log_entries (with_event history e) k)
   log_longer k other =
       let grows = if_taken (λ (y : World Carried). IsPrefixOf (log w k) (log y k)) (event_result carried_size w e) x happened (log_grows carried_size w k e other) in
       let longer = entries_begin (log w k) (log x k) grows in
       (longer.0, ap (λ (r : Result (World Carried) StepFault). entries_of (log_after r k) ++ longer.0) was ∙ longer.1 ∙ ap (λ (r : Result (World Carried) StepFault). entries_of (log_after r k)) (sym is))
 
-  -- an event but a restart of node k leaves a library that of the log of node k
+  -- after an event other than a restart of node k, a library of the log of k is still one
   stays_of_log : (k : ℕ) (node : NodeLibrary) → e ≢ Restart k → IsOfLog (log_entries history k) node → IsOfLog (log_entries (with_event history e) k) node
   stays_of_log k node other h = of_longer (log_entries history k) (log_entries (with_event history e) k) node (log_longer k other) h
 
-  -- the library at k, where node n restarts
+  -- if node n restarts, the library at k is that of its log: a new one if k is n, else the old one
   at_restart : (libraries : List NodeLibrary) (n k : ℕ) → restarts e ≡ Some n → (node old : NodeLibrary) → slice_get (set libraries n new_node_library) k ≡ Some node
       → ((other : NodeLibrary) → slice_get libraries k ≡ Some other → IsOfLog (log_entries history k) other) → (t : Bool) → (n == k) ≡ t → IsOfLog (log_entries (with_event history e) k) node
   at_restart libraries n k restart node old got each false test =
@@ -90,25 +90,25 @@ module _ (history : History Carried) (w x : World Carried) (was : world_of carri
       let new : node ≡ new_node_library = set_new libraries k new_node_library node (subst (λ (i : ℕ). slice_get (set libraries i new_node_library) k ≡ Some node) same got) in
       subst (λ (l : NodeLibrary). IsOfLog (log_entries (with_event history e) k) l) (sym new) (new_is_of_log (log_entries (with_event history e) k))
 
-  -- each library, the one of a node that restarts given up, is that of its log after the event
+  -- after the event each library is that of its log, with the one of a node that restarts reset
   keeps_each : (libraries : List NodeLibrary) → ((k : ℕ) (node : NodeLibrary) → slice_get libraries k ≡ Some node → IsOfLog (log_entries history k) node)
       → (o : Option ℕ) → restarts e ≡ o → (k : ℕ) (node : NodeLibrary) → slice_get (with_library_reset libraries o) k ≡ Some node → IsOfLog (log_entries (with_event history e) k) node
   keeps_each libraries each None none k node got = stays_of_log k node (no_restart k e none) (each k node got)
   keeps_each libraries each (Some n) restart k node got = at_restart libraries n k restart node node got (each k) (n == k) refl
 
--- there are as many libraries where one is given up
+-- resetting a library keeps their count
 as_many : (libraries : List NodeLibrary) (o : Option ℕ) → length (with_library_reset libraries o) ≡ length libraries
 as_many libraries None = refl
 as_many libraries (Some k) = length-set libraries k new_node_library
 
--- an event that is taken comes after events that are taken
+-- if a history with one more event is taken, so is the history
 ok_before : (history : History Carried) (e : Event Carried) → IsOk (world_of carried_size (with_event history e)) → IsOk (world_of carried_size history)
 ok_before history e is = before (world_of carried_size history) (subst IsOk (events_result-append carried_size history.events (e ∷ []) (Ok (start history.weights))) is) where
   before : (r : Result (World Carried) StepFault) → IsOk (events_result carried_size (e ∷ []) r) → IsOk r
   before (Ok w) h = refl
   before (Err fault) h = h
 
--- an event that is taken leaves each library that of its log
+-- after an event that is taken each library is that of its log
 then_are_replicas : (old : WorldView) (e : Event Carried) → IsOk (world_of carried_size (with_event old.history e)) → AreLibrariesOfLogs old → AreLibrariesOfLogs (after_event old e)
 then_are_replicas old e is h = both (world_of carried_size old.history) refl (world_of carried_size (with_event old.history e)) refl (ok_before old.history e is) is where
   both : (r : Result (World Carried) StepFault) → world_of carried_size old.history ≡ r → (s : Result (World Carried) StepFault) → world_of carried_size (with_event old.history e) ≡ s → IsOk r → IsOk s → AreLibrariesOfLogs (after_event old e)
@@ -119,12 +119,12 @@ then_are_replicas old e is h = both (world_of carried_size old.history) refl (wo
   both (Err fault) at s then ok done = let no : false ≡ true = ok in cc
   both (Ok w) at (Err fault) then ok done = let no : false ≡ true = done in cc
 
--- where a count was answered and no fault is met by it, the events are taken
+-- if the result is a count and not a fault that is met, the events are taken
 ok_unless_met : (r : Result (World Carried) StepFault) (count : ℕ) → IfErr r (λ fault. let answer : Result ℕ StepFault = Ok count in answer ≡ Err fault) → IsOk r
 ok_unless_met (Ok w) count h = refl
 ok_unless_met (Err fault) count h = cc
 
--- the events after a step that is taken
+-- if a step returns an answer, the history with its event is taken
 pub step_taken : {A : Type 0} (old new : WorldView) (e : Event Carried) (result : Result A StepFault) (answer : A) → new ≡ after_event old e → result ≡ Ok answer
     → IfErr (world_of carried_size (with_event old.history e)) (λ fault. result ≡ Err fault) → IsOk (world_of carried_size new.history)
 step_taken old new e result answer becomes ok refused = subst (λ (r : WorldView). IsOk (world_of carried_size r.history)) (sym becomes) (met (world_of carried_size (with_event old.history e)) refused) where
@@ -132,7 +132,7 @@ step_taken old new e result answer becomes ok refused = subst (λ (r : WorldView
   met (Ok w) h = refl
   met (Err fault) h = cc
 
--- what a step leaves
+-- after a step that returns a count each library is that of its log
 pub step_keeps : (old : WorldView) (e : Event Carried) (history : History Carried) (libraries : List NodeLibrary) (restarted : Option ℕ) (count : ℕ) → AreLibrariesOfLogs old
     → history ≡ with_event old.history e → restarted ≡ restarts e → libraries ≡ with_library_reset old.libraries restarted
     → IfErr (world_of carried_size (with_event old.history e)) (λ fault. let answer : Result ℕ StepFault = Ok count in answer ≡ Err fault) → AreLibrariesOfLogs (record { history = history; libraries = libraries })
@@ -144,7 +144,7 @@ step_keeps old e history libraries restarted count h is restarts_is given refuse
 
 -- One entry applied at node k.
 
--- where the library of node k is set to one of its log, each is still that of its log
+-- with the library of node k set to one of its log, each library is still that of its log
 pub applied_are_replicas : (old : WorldView) (k : ℕ) (next : NodeLibrary) → AreLibrariesOfLogs old → IsOfLog (log_entries old.history k) next → AreLibrariesOfLogs (record { history = old.history; libraries = set old.libraries k next })
 applied_are_replicas old k next h here = record {
   one_each = length-set old.libraries k next ∙ h.one_each;
@@ -161,7 +161,7 @@ applied_are_replicas old k next h here = record {
 
 -- A run on new libraries leaves them new.
 
--- new libraries, where one is given up, are new libraries
+-- if one of a list of new libraries is reset, all are new
 new_given_up : (n : ℕ) (o : Option ℕ) → with_library_reset (replicate n new_node_library) o ≡ replicate n new_node_library
 new_given_up n None = refl
 new_given_up n (Some k) = set_again n k where
@@ -170,7 +170,7 @@ new_given_up n (Some k) = set_again n k where
   set_again (suc m) zero = refl
   set_again (suc m) (suc i) = ap (λ ls. new_node_library ∷ ls) (set_again m i)
 
--- the replicas of a run, with one event more, have new libraries as before
+-- with one more event the world of a run still has new libraries
 pub run_goes_on : (weights : List ℕ) (done : List (Event Entry)) (e : Event Entry) (old new : WorldView) → old ≡ record { history = record { weights = weights; events = value_events done }; libraries = new_node_libraries weights }
     → new ≡ after_event old (value_event e) → new ≡ record { history = record { weights = weights; events = value_events (done ++ e ∷ []) }; libraries = new_node_libraries weights }
 run_goes_on weights done e old new was is =

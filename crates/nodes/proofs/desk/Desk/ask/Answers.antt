@@ -1,7 +1,7 @@
 use Rattle.std.proofs.Common.{Result, Ok, Err, IfOk}
 use Rattle.nodes.proofs.desk.Desk.ask.Goals as goal
 
--- two facts on what an Ok holds make a third
+-- if two facts hold of an Ok and imply a third, the third holds of it
 joined : {T E : Type 0} {P : Type 0} {Q R : T → Type 0} (r : Result T E) → (P → (answer : T) → Q answer → R answer)
     → IfOk r (λ answer. P) → IfOk r Q → IfOk r R
 joined (Ok answer) f p q = f p answer q
