@@ -1,12 +1,12 @@
--- A statement appended or removed: its numbers and groups stand after those of the others.
+-- A statement is appended, or the last ones are removed: the numbers and groups of the others stay.
 use Rattle.entries.proofs.Words.{◌≡◌, ℕ, ◌+◌, ◌-◌, ◌<◌, ◌^◌, true, false, Bool, List, [], ◌∷◌, ◌++◌, length, slice_get, slice_range, take, drop, Some, None, refl, Result, Ok, Err, OnOk, OnErr, is_err, ◌∙◌, ap, sym, subst, arith, length-append, length-take-le, take-append-drop, drop_more, nil_from_length, slice_get_within, get_or_from_slice_get, take-append_seam, take-length, BufferPart, StatementRecord, Layout, AreShapedParts, assertion_of, AreSpansIn, Extends, counts_of, has_parts, run_of, record_by, layout_in, run_by, spans_by, body_of, bodies_of, IsKept, AreKept, ArePacked, ltb-false, Kind, AssertionParts}
 use Rattle.entries.proofs.SpanLemmas.{range-behind, extends-refl, extends-take, extends-trans}
 use Rattle.entries.proofs.StatementRecordLemmas.{bodies-length, kept-at}
 use Rattle.entries.proofs.BufferPlaceLemmas.{bodies-before, kept-before, kept-cut}
 
--- ---- one more
+-- ---- a statement is appended
 
--- the numbers and the groups are as many as the layout tells
+-- the numbers and groups are as many as the layout says
 pub record IsLaid (at : Layout) (run : List ℕ) (spans : List BufferPart) : Type 0 where
   pub whole : at.end ≡ length run
   pub count : at.groups ≡ length spans
@@ -43,9 +43,9 @@ module _ (ns ms : List ℕ) (gs hs : List BufferPart) (rs qs : List StatementRec
         few = omega arith;
       })
 
--- ---- its parts are those that were added
+-- ---- the parts of the statement are those that were appended
 
--- a statement without parts has only empty lists but its symbols
+-- a statement without parts has neither hypotheses nor groups
 pub record IsBare (p : AssertionParts) : Type 0 where
   pub hypotheses : p.hypotheses.now ≡ []
   pub required : p.required.now ≡ []
@@ -97,7 +97,7 @@ run-body h p from groups false shaped e =
     let v : slice_range p.symbols.now at.hypotheses at.places ≡ [] = ap (λ k. take k (drop at.hypotheses p.symbols.now)) m in
     rw (b.hypotheses, b.required, b.typecodes, b.groups) cc
 
--- ---- fewer
+-- ---- the last statements are removed
 
 module _ (ms : List ℕ) (hs : List BufferPart) (us : List StatementRecord) (n : ℕ) (s : StatementRecord) (packed : ArePacked ms hs us) (here : slice_get us n ≡ Some s) where
   abbrev a : List ℕ

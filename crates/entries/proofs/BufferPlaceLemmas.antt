@@ -1,4 +1,4 @@
--- Statements in shared buffers: more after them changes no statement, and they can be cut where a statement begins.
+-- Statements in shared buffers: appending changes no statement, and the buffers can be truncated where a statement begins.
 use Rattle.entries.proofs.Words.{◌≡◌, ℕ, zero, suc, ◌<◌, ◌≤◌, List, [], ◌∷◌, ◌++◌, length, take, slice_get, slice_range, Some, refl, ◌⊎◌, ◌∙◌, ap, arith, inl, inr, same_Some, StatementRecord, BufferPart, Extends, end_by, groups_by, run_by, spans_by, bodies_of, AreKept}
 use Rattle.entries.proofs.SpanLemmas.{range-extends, extends-length}
 
@@ -17,7 +17,7 @@ take-get (suc n) i [] x e = absurd (cc)
 take-get (suc n) zero (y ∷ xs) x e = (omega arith, e)
 take-get (suc n) (suc i) (y ∷ xs) x e = let r = take-get n i xs x e in (omega (arith, r.0), r.1)
 
--- ---- statements before the record s, which begins where the shorter buffers a and g end
+-- ---- the statements before the record s, whose numbers and groups begin where the shorter buffers a and g end
 
 module _ (a b : List ℕ) (g h : List BufferPart) (s : StatementRecord) (ts : List StatementRecord) (more : Extends a b) (more_groups : Extends g h) (from : s.from ≡ length a) (groups : s.groups ≡ length g) where
   next-end : (rs : List StatementRecord) → end_by b (slice_get (rs ++ s ∷ ts) 0) ≡ end_by a (slice_get rs 0)
@@ -34,7 +34,7 @@ module _ (a b : List ℕ) (g h : List BufferPart) (s : StatementRecord) (ts : Li
   spans-same : (q : StatementRecord) (rs : List StatementRecord) → q.groups ≤ groups_by g (slice_get rs 0) → groups_by g (slice_get rs 0) ≤ length g → spans_by h q (slice_get (rs ++ s ∷ ts) 0) ≡ spans_by g q (slice_get rs 0)
   spans-same q rs le in_g = ap (slice_range h q.groups) (next-groups rs) ∙ range-extends g h q.groups (groups_by g (slice_get rs 0)) more_groups le in_g
 
-  -- they are the same statements in the longer buffers
+  -- the longer buffers have the same statements
   pub bodies-before : (rs : List StatementRecord) → AreKept a g rs → bodies_of b h (rs ++ s ∷ ts) ≡ bodies_of a g rs ++ bodies_of b h (s ∷ ts)
   bodies-before [] k = refl
   bodies-before (q ∷ rs) k =
@@ -42,7 +42,7 @@ module _ (a b : List ℕ) (g h : List BufferPart) (s : StatementRecord) (ts : Li
       let e = run-same q rs p.from p.end in let f = spans-same q rs (omega arith) w.end in
       let es = bodies-before rs k.1 in cc
 
-  -- and are kept there
+  -- the records fit the longer buffers, too
   pub kept-before : (rs : List StatementRecord) → AreKept a g rs → AreKept b h (s ∷ ts) → AreKept b h (rs ++ s ∷ ts)
   kept-before [] k last = last
   kept-before (q ∷ rs) k last =
@@ -57,7 +57,7 @@ module _ (a b : List ℕ) (g h : List BufferPart) (s : StatementRecord) (ts : Li
         kept-before rs k.1 last,
       )
 
-  -- the numbers that are kept there stand in the shorter buffers too
+  -- records that fit the longer buffers fit the shorter ones
   pub kept-cut : (rs : List StatementRecord) → AreKept b h (rs ++ s ∷ ts) → AreKept a g rs
   kept-cut [] k = tt
   kept-cut (q ∷ rs) k =

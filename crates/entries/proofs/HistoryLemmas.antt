@@ -1,4 +1,4 @@
--- The stack at a position, where the versions are more or fewer.
+-- The stack at a position, after versions are added or removed.
 use Rattle.entries.proofs.Words.{◌≡◌, ℕ, ◌+◌, ◌<◌, ◌≤◌, Bool, true, false, nat_lt, nat_le, cond, List, [], ◌∷◌, ◌++◌, refl, ◌∙◌, ap, sym, arith, le-ltb, leb-false, StackVersion, stack_from, stack_at, is_changed, changed, kept_until, IsUntil}
 use Rattle.std.proofs.Common.{lt-ltb}
 use Rattle.entries.proofs.LogLemmas.{kept-front}
@@ -10,7 +10,7 @@ stack-from-append found (x ∷ xs) ys at = stack-from-append (cond (nat_lt x.sin
 pub stack-push : (vs : List StackVersion) (v : StackVersion) (at : ℕ) → stack_at (vs ++ v ∷ []) at ≡ cond (nat_lt v.since at) v.stack (stack_at vs at)
 stack-push vs v at = stack-from-append [] vs (v ∷ []) at
 
--- after all versions it is the same everywhere
+-- the stack is the same at all positions after the last version
 pub stack-later : (vs : List StackVersion) (n at later : ℕ) → IsUntil n vs → n < at → n < later → stack_at vs at ≡ stack_at vs later
 stack-later vs n at later until lt l = from [] vs until
   where
@@ -22,7 +22,7 @@ stack-later vs n at later until lt l = from [] vs until
         let b : nat_lt v.since later ≡ true = lt-ltb v.since later (omega (arith, low, l)) in
         ap (λ t. stack_from (cond t v.stack found) us at) a ∙ (from v.stack us u.1 ∙ sym (ap (λ t. stack_from (cond t v.stack found) us later) b))
 
--- versions of later positions do not matter
+-- versions made after a position do not change the stack there
 pub stack-kept : (vs : List StackVersion) (last at : ℕ) → at ≤ last + 1 → stack_at (kept_until last vs) at ≡ stack_at vs at
 stack-kept vs last at le = from [] vs
   where
@@ -37,7 +37,7 @@ stack-kept vs last at le = from [] vs
     from found [] = refl
     from found (v ∷ us) = by found v us (nat_le v.since last) refl (λ f. from f us)
 
--- ---- a change
+-- ---- a version is added
 
 pub unchanged : (vs : List StackVersion) (n at : ℕ) → IsUntil n vs → n < at → is_changed at vs ≡ false
 unchanged [] n at until lt = refl

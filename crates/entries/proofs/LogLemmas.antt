@@ -1,8 +1,8 @@
--- The log of the versions of all numbers: one more, and the last one taken away.
+-- The log of the versions of all numbers: a version is added, or the last one is removed.
 use Rattle.entries.proofs.Words.{◌≡◌, ℕ, zero, suc, ◌+◌, ◌-◌, ◌<◌, ◌≤◌, Bool, true, false, nat_eq, nat_lt, nat_le, cond, List, [], ◌∷◌, ◌++◌, length, map, take, get_or, slice_get, slice_set, Some, refl, ◌∙◌, ap, sym, subst, arith, append-nil, le-leb, lt-leb, ltb-true, ltb-false, get_or_from_slice_get, slice_get_within, get_or-set_at, length-append, map-append, get_or-set_other, get_or_read, take_more, filter-append, IsNonDecreasingBy-take, IsNonDecreasingBy-push, IsNonDecreasingBy, take-append_seam, get_or-append_seam, take_all, StackVersion, IsUntil, AreUntil, AreWith, AreSame, changed, history, is_changed, kept_until, Change, sinces_of, AreLogged}
 use Rattle.std.proofs.Common.{filter}
 
--- ---- since when
+-- ---- when versions were made
 
 abbrev AreAtMost : ℕ → List ℕ → Type 0
 AreAtMost at [] = Unit {0}
@@ -19,7 +19,7 @@ until-from at (v ∷ vs) h = (h.0, until-from at vs h.1)
 same-number : (n : ℕ) → nat_eq n n ≡ true
 same-number n = grind arith
 
--- each change is one of its number
+-- if the versions of each number were made at `at` or before, so was each change of the log
 change-until : (at : ℕ) (xs : List Change) (i : ℕ) (d : Change) → ((c : ℕ) → AreAtMost at (sinces_of c xs)) → i < length xs → (get_or xs i d).since ≤ at
 change-until at [] i d h lt = absurd (omega arith)
 change-until at (x ∷ xs) zero d h lt =
@@ -31,7 +31,7 @@ change-until at (x ∷ xs) (suc i) d h lt = change-until at xs i d (λ c. rest (
     rest true ys a = a.1
     rest false ys a = a
 
--- and those of a number are among all
+-- if each change of the log was made at `at` or before, so were the versions of a number
 changes-until : (at c : ℕ) (xs : List Change) → ((i : ℕ) (d : Change) → i < length xs → (get_or xs i d).since ≤ at) → AreAtMost at (sinces_of c xs)
 changes-until at c [] h = tt
 changes-until at c (x ∷ xs) h = by (nat_eq x.number c) (filter (λ y. nat_eq y.number c) xs) (h 0 x (omega arith)) (changes-until at c xs (λ i d lt. h (suc i) d (omega (arith, lt))))
@@ -49,7 +49,7 @@ sinces-push c xs x =
     by true = refl
     by false = refl
 
--- ---- one more
+-- ---- a version is added
 
 pub set-with : (hs : List (List StackVersion)) (i : ℕ) (vs : List StackVersion) → i < length hs → AreWith hs i vs (slice_set hs i vs)
 set-with hs i vs lt d = by (nat_eq d i) refl
@@ -86,7 +86,7 @@ logged-more log hs gs c at vs are until more with = record {
         let no : nat_eq c d ≡ false = grind (arith, e) in
         are.each d ∙ (sym (append-nil _) ∙ sym (ap (λ b. sinces_of d are.changes ++ cond b (at ∷ []) []) no))
 
--- ---- the last one taken away
+-- ---- the last version is removed
 
 record IsSplit {A B : Type 0} (f : A → B) (xs : List A) (ys : List B) (y : B) : Type 0 where
   pub front : List A
@@ -105,7 +105,7 @@ split f (x ∷ xs) (b ∷ ys) y e =
     let first : f x ≡ b = cc in
     record { front = x ∷ r.front; last = r.last; whole = ap (λ l. x ∷ l) r.whole; front_is = let g = r.front_is in cc; last_is = r.last_is }
 
--- the last version of the number that the log has last
+-- the last version of the last number in the log is the last of all versions
 pub record IsLogEnd (log : List ℕ) (c : ℕ) (hs : List (List StackVersion)) : Type 0 where
   pub front : List StackVersion
   pub version : StackVersion
@@ -159,7 +159,7 @@ log-empty hs are d = none (λ v. v.since) (history hs d) (are.each d ∙ ap (sin
     none f [] e = refl
     none f (x ∷ xs) e = cc
 
--- ---- the versions until a position
+-- ---- the versions made up to a position
 
 pub until-kept : (last : ℕ) (vs : List StackVersion) → IsUntil last vs → kept_until last vs ≡ vs
 until-kept last [] h = refl
@@ -174,7 +174,7 @@ pub until-later : (at later : ℕ) (vs : List StackVersion) → at ≤ later →
 until-later at later [] le h = tt
 until-later at later (v ∷ vs) le h = (let a = h.0 in omega (arith, a, le), until-later at later vs le h.1)
 
--- ---- a longer table
+-- ---- a table with room for another number
 
 pub wider-same : (hs : List (List StackVersion)) (d : ℕ) → history (hs ++ [] ∷ []) d ≡ history hs d
 wider-same [] zero = refl
@@ -182,9 +182,9 @@ wider-same [] (suc d) = refl
 wider-same (h ∷ hs) zero = refl
 wider-same (h ∷ hs) (suc d) = wider-same hs d
 
--- ---- one number of the table
+-- ---- the versions of one number of the table change
 
--- a stack that changes at a position later than all before
+-- a version of c that is made at `at`, where no later one was made, is logged last
 pub logged-change : (log log' : List ℕ) (hs gs : List (List StackVersion)) (c at : ℕ) (stack : List ℕ) (seen old new : List StackVersion) → AreLogged log hs → AreUntil at hs → AreSame hs gs → c < length gs
     → seen ≡ get_or gs c seen → old ≡ get_or gs c old → is_changed at seen ≡ false → new ≡ changed at stack old → log' ≡ log ++ c ∷ [] → AreLogged log' (slice_set gs c new)
 logged-change log log' hs gs c at stack seen old new are until same lt look read unchanged is more =
@@ -196,7 +196,7 @@ logged-change log log' hs gs c at stack seen old new are until same lt look read
     (logged-more log gs (slice_set gs c new) c at new (logged-same log hs gs same are) (λ d. subst (IsUntil at) (sym (same d)) (until d))
     (ap (map (λ u. u.since)) one ∙ map-append (λ u. u.since) (history gs c) (v ∷ [])) (set-with gs c new lt))
 
--- the number that the log has last, and its last version: it goes, where it is so since after `last`, or all stay
+-- the last version of c, the last number in the log, is removed if it was made after `last`; else all versions stay
 pub record IsPopStep (log : List ℕ) (hs : List (List StackVersion)) (c last : ℕ) (popped : Bool) (new : List StackVersion) : Type 0 where
   pub stays : popped ≡ false → AreLogged log (slice_set hs c new) × ((d : ℕ) → history (slice_set hs c new) d ≡ kept_until last (history hs d))
   pub goes : popped ≡ true → AreLogged (take (length log - 1) log) (slice_set hs c new) × ((d : ℕ) → kept_until last (history (slice_set hs c new) d) ≡ kept_until last (history hs d))

@@ -1,4 +1,4 @@
--- Ascending indexes, each with what is kept by it.
+-- Ascending indexes, each with what is stored for it.
 use Rattle.entries.proofs.Words.{◌≡◌, ℕ, zero, suc, ◌+◌, ◌<◌, ◌≤◌, List, [], ◌∷◌, ◌++◌, length, take, Some, None, Ok, Err, Result, refl, ◌∙◌, ap, sym, subst, arith, length-append, length-take-le, take_all, cond, get_or, nat_eq, nat_lt, nat_cmp, ⊎_elim, All, filter, zip, lookup, IsStrictlyIncreasing, IsBinarySearchResult, cases_lt, eq-eqb, ne_eqb, lt-ltb, le-ltb, get_or-append, get_or-append_seam, get_or-take, All-tail, AllPairs-from_increasing, searched}
 
 pub zip-push : {A : Type 0} (is : List ℕ) (ps : List A) (i : ℕ) (p : A) → length ps ≡ length is → zip (is ++ i ∷ []) (ps ++ p ∷ []) ≡ zip is ps ++ (i, p) ∷ []
@@ -38,7 +38,7 @@ lookup-none (i ∷ is) [] x h = refl
 lookup-none (i ∷ is) (q ∷ ps) x h =
     ap (λ b. cond b (Some q) (lookup (nat_eq x) (zip is ps))) (ne_eqb x i (λ same. h 0 (omega arith) (sym same))) ∙ lookup-none is ps x (λ k l e. h (suc k) (omega (arith, l)) e)
 
--- the answer of a search, by the list and the answer that are at hand
+-- the result of a search, by the equal list and result at hand
 pub result-of : (xs is : List ℕ) (x : ℕ) (r s : Result ℕ ℕ) → xs ≡ is → r ≡ s → IsBinarySearchResult (λ y. nat_cmp y x) xs r → IsBinarySearchResult (λ y. nat_cmp y x) is s
 result-of xs is x r s p q h = subst (λ ys. IsBinarySearchResult (λ y. nat_cmp y x) ys s) p (subst (IsBinarySearchResult (λ y. nat_cmp y x) xs) q h)
 
@@ -49,7 +49,7 @@ module _ (is : List ℕ) (rises : IsStrictlyIncreasing is) where
   level : (i j : ℕ) → i ≤ j → j < length is → get_or is i 0 ≤ get_or is j 0
   level i j h l = ⊎_elim (λ less. let r = rise i j less l in omega (arith, r)) (λ ge. let same : i ≡ j = omega (arith, ge, h) in let e = ap (λ n. get_or is n 0) same in omega (arith, e)) (cases_lt i j)
 
-  -- an index that was found
+  -- the item of an index that was found
   pub lookup-found : {A : Type 0} (ps : List A) (x k : ℕ) (p : A) → length ps ≡ length is → IsBinarySearchResult (λ y. nat_cmp y x) is (Ok k) → p ≡ get_or ps k p → lookup (nat_eq x) (zip is ps) ≡ Some p
   lookup-found ps x k p e found there =
       let at = searched is x (Ok k) found level in
@@ -70,7 +70,7 @@ module _ (is : List ℕ) (rises : IsStrictlyIncreasing is) where
       let at = searched is x (Err k) missed level in
       record { less = λ j h l. at.1 j h; other = λ j h l. let r = at.2 j h l in omega (arith, r) }
 
-  -- the kept indexes stay in order
+  -- the first n indexes are still in order
   pub rises-take : (n : ℕ) → IsStrictlyIncreasing (take n is)
   rises-take n = ⊎_elim
       (λ less. subst IsStrictlyIncreasing (sym (take_all n is (omega (arith, less)))) rises)
@@ -91,7 +91,7 @@ module _ (is : List ℕ) (rises : IsStrictlyIncreasing is) where
       (λ ge. let b = get_or-append_seam is i [] 0 in let r = below k (omega (arith, h, size)) in let last : k + 1 ≡ length is = omega (arith, h, size, ge) in let c = ap (λ n. get_or (is ++ i ∷ []) n 0) last in omega (arith, a, b, c, r))
       (cases_lt (k + 1) (length is))
 
--- an index that is greater than all of a list
+-- if x is greater than each index of the pairs, it is greater than each of the list
 pub zip-below : {A : Type 0} (is : List ℕ) (ps : List A) (x : ℕ) → length ps ≡ length is → All (λ (e : ℕ × A). e.0 < x) (zip is ps) → (k : ℕ) → k < length is → get_or is k 0 < x
 zip-below [] ps x e h k l = absurd (omega (arith, l))
 zip-below (i ∷ is) [] x e h k l = absurd (cc)

@@ -1,4 +1,4 @@
--- Sets of positions as lists in ascending order: a position between two lists that it parts.
+-- Sets of positions as lists in ascending order, and a position that divides such a list.
 -- In a set l ++ x ∷ r the positions of l are below x, and those of r above it.
 use Rattle.entries.proofs.Words.{◌≡◌, ℕ, ◌+◌, ◌<◌, ◌≤◌, ◌==◌, ◌||◌, nat_lt, true, false, List, [], ◌∷◌, ◌++◌, length, slice_get, Some, ap, sym, ◌∙◌, refl, inl, inr, suc, zero, arith, nat_tests, cases_eq, cases_lt, cond_both, lt-ltb, ltb-true, eq-or-lt_of_le, same_Some, AreAbove, Ascends, with_position, has_position, count_below}
 
@@ -24,7 +24,7 @@ pub above-all : (p q : ℕ) (xs : List ℕ) → p ≤ q → AreAbove q xs → Ar
 above-all p q [] below h = tt
 above-all p q (x ∷ xs) below h = let here = h.0 in (omega arith, above-all p q xs below h.1)
 
--- ---- a position put in
+-- ---- inserting a position
 
 pub with-below : (p x : ℕ) (l r : List ℕ) → p < x → with_position p (l ++ x ∷ r) ≡ with_position p l ++ x ∷ r
 with-below p x [] r below = grind (arith, nat_tests)
@@ -40,7 +40,7 @@ with-above p x [] r above h = grind (arith, nat_tests)
 with-above p x (y ∷ l) r above h =
     let rest = with-above p x l r above h.1 in let first = (above-back y l (x ∷ r) h.0).0 in grind (arith, nat_tests)
 
--- ---- a position looked for
+-- ---- looking for a position
 
 pub has-above : (p : ℕ) (xs : List ℕ) → AreAbove p xs → has_position p xs ≡ false
 has-above p [] h = refl
@@ -59,7 +59,7 @@ has-beyond p x [] r above h = grind (arith, nat_tests)
 has-beyond p x (y ∷ l) r above h =
     let rest = has-beyond p x l r above h.1 in let first = (above-back y l (x ∷ r) h.0).0 in grind (arith, nat_tests)
 
--- ---- positions counted
+-- ---- counting positions
 
 pub count-above : (p : ℕ) (xs : List ℕ) → AreAbove p xs → count_below p xs ≡ 0
 count-above p [] h = refl
@@ -74,12 +74,12 @@ count-right p x [] r above h = grind (arith, nat_tests)
 count-right p x (y ∷ l) r above h =
     let rest = count-right p x l r above h.1 in let first = (above-back y l (x ∷ r) h.0).0 in grind (arith, nat_tests)
 
--- ---- the two sides of a position
+-- ---- both parts of a set are in ascending order
 
 pub parts : (l r : List ℕ) (x : ℕ) → Ascends (l ++ x ∷ r) → Ascends l × Ascends r
 parts l r x h = (ascends-front l (x ∷ r) h, (ascends-back l (x ∷ r) h).1)
 
--- ---- a position put in
+-- ---- inserting a position keeps the order
 
 above-with : (q p : ℕ) (xs : List ℕ) → q < p → AreAbove q xs → AreAbove q (with_position p xs)
 above-with q p [] below h = (below, tt)
@@ -94,7 +94,7 @@ ascends-with p (x ∷ xs) h =
     (λ below. let first = ltb-true p x below in ((first, above-all p x xs (omega arith) h.0), h))
     (λ _. cond_both (nat_lt x p) _ _ Ascends (λ above. (above-with x p xs (ltb-true x p above) h.0, ascends-with p xs h.1)) (λ _. h))
 
--- the set that has the position stays as it is
+-- inserting a position that the set has does not change it
 pub with-known : (p : ℕ) (xs : List ℕ) → Ascends xs → has_position p xs ≡ true → with_position p xs ≡ xs
 with-known p [] h known = absurd (cc)
 with-known p (x ∷ xs) h known =
@@ -104,9 +104,9 @@ with-known p (x ∷ xs) h known =
     (λ above. let first = ltb-true x p above in let rest : has_position p xs ≡ true = grind (arith, nat_tests) in ap (λ v. x ∷ v) (with-known p xs h.1 rest))
     (λ _. refl))
 
--- ---- laws for the crates above
+-- ---- laws for other crates
 
--- the set has the position, and what it had
+-- after an insertion the set has the position and those that it had
 pub has-with : (q p : ℕ) (xs : List ℕ) → has_position q (with_position p xs) ≡ ((p == q) || has_position q xs)
 has-with q p [] = refl
 has-with q p (x ∷ xs) =
@@ -116,14 +116,14 @@ has-with q p (x ∷ xs) =
     (λ above. grind (arith, nat_tests))
     (λ not-above. grind (arith, nat_tests)))
 
--- a position above all of them goes after them
+-- a position above all others is inserted at the end
 pub with-last : (p : ℕ) (xs : List ℕ) → ((q : ℕ) → has_position q xs ≡ true → q < p) → with_position p xs ≡ xs ++ p ∷ []
 with-last p [] all = refl
 with-last p (x ∷ xs) all =
     let first = all x (has-here x [] xs) in
     let rest = with-last p xs (λ q known. all q (grind (arith, nat_tests))) in grind (arith, nat_tests)
 
--- where the set has the position, so many below it is its index
+-- the index of a position of the set is the count of positions below it
 pub get-count : (p : ℕ) (xs : List ℕ) → Ascends xs → has_position p xs ≡ true → slice_get xs (count_below p xs) ≡ Some p
 get-count p [] ascends known = absurd (cc)
 get-count p (x ∷ xs) ascends known =
@@ -141,13 +141,13 @@ get-count p (x ∷ xs) ascends known =
           ]
     ]
 
--- the number at an index is a position of the set
+-- the number at an index is one of the positions
 pub has-get : (p : ℕ) (xs : List ℕ) (k : ℕ) → slice_get xs k ≡ Some p → has_position p xs ≡ true
 has-get p [] k at = absurd (cc)
 has-get p (x ∷ xs) zero at = let first = same_Some x p at in grind (arith, nat_tests)
 has-get p (x ∷ xs) (suc k) at = let rest = has-get p xs k at in grind (arith, nat_tests)
 
--- ---- how many there are, and how many below, where a position is put in that the set has not
+-- ---- the length and the counts after a position is inserted that the set does not have
 
 pub length-with : (p : ℕ) (xs : List ℕ) → has_position p xs ≡ false → length (with_position p xs) ≡ suc (length xs)
 length-with p [] none = refl
@@ -167,7 +167,7 @@ count-with q p (x ∷ xs) none =
     (λ above. let later = rest (grind (arith, nat_tests)) in grind (arith, nat_tests))
     (λ high. absurd (grind (arith, nat_tests))))
 
--- what stands at an index has so many below it
+-- the count of positions below that at an index is the index
 above-get : (q p : ℕ) (xs : List ℕ) (k : ℕ) → AreAbove q xs → slice_get xs k ≡ Some p → q < p
 above-get q p [] k above at = absurd (cc)
 above-get q p (x ∷ xs) zero above at = let same = same_Some x p at in let first = above.0 in omega arith
@@ -181,7 +181,7 @@ count-get p (x ∷ xs) zero ascends at =
 count-get p (x ∷ xs) (suc k) ascends at =
     let rest = count-get p xs k ascends.1 at in let less = above-get x p xs k ascends.0 at in grind (arith, nat_tests)
 
--- more are below a greater position
+-- at least as many positions are below a greater position
 pub count-grows : (p q : ℕ) (xs : List ℕ) → p ≤ q → count_below p xs ≤ count_below q xs
 count-grows p q [] le = omega arith
 count-grows p q (x ∷ xs) le = let rest = count-grows p q xs le in grind (arith, nat_tests)

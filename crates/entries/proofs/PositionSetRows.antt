@@ -1,7 +1,7 @@
--- Worked rows of sets of positions.
+-- Examples of sets of positions.
 use Rattle.entries.proofs.Words.{◌≡◌, ℕ, true, false, List, [], ◌∷◌, refl, Node, with_position, has_position, count_below, set_at, sets_of}
 
--- ---- the order in which positions are put in does not matter
+-- ---- the order in which positions are inserted does not matter
 
 upwards : with_position 9 (with_position 5 (with_position 3 [])) ≡ 3 ∷ 5 ∷ 9 ∷ []
 upwards = refl
@@ -12,7 +12,7 @@ middle_last = refl
 put_in_once : with_position 5 (3 ∷ 5 ∷ 9 ∷ []) ≡ 3 ∷ 5 ∷ 9 ∷ []
 put_in_once = refl
 
--- ---- a position looked for, and those below it
+-- ---- looking for a position, and counting those below it
 
 has_the_middle : has_position 5 (3 ∷ 5 ∷ 9 ∷ []) ≡ true
 has_the_middle = refl
@@ -26,7 +26,7 @@ the_last_is_third = refl
 all_are_below : count_below 10 (3 ∷ 5 ∷ 9 ∷ []) ≡ 3
 all_are_below = refl
 
--- ---- sets as nodes: 5 alone, with 9 above it, with 3 below it, and this set with 9 above it
+-- ---- sets as nodes: 5; 5 and 9; 3 and 5; and the last of these with 9
 
 node : ℕ → ℕ → ℕ → ℕ → Node
 node left position right count = record { left = left; right = right; position = position; count = count }

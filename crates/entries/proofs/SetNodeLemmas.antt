@@ -1,4 +1,4 @@
--- The nodes of sets of positions: what each says of its set, and what one node more or a cut does.
+-- The nodes of sets of positions: the set of a node, and the sets after a node is appended or nodes are removed.
 use Rattle.entries.proofs.Words.{◌≡◌, ℕ, ◌+◌, ◌-◌, ◌<◌, ◌≤◌, ◌^◌, List, [], ◌∷◌, ◌++◌, length, take, max, slice_get, Some, ap, subst, sym, refl, ◌∙◌, arith, suc, zero, inl, inr, append-nil, append_assoc, get_or_append_left, get_or_past, get_or_at, take_at, same_Some, slice_get_cases, Node, set_at, Ascends, IsSet, set_of, sets_from, sets_of, IsNode, AreNodes, AreSets, IsTop, Extends}
 use Rattle.std.proofs.Common.{length-append, length-take}
 use Rattle.std.proofs.lemmas.List.{take_all}
@@ -11,7 +11,7 @@ sets-length sets (n ∷ ns) =
     let rest = sets-length (sets ++ set_of sets n ∷ []) ns in
     let one = length-append sets (set_of sets n ∷ []) in omega arith
 
--- the sets before stay as they are
+-- appending nodes does not change earlier sets
 sets-extend : (sets : List (List ℕ)) (ns : List Node) → Extends sets (sets_from sets ns)
 sets-extend sets [] = ([], sym (append-nil sets))
 sets-extend sets (n ∷ ns) =
@@ -52,7 +52,7 @@ each-top sets (m ∷ ns) (suc i) n nodes at =
     let l = length-append sets (set_of sets m ∷ []) in
     subst P (omega arith) (each-top (sets ++ set_of sets m ∷ []) ns i n nodes.1 at)
 
--- the node that is read is that of the set
+-- the node with the index `set - 1` is that of the set
 pub top : (ns : List Node) (set : ℕ) (n : Node) → AreSets ns → 0 < set → slice_get ns (set - 1) ≡ Some n → IsTop (sets_of ns) set n
 top ns set n sets some at =
     let P : ℕ → Type 0 = λ k. IsTop (sets_of ns) k n in
@@ -64,7 +64,7 @@ empty ns = record {
   is = set_at-extends ([] ∷ []) (sets_of ns) 0 (sets-extend ([] ∷ []) ns) (omega arith);
 }
 
--- a number that no node has is the empty set
+-- the set of a number that no node has is empty
 pub past : (ns : List Node) (set : ℕ) → length ns < set → set_at (sets_of ns) set ≡ []
 past ns set behind = let l = sets-length ([] ∷ []) ns in get_or_past (sets_of ns) set [] (omega arith)
 
@@ -76,7 +76,7 @@ all-ascend ns sets (suc i) =
       | inr behind ↦ subst Ascends (sym (past ns (suc i) (let within = behind.0 in omega arith))) tt
     ]
 
--- ---- one node more
+-- ---- a node is appended
 
 pub sets-push : (sets : List (List ℕ)) (ns : List Node) (n : Node) → sets_from sets (ns ++ n ∷ []) ≡ sets_from sets ns ++ set_of (sets_from sets ns) n ∷ []
 sets-push sets [] n = refl
@@ -86,7 +86,7 @@ pub nodes-push : (sets : List (List ℕ)) (ns : List Node) (n : Node) → AreNod
 nodes-push sets [] n nodes one = (one, tt)
 nodes-push sets (m ∷ ns) n nodes one = (nodes.0, nodes-push (sets ++ set_of sets m ∷ []) ns n nodes.1 one)
 
--- ---- a cut
+-- ---- nodes are removed
 
 front : (sets : List (List ℕ)) (ns : List Node) (k : ℕ) → k ≡ length sets → sets ≡ take k (sets_from sets ns)
 front sets ns k e = let extends = sets-extend sets ns in sym (ap (take k) extends.1 ∙ take_at sets extends.0 k (sym e))
@@ -108,7 +108,7 @@ nodes-cut sets (n ∷ ns) (suc k) nodes = (nodes.0, nodes-cut (sets ++ set_of se
 pub nodes-take : (ns : List Node) (k : ℕ) → AreSets ns → AreSets (take k ns)
 nodes-take ns k sets = record { nodes = nodes-cut ([] ∷ []) ns k sets.nodes; few = let l = length-take k ns in let few = sets.few in omega arith }
 
--- ---- one node more, as the sets are seen
+-- ---- the sets after a node is appended
 
 pub more-sets : (old new : List Node) (n : Node) (sets : List (List ℕ)) → sets_of old ≡ sets → new ≡ old ++ n ∷ [] → sets_of new ≡ sets ++ set_of sets n ∷ []
 more-sets old new n sets view items = rw (items, sets-push ([] ∷ []) old n, view) refl
@@ -123,6 +123,6 @@ more-nodes old new n sets view items are node few =
       few = omega arith;
     }
 
--- the sets that were added are truncated again
+-- after appended sets are removed, the sets are as before
 pub cut-back : (sets more : List (List ℕ)) (size : ℕ) → Extends sets more → size ≡ length sets → 0 < size → take (max 1 size) more ≡ sets
 cut-back sets more size extends is some = ap (take (max 1 size)) extends.1 ∙ take_at sets extends.0 (max 1 size) (omega arith)

@@ -16,7 +16,7 @@ range-more xs more from to p q =
 pub range-extends : {A : Type 0} (xs ys : List A) (from to : ℕ) → Extends xs ys → from ≤ to → to ≤ length xs → slice_range ys from to ≡ slice_range xs from to
 range-extends xs ys from to h p q = ap (λ zs. slice_range zs from to) h.1 ∙ range-more xs h.0 from to p q
 
--- items that were appended to a list, with more after them
+-- the items that were appended to a list are a part of the list, also after more are appended
 pub range-behind : {A : Type 0} (xs ys zs all : List A) (from to : ℕ) → from ≡ length xs → zs ≡ xs ++ ys → to ≡ length zs → Extends zs all → slice_range all from to ≡ ys
 range-behind xs ys zs all from to p e q h =
     let k : to - from ≡ length ys = let l = length-append xs ys in let m = ap length e in omega arith in
@@ -47,7 +47,7 @@ pub spans-reverse : (n : ℕ) (a : List BufferPart) → AreSpansIn n a → AreSp
 spans-reverse n [] h = tt
 spans-reverse n (s ∷ a) h = subst (AreSpansIn n) (sym (reverse-append (s ∷ []) a)) (spans-append n (reverse a) (s ∷ []) (spans-reverse n a h.1) (h.0, tt))
 
--- more after the buffer changes no part
+-- appending to the buffer changes no part
 pub cut-more : {A : Type 0} (xs more : List A) (a : List BufferPart) → AreSpansIn (length xs) a → cut (xs ++ more) a ≡ cut xs a
 cut-more xs more [] h = refl
 cut-more xs more (s ∷ a) h = let e = range-more xs more s.from s.to h.0.0 h.0.1 in let r = cut-more xs more a h.1 in cc

@@ -1,7 +1,7 @@
--- The kept form of the statement at an index.
+-- The stored form of the statement at an index.
 use Rattle.entries.proofs.Words.{◌≡◌, ℕ, zero, suc, ◌+◌, Bool, true, false, List, [], ◌∷◌, ◌++◌, length, take, slice_get, slice_range, Option, Some, refl, ◌∙◌, ap, sym, arith, Bor, same_Some, Layout, StatementRecord, StateBefore, BufferPart, Body, Entry, with_state_before, with_states_before, layout_in, groups_by, run_by, spans_by, body_of, bodies_of, IsKept, AreKept, IsOrdered, IsStored}
 
--- an element keeps its place where more stands after the list
+-- an element keeps its index if the list is followed by others
 pub get-more : {A : Type 0} (xs more : List A) (k : ℕ) (x : A) → slice_get xs k ≡ Some x → slice_get (xs ++ more) k ≡ Some x
 get-more [] more k x e = absurd (cc)
 get-more (z ∷ xs) more zero x e = e
@@ -15,9 +15,9 @@ pub bodies-length : (numbers : List ℕ) (groups : List BufferPart) (rs : List S
 bodies-length numbers groups [] = refl
 bodies-length numbers groups (r ∷ rs) = ap suc (bodies-length numbers groups rs)
 
--- ---- with what was there before each
+-- ---- statements with the state before each
 
--- as many statements as records
+-- there are as many statements as records
 pub within : (numbers : List ℕ) (groups : List BufferPart) (rs : List StatementRecord) (ks : List StateBefore) → length ks ≡ length rs → length (with_states_before (bodies_of numbers groups rs) ks) ≡ length rs
 within numbers groups [] ks e = refl
 within numbers groups (r ∷ rs) [] e = e
@@ -42,7 +42,7 @@ kept-at numbers groups r [] i k e = absurd (cc)
 kept-at numbers groups r (q ∷ rs) zero k e = rw (← same_Some q r e) k.0
 kept-at numbers groups r (q ∷ rs) (suc i) k e = kept-at numbers groups r rs i k.1 e
 
--- the statement with this record is kept before that one, and is the entry
+-- the record r fits the buffers, and the entry found is its statement with the state before it
 pub record IsAt (numbers : List ℕ) (groups : List BufferPart) (r : StatementRecord) (next : Option StatementRecord) (behind : Option StateBefore) (found : Option Entry) : Type 0 where
   pub kept : IsKept numbers groups r next
   pub state_before : StateBefore
@@ -61,12 +61,12 @@ at-index numbers groups rs ks es i r kept many view same here =
     by (q ∷ qs) (b ∷ ls) zero k l e = rw (← same_Some q r e) (record { kept = k.0; state_before = b; stands = refl; entry = refl })
     by (q ∷ qs) (b ∷ ls) (suc j) k l e = by qs ls j k.1 (omega (arith, l)) e
 
--- the parts stand one after the other
+-- the parts follow one another
 ordered : (t : Bool) (run : List ℕ) → IsOrdered (layout_in t run)
 ordered true run = record { typecodes = omega arith; required = omega arith; symbols = omega arith; hypotheses = omega arith; places = omega arith }
 ordered false run = record { typecodes = omega arith; required = omega arith; symbols = omega arith; hypotheses = omega arith; places = omega arith }
 
--- the parts that were read are the kept ones
+-- the parts read are those of the entry
 module _ (numbers : List ℕ) (groups : List BufferPart) (r : StatementRecord) (next : Option StatementRecord) (behind : Option StateBefore) (found : Option Entry) (run : Bor (List ℕ)) (at : Layout)
     (a : IsAt numbers groups r next behind found) (same : run.now ≡ run_by numbers r next) (laid : at ≡ layout_in r.has_parts run.now) where
   layout : layout_in r.has_parts (run_by numbers r next) ≡ at

@@ -1,7 +1,7 @@
--- The symbols of an expression by their keys in order: each run of keys of one symbol is a group of indexes.
+-- The symbols of an expression by their keys in order: each run of keys of one symbol gives a group of indexes.
 use Rattle.entries.proofs.Words.{◌≡◌, ℕ, suc, ◌+◌, ◌-◌, ◌<◌, ◌≤◌, List, [], ◌∷◌, ◌++◌, length, drop, slice_get, slice_range, Some, refl, ◌∙◌, ap, sym, subst, arith, inl, inr, length-map, length-drop, length-take-le, get_or_from_slice_get, slice_get_within, BufferPart, cut, AreSpansIn, ⊎_elim, Contains, IsPermutation, IsSorted, eqb, get_or, map, nat_cmp, dedup, cases_lt, get_or-drop, get_or-map, get_or-take, get_or_default, Contains-get_or, AllPairs-from_increasing, Contains-dedup_nat, Contains-from_dedup, Contains-permutation, IsPermutation-sym, IsStrictlyIncreasing-dedup, div-mul-add, mod-mul-add, slice_get-get_or, INDEXES, key_of, symbol_of, symbol_at, index_of, AreKeys, AreKeysOf, IsRun, AreRuns, IsGroupOf, AreGroupsFrom, IsGrouped, ArePlacesOf}
 
--- ---- one key and another
+-- ---- two keys
 
 symbol-up : (k l : ℕ) → k ≤ l → symbol_of k ≤ symbol_of l
 symbol-up k l h = omega arith
@@ -12,7 +12,7 @@ index-up k l h e = omega arith
 -- ---- the keys in order
 
 module _ (e ks : List ℕ) (k : AreKeys e ks) where
-  -- a number among the keys is the key of a symbol
+  -- each of the keys is that of a symbol of the expression
   key-stands : (y : ℕ) → Contains ks y → slice_get e (index_of y) ≡ Some (symbol_of y)
   key-stands y c =
       let j = c.0 in
@@ -44,7 +44,7 @@ pub runs-push : (keys : List ℕ) (runs : List BufferPart) (s : BufferPart) (fro
 runs-push keys [] s from mid to r p q h = (p ∙ sym r, h, q)
 runs-push keys (x ∷ runs) s from mid to r p q h = (r.0, r.1, runs-push keys runs s x.to mid to r.2 p q h)
 
--- the runs before `from`, and that the keys from there up to `at` are of one symbol
+-- the runs before `from` are found, and the keys from there up to `at` are of one symbol
 pub record HasRuns (keys : List ℕ) (found : List BufferPart) (from at : ℕ) : Type 0 where
   pub runs : AreRuns keys 0 from found
   pub within : from ≤ at
@@ -92,7 +92,7 @@ module _ (e keys : List ℕ) (k : AreKeysOf e keys) where
       (λ ge. symbol-up (get_or keys i 0) (get_or keys j 0) (let same : get_or keys i 0 ≡ get_or keys j 0 = (let n : i ≡ j = omega (arith, ge, h) in ap (λ m. get_or keys m 0) n) in omega (arith, same)))
       (cases_lt i j)
 
-  -- the index at a place of a part
+  -- the index at a place in a part
   part-at : (from to j d : ℕ) → from + j < to → to ≤ length keys → get_or (slice_range (map index_of keys) from to) j d ≡ index_of (get_or keys (from + j) 0)
   part-at from to j d h l =
       get_or-take (to - from) (drop from (map index_of keys)) j d (omega (arith, h))
@@ -107,7 +107,7 @@ module _ (e keys : List ℕ) (k : AreKeysOf e keys) where
       let back : from + (j - from) ≡ j = omega (arith, low) in
       (j - from, omega (arith, n, low, high), part-at from to (j - from) (index_of (get_or keys j 0)) (omega (arith, low, high)) l ∙ ap (λ m. index_of (get_or keys m 0)) back)
 
-  -- after a run stand greater symbols
+  -- the keys after a run are of greater symbols
   past : (from to j : ℕ) → IsRun keys from to → to ≤ j → j < length keys → symbol_of (get_or keys from 0) < symbol_of (get_or keys j 0)
   past from to j r h l =
       let a = up from to (let s = r.some in omega (arith, s)) (omega (arith, h, l)) in
@@ -179,7 +179,7 @@ module _ (e keys : List ℕ) (k : AreKeysOf e keys) where
         subst (λ n. IsGrouped n (cut (map index_of keys) runs)) same (grouped runs 0 r c.0 (omega arith) c.1);
   }
 
--- the lists that were made of the keys
+-- the lists made of the keys
 pub record IsMade (e symbols indexes : List ℕ) (runs : List BufferPart) : Type 0 where
   pub places : ArePlacesOf e (record { symbols = symbols; groups = cut indexes runs })
   pub inside : AreSpansIn (length indexes) runs

@@ -1,8 +1,8 @@
--- Versions of a stack: one more, the first ones alone, and the one that was valid at a position.
+-- The versions of a stack: a version is added, the first ones alone, and the last one made before a position.
 use Rattle.entries.proofs.Words.{◌≡◌, ℕ, zero, suc, ◌+◌, ◌-◌, ◌<◌, ◌≤◌, true, false, nat_eq, nat_lt, cond, List, [], ◌∷◌, ◌++◌, length, map, take, get_or, slice_get, Option, Some, None, SomeIff, refl, ◌∙◌, ap, sym, arith, subst, add-one, append-nil, append_assoc, ⊎_elim, take_all, cases_lt, length-append, length-take, get_or-take, map-append, take-map, get_or_past, take_more, IsNonDecreasingBy-take, IsNonDecreasingBy-push, get_or_from_slice_get, slice_get-get_or, slice_get_within, IsPartitionPoint, Version, StackVersion, changed, stack_from, stack_at, is_changed, IsUntil, no_version, stacked, stack_of, version_of, versions_after, versions_of, AreVersions, IsReadable, IsFound}
 use Rattle.std.proofs.Common.{lt-ltb}
 
--- ---- as they are decoded
+-- ---- decoding versions
 
 after-take : (n : ℕ) (done : List StackVersion) (vs : List Version) → versions_after done (take n vs) ≡ take n (versions_after done vs)
 after-take zero done vs = refl
@@ -30,7 +30,7 @@ after-get done (v ∷ vs) (suc i) w lt =
 pub versions-push : (vs : List Version) (v : Version) → versions_of (vs ++ v ∷ []) ≡ versions_of vs ++ version_of (versions_of vs) v ∷ []
 versions-push vs v = after-push [] vs v
 
--- none of them is so since after `at`
+-- each version was made at `at` or before
 until-at : (done : List StackVersion) (vs : List Version) (i : ℕ) (w : Version) (at : ℕ) → IsUntil at (versions_after done vs) → i < length vs → (get_or vs i w).since ≤ at
 until-at done [] i w at until lt = absurd (omega arith)
 until-at done (v ∷ vs) zero w at until lt = until.0
@@ -61,7 +61,7 @@ fewer-versions vs n are = record {
   ordered = IsNonDecreasingBy-take (λ v. v.since) n vs are.ordered;
 }
 
--- the version at an index, with those before it
+-- the version at an index can be read, with the versions before it
 pub record IsVersionAt (vs : List Version) (i : ℕ) (v : Version) : Type 0 where
   pub readable : IsReadable (take i vs) v
   pub decoded : get_or (versions_of vs) i no_version ≡ version_of (versions_of (take i vs)) v
@@ -79,7 +79,7 @@ version-at vs i w are lt =
       decoded = decoded;
     }
 
--- a stack of two or more stands on an earlier version
+-- the stack below the top of a stack of two or more is that of an earlier version
 pub below-within : (vs : List Version) (v : Version) (n : ℕ) → v.height ≡ length (stack_of (versions_of vs) v) → v.height ≡ suc (suc n) → v.below < length vs
 below-within vs v n readable tall = ⊎_elim (λ lt. lt) (λ ge. absurd (past-all ge)) (cases_lt v.below (length vs))
   where
@@ -89,7 +89,7 @@ below-within vs v n readable tall = ⊎_elim (λ lt. lt) (λ ge. absurd (past-al
         let short : suc (suc n) ≡ 1 = sym tall ∙ (readable ∙ (ap (λ h. length (stacked h v.top (get_or (versions_of vs) v.below no_version).stack)) tall ∙ ap (λ x. suc (length x.stack)) past)) in
         omega (arith, short)
 
--- the version at an index has the same stack after all versions
+-- the stack of a version, read with all versions, is the same as with those before it
 pub stack-again : (vs : List Version) (i : ℕ) (w : Version) → AreVersions vs → i < length vs → stack_of (versions_of vs) (get_or vs i w) ≡ (get_or (versions_of vs) i no_version).stack
 stack-again vs i w are lt = by (get_or vs i w).height refl
   where
@@ -108,7 +108,7 @@ stack-again vs i w are lt = by (get_or vs i w).height refl
         sym (ap (λ d. get_or d v.below no_version) (after-take i [] vs) ∙ get_or-take i (versions_of vs) v.below no_version (omega (arith, low, length-take i vs))) in
         ap (λ x. stacked v.height v.top x.stack) same ∙ sym (ap (λ x. x.stack) at.decoded)
 
--- one more
+-- a version is added
 pub versions-more : (vs : List Version) (v : Version) → AreVersions vs → v.height ≡ length (stack_of (versions_of vs) v) → IsUntil v.since (versions_of vs) → AreVersions (vs ++ v ∷ [])
 versions-more vs v are high until = record {
   heights =
@@ -120,12 +120,12 @@ versions-more vs v are high until = record {
   ordered = IsNonDecreasingBy-push (λ u. u.since) vs v are.ordered (λ w some. until-at [] vs (length vs - 1) w v.since until (omega (arith, some)));
 }
 
--- ---- since when
+-- ---- when versions were made
 
 pub since-at : (vs : List Version) (i : ℕ) (w : Version) → i < length vs → (get_or (versions_of vs) i no_version).since ≡ (get_or vs i w).since
 since-at vs i w lt = ap (λ x. x.since) (after-get [] vs i w lt)
 
--- the last version tells whether there is a change
+-- a version was made at `at` exactly if the last one was
 pub changed-last : (done : List StackVersion) (at : ℕ) (vs : List Version) (i : ℕ) (w : Version) → length vs ≡ suc i → is_changed at (versions_after done vs) ≡ nat_eq (get_or vs i w).since at
 changed-last done at [] i w n = cc
 changed-last done at (v ∷ []) zero w n = refl
@@ -133,7 +133,7 @@ changed-last done at (v ∷ []) (suc i) w n = absurd (omega (arith, n))
 changed-last done at (v ∷ u ∷ vs) zero w n = absurd (omega (arith, n))
 changed-last done at (v ∷ u ∷ vs) (suc i) w n = changed-last (done ++ version_of done v ∷ []) at (u ∷ vs) i w (omega (arith, n))
 
--- ---- the version that was valid at a position
+-- ---- the last version made before a position
 
 abbrev last_of : List ℕ → ℕ → List StackVersion → List ℕ
 last_of found zero V = found
@@ -150,7 +150,7 @@ found-from found (v ∷ V) at (suc zero) le low high =
 found-from found (v ∷ V) at (suc (suc n)) le low high =
     ap (λ b. stack_from (cond b v.stack found) V at) (low 0 (omega arith)) ∙ found-from v.stack V at (suc n) (omega (arith, le)) (λ k lt. low (suc k) (omega (arith, lt))) (λ k ge lt. high (suc k) (omega (arith, ge)) (omega (arith, lt)))
 
--- after the versions that are so since before `at` stands the one sought
+-- the stack at `at` is that of the last of the versions made before `at`
 pub found-before : (vs : List Version) (at n : ℕ) → n ≤ length vs → IsPartitionPoint (λ v. nat_lt v.since at ≡ true) (λ v. nat_lt v.since at ≡ false) vs n → stack_at (versions_of vs) at ≡ last_of [] n (versions_of vs)
 found-before vs at n le point =
     let size = after-length [] vs in
@@ -163,7 +163,7 @@ is-found vs at n (Some i) le point e = let up : n ≡ suc i = omega (arith, e.0,
 is-found vs at zero None le point e = found-before vs at zero le point
 is-found vs at (suc n) None le point e = absurd (e (omega arith))
 
--- the last version is valid after all positions
+-- if no version was made at `at` or later, the stack at `at` is that of the last version
 pub found-last : (vs : List Version) (at i : ℕ) (w : Version) → AreVersions vs → length vs ≡ suc i → IsUntil at (versions_of vs) → is_changed at (versions_of vs) ≡ false → stack_at (versions_of vs) at ≡ (get_or (versions_of vs) i no_version).stack
 found-last vs at i w are n until same =
     found-before vs at (suc i) (omega (arith, n)) (
@@ -178,7 +178,7 @@ found-last vs at i w are n until same =
         let differ : nat_eq (get_or vs i u).since at ≡ false = sym (changed-last [] at vs i u n) ∙ same in
         grind (arith, most, order, differ)
 
--- a position on top of the last version
+-- the position pushed on the stack of the last version
 pub record IsAbove (vs : List Version) (at h below : ℕ) : Type 0 where
   pub stack : stacked h at (get_or (versions_of vs) below no_version).stack ≡ at ∷ stack_at (versions_of vs) at
   pub height : h ≡ length (stacked h at (get_or (versions_of vs) below no_version).stack)
@@ -223,7 +223,7 @@ changed-is vs us at v same e =
     ap (λ r. is_changed at (versions_of r)) (sym same)
     ∙ (changed-last [] at us (length us - 1) v (omega (arith, lt)) ∙ ap (λ (x : Version). nat_eq x.since at) (get_or_from_slice_get us (length us - 1) v v (sym e)))
 
--- a version is added where there is no change yet
+-- a version is added if none was made at `at`
 pub changed-more : (vs us : List Version) (at : ℕ) (stack : List ℕ) (v : Version) → us ≡ vs ++ v ∷ [] → is_changed at (versions_of vs) ≡ false → v.since ≡ at → stack_of (versions_of vs) v ≡ stack → versions_of us ≡ changed at stack (versions_of vs)
 changed-more vs us at stack v more same since is =
     ap versions_of more
@@ -234,7 +234,7 @@ changed-more vs us at stack v more same since is =
 pub changed-already : (vs : List StackVersion) (at : ℕ) (stack : List ℕ) → is_changed at vs ≡ true → vs ≡ changed at stack vs
 changed-already vs at stack e = sym (ap (λ b. cond b vs (vs ++ record { since = at; stack = stack } ∷ [])) e)
 
--- the version found can be read
+-- the version that was found can be read
 pub found-readable : (vs us before : List Version) (at i : ℕ) (v : Version) → AreVersions vs → us ≡ vs → IsFound us at (Some i) → before ≡ take i us → slice_get us i ≡ Some v → IsReadable before v × (stack_of (versions_of before) v ≡ stack_at (versions_of vs) at)
 found-readable vs us before at i v are same found part here =
     let a = version-at us i v (subst AreVersions (sym same) are) found.0 in
@@ -244,7 +244,7 @@ found-readable vs us before at i v are same found part here =
       ap (λ b. stack_of (versions_of b) v) front ∙ (ap (stack_of (versions_of (take i us))) (sym is) ∙ (sym (ap (λ x. x.stack) a.decoded) ∙ (sym found.1 ∙ ap (λ r. stack_at (versions_of r) at) same))),
     )
 
--- the last one is so since the position that the last version of the list has
+-- w was made when the last version v was, and the versions before it are `front`
 pub record IsPopped (vs : List Version) (front : List StackVersion) (v : StackVersion) (w : Version) : Type 0 where
   pub since_is : w.since ≡ v.since
   pub front_is : versions_of (take (length vs - 1) vs) ≡ front

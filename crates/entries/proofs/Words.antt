@@ -1,4 +1,4 @@
--- The words in which this crate is proved, and the lemmas of std and of the layers below, passed on from one place.
+-- The definitions and lemmas of std and of the layers below that the proofs of this crate use, re-exported from one place.
 pub use Rattle.entries.specs.Entries.{AreShapedParts, Entry, assertion_of, made}
 pub use Rattle.entries.specs.Histories.{AreSame, AreUntil, AreWith, IsUntil, StackVersion, changed, gone_back, history, is_changed, kept_until, pushed, stack_at, stack_from}
 pub use Rattle.entries.specs.PositionSets.{AreAbove, Ascends, IsSet, count_below, has_position, set_at, with_position}

@@ -1,17 +1,17 @@
--- The active statements after a statement.
+-- The statements that are active after some statements.
 use Rattle.frame.proofs.Words.{list_any, ◌∙◌, ap, arith, ◌≡◌, ℕ, ◌+◌, Bool, true, false, cond, ◌||◌, [], ◌∷◌, ◌++◌, refl, not, or_left, or_right, Stmt, Database, stays_open, active_from, below-deficit, deficit-below, no_deficit}
 use Rattle.frame.proofs.OpenLemmas.{deficit-join}
 
 -- ---- tests
 
--- the consequence of a test that holds
+-- if a implies b and a holds, b holds
 pub implied : (a b : Bool) → (not a || b) ≡ true → a ≡ true → b ≡ true
 implied true b h e = h
 implied false b h e = cc
 
 -- ---- the active statements
 
--- a statement that passes the test, and is active after S
+-- a statement of S that passes the test and is active after S
 pub record Stands (S : Database) (q : Stmt → Bool) : Type 0 where
   pub front : Database
   pub stmt : Stmt
@@ -45,6 +45,6 @@ stands-active q n (t ∷ front) s rest opens passes = by (stands-active q (n + 1
     by more true = or_right (q t) (list_any (λ p. q p.1) (active_from (n + 1) (front ++ s ∷ rest))) more
     by more false = more
 
--- two lists that close no block before them, one after the other, close none either
+-- if neither of two lists closes a block that was open before it, neither do both together
 pub open_both : (d : ℕ) (T U : Database) → stays_open d T ≡ true → stays_open 0 U ≡ true → stays_open d (T ++ U) ≡ true
 open_both d T U h k = below-deficit d (T ++ U) (omega (arith, deficit-join T U, deficit-below d T h, no_deficit U k))

@@ -1,4 +1,4 @@
--- The last entry that passes a test, what is collected by members, and the active statements by position.
+-- The last entry that passes a test, and the active statements that pass a test, by position.
 use Rattle.frame.proofs.Words.{sym, ◌∙◌, ap, subst, arith, inl, inr, append_assoc, length-append, ◌≡◌, ℕ, zero, suc, ◌+◌, ◌<◌, Bool, true, false, cond, ◌⊎◌, List, [], ◌∷◌, ◌++◌, length, map, filter, slice_get, Some, refl, Stmt, Database, stays_open, active_from, Entry, last_from, last_where, In, AreAbove, Ascends}
 
 -- ---- the last entry that passes a test

@@ -1,7 +1,7 @@
--- Members of lists of positions; and lists that rise: two with the same members are one.
+-- Members of lists of positions. Two ascending lists with the same members are equal.
 use Rattle.frame.proofs.Words.{sym, ◌∙◌, ap, arith, inl, inr, ◌≡◌, ℕ, zero, suc, ◌<◌, List, [], ◌∷◌, slice_get, Some, refl, In, AreAbove, Ascends}
 
--- a member has a place, and what has a place is a member
+-- a member has an index, and an element at an index is a member
 pub in-place : (p : ℕ) (ps : List ℕ) → In p ps → (k : ℕ) × (slice_get ps k ≡ Some p)
 in-place p [] i = absurd i
 in-place p (q ∷ ps) (inl e) = (0, ap Some (sym e))
@@ -46,7 +46,7 @@ same-lists (x ∷ xs) (y ∷ ys) a b f g =
     back p i (inr j) = j
     back p i (inl e) = let l = above-in y p ys b.0 i in let h = typecodes in absurd (omega (arith, l, e, h))
 
--- a rising list has each position once
+-- an ascending list has each position at most once
 pub once-each : (ps : List ℕ) (k j p : ℕ) → Ascends ps → slice_get ps k ≡ Some p → slice_get ps j ≡ Some p → k ≡ j
 once-each [] k j p a h g = cc
 once-each (q ∷ ps) zero zero p a h g = refl

@@ -1,11 +1,11 @@
--- A statement is kept with the parts that were found, and stays so when others are appended.
+-- A statement is kept with the parts that were found, also after entries are appended or removed.
 use Rattle.frame.proofs.Words.{Result, Ok, Err, OnOk, sym, ◌∙◌, ap, subst, arith, inl, inr, ◌≡◌, ℕ, ◌-◌, ◌≤◌, Bool, true, false, List, [], ◌∷◌, ◌++◌, length, map, filter, take, slice_get, Some, refl, take-append_seam, take-map, take_all, Name, Stmt, Expr, Database, active, expr_of, is_essential, name_at, decode, hypotheses, is_hypothesis, actives, is_disj, is_hypothesis_kind, typecode_of, Kind, Float, Ess, Entry, Assertion, take-get, stmt_by, stmt_of, In, AreHypotheses, IsFilledFrom, is_hypothesis_entry, ArePartsFor, IsKeptAs, IsKeptOf, Storage, length-map, kept_with, is_float_in, floats_in, required_at, option_required, typecode_at, symbols_at, option_symbols, groups_by, map-map}
 use Rattle.mm_read.specs.declared.stmt.Stmt.TheVariants as stmt
 use Rattle.frame.proofs.ActivePositions.{active-members}
 use Rattle.frame.proofs.LegalAfter.{stands-at}
 use Rattle.frame.proofs.FoundByNumber.{map-back}
 
--- a statement that passes a test, and is active after the first i, stands at its position
+-- at the position of an active statement that passes the test there is the entry of a statement that passes
 active-entry : (names labels : List Name) (es : List Entry) (i : ℕ) (q : Stmt → Bool) (p : ℕ) → In p (map (λ r. r.0) (filter (λ r. q r.1) (active (take i (map (stmt_of names labels) es)))))
     → (e : Entry) × (1 ≤ p) × (slice_get (take i es) (p - 1) ≡ Some e) × (q (stmt_of names labels e) ≡ true)
 active-entry names labels es i q p j =
@@ -25,7 +25,7 @@ hypothesis-entry names labels e = by e.kind
     by Ess h = refl
     by kind h = cc
 
--- where only hypotheses pass a test, one stands at each position of the active statements that pass it
+-- if only hypotheses pass the test, there is a hypothesis at the position of each active statement that passes
 pub hypotheses-of : (names labels : List Name) (es : List Entry) (i : ℕ) (q : Stmt → Bool) → ((t : Stmt) → q t ≡ true → is_hypothesis_kind t ≡ true)
     → AreHypotheses es (map (λ p. p.0) (filter (λ p. q p.1) (active (take i (map (stmt_of names labels) es)))))
 hypotheses-of names labels es i q kinds = all (map (λ p. p.0) (filter (λ p. q p.1) (active (take i (map (stmt_of names labels) es))))) (λ p j. active-entry names labels es i q p j)
@@ -45,7 +45,7 @@ float-kinds-in : (e : Expr) (t : Stmt) → is_float_in e t ≡ true → is_hypot
 float-kinds-in e (stmt.Float l c x) h = refl
 float-kinds-in e s h = cc
 
--- after the first statements, as many as there are, all stand
+-- the first statements, as many as there are entries, are all
 all-stand : (names labels : List Name) (es : List Entry) → take (length es) (map (stmt_of names labels) es) ≡ map (stmt_of names labels) es
 all-stand names labels es = take-map (stmt_of names labels) (length es) es ∙ ap (map (stmt_of names labels)) (take_all (length es) es (omega arith))
 
@@ -57,13 +57,13 @@ hypotheses-are names labels es s =
 pub floats-are : (names labels : List Name) (es : List Entry) (e : Expr) → AreHypotheses es (floats_in (map (stmt_of names labels) es) e)
 floats-are names labels es e = subst (λ D. AreHypotheses es (floats_in D e)) (all-stand names labels es) (hypotheses-of names labels es (length es) (is_float_in e) (float-kinds-in e))
 
--- ---- more after it, or less
+-- ---- entries appended or removed
 
 alike : {A : Type 0} (f g : ℕ → A) (ps : List ℕ) → ((p : ℕ) → In p ps → f p ≡ g p) → map f ps ≡ map g ps
 alike f g [] h = refl
 alike f g (p ∷ ps) h = ap (λ x. x ∷ map f ps) (h p (inl refl)) ∙ ap (λ r. g p ∷ r) (alike f g ps (λ q i. h q (inr i)))
 
--- a statement that was kept after the first i entries is kept in any list that begins with these
+-- a statement that is kept after the first i entries is kept so after any entries that begin with these
 pub kept-moved : (names labels : List Name) (es fs : List Entry) (i : ℕ) (s : Stmt) (d : Assertion) → take i es ≡ take i fs
     → IsKeptAs es (take i (map (stmt_of names labels) es)) s d → IsKeptAs fs (take i (map (stmt_of names labels) es)) s d
 kept-moved names labels es fs i s d same k = record {
@@ -77,7 +77,7 @@ kept-moved names labels es fs i s d same k = record {
     T : Database
     T = take i (map (stmt_of names labels) es)
 
-    -- the statements that are active there stand among these entries
+    -- the entries of the statements that are active there are among the first i
     stays : (q : Stmt → Bool) (p : ℕ) → In p (map (λ r. r.0) (filter (λ r. q r.1) (active T))) → slice_get es (p - 1) ≡ slice_get fs (p - 1)
     stays q p j =
         let e = active-entry names labels es i q p j in
@@ -95,14 +95,14 @@ kept-moved names labels es fs i s d same k = record {
         let qs = actives is_disj T in
         sym (map-map (symbols_at es) (λ q. q.0) qs) ∙ (alike (symbols_at es) (symbols_at fs) (map (λ q. q.0) qs) (λ p j. ap option_symbols (stays is_disj p j)) ∙ map-map (symbols_at fs) (λ q. q.0) qs)
 
--- the same after all of them
+-- a statement that is kept after all entries is kept so after entries are appended
 pub kept-more : (names labels : List Name) (es more : List Entry) (s : Stmt) (d : Assertion) → IsKeptAs es (map (stmt_of names labels) es) s d → IsKeptAs (es ++ more) (map (stmt_of names labels) es) s d
 kept-more names labels es more s d k =
     let all = all-stand names labels es in
     subst (λ T. IsKeptAs (es ++ more) T s d) all
     (kept-moved names labels es (es ++ more) (length es) s d (take_all (length es) es (omega arith) ∙ sym (take-append_seam es more)) (subst (λ T. IsKeptAs es T s d) (sym all) k))
 
--- all mandatory hypotheses of s with their groups are the kept form of s
+-- the parts made of all mandatory hypotheses of s are those that s is kept with
 pub filled-kept : (es : List Entry) (S : Database) (s : Stmt) (ps : List ℕ) (d : Assertion) → ps ≡ hypotheses S s → (is_essential s ≡ true → ⊥) → IsFilledFrom es S ps d → IsKeptAs es S s d
 filled-kept es S s ps d all other p = record {
   hypotheses_kept = p.same ∙ (all ∙ ap (λ b. kept_with b S s) (sym p.is_whole));

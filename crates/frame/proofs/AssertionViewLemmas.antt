@@ -1,4 +1,4 @@
--- Reading an assertion that is kept, and what follows of all of them.
+-- Reading an assertion that is stored, and its parts by numbers.
 use Rattle.frame.proofs.Words.{sym, ◌∙◌, ap, subst, arith, ◌≡◌, ℕ, zero, suc, ◌+◌, ◌-◌, true, List, length, take, slice_get, Some, refl, Name, Stmt, expr_of, is_assertion, name_at, decode, HasAssertion, AssertionView, Entry, Assertion, AreWhole, Kind, Axiom, Prove, Storage, AreBelow, AreListsOf, IsViewOf, IsBound, AreLegal, names_in, labels_in, stmt_by, stmt_of, statements_of, AreStored, IsKeptAs, has_parts}
 use Rattle.frame.proofs.DeclaredSymbolLemmas.{stored-distinct}
 use Rattle.frame.proofs.FoundByNumber.{map-back, own-expr, numbered-at}
@@ -14,7 +14,7 @@ parts-kind names labels e = by e.kind
     by Prove h = refl
     by kind h = cc
 
--- the entry of an assertion, and what it keeps
+-- the entry of the assertion s, and the parts that are kept with it
 pub record IsThere (k : Storage) (a i : ℕ) (s : Stmt) (e : Entry) : Type 0 where
   pub place : a ≡ i + 1
   pub here : slice_get k.entries i ≡ Some e
@@ -47,7 +47,7 @@ there-expr k a i s e stored asserts t = (
   (numbered-at (length (names_in k)) (length (labels_in k)) k.entries i e stored.kept.coded t.here).0,
 )
 
--- lists of which all is said are those of the assertion
+-- if the lists that are kept with the assertion are whole, they describe it
 pub there-lists : (k : Storage) (a i : ℕ) (s : Stmt) (e : Entry) (d : Assertion) → AreStored k → is_assertion s ≡ true → IsThere k a i s e
     → IsKeptAs k.entries (take (a - 1) (statements_of k)) s d → d.whole ≡ true → AreListsOf (statements_of k) (names_in k) a d s
 there-lists k a i s e d stored asserts t kept whole =

@@ -1,4 +1,4 @@
--- Going back over the active statements of a kind that stand in the last block.
+-- The stacks after a `$}`, found by walking back over the active statements of a kind in its block.
 use Rattle.frame.proofs.Words.{◌≡◌, ◌∙◌, ap, sym, subst, arith, refl, inl, inr, ℕ, suc, ◌+◌, ◌-◌, ◌<◌, ◌≤◌, ◌⊎◌, Bool, true, false, cond, nat_eq, List, [], ◌∷◌, ◌++◌, length, length-take, take, take_all, take-append_seam, length-append, append_assoc, append-nil, slice_get, Some, list_any, Stmt, Database, Entry, Kind, LastActive, is_open, is_close, actives, actives_from, last_active_of_kind, last_active_of, Storage, statements_of, names_in, labels_in, stmt_of, AreStored, Disj, Var, StackVersion, IsUntil, AreUntil, history, kept_until, gone_back, stack_at, stack-later, stack-changed, option_symbols, has_code, positions_with, AreStacks, kind_test, latest_of, last_by_kind, opening, KeepsUntil, AreChangedBy, IsNext, NextStatement, AreStacksOfStorage}
 use Rattle.mm_read.specs.declared.stmt.Stmt.TheVariants as stmt
 use Rattle.entries.specs.declared.kind.Kind.TheVariants.{Close}
@@ -7,7 +7,7 @@ use Rattle.frame.proofs.KindWalk.{IsChain, IsAt, disjoint_chain, variable_chain,
 use Rattle.frame.proofs.StackLemmas.{AreIn, actives-in, positions_with-push, all-later, next-same, back-twice, back-until, back-kept, opening-back, opening-some, opening-low}
 use Rattle.frame.proofs.BlockWalkLemmas.{last-within}
 
--- ---- a list of positions, cut at one
+-- ---- a list of positions, split at one
 
 in-wider : (low high wider : ℕ) (ps : List (ℕ × Stmt)) → high ≤ wider → AreIn low high ps → AreIn low wider ps
 in-wider low high wider [] le h = tt
@@ -23,10 +23,10 @@ same-split b h (p ∷ xs) ys (q ∷ us) vs x u y v e =
     let r = same-split b h xs ys us vs x.1 u.1 y v (cc) in
     let t : p ≡ q = cc in cc
 
--- ---- those before the last block
+-- ---- the statements before the last open block
 
 module _ (kind : Stmt → Bool) (no_open : kind stmt.Open ≡ false) (S : Database) (block : ℕ) (is : block ≡ last_active_of_kind is_open S) where
-  -- those that stand at the block or before it were active where it opened
+  -- if p is not after the last open `${` and the other active statements are, those up to p are the ones active before the `${`
   pub front-same : (p high : ℕ) (rest : List (ℕ × Stmt)) → p ≤ block → actives kind S ≡ actives kind (take p S) ++ rest → AreIn (suc block) high rest → actives kind (take p S) ≡ actives kind (take (block - 1) S)
   front-same p high rest le list above = by (split_last is_open S)
     where
@@ -60,7 +60,7 @@ pub no-open : (of : Kind) → kind_test of stmt.Open ≡ false
 no-open Disj = refl
 no-open kind = refl
 
--- ---- the walk: each stack went back, or is that of the statements that are left
+-- ---- the walk: the stack of each symbol was restored, or is that of the statements that are not yet visited
 
 pub record IsGoing (of : Kind) (k : Storage) (block before at p : ℕ) (old now : List (List StackVersion)) : Type 0 where
   pub place : IsAt (kind_test of) k p
@@ -158,7 +158,7 @@ module _ (of : Kind) (k : Storage) (block before at : ℕ) (old : List (List Sta
             ∙ (ap (positions_with k.entries c) (front-same kind (no-open of) S block last p (length k.entries) g.rest le g.list g.above ∙ ap (λ n. actives kind (take n S)) (sym (opening-back block)))
             ∙ sym (stacks.each c (opening block) (opening-some block) (omega (arith, opening-low block, last, last-within is_open S refl, as-many k))))))
 
--- ---- the walk over the entries that a storage has
+-- ---- the walk over the entries of a storage
 
 pub record IsBackTo (of : Kind) (es : List Entry) (last_active : LastActive) (before at p : ℕ) (old now : List (List StackVersion)) : Type 0 where
   pub walked_by : AreStacksOfStorage of es last_active old
@@ -200,7 +200,7 @@ module _ (of : Kind) (es : List Entry) (last_active : LastActive) (before at : �
       pub back-step : (new : List (List StackVersion)) → AreChangedBy (gone_back at before) e.symbols now new → IsBackTo of es last_active before at (last_by_kind of e.last_active) old new
       back-step new are = record { walked_by = w; going = going-step of w.storage last_active.block before at old w.stored (stacks-of w) (place-of w) p now new e b.going lt there are }
 
--- ---- a statement that changes no stack of a kind
+-- ---- a statement of a kind that changes no stack
 
 pub latest-disj-other : (q : Kind) (x : NextStatement) (hs : List (List StackVersion)) (c : ℕ) → (q ≡ Disj → ⊥) → (q ≡ Close → ⊥) → latest_of Disj q x hs c ≡ stack_at (history hs c) x.at
 latest-disj-other Disj x hs c d e = absurd (d refl)
@@ -215,11 +215,11 @@ latest-var-other q x hs c d e = refl
 pub next-other : (at : ℕ) (old : List (List StackVersion)) (after : ℕ → List ℕ) → 1 ≤ at → AreUntil (at - 1) old → ((c : ℕ) → after c ≡ stack_at (history old c) at) → IsNext at after old old
 next-other at old after one until is = let n = next-same at one old until in record { latest = λ c. n.latest c ∙ sym (is c); until = n.until; kept = n.kept }
 
--- until the last entry
+-- no version was made after the last entry
 pub walked-until : (of : Kind) (es : List Entry) (last_active : LastActive) (hs : List (List StackVersion)) (at : ℕ) → AreStacksOfStorage of es last_active hs → at ≡ length es + 1 → AreUntil (at - 1) hs
 walked-until of es last_active hs at w place c = subst (λ n. IsUntil n (history hs c)) (omega (arith, place)) (w.stacks.until c)
 
--- a storage that grew has the stacks that it had
+-- a storage whose other parts grew still has the stacks that it had
 pub walked-disj : (old : Storage) (es : List Entry) (last_active : LastActive) (hs : List (List StackVersion)) → AreStored old → es ≡ old.entries → last_active ≡ old.last_active → hs ≡ old.disjoints → AreStacksOfStorage Disj es last_active hs
 walked-disj old es last_active hs stored entries same is = record { storage = old; stored = stored; entries_are = entries; last_active_are = same; stacks = rw (is, entries) stored.disjoints }
 

@@ -1,4 +1,4 @@
--- The symbols of a legal assertion: each variable is that of one mandatory `$f`. So the results that it takes determine the one that it gives.
+-- Each variable of a legal assertion is that of exactly one mandatory `$f`. So the results that the assertion takes determine the result that it gives.
 use Rattle.frame.proofs.Words.{list_all, All, All-filter, All-map, All-get_or, All-from_get_or, slice_get_within, get_or_from_slice_get, sym, ◌∙◌, ap, append-nil, subst, get_or, ◌≡◌, ℕ, suc, ◌-◌, Bool, true, false, cond, List, [], ◌∷◌, ◌++◌, length, map, filter, slice_get, Some, refl, bytes_eq-Decides, and_parts, and_from, or_left, or_right, Name, name_eq, has_name, Stmt, Expr, Database, stays_open, stmt_at, before, expr_of, is_variable, HasAssertion, is_used, is_mandatory, is_hypothesis, hypotheses, groups, has_two_or_more, mandatory_groups, OfVariables, premises, expr_at, HasFloat, IsBound, IsSingle, take-get}
 use Rattle.frame.proofs.LegalAfter.{stands-at}
 use Rattle.mm_read.specs.declared.stmt.Stmt.TheVariants.{Float, Ess}
@@ -24,11 +24,11 @@ module _ (S : Database) (a : ℕ) (s : Stmt) (legal : AllKept S) (is : HasAssert
   front-legal : AllKept T
   front-legal = kept-front S (a - 1) legal
 
-  -- a statement before the assertion stands in the whole database
+  -- a statement before the assertion is at the same position in the whole database
   there : (A : Database) (t : Stmt) (B : Database) → T ≡ A ++ t ∷ B → stmt_at S (suc (length A)) ≡ Some t
   there A t B whole = (take-get (a - 1) (length A) S t (ap (λ w. slice_get w (length A)) whole ∙ stands-at A t B)).1
 
-  -- the statement r at a position of the list is an active one before the assertion
+  -- the statement r at the position p is active, and before the assertion
   pub record IsBefore (p : ℕ) (r : Stmt) : Type 0 where
     pub front : Database
     pub rest : Database
@@ -60,7 +60,7 @@ module _ (S : Database) (a : ℕ) (s : Stmt) (legal : AllKept S) (is : HasAssert
       (λ i lt y k. (and_parts (has_name y (get_or (groups T) i [])) (m y) (sym (has-filter m y (get_or (groups T) i [])) ∙ k)).1))) in
       mandatory x (subst P (get_or_from_slice_get (mandatory_groups T s) k g [] h) (All-get_or P (mandatory_groups T s) k [] (slice_get_within (mandatory_groups T s) k g h) all) x has)
 
-  -- each variable of the assertion has a mandatory `$f`, and one alone, and its expressions begin with no variable
+  -- each variable of the assertion is that of exactly one mandatory `$f`, and its expressions begin with a constant
   pub bound : IsBound S a s
   bound = record {
     own = λ x has var. used-float x (or_left (has_name x (expr_of s)) _ has) var;
@@ -79,7 +79,7 @@ module _ (S : Database) (a : ℕ) (s : Stmt) (legal : AllKept S) (is : HasAssert
 
 -- ---- the results determine the images
 
--- a symbol that is no variable has no image
+-- the image of a symbol that is no variable is the symbol itself
 image-own : (S : Database) (a : ℕ) (σ : Images) (c : Name) → OfVariables S a σ → is_variable (before S a) c ≡ false → image σ c ≡ c ∷ []
 image-own S a [] c p h = refl
 image-own S a (q ∷ σ) c p h = by (image-own S a σ c parts.1 h) (name_eq c q.0) refl
@@ -94,7 +94,7 @@ image-own S a (q ∷ σ) c p h = by (image-own S a σ c parts.1 h) (name_eq c q.
     by own false e = own
 
 module _ (S : Database) (a : ℕ) (s : Stmt) (b : IsBound S a s) (σ τ : Images) (p : OfVariables S a σ) (q : OfVariables S a τ) (same : premises S a s σ ≡ premises S a s τ) where
-  -- the image of a mandatory `$f`
+  -- the result for the mandatory `$f` of x is its typecode followed by the image of x
   premise-at : (ρ : Images) → OfVariables S a ρ → (x : Name) (f : HasFloat S (hypotheses (before S a) s) x) → slice_get (premises S a s ρ) f.place ≡ Some (f.constant ∷ image ρ x)
   premise-at ρ of x f =
       let fixed = image-own S a ρ f.constant of (b.first f.place f.position (Float f.label f.constant x) f.listed f.stands) in

@@ -1,4 +1,4 @@
--- The mandatory hypotheses of an assertion that keeps its own `$f` alone: with those of the `$e` that are active there.
+-- The mandatory hypotheses of an assertion that keeps only the `$f` of its own variables: these, and those that the active `$e` bring along.
 use Rattle.frame.proofs.Words.{◌∙◌, ap, subst, ◌≡◌, ℕ, ◌-◌, Bool, true, false, List, take, Option, Some, None, IfSome, Stmt, Database, is_assertion, hypotheses, AreListsOf, Storage, Entry, Assertion, names_in, labels_in, statements_of, AreStored, IsFilledFrom, AreWith, kept_with}
 use Rattle.frame.proofs.EnterLemmas.{essentials-kept, not-essential}
 use Rattle.frame.proofs.AssertionLemmas.{filled-kept}
@@ -9,23 +9,23 @@ pub some-map : {A : Type 0} (o : Option A) (P Q : A → Type 0) → ((x : A) →
 some-map (Some x) P Q f p = f x p
 some-map None P Q f p = p
 
--- ---- an assertion that is there
+-- ---- an assertion of the storage
 
 module _ (k : Storage) (a i : ℕ) (s : Stmt) (e : Entry) (stored : AreStored k) (asserts : is_assertion s ≡ true) (t : IsThere k a i s e) where
-  -- earlier statements
+  -- the statements before the assertion
   abbrev T : Database
   T = take (a - 1) (statements_of k)
 
-  -- the hypotheses that are kept with it, by whether its parts are whole
+  -- the hypotheses that are kept with the assertion, whether its parts are whole or not
   pub kept-by : (b : Bool) → e.assertion.whole ≡ b → e.assertion.hypotheses ≡ kept_with b T s
   kept-by b w = t.kept.hypotheses_kept ∙ ap (λ whole. kept_with whole T s) w
 
-  -- where they are not whole, its hypotheses are the `$f` of its own variables
+  -- if its parts are not whole, the `$f` that it keeps and those that the active `$e` bring along are its mandatory hypotheses
   pub mandatory-own : e.assertion.whole ≡ false → (list : List ℕ) → AreWith k.entries T e.assertion.hypotheses list → list ≡ hypotheses T s
   mandatory-own w list l =
       buffered-hypotheses k.entries (names_in k) (labels_in k) (a - 1) stored.kept.legal (essentials-kept k stored) s list (subst (λ own. AreWith k.entries T own list) (kept-by false w) l)
 
-  -- the kinds of its hypotheses, and its groups
+  -- lists made of all its mandatory hypotheses describe the assertion
   pub filled-lists : (ps : List ℕ) (d : Assertion) → IsFilledFrom k.entries T ps d → ps ≡ hypotheses T s → AreListsOf (statements_of k) (names_in k) a d s
   filled-lists ps d p h =
       there-lists k a i s e d stored asserts t (filled-kept k.entries T s ps d h (not-essential s asserts) p) p.is_whole

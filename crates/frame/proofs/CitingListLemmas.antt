@@ -1,4 +1,4 @@
--- Lists that have the mandatory pairs of an assertion: the groups of its frame, or a list for each pair.
+-- Lists that have the mandatory pairs of an assertion: the groups of its frame, or a list of two for each pair.
 use Rattle.frame.proofs.Words.{◌≡◌, ◌∙◌, ap, sym, subst, arith, refl, true≢false, inl, inr, or_cases, or_right, ℕ, zero, suc, ◌+◌, ◌-◌, ◌<◌, ◌==◌, nat_eq, Bool, true, false, not, ◌&&◌, ◌||◌, or-false, and-false, and-or_distrib_left, List, [], ◌∷◌, ◌++◌, length, map, take, get_or, list_any, list_any_more, list_any-append, list_any-map, Name, name_eq, has_name, name_at, AreDistinct, Stmt, Database, before, decode, expr_of, is_assertion, hypotheses, is_mandatory, mandatory_groups, AreBelow, AllBelow, AreRequired, AreListsOf, IsKeptAs, is_typed, groups_by, symbols_at, required_at, required_by, option_required, typecode_at, is_typed_by, AreHypotheses, AreNumbered, HasTwo, Kind, Float, AreSearched, slice_get_within, ◌⊎◌, actives, is_disj, Assertion, AssertionView, Entry, Storage, AreStored, names_in, labels_in, statements_of, are_pair, IsFilledFrom}
 use Rattle.frame.specs.AssertionView.{AreCitingListsOf, AreMandatoryPairs, IsCited, has_both}
 use Rattle.frame.specs.Stored.PairLists.{HasPairs, IsFilledByPairs, IsFilledForCitation, IsSearchPosition, are_among, is_beside}
@@ -32,7 +32,7 @@ module _ (names : List Name) (x y : ℕ) (distinct : AreDistinct names) (first :
       ∙ ap (λ t. has_name (name_at names x) (decode names g) && t) (turned y g ∙ has-decode names y g distinct second b.0) in
       ap (λ t. t || list_any (has_both x y) gs) one ∙ ap (λ t. both (decode names g) || t) (both-named gs b.1)
 
--- the groups of the frame have the mandatory pairs
+-- the groups of a frame have exactly the mandatory pairs
 pub lists-citing : (S : Database) (names : List Name) (a : ℕ) (d : Assertion) (s : Stmt) → AreDistinct names → AreListsOf S names a d s → AreCitingListsOf S names a d s
 lists-citing S names a d s distinct l = record {
   required = l.required;
@@ -47,7 +47,7 @@ lists-citing S names a d s distinct l = record {
   groups_below = l.groups_below;
 }
 
--- ---- a list for each pair
+-- ---- a list of two for each pair
 
 -- u is x, and v is y
 abbrev is_one : ℕ → ℕ → ℕ → ℕ → Bool
@@ -71,7 +71,7 @@ beside-pair f x y u v turn =
     ∙ (ap (λ t. (f x y && is_one x y u v) || t) (at-one (λ m n. f n m) x y v u ∙ ap (λ t. t && is_one x y v u) turn)
     ∙ sym (and-or_distrib_left (f x y) (is_one x y u v) (is_one x y v u))))
 
--- one number is not two
+-- no number is equal to two different ones
 not-two : (x u v : ℕ) → (u == v) ≡ false → (x == u && x == v) ≡ false
 not-two x u v differ = by (nat_eq x u) refl
   where
@@ -102,7 +102,7 @@ below-front n (suc i) [] b = tt
 below-front n (suc i) (v ∷ vs) b = (b.0, below-front n i vs b.1)
 
 module _ (k : Storage) (at : ℕ) where
-  -- no pair is added
+  -- no pair is added if no pair of disjoint variables passes the test
   pub pairs-same : (test : ℕ → ℕ → Bool) (d : Assertion) → ((u v : ℕ) → (u == v) ≡ false → (are_pair k at u v && test u v) ≡ false) → HasPairs k at test d d
   pairs-same test d none = record {
     hypotheses = refl;
@@ -112,7 +112,7 @@ module _ (k : Storage) (at : ℕ) where
     below = λ b. b;
   }
 
-  -- a number is no pair with itself
+  -- a number is not a pair with itself
   pub pairs-one : (x y : ℕ) (d : Assertion) → x ≡ y → HasPairs k at (is_beside x (y ∷ [])) d d
   pairs-one x y d same = pairs-same (is_beside x (y ∷ [])) d (λ u v differ. ap (λ t. are_pair k at u v && t) (none u v differ) ∙ and-false (are_pair k at u v))
     where
@@ -142,7 +142,7 @@ module _ (k : Storage) (at : ℕ) where
     below = λ b. subst (AllBelow (length (names_in k))) (sym gs) (below-push (length (names_in k)) old.groups (x ∷ y ∷ []) b (first, (second, tt)));
   }
 
-  -- those that pass the one test or the other
+  -- adding the pairs that pass one test and then those that pass another adds those that pass either
   pub pairs-join : (s t r : ℕ → ℕ → Bool) (a b c : Assertion) → HasPairs k at s a b → HasPairs k at t b c → ((u v : ℕ) → (u == v) ≡ false → r u v ≡ (s u v || t u v)) → HasPairs k at r a c
   pairs-join s t r a b c h g is = record {
     hypotheses = g.hypotheses ∙ h.hypotheses;
@@ -161,7 +161,7 @@ module _ (k : Storage) (at : ℕ) where
       joined false true s t = refl
       joined false false s t = refl
 
-  -- with the next of the others
+  -- adding the pairs of x with the first i of a list, and then its pair with the next one
   pub beside-more : (x : ℕ) (ys : List ℕ) (i : ℕ) (a b c : Assertion) → i < length ys → HasPairs k at (is_beside x (take i ys)) a b → HasPairs k at (is_beside x (get_or ys i 0 ∷ [])) b c
       → HasPairs k at (is_beside x (take (i + 1) ys)) a c
   beside-more x ys i a b c lt h g =
@@ -174,7 +174,7 @@ module _ (k : Storage) (at : ℕ) where
       shuffle : (a c s t d e : Bool) → ((a && (s || t)) || (c && (d || e))) ≡ (((a && s) || (c && d)) || ((a && (t || false)) || (c && (e || false))))
       shuffle a c s t d e = grind arith
 
-  -- with the pairs of the next variable and those before it
+  -- adding the pairs among the first i variables, and then those of the next one with these
   pub among-more : (vs : List ℕ) (i : ℕ) (a b c : Assertion) → i < length vs → HasPairs k at (are_among (take i vs)) a b
       → HasPairs k at (is_beside (get_or vs i 0) (take i vs)) b c → HasPairs k at (are_among (take (i + 1) vs)) a c
   among-more vs i a b c lt h g =
@@ -251,19 +251,19 @@ all-below n m es ps vs a h typed = each vs (λ c e. typed-below n m c es ps a h 
         let same : nat_eq v v ≡ true = grind arith in
         (h v (ap (λ t. t || list_any (λ w. w == v) vs) same), each vs (λ c e. h c (or_right (nat_eq v c) (list_any (λ w. w == c) vs) e)))
 
--- with the next hypothesis
+-- the variables of the first i hypotheses, and that of the next one
 pub typed-more : (es : List Entry) (ps : List ℕ) (i c : ℕ) → i < length ps → is_typed (map (required_at es) (take (i + 1) ps)) c ≡ (is_typed (map (required_at es) (take i ps)) c || is_typed_by c (required_at es (get_or ps i 0)))
 typed-more es ps i c lt =
     sym (list_any-map (required_at es) (is_typed_by c) (take (i + 1) ps))
     ∙ (list_any_more (λ p. is_typed_by c (required_at es p)) ps i 0 lt ∙ ap (λ b. b || is_typed_by c (required_at es (get_or ps i 0))) (list_any-map (required_at es) (is_typed_by c) (take i ps)))
 
--- ---- an assertion that is there
+-- ---- an assertion of the storage
 
 module _ (k : Storage) (a i : ℕ) (s : Stmt) (e : Entry) (stored : AreStored k) (asserts : is_assertion s ≡ true) (t : IsThere k a i s e) where
   abbrev T : Database
   T = take (a - 1) (statements_of k)
 
-  -- a number is that of a `$f` just where its name is mandatory
+  -- a number is that of a mandatory `$f` exactly if its name is a mandatory variable
   typed-mandatory : (d : Assertion) → IsKeptAs k.entries T s d → d.whole ≡ true → (c : ℕ) → c < length (names_in k) → is_typed d.required c ≡ is_mandatory T s (name_at (names_in k) c)
   typed-mandatory d kept whole c low =
       let place = t.place in
@@ -274,7 +274,7 @@ module _ (k : Storage) (a i : ℕ) (s : Stmt) (e : Entry) (stored : AreStored k)
   pub filled-citing : (ps : List ℕ) (d : Assertion) → IsFilledFrom k.entries T ps d → ps ≡ hypotheses T s → AreCitingListsOf (statements_of k) (names_in k) a d s
   filled-citing ps d p h = lists-citing (statements_of k) (names_in k) a d s (stored-distinct k stored) (filled-lists k a i s e stored asserts t ps d p h)
 
-  -- the lists that it would have by the groups of its frame
+  -- the parts of the assertion with the groups of its frame
   abbrev framed : Assertion → Assertion
   framed d = record { whole = true; hypotheses = d.hypotheses; required = d.required; typecodes = d.typecodes; groups = groups_by d.required (map (λ q. symbols_at k.entries q.0) (actives is_disj T)) }
 
@@ -311,7 +311,7 @@ module _ (k : Storage) (a i : ℕ) (s : Stmt) (e : Entry) (stored : AreStored k)
       let within = slice_get_within k.entries i e t.here in
       record { stored = stored; distinct = stored-distinct k stored; above = omega (arith, place); within = omega (arith, place, within, as-many k) }
 
--- the lists, and the expression, are what is cited
+-- the assertion can be cited by a view of these lists and its expression
 pub lists-cite : (S : Database) (names : List Name) (a : ℕ) (s : Stmt) (d : Assertion) (codes : List ℕ) → AreCitingListsOf S names a d s → decode names codes ≡ expr_of s → AreBelow (length names) codes
     → (c : AssertionView) → c.typecodes.now ≡ d.typecodes → c.hypotheses ≡ d.required → c.conclusion.now ≡ codes → c.groups ≡ d.groups → IsCited S names a s c
 lists-cite S names a s d codes l stand low c p q k g = record {

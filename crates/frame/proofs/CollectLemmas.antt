@@ -1,10 +1,10 @@
--- Collecting positions: the loops' steps.
+-- Collecting positions: the steps of the loops.
 use Rattle.frame.proofs.Words.{◌||◌, ◌==◌, list_any, list_any-append, or_cases, sym, ◌∙◌, ap, subst, arith, inl, inr, ⊎_elim, true≢false, cond, false, nat_cmp, ◌≡◌, ℕ, suc, ◌+◌, ◌-◌, ◌<◌, ◌≤◌, Bool, true, ◌⊎◌, List, [], ◌∷◌, ◌++◌, length, map, get_or, slice_get, eqb, Some, refl, ⊎_map, and_parts, or_left, length-map, Contains, dedup, slice_get_within, slice_get_read, get_or_from_slice_get, is_active, Storage, Database, Name, Kind, Float, Var, Entry, In, Ascends, AreThose, HasMore, OfSome, IsFloatOf, AreLooked, AreFloats, AreWith, AreCollected, floats, last_where, stmt_by, stmt_of, is_float_kind, is_var_kind, names_in, labels_in, statements_of, IsPlain, Contains-dedup_nat, Contains-from_dedup, Contains-permutation, IsPermutation-sym, IsStrictlyIncreasing-dedup, IsPermutation, IsSorted, IsStrictlyIncreasing}
 use Rattle.frame.proofs.AscendingLists.{in-place, place-in, above-less}
 use Rattle.frame.proofs.StoredReading.{get-stmt}
 use Rattle.frame.proofs.ActivePositions.{last-some}
 
--- where only such statements pass a test, one that neither opens nor closes a block stands at the last place that passes
+-- if only statements that neither open nor close a block pass a test, the last entry that passes is such a statement
 pub stands-plain : (test : Entry → Bool) (names labels : List Name) (es : List Entry) (p : ℕ) → ((e : Entry) → test e ≡ true → IsPlain (Some (stmt_of names labels e))) → p ≡ last_where test es → (p ≡ 0 → ⊥)
     → (1 ≤ p) × (p ≤ length es) × IsPlain (slice_get (map (stmt_of names labels) es) (p - 1))
 stands-plain test names labels es p plain h some =
@@ -14,7 +14,7 @@ stands-plain test names labels es p plain h some =
     let there = ap (slice_get (map (stmt_of names labels) es)) back ∙ get-stmt names labels es r.place r.entry r.found in
     (omega (arith, at), omega (arith, at, lt), subst IsPlain (sym there) (plain r.entry r.passes))
 
--- a `$f` and a `$v` are such statements
+-- a `$f` and a `$v` neither open nor close a block
 pub kind-plain : (kind : Kind) (label : Name) (names : List Name) → (is_float_kind kind || is_var_kind kind) ≡ true → IsPlain (Some (stmt_by kind label names))
 kind-plain Float label names h = (refl, refl)
 kind-plain Var label names h = (refl, refl)
@@ -69,11 +69,11 @@ rises-by (x ∷ y ∷ xs) r =
 rises-ascends : (xs : List ℕ) → IsStrictlyIncreasing xs → Ascends xs
 rises-ascends xs r = rises-by xs (λ k lt. let e : k + 1 ≡ suc k = omega arith in subst (λ m. get_or xs k 0 < get_or xs m 0) e (r k (omega (arith, lt))))
 
--- another word for the members of a list
+-- a list with exactly those for which P holds has exactly those for which Q holds, if P and Q are equivalent
 pub those-by : {P Q : ℕ → Type 0} {list : List ℕ} → AreThose P list → ((p : ℕ) → P p → Q p) → ((p : ℕ) → Q p → P p) → AreThose Q list
 those-by those f g = record { ascends = those.ascends; all = λ p q. those.all p (g p q); only = λ p i. f p (those.only p i) }
 
--- a sort, and each once
+-- a list that is sorted and then has each element once is in ascending order, with the same members
 pub ordered : (xs ys zs : List ℕ) → IsPermutation xs ys → IsSorted nat_cmp ys → zs ≡ dedup eqb ys → AreThose (λ p. In p xs) zs
 ordered xs ys zs moved sorted is = subst (AreThose (λ p. In p xs)) (sym is) (record {
   ascends = rises-ascends (dedup eqb ys) (IsStrictlyIncreasing-dedup ys sorted);
@@ -81,18 +81,18 @@ ordered xs ys zs moved sorted is = subst (AreThose (λ p. In p xs)) (sym is) (re
   only = λ p i. contains-in p xs (Contains-permutation ys xs p (IsPermutation-sym xs ys moved) (Contains-from_dedup eqb ys p (in-contains p (dedup eqb ys) i)));
 })
 
--- items that are appended to a list
+-- appending items to a list adds exactly these
 pub appended : (old more new : List ℕ) → new ≡ old ++ more → HasMore (λ p. In p more) old new
 appended old more new is = subst (HasMore (λ p. In p more) old) (sym is) (record { stays = λ p i. in-left p old more i; all = λ p i. in-right p old more i; only = λ p i. in-either p old more i })
 
--- one item is appended to a list, and then others
+-- appending q and then the others adds q and the others
 pub pushed-more : {q : ℕ} {old pushed new : List ℕ} (ys : List ℕ) → pushed ≡ old ++ q ∷ [] → HasMore (λ p. In p ys) pushed new → HasMore (λ p. In p (q ∷ ys)) old new
 pushed-more {q = q} {old = old} {new = new} ys is more = let put = subst (λ l. HasMore (λ p. In p ys) l new) is more in
     record { stays = λ p i. put.stays p (in-left p old (q ∷ []) i); all = λ p. ⊎_elim (λ e. put.stays p (last-in p q old (inl e))) (put.all p); only = λ p i. ⊎_elim (λ j. ⊎_elim (λ e. inr (inl e)) inl (last-out p q old j)) (λ k. inr (inr k)) (put.only p i) }
 
 -- ---- the `$f` of a symbol
 
--- the last `$f` was added, where it is active
+-- the position of the last `$f` of a symbol is appended exactly if it is active
 pub float-more : (k : Storage) (c q at : ℕ) (list new : List ℕ) (b : Bool) → q ≡ last_where (floats c) k.entries → (q ≡ 0 → ⊥) → at ≡ length k.entries → b ≡ is_active (statements_of k) q (at + 1) → new ≡ cond b (list ++ q ∷ []) list
     → HasMore (IsFloatOf k.entries (statements_of k) c) list new
 float-more k c q at list new b last some size stands is =
@@ -107,7 +107,7 @@ float-more k c q at list new b last some size stands is =
     }
     by false h = record { stays = λ p i. i; all = λ p f. absurd (true≢false (sym f.stands ∙ (ap (λ n. is_active (statements_of k) n (length (statements_of k) + 1)) (f.last ∙ sym last) ∙ h))); only = λ p i. inl i }
 
--- the symbols that were looked at before, and one more
+-- the `$f` of the symbols looked up before, and that of one more
 pub looked-more : (es : List Entry) (S : Database) (looked : List ℕ) (c : ℕ) (old new : List ℕ) → HasMore (IsFloatOf es S c) old new → AreLooked es S looked old → AreLooked es S (looked ++ c ∷ []) new
 looked-more es S looked c old new more there d p h f =
     elim (or_cases (list_any (λ n. n == d) looked) (c == d || false) (sym (list_any-append (λ n. n == d) looked (c ∷ [])) ∙ h)) [
@@ -115,14 +115,14 @@ looked-more es S looked c old new more there d p h f =
       | inr q ↦ let same : c ≡ d = grind (arith, q) in more.all p (subst (λ x. IsFloatOf es S x p) (sym same) f)
     ]
 
--- ---- the items that are found of each element of a list, one after another
+-- ---- the items found for each element of a list, one after another
 
--- the list with what is left has what the first list has with all
+-- the new list with the items for the elements left has the same items as the old list with those for all elements
 pub record HasLeft (P : ℕ → ℕ → Type 0) (all left old new : List ℕ) : Type 0 where
   pub there : (p : ℕ) → In p old ⊎ OfSome P all p → In p new ⊎ OfSome P left p
   pub back : (p : ℕ) → In p new ⊎ OfSome P left p → In p old ⊎ OfSome P all p
 
--- the items that are found of one element are added, and the others are left
+-- after the items for q are appended, the items for the other elements are left
 pub left-step : {P : ℕ → ℕ → Type 0} {all whole left : List ℕ} {q : ℕ} {old mid new : List ℕ} → ((x : ℕ) → In x whole → (x ≡ q) ⊎ In x left) → ((x : ℕ) → (x ≡ q) ⊎ In x left → In x whole)
     → HasMore (P q) mid new → HasLeft P all whole old mid → HasLeft P all left old new
 left-step {P = P} {whole = whole} {left = left} {q = q} {mid = mid} {new = new} split join more h = record { there = λ p i. forth p (h.there p i); back = λ p i. h.back p (before p i) }
@@ -136,7 +136,7 @@ left-step {P = P} {whole = whole} {left = left} {q = q} {mid = mid} {new = new} 
     before p (inl i) = ⊎_map (λ j. j) (λ f. record { one = q; among = join q (inl refl); is = f }) (more.only p i)
     before p (inr s) = inr (record { one = s.one; among = join s.one (inr s.among); is = s.is })
 
--- none is left, and all are in order
+-- if no element is left, the list in order has exactly the old items and those for all elements
 pub left-ordered : (P : ℕ → ℕ → Type 0) (all left old mid new : List ℕ) → left ≡ [] → HasLeft P all left old mid → AreThose (λ p. In p mid) new → AreThose (λ p. In p old ⊎ OfSome P all p) new
 left-ordered P all left old mid new none h those = those-by those (λ p i. h.back p (inl i)) (λ p i. by p (h.there p i))
   where
@@ -144,7 +144,7 @@ left-ordered P all left old mid new none h those = those-by those (λ p i. h.bac
     by p (inl i) = i
     by p (inr s) = absurd (subst (In s.one) none s.among)
 
--- the `$f` of the symbols with the active `$e` are what is collected
+-- the active `$f` of the symbols, the active `$e` and the hypotheses kept with these are what is to be collected
 pub collected-from : (es : List Entry) (S T : Database) (codes floats list : List ℕ) → T ≡ S → AreFloats es S codes floats → AreWith es T floats list → AreCollected es S codes list
 collected-from es S T codes floats list same f w =
     those-by (subst (λ D. AreWith es D floats list) same w) (λ p. ⊎_map (f.only p) (λ g. g)) (λ p. ⊎_map (f.all p) (λ g. g))

@@ -1,4 +1,4 @@
--- The positions that are collected are those of the mandatory hypotheses, in order.
+-- The positions collected are those of the mandatory hypotheses, in order.
 use Rattle.frame.proofs.Words.{take_all, take-take, sym, ◌∙◌, ap, subst, arith, inl, inr, ⊎_elim, append_assoc, ◌≡◌, ℕ, suc, ◌+◌, ◌-◌, ◌<◌, true, ◌&&◌, ◌⊎◌, List, [], ◌∷◌, ◌++◌, length, map, take, drop, slice_get, Some, refl, take-append_seam, or_left, and_parts, and_from, both_ways, slice_get_within, ⊎_map, length-map, Name, has_name, Stmt, Database, stays_open, is_active, expr_of, is_essential, is_variable, is_float_of, name_at, decode, AreDistinct, is_used, is_hypothesis, hypotheses, AreBelow, Entry, stmt_of, floats, last_from, last_where, AreNumbered, In, IsFloatOf, SomeFloat, IsFromEssentials, AreFloats, AreWith, AreCollected, kept_at, option_kept, is_float_in, floats_in, take-get}
 use Rattle.frame.proofs.LastActiveLemmas.{cut-here, length-cut}
 use Rattle.mm_read.specs.declared.stmt.Stmt.TheVariants as stmt
@@ -25,7 +25,7 @@ module _ (es : List Entry) (names labels : List Name) (i : ℕ) (all : AllKept (
   legal : AllKept S
   legal = kept-front (map (stmt_of names labels) es) i all
 
-  -- the hypotheses that are kept with an active `$e`
+  -- the hypotheses that are kept with an active `$e` are the `$f` of its variables
   ess-kept : (r : ℕ) (h : IsActiveAt S is_essential r) → kept_at es r ≡ floats_in h.front (expr_of h.stmt)
   ess-kept r h =
       let n = length h.front in
@@ -38,12 +38,12 @@ module _ (es : List Entry) (names labels : List Name) (i : ℕ) (all : AllKept (
       ∙ (kept n x.0 x.1 (sym (ap is_essential x.2) ∙ h.passes)
       ∙ (ap (λ r. floats_in (take n full) (expr_of r)) (sym x.2) ∙ ap (λ D. floats_in D (expr_of h.stmt)) front)))
 
-  -- the active `$f` of a symbol that is used is a hypothesis
+  -- the active `$f` of a used symbol is a mandatory hypothesis
   float-hyp : (p : ℕ) (A : Database) (u l x : Name) (B : Database) → S ≡ A ++ stmt.Float u l x ∷ B → p ≡ suc (length A) → stays_open 0 B ≡ true → is_used S s x ≡ true → In p (hypotheses S s)
   float-hyp p A u l x B cut at_p stays used =
       members S (is_hypothesis S s) p A (stmt.Float u l x) B cut at_p stays (and_from (is_variable S x) (is_used S s x) (float-kinds S A u l x B legal cut stays).1 used)
 
-  -- a `$f` that was kept with an active `$e` is a hypothesis
+  -- a `$f` that is kept with an active `$e` is a mandatory hypothesis
   kept-hyp : (r p : ℕ) (h : IsActiveAt S is_essential r) → In p (kept_at es r) → In p (hypotheses S s)
   kept-hyp r p h i =
       let g = active-members h.front (is_float_in (expr_of h.stmt)) p [] h.front 1 refl refl (subst (In p) (ess-kept r h) i) in
@@ -61,7 +61,7 @@ module _ (es : List Entry) (names labels : List Name) (i : ℕ) (all : AllKept (
       let h = active-members S is_essential e.one [] S 1 refl refl e.among in
       ⊎_elim (λ k. members S (is_hypothesis S s) p h.front h.stmt h.rest h.whole (k ∙ h.at) h.stays (ess-hyp S s h.stmt h.passes)) (λ f. kept-hyp e.one p h f) e.is
 
-  -- the `$f` of a variable of an active `$e` was kept with it
+  -- the active `$f` of a variable of an active `$e` is kept with the `$e`
   float-kept : (r p : ℕ) (h : IsActiveAt S is_essential r) (A B : Database) (u l x : Name) → S ≡ A ++ stmt.Float u l x ∷ B → p ≡ suc (length A) → stays_open 0 B ≡ true
       → has_name x (expr_of h.stmt) ≡ true → is_variable S x ≡ true → In p (kept_at es r)
   float-kept r p h A B u l x cut at_p stays has var =
@@ -95,16 +95,16 @@ module _ (es : List Entry) (names labels : List Name) (i : ℕ) (all : AllKept (
             ]
       ]
 
-  -- its own `$f` with the active `$e` and what is kept with these
+  -- the `$f` of the assertion's own variables, the active `$e` and the hypotheses kept with these are the mandatory hypotheses
   pub buffered-hypotheses : (list : List ℕ) → AreWith es S (floats_in S (expr_of s)) list → list ≡ hypotheses S s
   buffered-hypotheses list w =
       same-lists list (hypotheses S s) w.ascends (ascends-active (is_hypothesis S s) 1 S).1 (λ p i. given-hyp p (w.only p i)) (λ p i. w.all p (hyp-given p i))
 
--- ---- the hypotheses that are found by the numbers of the symbols
+-- ---- the hypotheses found by the numbers of the symbols
 
 module _ (es : List Entry) (names labels : List Name) (m : ℕ) (S : Database)
     (whole : S ≡ map (stmt_of names labels) es) (distinct : AreDistinct names) (numbered : AreNumbered (length names) m es) (all : AllKept S) where
-  -- the active `$f` of a number is its last one
+  -- an active `$f` of a number is the last `$f` of that number
   is-float : (p c : ℕ) (A B : Database) (u l x : Name) → S ≡ A ++ stmt.Float u l x ∷ B → p ≡ suc (length A) → stays_open 0 B ≡ true → c < length names → name_at names c ≡ x → IsFloatOf es S c p
   is-float p c A B u l x named at_p stays small e =
       record { last = by (last-is (floats c) 0 1 es); some = λ z. omega (arith, at_p, z); stands = ap (λ n. is_active S n (length S + 1)) at_p ∙ rest-active S A (stmt.Float u l x) B named stays }

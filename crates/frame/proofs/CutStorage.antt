@@ -1,4 +1,4 @@
--- The storage with its first statements alone, and as before when all that was added is taken back.
+-- The storage after it is cut to its first statements, and after added statements are removed again.
 use Rattle.frame.proofs.Words.{sym, ◌∙◌, ap, subst, arith, take-take, ◌≡◌, ℕ, ◌+◌, ◌<◌, ◌≤◌, true, List, length, map, take, drop, slice_get, Some, refl, suc, [], ◌∷◌, Option, None, length-take-le, take-map, take-append-drop, take_at, length-map, Name, Database, IsNumberingOf, Declared, declared_symbols, declared_labels, stays_open, label_of, symbols_of, labels_of, option_list, LastActive, Entry, Symbol, is_disj, is_var, last_active_of, stmt_of, statements_of, positions_from, AreAllLegal, ReadsAs, replaced_of, symbol_of, names_in, labels_in, option_position, AreNumbered, KeepsCounts, IsAfter, Storage, naming_of, AreKept, AreStored, Extends, has_parts, IsKeptAs, extends-length, extends-take, take-get, labels_of-append, AreKeptUntil}
 use Rattle.frame.proofs.StackLemmas.{stacks-back}
 use Rattle.frame.proofs.BlockWalkLemmas.{get-take}
@@ -31,7 +31,7 @@ positions-front n S =
     ap (take (length (labels_of (take n S)))) (ap (positions_from 1) (sym (take-append-drop n S)) ∙ positions_from-append 1 (take n S) (drop n S))
     ∙ take_at (positions_from 1 (take n S)) (positions_from (1 + length (take n S)) (drop n S)) (length (labels_of (take n S))) (length-positions 1 (take n S))
 
--- ---- the changes of the parts: the statement after the first n is e
+-- ---- the parts after the cut, where e is the entry after the first n
 
 pub record IsCut (names labels : List Name) (positions : List ℕ) (symbols : List Symbol) (entries : List Entry)
     (names' labels' : List Name) (positions' : List ℕ) (between symbols' : List Symbol) (replaced' : List ℕ) (entries' : List Entry) (links' : LastActive) (n : ℕ) (e : Entry) : Type 0 where
@@ -53,7 +53,7 @@ module _ {names labels : List Name} {positions : List ℕ} {symbols : List Symbo
   abbrev pub S : Database
   S = map (stmt_of names labels) entries
 
-  -- the entry after the first n knows how many names and labels there were
+  -- the entry after the first n has the counts of the names and labels before it
   counts : KeepsCounts names labels entries n e
   counts = k.counts_kept n e p.at
 
@@ -76,7 +76,7 @@ module _ {names labels : List Name} {positions : List ℕ} {symbols : List Symbo
   labels-count : length labels' ≡ e.label
   labels-count = ap length p.labels_cut ∙ sym counts.label_count
 
-  -- the first entries use no other names and labels
+  -- the first n entries use no other names and labels
   numbered : AreNumbered (length names') (length labels') (take n entries)
   numbered = rw (names-count, labels-count) counts.numbered
 
@@ -88,17 +88,17 @@ module _ {names labels : List Name} {positions : List ℕ} {symbols : List Symbo
   front-of : (i : ℕ) → i < n → take i (map (stmt_of names' labels') entries') ≡ take i S
   front-of i lt = ap (take i) cut-statements ∙ take-take i n S (omega (arith, lt))
 
-  -- an entry that is left is one of the first n
+  -- an entry that remains is one of the first n
   there : (i : ℕ) (d : Entry) → slice_get entries' i ≡ Some d → (i < n) × (slice_get entries i ≡ Some d)
   there i d h = take-get n i entries d (ap (λ r. slice_get r i) (sym p.entries_cut) ∙ h)
 
-  -- each symbol that is left tells what is left of its declarations
+  -- each symbol that remains has the last of its declarations that remain
   symbols'' : (c : ℕ) → c < length names' → slice_get symbols' c ≡ Some (symbol_of entries' c)
   symbols'' c lt =
       let a = names-count in let b = p.between_count in let d = k.count in let w = within in
       ap (λ r. slice_get r c) p.symbols_cut ∙ (get-take c e.names between (omega (arith, lt, a)) ∙ p.declared c (omega (arith, lt, a, b, d, w)))
 
-  -- an entry that is left keeps the counts before it
+  -- an entry that remains has the counts of the names and labels before it
   counts' : (i : ℕ) (d : Entry) → slice_get entries' i ≡ Some d → KeepsCounts names' labels' entries' i d
   counts' i d h =
       let q = there i d h in
@@ -110,7 +110,7 @@ module _ {names labels : List Name} {positions : List ℕ} {symbols : List Symbo
         name_count = c.name_count ∙ ap (λ T. length (symbols_of T)) (sym (front-of i lt));
       }
 
-  -- an assertion that is left is kept as it was
+  -- an assertion that remains is kept as it was
   parts' : (i : ℕ) (d : Entry) → slice_get entries' i ≡ Some d → has_parts d.kind ≡ true → IsKeptAs entries' (take i (map (stmt_of names' labels') entries')) (stmt_of names' labels' d) d.assertion
   parts' i d h a =
       let q = there i d h in
@@ -148,7 +148,7 @@ module _ (k : Storage) (n : ℕ) (e : Entry) (stored : AreStored k) (at : slice_
   pub front-naming : IsNumberingOf (take n (statements_of k)) (naming_of (take n (statements_of k)))
   front-naming = naming-all (take n (statements_of k)) (kept-front (statements_of k) n stored.kept.legal)
 
-  -- the entry after them tells how many names it has
+  -- the entry after the first n has the count of the names before it
   pub numbering-front : take (e.names + e.label) k.numbering ≡ naming_of (take n (statements_of k))
   numbering-front =
       let counts = stored.kept.counts_kept n e at in
@@ -156,9 +156,9 @@ module _ (k : Storage) (n : ℕ) (e : Entry) (stored : AreStored k) (at : slice_
       let count : e.names + e.label ≡ length (naming_of (take n (statements_of k))) = omega (arith, counts.name_count, counts.label_count, all) in
       ap (take (e.names + e.label)) stored.numbered ∙ (ap (λ m. take m (naming_of (statements_of k))) count ∙ naming_of-front n (statements_of k))
 
--- ---- taken back, everything is as before
+-- ---- after added statements are removed, everything is as before
 
--- the contents that remained, and those after truncation
+-- `mid` has added parts, which are removed in `new`
 pub record IsTakenBack (old mid new : Storage) : Type 0 where
   pub after : IsAfter old mid
   pub numbering_cut : new.numbering ≡ take (length old.numbering) mid.numbering

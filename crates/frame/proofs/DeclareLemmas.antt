@@ -1,4 +1,4 @@
--- The last declarations of symbols, and what they replace: one statement more and one less.
+-- The last declarations of symbols, and those that they replace, as a statement is appended or removed.
 use Rattle.frame.proofs.Words.{sym, ◌∙◌, ap, arith, add-zero, append-nil, append_assoc, length-append, ◌≡◌, ℕ, zero, suc, ◌+◌, Bool, true, false, cond, ◌||◌, nat_eq, List, [], ◌∷◌, ◌++◌, length, get_or, slice_get, slice_set, Option, Some, refl, ◌-◌, ◌<◌, map, take, drop, or-false, get_or_from_slice_get, list_any, take_all, take_more, map_push, drop-append_seam, Float, last_of, with_last, is_float_kind, is_var_kind, second_is, ◌&&◌, Entry, Symbol, floats, declares, last_from, symbol_of, ReadsAs, replaced_by, replaced_after, replaced_of, with_entry, with_declared, place, Kind, Var, Extends}
 use Rattle.frame.proofs.BlockWalkLemmas.{take-one}
 use Rattle.frame.proofs.LegalAfter.{stands-at}
@@ -13,14 +13,14 @@ get-set (y ∷ xs) zero (suc c) new x g = let no : nat_eq (suc c) zero ≡ false
 get-set (y ∷ xs) (suc k) zero new x g = let no : nat_eq zero (suc k) ≡ false = grind arith in g ∙ ap (λ b. Some (cond b new x)) (sym no)
 get-set (y ∷ xs) (suc k) (suc c) new x g = let same : nat_eq c k ≡ nat_eq (suc c) (suc k) = grind arith in get-set xs k c new x g ∙ ap (λ b. Some (cond b new x)) same
 
--- the last declaration of a symbol is the one that was recorded last
+-- recording a declaration of a symbol twice is recording it once
 recorded-again : (kind : Kind) (n : ℕ) (y : Symbol) (any : Bool) → with_last kind n (recorded kind y n any) ≡ recorded kind y n (any || true)
 recorded-again Float n y true = refl
 recorded-again Float n y false = refl
 recorded-again kind n y true = refl
 recorded-again kind n y false = refl
 
--- one symbol recorded, by the record for each: the others stay
+-- the declaration of the symbol k is recorded, and the records of other symbols stay
 pub record-step : (kind : Kind) (xs : List Symbol) (k c v : ℕ) (r y : Symbol) (x : ℕ → ℕ) (any : Bool) → slice_get xs c ≡ Some (recorded kind y (x c) any) → r ≡ get_or xs k r → v ≡ x k
     → slice_get (slice_set xs k (with_last kind v r)) c ≡ Some (recorded kind y (x c) (any || nat_eq c k))
 record-step kind xs k c v r y x any g e h = get-set xs k c (with_last kind v r) (recorded kind y (x c) any) g ∙ by (nat_eq c k) refl
@@ -38,7 +38,7 @@ last_from-push test found at (d ∷ es) e =
     last_from-push test (cond (test d) at found) (at + 1) es e
     ∙ ap (λ n. cond (test e) n (last_from test (cond (test d) at found) (at + 1) es)) (place at (length es))
 
--- the declarations of one more statement, by its effect on a symbol
+-- the effect of an appended statement on the declarations of a symbol
 declared-is : (kind : Kind) (codes : List ℕ) (c at f v : ℕ)
     → ◌≡◌ {A = Symbol} (record { float = cond (is_float_kind kind && second_is c codes) at f; variable = cond (is_var_kind kind && list_any (nat_eq c) codes) at v }) (with_declared kind codes at c (record { float = f; variable = v }))
 declared-is Float (a ∷ b ∷ codes) c at f v = by (nat_eq c b)
@@ -54,11 +54,11 @@ declared-is Var codes c at f v = by (list_any (nat_eq c) codes)
     by false = refl
 declared-is kind codes c at f v = refl
 
--- the last declarations after one more entry
+-- the last declarations of a symbol after an entry is appended
 pub symbol_of-push : (es : List Entry) (e : Entry) (c : ℕ) → symbol_of (es ++ e ∷ []) c ≡ with_entry e (1 + length es) c (symbol_of es c)
 symbol_of-push es e c = rw (last_from-push (floats c) 0 1 es e, last_from-push (declares c) 0 1 es e) (declared-is e.kind e.symbols c (1 + length es) _ _)
 
--- ---- one entry more
+-- ---- an entry is appended
 
 replaced-push : (before es : List Entry) (e : Entry) → replaced_after before (es ++ e ∷ []) ≡ replaced_after before es ++ replaced_by (symbol_of (before ++ es)) e.kind e.symbols
 replaced-push before [] e =
@@ -73,7 +73,7 @@ replaced-push before (d ∷ es) e =
 pub replaced_of-push : (es : List Entry) (e : Entry) → replaced_of (es ++ e ∷ []) ≡ replaced_of es ++ replaced_by (symbol_of es) e.kind e.symbols
 replaced_of-push es e = replaced-push [] es e
 
--- ---- one entry less
+-- ---- an entry is removed
 
 -- the declarations that a statement with these symbols replaced are restored
 pub restored : (old new : List Symbol) (kind : Kind) (codes olds : List ℕ) (x : ℕ → Symbol) (at : ℕ) → olds ≡ map (λ c. last_of kind (x c)) codes
@@ -88,7 +88,7 @@ restored old new kind codes olds x at h each n reads c lt =
     back kind s true = refl
     back kind s false = refl
 
--- the loop's step: what one more symbol's declaration replaces is recorded
+-- the step of the loop: the declaration replaced for the next symbol is recorded
 pub record-more : (kind : Kind) (symbols : List Symbol) (codes : List ℕ) (x : ℕ → Symbol) (i v : ℕ) (d : Symbol) (old here new : List ℕ) → i < length codes → get_or codes i 0 < length symbols → ReadsAs symbols x
     → here ≡ old ++ map (λ c. last_of kind (x c)) (take i codes) → v ≡ last_of kind (get_or symbols (get_or codes i 0) d) → new ≡ here ++ v ∷ []
     → new ≡ old ++ map (λ c. last_of kind (x c)) (take (i + 1) codes)
@@ -98,7 +98,7 @@ record-more kind symbols codes x i v d old here new lt inside reads h is more =
     ∙ ap (λ r. old ++ r) (ap (λ n. map last (take i codes) ++ n ∷ []) (is ∙ ap (last_of kind) (get_or_from_slice_get symbols (get_or codes i 0) (x (get_or codes i 0)) d (reads (get_or codes i 0) inside)))
     ∙ sym (ap (map last) (take_more codes i 0 lt) ∙ map_push last (take i codes) (get_or codes i 0)))))
 
--- the last of the entries that are left, and those before it
+-- e is the last of the entries that are left, after those of `front`
 pub record IsLeft (whole all front : List Entry) (e : Entry) : Type 0 where
   pub is : all ≡ front ++ e ∷ []
   pub extends : Extends front whole
@@ -110,7 +110,7 @@ left {whole = whole} {all = all} n e p size some got =
     let more : whole ≡ take (n - 1) all ++ e ∷ p.0 = p.1 ∙ (ap (λ r. r ++ p.0) is ∙ append_assoc (take (n - 1) all) (e ∷ []) p.0) in
     record { is = is; extends = (e ∷ p.0, more); here = ap (λ r. slice_get r (length (take (n - 1) all))) more ∙ stands-at (take (n - 1) all) e p.0 }
 
--- the last recorded declarations, as a slice
+-- the last recorded declarations, as a part of the list
 pub recorded-last : (all front last w : List ℕ) (size count : ℕ) → w ≡ all → all ≡ front ++ last → size ≡ length all → length last ≡ count
     → take (length w - (size - count)) (drop (size - count) w) ≡ last
 recorded-last all front last w size count same h n m =

@@ -1,4 +1,4 @@
--- Where blocks end: with one statement more, with one less, and what is active by it.
+-- Where blocks end, as statements are appended or removed, and which statements are active by the ends.
 use Rattle.frame.proofs.Words.{sym, ◌∙◌, ap, subst, arith, inl, inr, length-append, length-drop, add-zero, ◌≡◌, ◌≢◌, ℕ, zero, suc, ◌+◌, ◌-◌, ◌<◌, ◌≤◌, Bool, true, false, cond, not, ◌==◌, ◌&&◌, ◌||◌, nat_eq, nat_le, ◌⊎◌, List, [], ◌∷◌, ◌++◌, length, take, drop, get_or, slice_get, slice_set, Option, Some, None, refl, get_or-append_seam, get_or-take, get_or_read, drop-append-le, drop-take, length-take-le, take-append-drop, get_or-set_other, drop_all, length-set, length-map, nil_from_length, take-take, cases_eq, and_parts, slice_get_within, same_Some, slice_get-get_or, Stmt, Open, Close, Database, stays_open, is_open, is_close, is_active, deficit, no_deficit, below-deficit, deficit-close, left_open, stays_open-same, place, LastActive, last_active_of_kind, last_position, last_active_of, kind_of, IsPlain, Kind, Storage, names_in, labels_in, statements_of, stmt_by, stmt_of, Name, decode, name_at, get-push, get-more, AreStored, end_from, end_of, AreBlockEnds, AreEnds, AreBlocks, with_end, Entry, get_or-append, get_or-set_at}
 use Rattle.std.specs.Cmp.{both_ways}
 use Rattle.scope.proofs.ActiveLemmas as scope
@@ -10,7 +10,7 @@ use Rattle.frame.proofs.BlockWalkLemmas.{get-take, take-one, last-within, active
 
 -- ---- the last open block
 
--- it has nothing open after it
+-- no block is open after the last open `${`
 last-open : (S : Database) (b : ℕ) → last_active_of_kind is_open S ≡ suc b → (stays_open 0 (drop (suc b) S) ≡ true) × (left_open (drop (suc b) S) ≡ 0)
 last-open S b e = by (split_last is_open S)
   where
@@ -21,13 +21,13 @@ last-open S b e = by (split_last is_open S)
         let rest : drop (suc b) S ≡ p.2 = ap (λ m. drop m S) n ∙ (ap (drop (suc (length p.0))) p.3.cut ∙ drop-front p.0 p.1 p.2) in
         (ap (stays_open 0) rest ∙ p.3.stays, ap left_open rest ∙ (left-count 0 p.2 ∙ ap length (p.3.alone 0)))
 
--- an open block with nothing open after it is the last one
+-- a `${` whose block is open is the last one if no block is open after it
 open-last : (S : Database) (b : ℕ) (t : Stmt) → slice_get S b ≡ Some t → is_open t ≡ true → stays_open 0 (drop (suc b) S) ≡ true → left_open (drop (suc b) S) ≡ 0 → last_active_of_kind is_open S ≡ suc b
 open-last S b t g o h z =
     let l : IsLast is_open S (take b S) t (drop (suc b) S) = record { cut = cut-here S b t g; of_kind = o; stays = h; alone = λ at. nil_from_length _ (sym (left-count at (drop (suc b) S)) ∙ z) } in
     omega (arith, last-position is_open S (take b S) t (drop (suc b) S) refl l, length-cut S b t g)
 
--- an open block is closed by the `$}` that stands in it
+-- a `$}` closes the last open block, and no other
 module _ (S : Database) (b block : ℕ) (t : Stmt) (get : slice_get S b ≡ Some t) (opens : is_open t ≡ true) (is : block ≡ last_active_of_kind is_open S) where
   abbrev R : Database
   R = drop (suc b) S
@@ -62,7 +62,7 @@ module _ (S : Database) (b block : ℕ) (t : Stmt) (get : slice_get S b ≡ Some
 
 -- ---- the end of one block
 
--- an open block has no end
+-- a block that stays open has no end
 end-none : (d at : ℕ) (U : Database) → stays_open d U ≡ true → end_from d at U ≡ 0
 end-none d at [] h = refl
 end-none d at (Open ∷ U) h = end-none (suc d) (at + 1) U h
@@ -70,7 +70,7 @@ end-none zero at (Close ∷ U) h = cc
 end-none (suc d) at (Close ∷ U) h = end-none d (at + 1) U h
 end-none d at (s ∷ U) h = end-none d (at + 1) U h
 
--- one statement more ends what it closes
+-- an appended statement ends the block if it closes it
 end-more : (d at : ℕ) (U : Database) (s : Stmt) → end_from d at (U ++ s ∷ []) ≡ cond (stays_open d U && not (stays_open d (U ++ s ∷ []))) (at + length U) (end_from d at U)
 end-more zero at [] Close = omega arith
 end-more (suc d) at [] Close = refl
@@ -84,7 +84,7 @@ lower : (at e : ℕ) → (e == 0 || nat_le (at + 1) e) ≡ true → (e == 0 || n
 lower at zero h = refl
 lower at (suc e) h = grind (arith, h)
 
--- an end does not stand before the statements
+-- a block has no end, or its end is not before its first statement
 end-low : (d at : ℕ) (U : Database) → (end_from d at U == 0 || nat_le at (end_from d at U)) ≡ true
 end-low d at [] = refl
 end-low d at (Open ∷ U) = lower at (end_from (suc d) (at + 1) U) (end-low (suc d) (at + 1) U)
@@ -92,7 +92,7 @@ end-low zero at (Close ∷ U) = grind arith
 end-low (suc d) at (Close ∷ U) = lower at (end_from d (at + 1) U) (end-low d (at + 1) U)
 end-low d at (s ∷ U) = lower at (end_from d (at + 1) U) (end-low d (at + 1) U)
 
--- after the first k statements the block is open where it has no end there
+-- after the first k statements the block is open exactly if it has no end, or a later one
 end-tells : (d at k : ℕ) (U : Database) → 1 ≤ at → stays_open d (take k U) ≡ (end_from d at U == 0 || nat_le (at + k) (end_from d at U))
 end-tells d at zero U one = sym (ap (λ n. end_from d at U == 0 || nat_le n (end_from d at U)) (add-zero at) ∙ end-low d at U)
 end-tells d at (suc k) [] one = refl
@@ -108,7 +108,7 @@ length-with kind.Close zero at ends = refl
 length-with kind.Close (suc b) at ends = length-set ends b at
 length-with q block at ends = refl
 
--- a statement records the end of the block that it ends
+-- a `$}` records its position as the end of the block that it closes
 recorded-end : (ends : List ℕ) (s : Stmt) (block at b : ℕ) → b < length ends → get_or (with_end (kind_of s) block at ends) b 0 ≡ cond (is_close s && nat_eq block (suc b)) at (get_or ends b 0)
 recorded-end ends Close zero at b lt = let no : nat_eq zero (suc b) ≡ false = grind arith in rw no refl
 recorded-end ends Close (suc k) at b lt = by (cases_eq b k)
@@ -118,7 +118,7 @@ recorded-end ends Close (suc k) at b lt = by (cases_eq b k)
     by (inr n) = let no : nat_eq (suc k) (suc b) ≡ false = grind (arith, n) in rw no (get_or-set_other ends k b at 0 n)
 recorded-end ends s block at b lt = refl
 
--- where an open block ends with one statement more, and without it
+-- the end of the block of a `${`, with the next statement and without it
 end-step : (S : Database) (b block : ℕ) (t s : Stmt) → slice_get S b ≡ Some t → is_open t ≡ true → block ≡ last_active_of_kind is_open S
     → (end_of b (S ++ s ∷ []) ≡ cond (is_close s && nat_eq block (suc b)) (length S + 1) (end_of b S)) × (end_of b S ≡ cond (is_close s && nat_eq block (suc b)) 0 (end_of b (S ++ s ∷ [])))
 end-step S b block t s get opens is = (more, less (is_close s && nat_eq block (suc b)) (shuts S b block t get opens is s) more)
@@ -136,7 +136,7 @@ end-step S b block t s get opens is = (more, less (is_close s && nat_eq block (s
     less true e f = end-none 0 (b + 2) (drop (suc b) S) (and_parts (stays_open 0 (drop (suc b) S)) (not (stays_open 0 (drop (suc b) S ++ s ∷ []))) e).0
     less false e f = sym f
 
--- one statement more
+-- the recorded ends after a statement is appended
 pub tells-more : (ends : List ℕ) (S : Database) (s : Stmt) (block : ℕ) → length ends ≡ length S → AreBlockEnds ends S → block ≡ last_active_of_kind is_open S
     → AreBlockEnds (with_end (kind_of s) block (length S + 1) (ends ++ 0 ∷ [])) (S ++ s ∷ [])
 tells-more ends S s block n told is b t g opens = recorded-end (ends ++ 0 ∷ []) s block (length S + 1) b (omega (arith, length-append ends (0 ∷ []), length-append S (s ∷ []), slice_get_within (S ++ s ∷ []) b t g, n)) ∙ by (get-push S s t b g)
@@ -148,7 +148,7 @@ tells-more ends S s block n told is b t g opens = recorded-end (ends ++ 0 ∷ []
         let zero_there : get_or (ends ++ 0 ∷ []) b 0 ≡ 0 = ap (λ i. get_or (ends ++ 0 ∷ []) i 0) (p.0 ∙ sym n) ∙ get_or-append_seam ends 0 [] 0 in
         rw (none, is-open s (ap is_open p.1 ∙ opens)) zero_there
 
--- one statement less
+-- the recorded ends after a statement is removed
 pub tells-less : (ends : List ℕ) (S : Database) (s : Stmt) (block : ℕ) → length S ≤ length ends → AreBlockEnds ends (S ++ s ∷ []) → block ≡ last_active_of_kind is_open S
     → AreBlockEnds (with_end (kind_of s) block 0 ends) S
 tells-less ends S s block n told is b t g opens =
@@ -156,7 +156,7 @@ tells-less ends S s block n told is b t g opens =
     recorded-end ends s block 0 b (omega (arith, n, lt))
     ∙ (ap (cond (is_close s && nat_eq block (suc b)) 0) (told b t (get-more S (s ∷ []) b t g) opens) ∙ sym (end-step S b block t s g opens is).1)
 
--- ---- the active statements by the ends
+-- ---- the active statements, by the ends of blocks
 
 plain-deficit : (s : Stmt) (T : Database) → is_open s ≡ false → is_close s ≡ false → deficit (s ∷ T) ≡ deficit T
 plain-deficit Open T o c = cc
@@ -179,7 +179,7 @@ module _ (S : Database) (i at : ℕ) (s : Stmt) (one : 1 ≤ i) (lt : i < at) (l
       cut-here E (i - 1) s (get-take (i - 1) (at - 1) S (omega (arith, lt, one)) ∙ get)
       ∙ (ap (λ n. take (i - 1) E ++ s ∷ drop n E) up ∙ ap (λ r. r ++ s ∷ T) (take-take (i - 1) (at - 1) S (omega (arith, lt))))
 
-  -- outside all blocks it is active
+  -- a statement outside all blocks is active
   pub active-outside : stays_open 0 S ≡ true → last_active_of_kind is_open X ≡ 0 → is_active S i at ≡ true
   active-outside whole z =
       let none : left_open X ≡ 0 = left-count 1 X ∙ ap length (walk-over is_open X refl z) in
@@ -187,7 +187,7 @@ module _ (S : Database) (i at : ℕ) (s : Stmt) (one : 1 ≤ i) (lt : i < at) (l
       let join = ap deficit cut ∙ deficit-join X (s ∷ T) in
       active-stays S i at one lt ∙ below-deficit 0 T (omega (arith, no_deficit E h, join, none, plain-deficit s T o c))
 
-  -- in a block it is active where that has no end, or a later one
+  -- a statement in a block is active exactly if the block has no end, or a later one
   pub active-inside : (b : ℕ) → last_active_of_kind is_open X ≡ suc b → is_active S i at ≡ (end_of b S == 0 || nat_le at (end_of b S))
   active-inside b is =
       let last = last-open X b is in
@@ -203,7 +203,7 @@ module _ (S : Database) (i at : ℕ) (s : Stmt) (one : 1 ≤ i) (lt : i < at) (l
       ∙ (ap (stays_open 0) (sym after ∙ rest)
       ∙ (end-tells 0 (b + 2) k (drop (suc b) S) (omega arith) ∙ ap (λ n. end_of b S == 0 || nat_le n (end_of b S)) place)))
 
--- the block of a statement before `at` that is neither `${` nor `$}` tells whether it is active there
+-- whether a statement that is neither `${` nor `$}` is active at `at`, by the end of its block
 pub record IsTold (ends : List ℕ) (S : Database) (i at block : ℕ) : Type 0 where
   pub outside : block ≡ 0 → is_active S i at ≡ true
   pub within : block ≢ 0 → block - 1 < length ends
@@ -235,14 +235,14 @@ active-told k i at l stored place plain is =
 
 -- ---- the ends in the storage
 
--- room for one statement more
+-- with a place for the next statement, the ends have one for the last open block
 pub block-within : (k : Storage) (block : ℕ) (ends : List ℕ) → AreStored k → block ≡ k.last_active.block → ends ≡ k.ends.items ++ 0 ∷ [] → block ≤ length ends
 block-within k block ends stored same more =
     let a = last-within is_open (statements_of k) refl in
     let last_active = ap (λ l. l.block) stored.kept.last in
     omega (arith, a, last_active, stored.ended.count, length-append k.ends.items (0 ∷ []), ap length more, same)
 
--- one statement more
+-- the ends after a statement is appended
 pub ends-next : (k : Storage) (s : Stmt) (T : Database) (q : Kind) (block at : ℕ) (ends ends' : List ℕ) → AreStored k → q ≡ kind_of s → block ≡ k.last_active.block → at ≡ length k.entries + 1 → ends ≡ k.ends.items ++ 0 ∷ []
     → ends' ≡ with_end q block at ends → T ≡ statements_of k ++ s ∷ [] → AreEnds ends' T
 ends-next k s T q block at ends ends' stored of_kind same place more recorded is =
@@ -256,14 +256,14 @@ ends-next k s T q block at ends ends' stored of_kind same place more recorded is
       tell = tells-more k.ends.items S s block n stored.ended.tell (same ∙ ap (λ l. l.block) stored.kept.last);
     })
 
--- the first statements alone
+-- the ends of the first n statements
 pub ends-front : (ends : List ℕ) (S : Database) (n : ℕ) → n ≤ length S → length ends ≡ length S → AreBlockEnds ends (take n S) → AreEnds (take n ends) (take n S)
 ends-front ends S n le size told = record {
   count = length-take-le n ends (omega (arith, le, size)) ∙ sym (length-take-le n S le);
   tell = λ b s g o. get_or-take n ends b 0 (omega (arith, slice_get_within (take n S) b s g, length-take-le n S le)) ∙ told b s g o;
 }
 
--- ---- the last one taken away
+-- ---- the last statement is removed
 
 pub block-fits : (es : List Entry) (S : Database) (i n : ℕ) (e : Entry) → AreBlocks es S → slice_get es i ≡ Some e → length S ≡ n → e.last_active.block ≤ n
 block-fits es S i n e told g size =

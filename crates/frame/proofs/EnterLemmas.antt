@@ -1,4 +1,4 @@
--- A statement entered with its label stands for itself, and what was done to the storage for it.
+-- A statement is entered: the new entry has its meaning, and the storage has its parts.
 use Rattle.frame.proofs.Words.{sym, ◌∙◌, ap, subst, arith, length-append, inl, inr, ◌≡◌, ℕ, List, [], ◌∷◌, ◌++◌, length, take, slice_get, Option, Some, true, refl, ◌+◌, ◌<◌, ◌⊎◌, map, length-map, take-append-le, map_push, same_Some, take-append_seam, name_at-last, Name, Stmt, Database, bare, label_of, expr_of, is_assertion, is_essential, stays_open, declared_with, IsRecordedBy, IsLegal, name_at, decode, with_names, symbols_by, symbols_in, symbols_of, symbols_after, labels_of, option_list, AreNumbers, AreVariableNumbers, AreRecorded, IsNumberingOf, numbering-after, recorded-after, symbols_of-append, labels_of-append, AreBelow, Assertion, Entry, made, Kind, Ess, Storage, names_in, labels_in, stmt_by, stmt_of, statements_of, option_position, ReadsAs, replaced_by, symbol_of, positions_from, AreAllLegal, AreStored, IsKeptOf, AreKept, floats_in, kept_with, has_parts, IsKeptAs, is_label_kind, kind_of, IsLabelBelow, HasTwo, HasMoreNames, HasRoom, with_declared, AreNumbered, with_entry, KeepsCounts, LastActive, Symbol, last_active_of, naming_of, get-last, Extends, get-push, extends-length, bare-same, symbols_by-bare, declared_with-bare, legal-bare, EntryHeader, IsEntryHeader}
 use Rattle.frame.proofs.DeclaredSymbolLemmas.{codes-below}
 use Rattle.frame.proofs.NamingLemmas.{stored-naming, naming_of-append, symbols-extend}
@@ -34,7 +34,7 @@ label_of-bare s = bare-same label_of (λ l e p. refl) s
 pub kind_of-bare : (s : Stmt) → kind_of (bare s) ≡ kind_of s
 kind_of-bare s = bare-same kind_of (λ l e p. refl) s
 
--- the numbers are those of the expression, where the statement is an assertion or a `$e`
+-- the numbers of an assertion or `$e` are those of the symbols of its expression
 pub next-bare : (k : Storage) (codes : List ℕ) (s : Stmt) → has_parts (kind_of s) ≡ true → AreNumbers (with_names (names_in k) (symbols_by s)) (symbols_in s) codes
     → AreBelow (length (names_in k)) codes × (decode (names_in k) codes ≡ expr_of (bare s))
 next-bare k codes (stmt.Axiom label expr) a n = (codes-below (names_in k) codes n.0, n.1)
@@ -46,7 +46,7 @@ pub essential-bare : (s : Stmt) → is_essential (bare s) ≡ is_essential s
 essential-bare (stmt.Prove label expr proof) = refl
 essential-bare s = refl
 
--- the declarations of a statement, and the numbers recorded of it before and after
+-- the entry's header, the declarations of the statement, and its numbers as recorded before and after
 pub record IsEntered (old new : Storage) (s : Stmt) (h : EntryHeader) (before after : Option (List ℕ)) : Type 0 where
   pub stored : AreStored old
   pub legal : IsLegal (statements_of old) s
@@ -94,7 +94,7 @@ pub not-essential : (s : Stmt) → is_assertion s ≡ true → is_essential s �
 not-essential (stmt.Ess label expr) a e = cc
 not-essential s a e = cc
 
--- the hypotheses that are kept with each `$e`
+-- the hypotheses that are kept with each `$e` are the `$f` of its variables
 pub essentials-kept : (k : Storage) → AreStored k → (i : ℕ) (x : Entry) → slice_get k.entries i ≡ Some x → is_essential (stmt_of (names_in k) (labels_in k) x) ≡ true
     → x.assertion.hypotheses ≡ floats_in (take i (statements_of k)) (expr_of (stmt_of (names_in k) (labels_in k) x))
 essentials-kept k stored i x h e =
@@ -105,14 +105,14 @@ essentials-kept k stored i x h e =
     by Ess g = refl
     by kind g = cc
 
--- ---- the changes of the parts of the storage
+-- ---- the changes to the parts of the storage
 
 variable-numbers : (names : List Name) (s : Stmt) (codes : List ℕ) → AreNumbers names (symbols_in s) codes → AreVariableNumbers names s codes
 variable-numbers names (stmt.Var xs) codes n = n
 variable-numbers names (stmt.Float label constant variable) codes n = n
 variable-numbers names s codes n = tt
 
--- the parts of the storage after the call
+-- the changes that the call makes to the parts of the storage
 pub record IsExtended (old new : Storage) (s : Stmt) (h : EntryHeader) (a : Assertion) (codes : List ℕ) (kind : Kind) (at : ℕ) (symbols : List Symbol) (replaced : List ℕ) (entries : List Entry) (last_active : LastActive) : Type 0 where
   pub grown : HasMoreNames old new
   pub room : HasRoom new
@@ -156,11 +156,11 @@ module _ {old new : Storage} {s : Stmt} {h : EntryHeader} {a : Assertion} {codes
       ∙ (ap (λ r. r ++ stmt_of (names_in new) (labels_in new) e ∷ []) (statements-more (names_in old) (names_in new) (labels_in old) (labels_in new) old.entries names-extend labels-extend x.stored.kept.coded)
       ∙ ap (λ t. statements_of old ++ t ∷ []) stands))
 
-  -- as many statements as entries
+  -- there are as many statements as entries
   len : length (statements_of old) ≡ length old.entries
   len = length-map old.entries (stmt_of (names_in old) (labels_in old))
 
-  -- the earlier statements of an entry that was there, and of the new one
+  -- the statements before an earlier entry, or before the new one, are as before
   early : (i : ℕ) → i < length old.entries → take i (map (stmt_of (names_in new) (labels_in new)) entries) ≡ take i (statements_of old)
   early i lt = ap (take i) pushed-statements ∙ take-append-le i (statements_of old) (bare s ∷ []) (omega (arith, lt, len))
 
@@ -170,7 +170,7 @@ module _ {old new : Storage} {s : Stmt} {h : EntryHeader} {a : Assertion} {codes
   found : (i : ℕ) (d : Entry) → slice_get entries i ≡ Some d → ((i < length old.entries) × (slice_get old.entries i ≡ Some d)) ⊎ ((i ≡ length old.entries) × (e ≡ d))
   found i d h = get-push old.entries e d i (ap (λ r. slice_get r i) (sym entries-more) ∙ h)
 
-  -- each entry has the `LastActive` of the earlier statements
+  -- each entry has the last active statements before it
   linked' : (i : ℕ) (d : Entry) → slice_get entries i ≡ Some d → d.last_active ≡ last_active_of (take i (map (stmt_of (names_in new) (labels_in new)) entries))
   linked' i d h = by (found i d h)
     where
@@ -178,17 +178,17 @@ module _ {old new : Storage} {s : Stmt} {h : EntryHeader} {a : Assertion} {codes
       by (inl q) = x.stored.kept.linked i d q.1 ∙ ap last_active_of (sym (early i q.0))
       by (inr q) = ap (λ w. w.last_active) (sym q.1) ∙ (x.header.last_active ∙ (x.stored.kept.last ∙ ap last_active_of (sym (late i q.0))))
 
-  -- the symbols that were there, and those that nothing declares yet
+  -- the symbols as before, followed by symbols that nothing declares
   between : ReadsAs new.symbols.items (symbol_of old.entries)
   between = still-reads (names_in old) (labels_in old) old.positions.items old.symbols.items old.replaced.items old.entries old.last_active new.symbols.items x.stored.kept p.grown.symbols
 
-  -- each symbol tells its declarations, the new statement's with them
+  -- each symbol has its last declarations, with those of the new statement
   symbols' : (c : ℕ) → c < length (names_in new) → slice_get symbols c ≡ Some (symbol_of entries c)
   symbols' c lt =
       p.each c (symbol_of old.entries c) (between c (omega (arith, lt, p.room.count)))
       ∙ rw (p.of_kind, entries-more) (ap Some (ap (λ n. with_entry e n c (symbol_of old.entries c)) (omega (arith, p.place)) ∙ sym (symbol_of-push old.entries e c)))
 
-  -- each assertion is kept as what it is, the new one too
+  -- each assertion is kept with its parts, and so is the new one
   parts' : (i : ℕ) (d : Entry) → slice_get entries i ≡ Some d → has_parts d.kind ≡ true → IsKeptAs entries (take i (map (stmt_of (names_in new) (labels_in new)) entries)) (stmt_of (names_in new) (labels_in new) d) d.assertion
   parts' i d h has = by (found i d h)
     where
@@ -202,7 +202,7 @@ module _ {old new : Storage} {s : Stmt} {h : EntryHeader} {a : Assertion} {codes
       by (inr q) =
           rw (late i q.0, ← q.1, stands, entries-more) (kept-more (names_in old) (labels_in old) old.entries (e ∷ []) (bare s) a (p.kept (ap (λ w. has_parts w.kind) q.1 ∙ has)))
 
-  -- each entry keeps the counts before it, the new one too
+  -- each entry has the counts of the names and labels before it, and so has the new one
   counts' : (i : ℕ) (d : Entry) → slice_get entries i ≡ Some d → KeepsCounts (names_in new) (labels_in new) entries i d
   counts' i d h = by (found i d h)
     where
@@ -224,7 +224,7 @@ module _ {old new : Storage} {s : Stmt} {h : EntryHeader} {a : Assertion} {codes
             name_count = n ∙ ap length (x.stored.kept.names_kept ∙ ap symbols_of (sym (late i q.0)));
           }
 
-  -- those of the variables of a `$v`, and of the symbols of a `$f`
+  -- the new entry has the numbers of the variables of a `$v`, and of the two symbols of a `$f`
   pub added-numbers : (d : Entry) → slice_get entries (length old.entries) ≡ Some d → AreVariableNumbers (symbols_after (statements_of old) s) s d.symbols
   added-numbers d g =
       let same : e ≡ d = same_Some e d (sym (ap (λ r. slice_get r (length old.entries)) entries-more ∙ get-last old.entries e) ∙ g) in
@@ -252,7 +252,7 @@ module _ {old new : Storage} {s : Stmt} {h : EntryHeader} {a : Assertion} {codes
         parts_kept = parts';
       }
 
--- the numbering is that of the statements, with one more
+-- the numbering with the names of the new statement is that of all statements
 pub numbered-pushed : (old new : Storage) (s : Stmt) (T : Database) → AreStored old → new.numbering ≡ declared_with old.numbering s → T ≡ statements_of old ++ bare s ∷ [] → new.numbering ≡ naming_of T
 numbered-pushed old new s T stored own same =
     own ∙ (sym (declared_with-bare old.numbering s) ∙ (ap (λ N. declared_with N (bare s)) stored.numbered ∙ (sym (naming_of-append (statements_of old) (bare s)) ∙ ap naming_of (sym same))))

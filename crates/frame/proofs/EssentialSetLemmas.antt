@@ -1,4 +1,4 @@
--- The sets of the hypotheses that the active `$e` bring along: read at a position, with one statement more, and cut.
+-- The sets of the hypotheses that the active `$e` bring along: read at a position, kept for the next statement, and truncated.
 use Rattle.frame.proofs.Words.{◌≡◌, ◌∙◌, ap, sym, subst, arith, refl, inl, inr, ⊎_elim, ⊎_map, ℕ, zero, suc, ◌+◌, ◌-◌, ◌<◌, ◌≤◌, ◌⊎◌, true, false, cond, List, [], ◌∷◌, ◌++◌, length, length-append, length-take, length-take-le, map, map-append, take, take-take, take_all, take-append-le, nat_lt, slice_get, Option, Some, None, take-get, get-push, slice_get_within, Database, Entry, Stmt, LastActive, Ess, actives, last_active_of, is_essential, is_close, stmt_of, names_in, labels_in, statements_of, AreStored, Storage, Extends, extends-length, extends-take, In, Ascends, AreThose, HasMore, OfSome, IsFromEssentials, IsWith, kept_at, option_kept, set_at, with_position, cond_both, max, nat_tests, ascends-with, set_at-extends, EssentialSet, EssentialSets, option_set, kept_set, IsSetFromEssentials, IsEssentialSet, AreEssentialSets}
 use Rattle.frame.proofs.BlockWalkLemmas.{get-take, take-one}
 use Rattle.frame.proofs.CollectLemmas.{last-in, last-out, those-by}
@@ -7,7 +7,7 @@ use Rattle.frame.proofs.LastActiveLemmas.{actives-push}
 use Rattle.frame.proofs.StackLemmas.{AreIn, actives-in}
 use Rattle.frame.proofs.StoredReading.{get-stmt}
 
--- ---- a position put into a set
+-- ---- a position is inserted into a set
 
 pub in-with : (p q : ℕ) (xs : List ℕ) → In p (with_position q xs) → (p ≡ q) ⊎ In p xs
 in-with p q [] (inl e) = inl e
@@ -24,7 +24,7 @@ with-in p q (x ∷ xs) i =
     (λ _. ⊎_elim (λ e. inr (with-in p q xs (inl e))) (⊎_map (λ e. e) (λ j. with-in p q xs (inr j))) i)
     (λ high. ⊎_elim (λ e. let same : p ≡ x = grind (arith, nat_tests, e) in inl same) (λ j. j) i))
 
--- the positions so far, and one more
+-- the positions inserted so far, and the next one
 pub with-more : (base old new ps more : List ℕ) (q : ℕ) → HasMore (λ p. In p ps) base old → new ≡ with_position q old → more ≡ ps ++ q ∷ [] → HasMore (λ p. In p more) base new
 with-more base old new ps more q h is one = rw (is, one) (record {
   stays = λ p i. with-in p q old (inr (h.stays p i));
@@ -32,7 +32,7 @@ with-more base old new ps more q h is one = rw (is, one) (record {
   only = λ p i. ⊎_elim (λ e. inr (last-in p q ps (inl e))) (λ j. ⊎_map (λ k. k) (λ k. last-in p q ps (inr k)) (h.only p j)) (in-with p q old i);
 })
 
--- ---- what is given by the first statements depends on their entries alone
+-- ---- the hypotheses that the first statements bring along depend on their entries alone
 
 within : (low high q : ℕ) (ps : List (ℕ × Stmt)) → AreIn low high ps → In q (map (λ p. p.0) ps) → (low ≤ q) × (q ≤ high)
 within low high q [] are i = absurd i
@@ -51,7 +51,7 @@ module _ (es : List Entry) (n m : ℕ) (S : Database) (le : m ≤ n) where
   given-forth : (p : ℕ) → IsFromEssentials es (take m S) p → IsFromEssentials (take n es) (take m S) p
   given-forth p g = record { one = g.one; among = g.among; is = subst (λ ks. In p (g.one ∷ ks)) (sym (kept-same g.one g.among)) g.is }
 
--- ---- the set that is kept by the last active `$e`
+-- ---- the set that is kept with the last active `$e`
 
 pub given-at : (k : Storage) (g : EssentialSets) (at q : ℕ) (l : LastActive) → AreStored k → AreEssentialSets g k.entries (statements_of k) → 1 ≤ at → at ≤ length (statements_of k) + 1 → l ≡ last_active_of (take (at - 1) (statements_of k)) → q ≡ l.essential
     → IsSetFromEssentials k.entries (take (at - 1) (statements_of k)) g.sets (kept_set g.kept.items q)
@@ -72,7 +72,7 @@ given-at k g at (suc i) l stored sets low high last_active is some = by (slice_g
         = λ p h. given-forth k.entries (suc i) (suc i) S (omega arith) p (subst (λ ps. OfSome (IsWith k.entries) (map (λ r. r.0) ps) p) (sym list) h) in
         subst (λ n. AreThose (IsFromEssentials k.entries (take (at - 1) S)) (set_at g.sets n)) (sym same) (those-by those there back)
 
--- ---- the next `$e`: what is given before it, it itself, and its own
+-- ---- the next `$e` brings along the hypotheses of the last active one, itself, and the `$f` of its own variables
 
 pub given-next : (k : Storage) (last : ℕ) (e : Entry) (xs new : List ℕ) → length k.entries ≡ suc last → slice_get k.entries last ≡ Some e → e.kind ≡ Ess
     → AreThose (IsFromEssentials k.entries (take last (statements_of k))) xs → Ascends new → HasMore (λ p. (p ≡ suc last) ⊎ In p e.assertion.hypotheses) xs new → AreThose (IsFromEssentials k.entries (statements_of k)) new
@@ -103,7 +103,7 @@ given-next k last e xs new size got kind those ascends more =
           (more.only p i));
     }
 
--- the number of a set is that of one of the sets
+-- the number kept with a statement is that of one of the sets
 pub kept-within : (g : EssentialSets) (es : List Entry) (S : Database) (q : ℕ) → AreEssentialSets g es S → kept_set g.kept.items q < length g.sets
 kept-within g es S zero are = are.some
 kept-within g es S (suc i) are = by (slice_get g.kept.items i) refl
@@ -120,7 +120,7 @@ kept-ascends g es S (suc i) are some = by (slice_get g.kept.items i) refl some
     by None e some = absurd (some (ap option_set e))
     by (Some x) e some = subst (λ o. Ascends (set_at g.sets (option_set o))) (sym e) ((are.each i x e).given (λ z. some (ap option_set e ∙ z))).ascends
 
--- the set of the next `$e`: its own are put into the set of the one before, and it itself
+-- the set of the next `$e` is that of the last active one, with the `$f` of its own variables and itself
 pub set-next : (k : Storage) (g : EssentialSets) (n : ℕ) (e : Entry) (mid new : List (List ℕ)) (set made : ℕ) → AreStored k → AreEssentialSets g k.entries (statements_of k) → n ≡ length k.entries → slice_get k.entries (n - 1) ≡ Some e → e.kind ≡ Ess
     → (kept_set g.kept.items e.last_active.essential ≡ 0 → ⊥) → Ascends (set_at mid set) → HasMore (λ p. In p e.assertion.hypotheses) (set_at g.sets (kept_set g.kept.items e.last_active.essential)) (set_at mid set) → set_at new made ≡ with_position (n - 1 + 1) (set_at mid set)
     → AreThose (IsFromEssentials k.entries (statements_of k)) (set_at new made)
@@ -142,7 +142,7 @@ set-next k g n e mid new set made stored sets size got kind some ascends more is
       only = λ p i. ⊎_elim (λ h. inr (inl (h ∙ same))) (λ j. ⊎_map (λ o. o) inr (more.only p j)) (in-with p q (set_at mid set) i);
     }))
 
--- ---- what is kept by the first statements stays where these stay
+-- ---- the sets that are kept depend only on the statements that they are kept with
 
 pub sets-moved : (g h : EssentialSets) (es fs : List Entry) (S T : Database) → AreEssentialSets g es S → h.sets ≡ g.sets → h.kept.items ≡ g.kept.items → length g.kept.items ≤ length fs
     → ((i : ℕ) → i < length g.kept.items → (take (suc i) es ≡ take (suc i) fs) × (take (suc i) S ≡ take (suc i) T)) → AreEssentialSets h fs T
@@ -156,7 +156,7 @@ sets-moved g h es fs S T are sets kept low same = record {
       rw (sets, kept) (record { some = k.some; before = k.before; within = k.within; earlier = k.earlier; given = rw (← fronts.0, ← fronts.1) k.given });
 }
 
--- after one statement more
+-- the sets kept stay after statements are appended
 pub sets-more : (g : EssentialSets) (es fs : List Entry) (S T : Database) → AreEssentialSets g es S → length S ≡ length es → Extends es fs → Extends S T → AreEssentialSets g fs T
 sets-more g es fs S T are long entries statements =
     let low = are.within in
@@ -166,14 +166,14 @@ sets-more g es fs S T are long entries statements =
       sym (ap (take (suc i)) statements.1 ∙ take-append-le (suc i) S statements.0 (omega arith)),
     ))
 
--- with the first n statements alone
+-- the sets kept stay if only the first n statements remain, and no set is kept with a later one
 pub sets-front : (g h : EssentialSets) (es : List Entry) (S : Database) (n : ℕ) → AreEssentialSets g es S → h.sets ≡ g.sets → h.kept.items ≡ g.kept.items → length g.kept.items ≤ n → AreEssentialSets h (take n es) (take n S)
 sets-front g h es S n are sets kept low =
     let within = are.within in
     sets-moved g h es (take n es) S (take n S) are sets kept (omega (arith, length-take {A = Entry}))
     (λ i lt. (sym (take-take (suc i) n es (omega arith)), sym (take-take (suc i) n S (omega arith))))
 
--- the sets that were made since are cut off
+-- the sets kept with the first n statements, if those made later are truncated
 pub sets-cut : (g h : EssentialSets) (es : List Entry) (S : Database) (n : ℕ) (first : EssentialSet) → AreEssentialSets g es S → slice_get g.kept.items n ≡ Some first → h.sets ≡ take (max 1 first.before) g.sets → h.kept.items ≡ take n g.kept.items
     → AreEssentialSets h (take n es) (take n S)
 sets-cut g h es S n first are here sets kept =
@@ -200,7 +200,7 @@ sets-cut g h es S n first are here sets kept =
     record { some = k.some; before = (let a = e.0 in omega arith); within = (let a = e.1 in omega arith); earlier = earlier; given = given } in
     record { some = omega arith; within = (let l = length-take-le n es (omega arith) in omega arith); each = each }
 
--- ---- what is kept by the next statement
+-- ---- a set is kept with the next statement
 
 pub sets-next : (g h : EssentialSets) (es : List Entry) (S : Database) (x : EssentialSet) → AreEssentialSets g es S → length g.kept.items + 1 ≡ length es → length S ≡ length es → Extends g.sets h.sets → h.kept.items ≡ g.kept.items ++ x ∷ []
     → x.before ≡ length g.sets → x.set < length h.sets → IsSetFromEssentials es S h.sets x.set → AreEssentialSets h es S

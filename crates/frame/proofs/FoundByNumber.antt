@@ -15,7 +15,7 @@ map-at f xs k x h = slice_get-map f xs k ∙ ap (option_map f) h
 pub some-same : {A : Type 0} {o : Option A} {x y : A} → o ≡ Some x → o ≡ Some y → x ≡ y
 some-same {x = x} {y = y} p q = let e : Some x ≡ Some y = sym p ∙ q in cc
 
--- a front of legal statements is legal
+-- the first n of legal statements are legal
 pub kept-front : (all : Database) (n : ℕ) → AllKept all → AllKept (take n all)
 kept-front all n legal zero t h = cc
 kept-front all n legal (suc k) t h =
@@ -29,7 +29,7 @@ kept-front all n legal (suc k) t h =
 pub name_at-injective : (names : List Name) (i j : ℕ) → AreDistinct names → i < length names → j < length names → name_at names i ≡ name_at names j → i ≡ j
 name_at-injective names i j d h k e = same_Some i j (sym (code-at names (name_at names i) i d h refl) ∙ code-at names (name_at names i) j d k (sym e))
 
--- numbers that stand for the same names are the same
+-- lists of numbers with the same names are equal
 pub decode-injective : (names : List Name) (a b : List ℕ) → AreDistinct names → AreBelow (length names) a → AreBelow (length names) b → decode names a ≡ decode names b → a ≡ b
 decode-injective names [] [] d p q e = refl
 decode-injective names [] (y ∷ b) d p q e = cc
@@ -41,7 +41,7 @@ decode-injective names (x ∷ a) (y ∷ b) d p q e =
 
 -- ---- statements by their kinds
 
--- the variable of a `$f` is the symbol that it types
+-- a hypothesis is the `$f` of c exactly if it is a `$f` and its second symbol is c
 pub code-floats : (c p : ℕ) (kind : Kind) (codes : List ℕ) → HasTwo kind codes → is_typed_by c (required_by p kind codes) ≡ (is_float_kind kind && second_is c codes)
 code-floats c p Float [] two = absurd (omega (arith, two))
 code-floats c p Float (x ∷ []) two = absurd (omega (arith, two))
@@ -58,7 +58,7 @@ own-expr names Axiom label codes h = refl
 own-expr names Prove label codes h = refl
 own-expr names kind label codes h = cc
 
--- a hypothesis by its kind
+-- a hypothesis is described by its typecode and its number
 pub required-kind : (names : List Name) (kind : Kind) (label : Name) (codes : List ℕ) (p : ℕ) (S : Database) (s : Stmt) → AreBelow (length names) codes → HasTwo kind codes
     → is_hypothesis S s (stmt_by kind label (decode names codes)) ≡ true
     → IsTypecode names (typecode_of codes) (expr_of (stmt_by kind label (decode names codes))) × IsOf names p (stmt_by kind label (decode names codes)) (required_by p kind codes)

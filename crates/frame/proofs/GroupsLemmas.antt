@@ -1,14 +1,14 @@
--- The lists of a frame are its mandatory pairs.
+-- The groups of a frame have exactly the mandatory pairs.
 use Rattle.frame.proofs.Words.{list_any, sym, ◌∙◌, ap, arith, ◌≡◌, Bool, true, false, not, ◌&&◌, ◌||◌, List, [], ◌∷◌, map, filter, refl, and_comm, or-false, and_parts, both_ways, Name, name_eq, has_name, name_same, same_name, groups, has_two_or_more, is_mandatory, any-filter_same, GroupsArePairs}
 
--- a name is in the filtered list where it is in the list and passes
+-- a name is in the filtered list exactly if it is in the list and passes
 pub has-filter : (m : Name → Bool) (x : Name) (l : List Name) → has_name x (filter m l) ≡ (has_name x l && m x)
 has-filter m x l = any-filter_same (name_eq x) m (m x) (λ y e. ap m (sym (same_name x y e))) l ∙ and_comm (m x) (has_name x l)
 
 abbrev both : Name → Name → List Name → Bool
 both x y l = has_name x l && has_name y l
 
--- where two different names stand in one list it has two
+-- a list that has two different names has two or more elements
 both-separates : (x y : Name) (l : List Name) → name_eq x y ≡ false → both x y l ≡ true → has_two_or_more l ≡ true
 both-separates x y [] d h = cc
 both-separates x y (z ∷ []) d h =
@@ -32,5 +32,5 @@ groups-pairs S s x y = by (name_eq x y) refl
 
     by : (e : Bool) → name_eq x y ≡ e → (not e && list_any (both x y) (filter has_two_or_more (map (filter m) (groups S)))) ≡ ((not e && list_any (both x y) (groups S)) && m x && m y)
     by true e = refl
-    -- a test that only lists of two pass sees the others no more
+    -- both names can only be in a list of two or more, so the other lists can be dropped
     by false e = any-filter_same (both x y) has_two_or_more true (λ l h. both-separates x y l e h) (map (filter m) (groups S)) ∙ any-map m x y (groups S)

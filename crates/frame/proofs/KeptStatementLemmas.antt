@@ -1,4 +1,4 @@
--- A statement that is kept by numbers says what the statement says.
+-- The parts that are kept with an assertion describe it.
 use Rattle.frame.proofs.Words.{In, floats, is_typed_by, list_any, list_any-map, sym, ◌∙◌, ap, subst, arith, append_assoc, length-append, ◌≡◌, ℕ, suc, ◌+◌, ◌-◌, ◌<◌, ◌≤◌, Bool, true, false, cond, List, [], ◌∷◌, ◌++◌, length, map, filter, slice_get, Option, Some, None, refl, Name, Stmt, Database, stmt_at, before, stays_open, active_from, expr_of, separated, is_assertion, IsLegal, name_at, decode, AreDistinct, is_mandatory, is_hypothesis, hypotheses, has_two_or_more, AreBelow, AllBelow, typecode_of, IsTypecode, IsOf, IsRequired, AreRequired, AreListsOf, IsViewOf, AssertionView, Kind, Disj, Entry, Assertion, actives, actives_from, is_disj, stmt_by, stmt_of, AreAllLegal, AreNumbered, HasTwo, is_typed, typed, symbols_at, option_symbols, has_two, groups_by, typecode_at, required_by, option_required, required_at, kept_with, IsKeptAs, take-get, Hypothesis}
 use Rattle.frame.proofs.LegalAfter.{stands-at}
 use Rattle.frame.proofs.LegalLabels.{AllKept}
@@ -36,7 +36,7 @@ module _ (es : List Entry) (names labels : List Name) (m a : ℕ) (e : Entry) (d
       let back : suc (a - 1) ≡ a = omega (arith, positive) in
       legal a own (ap (stmt_at all) (sym back) ∙ map-at (stmt_of names labels) es (a - 1) e here)
 
-  -- the entry of a statement that stands in front
+  -- the entry of a statement before the assertion
   pub record IsEntryAt (p : ℕ) (A : Database) (t : Stmt) : Type 0 where
     pub entry : Entry
     pub stands : slice_get front_of (length A) ≡ Some t
@@ -64,7 +64,7 @@ module _ (es : List Entry) (names labels : List Name) (m a : ℕ) (e : Entry) (d
   own-hyps : AreHyps front_of own d.hypotheses
   own-hyps = subst (AreHyps front_of own) (sym hyps-are) (hyps front_of own)
 
-  -- ---- the results that are required
+  -- ---- the required hypotheses
 
   one-required : (p : ℕ) → IsHyp front_of own p → IsRequired all names p (typecode_at es p) (required_at es p)
   one-required p h =
@@ -89,7 +89,7 @@ module _ (es : List Entry) (names labels : List Name) (m a : ℕ) (e : Entry) (d
 
   -- ---- groups
 
-  -- a number is that of a `$f` just where its name is mandatory
+  -- a number is that of a mandatory `$f` exactly if its name is a mandatory variable
   pub mandatory-is : (c : ℕ) → c < length names → is_typed places c ≡ is_mandatory front_of own (name_at names c)
   mandatory-is c low =
       ap (list_any (is_typed_by c)) kept.required_kept ∙ (sym (list_any-map (required_at es) (is_typed_by c) d.hypotheses)
@@ -178,7 +178,7 @@ module _ (es : List Entry) (names labels : List Name) (m a : ℕ) (e : Entry) (d
       by true more = (typed-low (symbols_at es q.0) (symbols-low q.0), more)
       by false more = more
 
-  -- ---- the parts that are read of it
+  -- ---- the lists read of the assertion
 
   pub kept-lists : AreListsOf all names a d own
   kept-lists = record {
@@ -187,7 +187,7 @@ module _ (es : List Entry) (names labels : List Name) (m a : ℕ) (e : Entry) (d
     groups_below = subst (AllBelow (length names)) (sym (kept.groups_kept whole)) (groups-low (actives is_disj front_of));
   }
 
--- the lists, and the expression, are what is cited
+-- a view with these lists and the expression is a view of the assertion
 pub lists-cited : (S : Database) (names : List Name) (a : ℕ) (s : Stmt) (d : Assertion) (codes : List ℕ) → AreListsOf S names a d s → decode names codes ≡ expr_of s → AreBelow (length names) codes
     → (c : AssertionView) → c.typecodes.now ≡ d.typecodes → c.hypotheses ≡ d.required → c.conclusion.now ≡ codes → c.groups ≡ d.groups → IsViewOf S names a s c
 lists-cited S names a s d codes l stand low c p q k g = record {

@@ -1,4 +1,4 @@
--- Going through the active statements of a kind, from the last one back.
+-- Walking over the active statements of a kind, from the last one back.
 use Rattle.frame.proofs.Words.{list_any, sym, ◌∙◌, ap, arith, true≢false, ◌≡◌, ℕ, zero, suc, ◌-◌, ◌<◌, ◌≤◌, Bool, true, false, cond, ◌||◌, ◌==◌, nat_eq, List, [], ◌∷◌, ◌++◌, length, take, filter, slice_get, Some, refl, or-false, length-map, list_any-append, or_right, false_from_ne_true, same_Some, has-at, name_same, same_name, Name, name_eq, has_name, Stmt, Database, active, separated, variables, is_essential, name_at, decode, AreDistinct, AreBelow, actives, last_position, last_active_of_kind, last_active_of, is_var, is_disj, Kind, Var, Disj, Entry, LastActive, Storage, stmt_by, stmt_of, names_in, labels_in, statements_of, AreStored}
 use Rattle.std.specs.Cmp.{both_ways}
 use Rattle.frame.proofs.FoundByNumber.{name_at-injective}
@@ -8,7 +8,7 @@ use Rattle.frame.proofs.BlockWalkLemmas.{walk-back, walk-over, back-own}
 use Rattle.frame.proofs.StoredOneMore.{numbered-at}
 use Rattle.frame.proofs.StoredReading.{get-stmt}
 
--- ---- numbers are the same where their names are
+-- ---- numbers are equal exactly if their names are
 
 pub not-has : (names : List Name) (n : ℕ) (x : Name) → has_name x names ≡ false → n < length names → name_eq x (name_at names n) ≡ false
 not-has names n x h l = false_from_ne_true (name_eq x (name_at names n)) (λ e. true≢false (sym (has-at names x n l (sym (same_name x (name_at names n) e))) ∙ h))
@@ -25,7 +25,7 @@ has-decode names x [] d l b = refl
 has-decode names x (c ∷ codes) d l b =
     ap (λ t. t || list_any (λ y. x == y) codes) (same-number names x c d l b.0) ∙ ap (λ t. name_eq (name_at names x) (name_at names c) || t) (has-decode names x codes d l b.1)
 
--- ---- a test of the active statements looks at those of a kind alone
+-- ---- a test that only statements of a kind pass
 
 pub any-kind : (kind : Stmt → Bool) (g : ℕ × Stmt → Bool) → ((p : ℕ × Stmt) → kind p.1 ≡ false → g p ≡ false) → (ps : List (ℕ × Stmt)) → list_any g ps ≡ list_any g (filter (λ p. kind p.1) ps)
 any-kind kind g no_other [] = refl
@@ -35,9 +35,9 @@ any-kind kind g no_other (p ∷ ps) = by (kind p.1) refl (any-kind kind g no_oth
     by true e r = ap (λ t. g p || t) r
     by false e r = ap (λ t. t || list_any g ps) (no_other p e) ∙ r
 
--- ---- the walk from one active statement of a kind to the one before it
+-- ---- the step from one active statement of a kind to the one before it
 
--- `LastActive` tells of the last active statement of a kind that no `$}` has
+-- `last_of_kind` is the last active statement of the kind, and no `$}` is of this kind
 pub record IsChain (kind : Stmt → Bool) (last_of_kind : LastActive → ℕ) : Type 0 where
   pub no_close : IsNoClose kind
   pub tells : (S : Database) → last_of_kind (last_active_of S) ≡ last_active_of_kind kind S
@@ -51,16 +51,16 @@ variable_chain = record { no_close = refl; tells = λ S. refl }
 pub essential_chain : IsChain is_essential (λ l. l.essential)
 essential_chain = record { no_close = refl; tells = λ S. refl }
 
--- those of the kind that are active after the first p statements
+-- the statements of the kind that are active after the first p statements
 abbrev pub walked : (Stmt → Bool) → Storage → ℕ → List (ℕ × Stmt)
 walked kind k p = actives kind (take p (statements_of k))
 
--- the last of them stands at p, or there is none and p is 0
+-- p is the position of the last of them, or 0 if there is none
 pub record IsAt (kind : Stmt → Bool) (k : Storage) (p : ℕ) : Type 0 where
   pub within : p ≤ length k.entries
   pub last : p ≡ last_active_of_kind kind (take p (statements_of k))
 
--- the last one of those after the first m stands at p
+-- p is the position of the last one that is active after the first m statements, or 0
 pub record IsFrom (kind : Stmt → Bool) (k : Storage) (m p : ℕ) : Type 0 where
   pub at : IsAt kind k p
   pub low : p ≤ m
@@ -85,7 +85,7 @@ pub walk-from : {kind : Stmt → Bool} {last_of_kind : LastActive → ℕ} (k : 
 walk-from {kind = kind} {last_of_kind = last_of_kind} k m l chain high h =
     from kind chain.no_close k m (last_of_kind l) (omega (arith, high, as-many k)) (ap last_of_kind h ∙ chain.tells (take m (statements_of k)))
 
--- the statement at p is read, and q is where the one before it stands
+-- the statement at p is e, and q is the position of the one before it, or 0
 pub record IsStep (kind : Stmt → Bool) (k : Storage) (p : ℕ) (e : Entry) (q : ℕ) : Type 0 where
   pub smaller : q < p
   pub at : IsAt kind k q
@@ -112,7 +112,7 @@ walk-step {kind = kind} {last_of_kind = last_of_kind} {k = k} {p = p} e chain st
 
 -- ---- whether one of the statements walked over has a list that passes a test
 
--- the lists of the statements of a kind
+-- a statement of the kind has the list of its symbols, and others have the empty list
 pub record AreLists (kind : Stmt → Bool) (lists : Stmt → List Name) : Type 0 where
   pub stand : (names labels : List Name) (e : Entry) → kind (stmt_of names labels e) ≡ true → lists (stmt_of names labels e) ≡ decode names e.symbols
   pub other : (s : Stmt) → kind s ≡ false → lists s ≡ []
@@ -127,7 +127,7 @@ sought-start {lists = lists} {test = test} k m l chain high h is =
     let f = walk-from k m l chain high h in
     record { at = f.at; same = ap (list_any (λ q. test (lists q.1))) f.same ∙ is }
 
--- where the empty list does not pass, the statements of other kinds may be among them
+-- if the empty list fails the test, statements of other kinds do not matter
 pub any-active : {kind : Stmt → Bool} {lists : Stmt → List Name} (test : List Name → Bool) (S : Database) → AreLists kind lists → test [] ≡ false
     → list_any (λ q. test (lists q.1)) (actives kind S) ≡ list_any (λ q. test (lists q.1)) (active S)
 any-active {kind = kind} {lists = lists} test S are none = sym (any-kind kind (λ q. test (lists q.1)) (λ q o. ap test (are.other q.1 o) ∙ none) (active S))
@@ -162,7 +162,7 @@ entry-var names labels e = by e.kind
     by Var h = refl
     by kind h = cc
 
--- a statement that lists no variables
+-- a statement that is no `$d` has no disjoint variables
 other-disj : (s : Stmt) → is_disj s ≡ false → separated s ≡ []
 other-disj (stmt.Disj n) h = cc
 other-disj s h = refl

@@ -1,4 +1,4 @@
--- The label of a statement that is kept.
+-- The label of a stored statement.
 use Rattle.frame.proofs.Words.{subst, ◌≡◌, ℕ, zero, suc, ◌<◌, true, false, List, [], ◌∷◌, slice_get, Some, None, refl, Name, label_of, name_at, decode, Entry, Kind, Float, is_label_kind, stmt_by, stmt_of, AreNumbered, IsLabelBelow}
 
 pub label-below-at : (n m : ℕ) (es : List Entry) → AreNumbered n m es → (k : ℕ) (e : Entry) → slice_get es k ≡ Some e → IsLabelBelow e.kind e.label m

@@ -1,4 +1,4 @@
--- The active statements after one statement more, by kind; cutting a list where an element stands.
+-- The active statements of a kind after a statement is appended; splitting a list at an element.
 use Rattle.frame.proofs.Words.{sym, ◌∙◌, ap, arith, inl, inr, append-nil, length-take-le, ◌≡◌, ℕ, zero, suc, ◌+◌, ◌-◌, Bool, true, false, cond, List, [], ◌∷◌, ◌++◌, length, take, drop, slice_get, Some, refl, take-append_seam, slice_get_within, Stmt, Database, is_open, is_close, is_essential, actives, last_position, last_active_of_kind, last_active_of, is_var, is_disj, LastActive, Kind, kind_of, next_last_active}
 use Rattle.frame.proofs.OpenLemmas.{HasLast, IsNoClose, split_last, last-position, last_position-push, actives-append, stays-from, close-actives, close-outside}
 use Rattle.entries.specs.declared.kind.Kind.TheVariants.{Close}
@@ -8,7 +8,7 @@ pub drop-front : (A : Database) (t : Stmt) (B : Database) → drop (suc (length 
 drop-front [] t B = refl
 drop-front (a ∷ A) t B = drop-front A t B
 
--- a list can be cut where an element stands
+-- a list is the elements before an index, the element there, and those after it
 pub cut-here : {A : Type 0} (S : List A) (k : ℕ) (t : A) → slice_get S k ≡ Some t → S ≡ take k S ++ t ∷ drop (suc k) S
 cut-here [] k t g = cc
 cut-here (x ∷ S) zero t g = let same : x ≡ t = cc in ap (λ v. v ∷ S) same
@@ -17,7 +17,7 @@ cut-here (x ∷ S) (suc k) t g = ap (λ r. x ∷ r) (cut-here S k t g)
 pub length-cut : {A : Type 0} (S : List A) (k : ℕ) (t : A) → slice_get S k ≡ Some t → length (take k S) ≡ k
 length-cut S k t g = length-take-le k S (let lt = slice_get_within S k t g in omega (arith, lt))
 
--- ---- one more statement
+-- ---- a statement is appended
 
 pub actives-push : (kind : Stmt → Bool) (S : Database) (s : Stmt) → is_close s ≡ false → actives kind (S ++ s ∷ []) ≡ actives kind S ++ cond (kind s) ((1 + length S, s) ∷ []) []
 actives-push kind S s c = actives-append kind 1 S (s ∷ []) (stays-from s [] c refl)
@@ -29,7 +29,7 @@ last-push kind S s c = ap last_position (actives-push kind S s c) ∙ by (kind s
     by true = last_position-push (actives kind S) (1 + length S, s)
     by false = ap last_position (append-nil (actives kind S))
 
--- after a `$}` those are active that were in front of the `${`
+-- after a `$}` the statements are active that were active before its `${`
 pub actives-close : (kind : Stmt → Bool) (S : Database) → IsNoClose kind → actives kind (S ++ stmt.Close ∷ []) ≡ actives kind (take (last_active_of_kind is_open S - 1) S)
 actives-close kind S n = by (split_last is_open S)
   where
@@ -42,9 +42,9 @@ actives-close kind S n = by (split_last is_open S)
 last-close : (kind : Stmt → Bool) (S : Database) → IsNoClose kind → last_active_of_kind kind (S ++ stmt.Close ∷ []) ≡ last_active_of_kind kind (take (last_active_of_kind is_open S - 1) S)
 last-close kind S n = ap last_position (actives-close kind S n)
 
--- ---- by the `LastActive`
+-- ---- the last active statements
 
--- a statement is the last one of its own kinds
+-- a statement that is no `$}` becomes the last active one of its kinds
 abbrev moved : LastActive → ℕ → Stmt → LastActive
 moved l at s = record { block = cond (is_open s) at l.block; essential = cond (is_essential s) at l.essential; variable = cond (is_var s) at l.variable; disjoint = cond (is_disj s) at l.disjoint }
 

@@ -21,7 +21,7 @@ legal-keeps S s h =
       g9 = not-false (keeps S s G9) r.1.1.1.1.1.1.1.1.0;
     }
 
--- the element after a front stands at the front's length
+-- the element after A is at the index `length A`
 pub stands-at : {X : Type 0} (A : List X) (t : X) (B : List X) → slice_get (A ++ t ∷ B) (length A) ≡ Some t
 stands-at [] t B = refl
 stands-at (a ∷ A) t B = stands-at A t B

@@ -1,4 +1,4 @@
--- The places of the symbols of long expressions, while statements come and go.
+-- The places of the symbols of long expressions, as statements are appended and removed.
 use Rattle.frame.proofs.Words.{SymbolGroups, ◌≡◌, ℕ, ◌<◌, List, [], ◌∷◌, ◌++◌, length, take, slice_get, Some, sym, ◌∙◌, ap, subst, Entry, inl, inr, nat_eq, nat_lt, cond, refl, All, lookup, cases_Bool, eqb-true, ltb-true, All-cons, All-head, All-nil, All-push, All-tail, All-weaker, slice_get_within, ArePlacesOf, get-more, get-last, IsLongIn, AreLongIn}
 use Rattle.std.specs.List.{filter}
 use Rattle.frame.proofs.BlockWalkLemmas.{get-take}
@@ -6,25 +6,25 @@ use Rattle.frame.proofs.BlockWalkLemmas.{get-take}
 pub long-none : (es : List Entry) → AreLongIn es []
 long-none es = record { each = All-nil (IsLongIn es) }
 
--- they stand before the next statement
+-- each index of a long expression is less than the count of statements
 pub are-below : (es : List Entry) (long : List (ℕ × SymbolGroups)) → AreLongIn es long → All (λ (p : ℕ × SymbolGroups). p.0 < length es) long
 are-below es long h = All-weaker (IsLongIn es) (λ (p : ℕ × SymbolGroups). p.0 < length es) (λ p is. slice_get_within es p.0 is.0 is.1) long h.each
 
 long-more : (es more : List Entry) (long : List (ℕ × SymbolGroups)) → All (IsLongIn es) long → All (IsLongIn (es ++ more)) long
 long-more es more long h = All-weaker (IsLongIn es) (IsLongIn (es ++ more)) (λ p is. (is.0, get-more es more p.0 is.0 is.1, is.2)) long h
 
--- one statement more, which has no long expression
+-- a statement without a long expression is appended
 pub short-pushed : (es new : List Entry) (x : Entry) (long : List (ℕ × SymbolGroups)) → new ≡ es ++ x ∷ [] → AreLongIn es long → AreLongIn new long
 short-pushed es new x long e h = subst (λ v. AreLongIn v long) (sym e) (record { each = long-more es (x ∷ []) long h.each })
 
--- one statement more, which has one
+-- a statement with a long expression is appended
 pub long-pushed : (es new : List Entry) (x : Entry) (long grown : List (ℕ × SymbolGroups)) (groups : SymbolGroups) (i : ℕ) → new ≡ es ++ x ∷ [] → i ≡ length es → ArePlacesOf x.symbols groups → grown ≡ long ++ (i, groups) ∷ []
     → AreLongIn es long → AreLongIn new grown
 long-pushed es new x long grown groups i e last are g h =
     subst (λ v. AreLongIn v grown) (sym e) (subst (AreLongIn (es ++ x ∷ [])) (sym g)
     (record { each = All-push (IsLongIn (es ++ x ∷ [])) long (i, groups) (long-more es (x ∷ []) long h.each) (x, ap (slice_get (es ++ x ∷ [])) last ∙ get-last es x, are) }))
 
--- the statement that was added last is taken away again
+-- the first statements, after more were appended, are as before
 taken : (es more : List Entry) → take (length es) (es ++ more) ≡ es
 taken [] more = refl
 taken (e ∷ es) more = ap (λ r. e ∷ r) (taken es more)
@@ -35,7 +35,7 @@ taken-back es new back x i e last cut = cut ∙ (ap (take i) e ∙ (ap (λ n. ta
 pub back-kept : (es back : List Entry) (long kept : List (ℕ × SymbolGroups)) → back ≡ es → kept ≡ long → AreLongIn es long → AreLongIn back kept
 back-kept es back long kept e k h = subst (λ v. AreLongIn v kept) (sym e) (subst (AreLongIn es) (sym k) h)
 
--- the first n statements
+-- the long expressions of the first n statements
 long-cut : (es : List Entry) (n : ℕ) (long : List (ℕ × SymbolGroups)) → All (IsLongIn es) long → All (IsLongIn (take n es)) (filter (λ p. nat_lt p.0 n) long)
 long-cut es n [] h = All-nil (IsLongIn (take n es))
 long-cut es n (p ∷ long) h =
@@ -49,7 +49,7 @@ long-cut es n (p ∷ long) h =
 pub are-cut : (es cut : List Entry) (n : ℕ) (long kept : List (ℕ × SymbolGroups)) → cut ≡ take n es → kept ≡ filter (λ p. nat_lt p.0 n) long → AreLongIn es long → AreLongIn cut kept
 are-cut es cut n long kept e k h = subst (λ v. AreLongIn v kept) (sym e) (subst (AreLongIn (take n es)) (sym k) (record { each = long-cut es n long h.each }))
 
--- the groups that were found
+-- the groups found are the places of the symbols
 long-found : (es : List Entry) (i : ℕ) (long : List (ℕ × SymbolGroups)) (groups : SymbolGroups) → All (IsLongIn es) long → lookup (nat_eq i) long ≡ Some groups → IsLongIn es (i, groups)
 long-found es i [] groups h found = absurd (cc)
 long-found es i (p ∷ long) groups h found =

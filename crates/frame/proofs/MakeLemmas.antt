@@ -1,4 +1,4 @@
--- Making the parts of an assertion: the loops' steps.
+-- Making the parts of an assertion: the steps of the loops.
 use Rattle.frame.proofs.Words.{sym, ◌∙◌, ap, subst, arith, append_assoc, append-nil, ◌≡◌, ℕ, zero, suc, ◌+◌, ◌-◌, ◌<◌, ◌≤◌, Bool, true, false, cond, List, [], ◌∷◌, ◌++◌, length, map, filter, reverse, get_or, slice_range, refl, is_typed, recorded_in, list_any, ◌==◌, filter-append, length-append, map-append, reverse-append, slice_get_within, Stmt, cut, AreSpansIn, range-behind, extends-refl, cut-more, cut-push, spans-push, Entry, typed, symbols_at, has_two, groups_by, AreHypotheses, map_push, BufferPart, Hypothesis}
 
 -- ---- the hypotheses, one by one
@@ -16,7 +16,7 @@ map-reverse f (x ∷ xs) =
     ap (map f) (reverse-append (x ∷ []) xs) ∙ map_push f (reverse xs) x ∙ ap (λ l. l ++ f x ∷ []) (map-reverse f xs)
     ∙ sym (reverse-append (f x ∷ []) (map f xs))
 
--- those recorded are those of the `$f`
+-- the numbers recorded are the variables of the `$f`
 pub recorded-typed : (ns : List ℕ) (hs : List Hypothesis) → ((c : ℕ) → list_any (λ n. n == c) ns ≡ is_typed hs c) → (codes : List ℕ) → recorded_in ns codes ≡ typed hs codes
 recorded-typed ns hs h [] = refl
 recorded-typed ns hs h (c ∷ codes) = rw (h c, recorded-typed ns hs h codes) refl
@@ -26,7 +26,7 @@ has_two-len [] h = absurd (omega (arith, h))
 has_two-len (x ∷ []) h = absurd (omega (arith, h))
 has_two-len (x ∷ y ∷ xs) h = refl
 
--- the groups found so far, the last one first, are those of the `$d` walked over
+-- the groups found so far, in reverse order, are those of the `$d` visited
 abbrev pub AreGroups : List Entry → List Hypothesis → List (ℕ × Stmt) → List (ℕ × Stmt) → List (List ℕ) → Type 0
 AreGroups es vs all rest found = groups_by vs (map (λ q. symbols_at es q.0) all) ≡ groups_by vs (map (λ q. symbols_at es q.0) rest) ++ reverse found
 
@@ -50,7 +50,7 @@ pub groups-end : (es : List Entry) (vs : List Hypothesis) (all rest : List (ℕ 
     → cut places new ≡ groups_by vs (map (λ q. symbols_at es q.0) all)
 groups-end es vs all rest places found new k z n = rw (k, z, n) (map-reverse (λ (s : BufferPart). slice_range places s.from s.to) found)
 
--- ---- a group more
+-- ---- a group is added
 
 spans-later : (n m : ℕ) (a : List BufferPart) → n ≤ m → AreSpansIn n a → AreSpansIn m a
 spans-later n m [] le h = tt

@@ -1,4 +1,4 @@
--- The mandatory hypotheses of an assertion, of which the active `$e` bring along a set: this, with its own `$f` that the set has not.
+-- The mandatory hypotheses of an assertion whose active `$e` bring along a set: this set, and the `$f` of the assertion's own variables that are not in it.
 use Rattle.frame.proofs.Words.{◌≡◌, ◌∙◌, ap, sym, subst, arith, refl, ⊎_map, ℕ, ◌-◌, ◌<◌, ◌≤◌, true, false, not, List, [], ◌∷◌, length, length-append, length-take, filter, take, Stmt, Entry, LastActive, Storage, hypotheses, is_hypothesis, is_assertion, is_float_in, expr_of, last_active_of, statements_of, Ascends, AreThose, IsFromEssentials, In, set_at, ◌^◌, has_position, EssentialSets, AreFrames, kept_set, AreMerged, with_each}
 use Rattle.frame.proofs.ActivePositions.{active-members, ascends-active}
 use Rattle.frame.proofs.AssertionViewLemmas.{IsThere}
@@ -8,7 +8,7 @@ use Rattle.frame.proofs.EssentialSetLemmas.{given-at}
 use Rattle.frame.proofs.KindWalk.{as-many}
 use Rattle.frame.proofs.MergedLemmas.{has-in, merged-are, missing-of}
 
--- a mandatory hypothesis stands among the statements
+-- a mandatory hypothesis is one of the statements
 within : (S : List Stmt) (s : Stmt) (p : ℕ) → In p (hypotheses S s) → p ≤ length S
 within S s p i =
     let h = active-members S (is_hypothesis S s) p [] S 1 refl refl i in

@@ -1,4 +1,4 @@
--- A set of positions and some that it has not, merged: what it has, how many there are, and what stands at an index.
+-- A set of positions merged with own positions, which are not in it: which positions there are, how many, and which one is at an index.
 use Rattle.frame.proofs.Words.{◌≡◌, ◌∙◌, ap, sym, subst, arith, refl, inl, inr, ⊎_elim, ℕ, zero, suc, ◌+◌, ◌<◌, ◌≤◌, ◌==◌, ◌||◌, ◌⊎◌, true, false, List, [], ◌∷◌, length, get_or, slice_get, Some, slice_get-get_or, ◌-◌, Result, Ok, Err, or_right, or_left, or_cases, true≢false, Bool, not, not-true, cond, ◌++◌, filter, filter-append, take, take_more, ⊎_map, In, AreThose, cases_Bool, cases_eq, cases_lt, cond_both, MatchResult, is_ok, nat_tests, slice_get_cases, AreAbove, Ascends, count_below, has_position, above-all, ascends-with, count-above, count-all, count-get, count-grows, count-less, count-with, get-count, has-above, has-get, has-with, length-with, AreMissing, with_each}
 
 pub has-each : (q : ℕ) (own xs : List ℕ) → has_position q (with_each own xs) ≡ (has_position q own || has_position q xs)
@@ -9,7 +9,7 @@ pub ascends-each : (own xs : List ℕ) → Ascends xs → Ascends (with_each own
 ascends-each [] xs h = h
 ascends-each (p ∷ ps) xs h = ascends-with p (with_each ps xs) (ascends-each ps xs h)
 
--- without the first of its positions
+-- the set has none of the own positions after the first
 rest-missing : (p : ℕ) (ps xs : List ℕ) → AreMissing xs (p ∷ ps) → AreMissing xs ps
 rest-missing p ps xs m = record { ascends = m.ascends; own_ascends = m.own_ascends.1; missing = λ q h. m.missing q (grind (arith, nat_tests)) }
 
@@ -31,14 +31,14 @@ count-each q (p ∷ ps) xs m =
     let one = count-with q p (with_each ps xs) (not-yet p ps xs m) in
     let all = count-cons q p ps in omega arith
 
--- one of its own stands after those of the set that are below it, and its own before it
+-- the own position at index j comes after j own ones and those of the set that are below it
 pub get-own : (own xs : List ℕ) (j k p : ℕ) → AreMissing xs own → slice_get own j ≡ Some p → k ≡ count_below p xs + j → slice_get (with_each own xs) k ≡ Some p
 get-own own xs j k p m at is =
     let has : has_position p (with_each own xs) ≡ true = has-each p own xs ∙ ap (λ b. b || has_position p xs) (has-get p own j at) in
     let below : count_below p (with_each own xs) ≡ k = (let all = count-each p own xs m in let before = count-get p own j m.own_ascends at in omega arith) in
     ap (slice_get (with_each own xs)) (sym below) ∙ get-count p (with_each own xs) (ascends-each own xs m.ascends) has
 
--- so many of its own are below p, where the one before is below and the one after is not
+-- if the own position at index j is not below p and the one before it is, exactly j of them are below p
 count-split : (p : ℕ) (own : List ℕ) (j : ℕ) → Ascends own → j ≤ length own → ((i x : ℕ) → suc i ≡ j → slice_get own i ≡ Some x → x < p) → ((x : ℕ) → slice_get own j ≡ Some x → p ≤ x) → count_below p own ≡ j
 count-split p [] zero ascends within low high = refl
 count-split p [] (suc j) ascends within low high = absurd (omega arith)
@@ -61,7 +61,7 @@ count-split p (y ∷ ys) (suc (suc j)) ascends within low high =
     first-below q (w ∷ zs) zero z above at = let first = above.0 in let same : w ≡ z = cc in omega arith
     first-below q (w ∷ zs) (suc k) z above at = first-below q zs k z above.1 at
 
--- what stands at the index i of the set stands after j of its own, where the one before belongs before it and the one after not
+-- the position at index i of the set comes after j own ones, if the one of these before it belongs before it and the next does not
 pub get-set : (own xs : List ℕ) (i j k p : ℕ) → AreMissing xs own → slice_get xs i ≡ Some p → i + j ≡ k → j ≤ length own
     → ((m x : ℕ) → suc m ≡ j → slice_get own m ≡ Some x → count_below x xs + m < k) → ((x : ℕ) → slice_get own j ≡ Some x → k < count_below x xs + j) → slice_get (with_each own xs) k ≡ Some p
 get-set own xs i j k p m at is within low high =
@@ -81,7 +81,7 @@ get-set own xs i j k p m at is within low high =
     let has : has_position p (with_each own xs) ≡ true = has-each p own xs ∙ or_right (has_position p own) (has_position p xs) known in
     ap (slice_get (with_each own xs)) (sym count) ∙ get-count p (with_each own xs) (ascends-each own xs m.ascends) has
 
--- ---- those that the set has not
+-- ---- the own positions that are not in the set
 
 pub filter-more : (f : ℕ → Bool) (xs : List ℕ) (i : ℕ) (b : Bool) → i < length xs → f (get_or xs i 0) ≡ b → filter f (take (i + 1) xs) ≡ filter f (take i xs) ++ cond b (get_or xs i 0 ∷ []) []
 filter-more f xs i b within is =
@@ -111,7 +111,7 @@ missing-of xs own h g = record {
   missing = λ p known. not-true (has_position p xs) (has-filter (λ q. not (has_position q xs)) p own known);
 }
 
--- ---- the merged list has its own and those of the set
+-- ---- the merged list has exactly the own positions and those of the set
 
 pub in-has : (p : ℕ) (xs : List ℕ) → In p xs → has_position p xs ≡ true
 in-has p [] i = absurd i
@@ -151,7 +151,7 @@ merged-are xs own h =
       | inr n ↦ or_left (has_position p (filter (λ q. not (has_position q xs)) own)) (has_position p xs) (in-has p (filter (λ q. not (has_position q xs)) own) (in-filter (λ q. not (has_position q xs)) p own i (ap not n)))
     ]
 
--- ---- what a binary search finds
+-- ---- the result of a binary search
 
 pub ascends-sorted : (xs : List ℕ) → Ascends xs → (i j : ℕ) → i ≤ j → j < length xs → get_or xs i 0 ≤ get_or xs j 0
 ascends-sorted [] h i j le less = absurd (omega (arith, less))
@@ -183,7 +183,7 @@ pub found-is : (ps : List ℕ) (x : ℕ) (r : Result ℕ ℕ)
 found-is ps x (Ok i) h = sym (some-at ps x i h.0 h.1)
 found-is ps x (Err i) h = sym (none-is ps x (λ k less e. ⊎_elim (λ lt. let a = h.1 k lt in omega (arith, a, e)) (λ ge. let a = h.2 k ge less in omega (arith, a, e)) (cases_lt k i)))
 
--- ---- the index left over
+-- ---- the index in the set
 
 pub low-within : (f : ℕ → ℕ) (low index : ℕ) → ((k : ℕ) → suc k ≡ low → f k + k < index) → low ≤ index
 low-within f zero index before = omega arith

@@ -1,17 +1,17 @@
--- A name of decoded numbers is that of one of them; a `$f` of a number.
+-- Names of lists of numbers, and the `$f` of a number.
 use Rattle.frame.proofs.Words.{sym, ◌∙◌, ap, arith, inl, inr, ◌≡◌, ℕ, ◌<◌, Bool, true, false, ◌&&◌, ◌||◌, List, [], ◌∷◌, length, refl, bytes_eq-Decides, or_left, or_right, and_parts, Name, name_eq, has_name, name_at, decode, AreDistinct, AreBelow, Kind, Float, Entry, stmt_by, floats, second_is, is_float_kind, HasTwo, In}
 use Rattle.mm_read.specs.declared.stmt.Stmt.TheVariants as stmt
 use Rattle.frame.proofs.FoundByNumber.{name_at-injective}
 
 -- ---- names
 
--- a name of decoded numbers is that of one of them
+-- x is the name of one of the numbers
 pub record Coded (names : List Name) (codes : List ℕ) (x : Name) : Type 0 where
   pub code : ℕ
   pub among : In code codes
   pub name : name_at names code ≡ x
 
--- a name that stands among decoded numbers has such a number
+-- a name of a decoded list is that of one of its numbers
 pub coded : (names : List Name) (codes : List ℕ) (x : Name) → has_name x (decode names codes) ≡ true → Coded names codes x
 coded names [] x h = cc
 coded names (c ∷ codes) x h = by (name_eq x (name_at names c)) refl (coded names codes x) h
@@ -30,7 +30,7 @@ code-low n c [] b i = absurd i
 code-low n c (d ∷ codes) b (inl e) = let l = b.0 in omega (arith, l, e)
 code-low n c (d ∷ codes) b (inr i) = code-low n c codes b.1 i
 
--- a `$f` of a number
+-- an entry that is a `$f` of the number c is a `$f` of the name of c
 pub floats-is : (names : List Name) (c : ℕ) (x : Entry) (label : Name) → floats c x ≡ true → (l : Name) × (stmt_by x.kind label (decode names x.symbols) ≡ stmt.Float label l (name_at names c))
 floats-is names c x label h =
     let r = and_parts (is_float_kind x.kind) (second_is c x.symbols) h in

@@ -1,7 +1,7 @@
 -- The kinds of the names that statements declare.
 use Rattle.frame.proofs.Words.{sym, ◌∙◌, ap, subst, arith, append-nil, append_assoc, take-append-drop, ◌≡◌, ℕ, suc, ◌+◌, List, [], ◌∷◌, ◌++◌, length, take, drop, ◌-◌, Result, Ok, Err, OnOk, OnErr, slice_get, refl, take-append_seam, Name, Stmt, Database, declared_with, IsLegal, symbols_of, labels_of, Declared, declared_symbols, declared_labels, is_symbol_kind, IsNumberingOf, declared_with-more, numbering-after, symbols_of-later, names_that-append, Extends, statements_of, AreAllLegal, naming_from, naming_of, Storage, AreStored, get-more, get-last, both-counts}
 
--- ---- names are only added at the end
+-- ---- names are only appended
 
 naming_from-more : (names : Declared) (S : Database) → Extends names (naming_from names S)
 naming_from-more names [] = ([], sym (append-nil names))
@@ -17,18 +17,18 @@ naming_from-append names (s ∷ S) T = naming_from-append (declared_with names s
 pub naming_of-append : (S : Database) (s : Stmt) → naming_of (S ++ s ∷ []) ≡ declared_with (naming_of S) s
 naming_of-append S s = naming_from-append [] S (s ∷ [])
 
--- those of the first statements are the first of all
+-- the names of the first statements come first
 pub naming_of-front : (n : ℕ) (S : Database) → take (length (naming_of (take n S))) (naming_of S) ≡ naming_of (take n S)
 naming_of-front n S =
     let rest = naming_from-more (naming_of (take n S)) (drop n S) in
     ap (take (length (naming_of (take n S)))) (ap naming_of (sym (take-append-drop n S)) ∙ (naming_from-append [] (take n S) (drop n S) ∙ rest.1))
     ∙ take-append_seam (naming_of (take n S)) rest.0
 
--- with more names there are more symbols
+-- if names are appended, symbols are appended
 pub symbols-extend : (old new : Declared) → Extends old new → Extends (declared_symbols old) (declared_symbols new)
 symbols-extend old new p = (declared_symbols p.0, ap declared_symbols p.1 ∙ names_that-append is_symbol_kind old p.0)
 
--- ---- for legal statements
+-- ---- legal statements
 
 naming-later : (S T : Database) (names : Declared) → AreAllLegal (S ++ T) → IsNumberingOf S names → IsNumberingOf (S ++ T) (naming_from names T)
 naming-later S [] names all n = subst (λ (R : Database). IsNumberingOf R names) (sym (append-nil S)) n
@@ -53,7 +53,7 @@ pub naming-length : (S : Database) (names : Declared) → IsNumberingOf S names 
 naming-length S names n =
     sym (both-counts names) ∙ (ap (λ ns. length ns + length (declared_labels names)) n.symbols ∙ ap (λ ls. length (symbols_of S) + length ls) n.labels)
 
--- the symbols are those that were there, and more
+-- the symbols are the earlier ones, followed by others
 pub names-later : {T E : Type 0} (r : Result T E) (S : Database) (s : Stmt) (S' : Database) (names names' : List Name) → names ≡ symbols_of S → names' ≡ symbols_of S' → OnOk r (S' ≡ S ++ s ∷ []) → OnErr r (S' ≡ S) → Extends names names'
 names-later (Ok x) S s S' names names' is is' added same =
     let more = symbols_of-later S (s ∷ []) in

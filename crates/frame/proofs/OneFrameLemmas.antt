@@ -1,13 +1,13 @@
--- The frame collected from the active statements is the frame of the definition.
+-- The frame collected from the active statements is that of the definition.
 use Rattle.frame.proofs.Words.{list_any, flat_map, position_or_len, ◌∙◌, ap, sym, arith, inl, inr, ◌≡◌, ℕ, ◌<◌, ◌≤◌, Bool, true, false, cond, ◌&&◌, ◌||◌, List, [], ◌∷◌, ◌++◌, map, filter, length, refl, Some, None, is_some, nat_lt, or-false, cases_lt, Name, name_eq, has_name, Stmt, Database, Expr, active, separated, expr_of, is_essential, is_variable, name_at, code_of, has-at, same_name, lt-list_any, has_name-append, FrameParts, is_mandatory, is_hypothesis, hypotheses, groups, mandatory_groups, has_two_or_more, AreMandatory, is_in_essential, is_needed, required, among, groups_among, fun_ext, stands_at, standing_of, Standing}
 use Rattle.mm_read.specs.declared.stmt.Stmt.TheVariants.{Disj, Float, Ess}
 
--- one more test, for a name that stands among the names already, changes nothing
+-- testing also for a name that is in the list changes nothing
 known : (names : List Name) (x y : Name) (b : Bool) → name_eq x y ≡ b → has_name y names ≡ true → has_name x names ≡ (has_name x names || b)
 known names x y false e h = sym (or-false (has_name x names))
 known names x y true e h = rw (ap (λ z. has_name z names) (same_name x y e) ∙ h)
 
--- a name that is given a number where it has none
+-- after a name is recorded, exactly this and the earlier names are in the list
 pub recorded : (old new : List Name) (x name : Name) (n : ℕ) → name_at new n ≡ name → (n < length old → new ≡ old) → (length old ≤ n → new ≡ old ++ name ∷ [])
     → has_name x new ≡ (has_name x old || name_eq x name)
 recorded old new x name n at same more = elim (cases_lt n (length old)) [
@@ -15,7 +15,7 @@ recorded old new x name n at same more = elim (cases_lt n (length old)) [
   | inr h ↦ ap (has_name x) (more h) ∙ (has_name-append x old (name ∷ []) ∙ ap (λ b. has_name x old || b) (or-false (name_eq x name)))
 ]
 
--- an `$e` more
+-- the variables of one more `$e` are recorded
 pub recorded-more : (u v a r : Bool) → ((u || (v && a)) || (v && r)) ≡ (u || (v && (a || r)))
 recorded-more u v a r = grind arith
 
@@ -25,14 +25,14 @@ any-standing x [] = refl
 any-standing x ((at, Ess label expr) ∷ es) = ap (λ b. has_name x expr || b) (any-standing x es)
 any-standing x ((at, t) ∷ es) = any-standing x es
 
--- the assertion's own variables are recorded, and the `$e` are left
+-- the mandatory variables are the recorded ones of the assertion, and those of the `$e` that are not yet visited
 pub recorded-start : (S : Database) (s : Stmt) (x : Name)
     → ((false || (is_variable S x && has_name x (expr_of s))) || (is_variable S x && list_any (is_in_essential x) (standing_of S))) ≡ is_mandatory S s x
 recorded-start S s x =
     recorded-more false (is_variable S x) (has_name x (expr_of s)) (list_any (is_in_essential x) (standing_of S))
     ∙ ap (λ b. is_variable S x && (has_name x (expr_of s) || b)) (any-standing x (active S))
 
--- ---- the parts
+-- ---- the parts of the frame
 
 required-all : (S : Database) (s : Stmt) (used : List Name) → AreMandatory S s used → (es : List (ℕ × Stmt))
     → required used (flat_map (λ p. stands_at p.0 p.1) es) ≡ map (λ p. p.0) (filter (λ p. is_hypothesis S s p.1) es)

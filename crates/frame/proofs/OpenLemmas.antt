@@ -1,7 +1,7 @@
--- Blocks that stay open when statements are appended, and the last active statement of a kind.
+-- Blocks that are open after statements are appended, and the last active statement of a kind.
 use Rattle.frame.proofs.Words.{sym, ◌∙◌, ap, arith, inl, inr, append-nil, ◌≡◌, ℕ, suc, ◌+◌, ◌-◌, Bool, true, false, cond, ◌⊎◌, List, [], ◌∷◌, ◌++◌, length, filter, refl, or-true, filter-append, list_any-append, Stmt, Open, Close, Database, stays_open, active, active_from, is_open, is_close, actives_from, actives, last_position, last_active_of_kind, deficit, deficit-below, below-deficit, no_deficit, some_deficit, left_open, active_from-later, active_from-close, before_open-none, has_open, before_open}
 
--- later statements close first the blocks that the earlier ones leave open
+-- a `$}` of later statements first closes a block that the earlier ones leave open
 pub deficit-join : (S T : Database) → deficit (S ++ T) ≡ deficit S + (deficit T - left_open S)
 deficit-join [] T = omega arith
 deficit-join (Open ∷ S) T = by (stays_open 0 S) refl (deficit-join S T)
@@ -45,7 +45,7 @@ pub record IsLast (kind : Stmt → Bool) (S A : Database) (s : Stmt) (B : Databa
   pub stays : stays_open 0 B ≡ true
   pub alone : (at : ℕ) → actives_from kind at B ≡ []
 
--- none is active, or there is a last one
+-- no statement of the kind is active, or there is a last one
 abbrev pub HasLast : (Stmt → Bool) → Database → Type 0
 HasLast kind S = ((at : ℕ) → actives_from kind at S ≡ []) ⊎ ((A : Database) × (s : Stmt) × (B : Database) × IsLast kind S A s B)
 
@@ -59,12 +59,12 @@ split_last kind (s ∷ S) = by (split_last kind S) (stays_open 0 S) (kind s) ref
     by (inl h) true false e f = inl (λ at. rw (e, f) (h (at + 1)))
     by (inl h) false c e f = inl (λ at. rw e (h (at + 1)))
 
--- ---- the last one and the others
+-- ---- the last one, and the others
 
 abbrev pub IsNoClose : (Stmt → Bool) → Type 0
 IsNoClose kind = kind Close ≡ false
 
--- a statement of a kind that no `$}` has is no `$}`
+-- a statement of a kind that has no `$}` is no `$}`
 pub no_close : (kind : Stmt → Bool) (s : Stmt) → IsNoClose kind → kind s ≡ true → is_close s ≡ false
 no_close kind Close n k = let f : true ≡ false = sym k ∙ n in cc
 no_close kind s n k = refl
@@ -104,7 +104,7 @@ before-last (e ∷ es) at fs h =
     let o : has_open (es ++ (at, Open) ∷ fs) ≡ true = list_any-append (λ p. is_open p.1) es ((at, Open) ∷ fs) ∙ or-true (has_open es) in
     rw o (ap (λ r. e ∷ r) (before-last es at fs h))
 
--- a `$}` leaves the active statements of a kind that stand before the last open block
+-- after a `$}` the active statements of a kind are those before the last open block
 close-before : (kind : Stmt → Bool) (S : Database) → IsNoClose kind → actives kind (S ++ Close ∷ []) ≡ filter (λ p. kind p.1) (before_open (active S))
 close-before kind S n =
     ap (filter (λ p. kind p.1)) (active_from-close 1 S)

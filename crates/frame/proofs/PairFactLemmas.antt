@@ -1,5 +1,5 @@
--- The search for an active `$d` that has two variables, with facts that earlier searches recorded.
--- The `$d` of a variable from one of them down are those that were active right after that one.
+-- The search for an active `$d` that has two variables, with the facts that earlier searches recorded.
+-- The `$d` of a variable, from one of them back, are those that were active right after that one.
 use Rattle.frame.proofs.Words.{◌≡◌, ◌∙◌, ap, sym, subst, arith, refl, inl, inr, ℕ, zero, suc, ◌+◌, ◌-◌, ◌<◌, ◌≤◌, Bool, true, false, cond, cases_lt, not, ◌||◌, ◌&&◌, ◌==◌, List, [], ◌∷◌, ◌++◌, length, take, drop, drop_all, get_or, slice_get, Some, list_any, name_at, AreDistinct, before, names_in, statements_of, is_disj, is_pair, Storage, AreStored, Numbered, history, stack_at, AreSearched, are_pair, IsOfKind, has_code, positions_with, actives, last_active_of_kind, Stmt}
 use Rattle.frame.specs.declared.pair_facts.PairFact.{PairFact}
 use Rattle.frame.specs.declared.pair_facts.Walked.{Walked}
@@ -22,12 +22,12 @@ pub facts-push : (v : Numbered) (fs : List PairFact) (f : PairFact) → AreFacts
 facts-push v [] f a h = (h, tt)
 facts-push v (g ∷ fs) f a h = (a.0, facts-push v fs f a.1 h)
 
--- ---- the `$d` of a variable from one of them down
+-- ---- the `$d` of a variable, from one of them back
 
 abbrev row : Storage → ℕ → ℕ → List ℕ
 row k x n = positions_with k.entries x (actives is_disj (take n (statements_of k)))
 
--- p is the last one, and the others are those that were active before it
+-- p is the last `$d` of the row, and the rest are those that were active before it
 pub record IsTop (k : Storage) (x p : ℕ) (rest : List ℕ) : Type 0 where
   pub within : p ≤ length (statements_of k)
   pub of_kind : IsOfKind is_disj (statements_of k) p
@@ -71,7 +71,7 @@ row-top k x p rest (suc fuel) n le high is = step (last_active_of_kind is_disj (
         by false has s above low stands of_kind whole own =
             earlier (suc i - 1) (omega (arith, low)) (whole ∙ ap (λ t. cond t (suc i ∷ row k x (suc i - 1)) (row k x (suc i - 1))) has)
 
--- whether one of the `$d` of x that are active after the first n statements has y
+-- x and y are a pair after the first n statements exactly if one of the `$d` of x that are active there has y
 pub row-pair : (k : Storage) (x y n : ℕ) (xs : List ℕ) → AreStored k → AreDistinct (names_in k) → x < length (names_in k) → y < length (names_in k) → (x == y) ≡ false → n ≤ length (statements_of k) → xs ≡ row k x n
     → is_pair (take n (statements_of k)) (name_at (names_in k) x) (name_at (names_in k) y) ≡ list_any (has_code k.entries y) xs
 row-pair k x y n xs stored distinct first second differ le is =
@@ -94,19 +94,19 @@ sought-row k at x y xs s is =
       row_of = record { count = at - 1; within = omega (arith, le); are = is ∙ s.stored.disjoints.each x at one (omega (arith, le, as-many k)) };
     }
 
--- the answer for the whole row is that for the pair
+-- x and y are a pair at a position exactly if a `$d` of the row there has y
 pub row-answer : (k : Storage) (at x y : ℕ) (xs : List ℕ) → AreSearched k at x y → xs ≡ stack_at (history k.disjoints x) at → list_any (has_code k.entries y) xs ≡ are_pair k at x y
 row-answer k at x y xs s is =
     let one = s.above in
     let le = s.within in
     sym (row-pair k x y (at - 1) xs s.stored s.distinct s.first s.second s.differ (omega (arith, le)) (is ∙ s.stored.disjoints.each x at one (omega (arith, le, as-many k))))
 
--- so many were passed
+-- xs is what remains of the row after `steps` of its `$d` are passed
 pub record IsRest (k : Storage) (x y : ℕ) (start xs : List ℕ) (steps : ℕ) : Type 0 where
   pub sought : IsSearchedIn k x y xs
   pub rest : xs ≡ drop steps start
 
--- none of them has y
+-- from each passed `$d` on, one has y exactly if one of those that remain has
 pub record IsWalk (k : Storage) (x y : ℕ) (start xs : List ℕ) (steps : ℕ) : Type 0 where
   pub at : IsRest k x y start xs steps
   pub same : (i : ℕ) → i ≤ steps → list_any (has_code k.entries y) (drop i start) ≡ list_any (has_code k.entries y) xs
@@ -166,7 +166,7 @@ module _ (k : Storage) (x y : ℕ) (start xs : List ℕ) (steps p : ℕ) (rest :
   walk-found w walk has count found = λ i le.
       walk.same i (omega (arith, le, count)) ∙ (any-here ∙ (ap (λ b. b || list_any (has_code k.entries y) rest) (sym has) ∙ sym found))
 
-  -- the statements up to the one at p
+  -- x and y are a pair right after the `$d` at p exactly if one of the `$d` from it back has y
   pub front-is : IsSearchedIn k x y xs → is_pair (before (statements_of k) (p + 1)) (name_at (names_in k) x) (name_at (names_in k) y) ≡ list_any (has_code k.entries y) xs
   front-is s =
       let t = top-of s in
@@ -180,7 +180,7 @@ module _ (k : Storage) (x y : ℕ) (start xs : List ℕ) (steps p : ℕ) (rest :
       rw (asked.0, asked.1, asked.2) (front-is walk.at.sought) in
       walk.same i (omega (arith, le, count)) ∙ (sym same ∙ (fact.is ∙ sym found))
 
-  -- the answer is recorded
+  -- the fact that is recorded is true
   pub fact-made : (w : Walked) → IsRest k x y start xs steps → AreAnswered k y start w → steps ≤ w.steps → IsFact (numbered k) (record { position = p; x = x; y = y; found = w.found })
   fact-made w r answered le =
       let s = r.sought in
@@ -201,7 +201,7 @@ walk-end k x y start xs steps w walk all count found = λ i le.
     let none : xs ≡ [] = walk.at.rest ∙ drop_all steps start all in
     walk.same i (omega (arith, le, count)) ∙ (ap (list_any (has_code k.entries y)) none ∙ sym found)
 
--- one is left
+-- a `$d` remains if fewer were passed than the row has
 pub walk-some : (k : Storage) (x y : ℕ) (start xs : List ℕ) (steps : ℕ) → IsRest k x y start xs steps → xs ≡ [] → steps < length start → ⊥
 walk-some k x y start xs steps r none lt = left start steps lt (sym r.rest ∙ none)
   where

@@ -1,4 +1,4 @@
--- The search for an active `$d` that has two variables, and one that is known to have both.
+-- The search for an active `$d` that has two variables, and the use of one that is known to have both.
 use Rattle.frame.proofs.Words.{◌≡◌, ◌∙◌, ap, sym, subst, arith, refl, ℕ, suc, ◌+◌, ◌-◌, ◌<◌, ◌≤◌, Bool, true, false, cond, not, ◌||◌, ◌&&◌, List, [], ◌∷◌, length, map, filter, take, drop, slice_get, Some, list_any, list_any-map, has_name, name_at, is_active, active, separated, stays_open, stmt_of, names_in, labels_in, statements_of, is_disj, Stmt, Storage, Entry, Kind, Disj, In, IsPlain, Name, name_eq, Expr, stmt_by, history, stack_at, AreSearched, IsLeft, are_pair, AreOfKind, IsOfKind, has_code}
 use Rattle.mm_read.specs.declared.stmt.Stmt.TheVariants as stmt
 use Rattle.frame.proofs.ActivePositions.{members-active}
@@ -21,7 +21,7 @@ left-start k at x y st s is =
       rest = pair-is k s.stored s.distinct (at - 1) x y st s.first s.second (omega (arith, le)) here ∙ ap (λ t. not t && list_any (has_code k.entries y) st) s.differ;
     }
 
--- pairs have no order
+-- x and y may change places
 pub sought-turn : (k : Storage) (at x y : ℕ) → AreSearched k at x y → AreSearched k at y x
 sought-turn k at x y s =
     let d = s.differ in

@@ -1,4 +1,4 @@
--- Two variables that stand together in an active `$d`, and the variables that are active, by the stacks.
+-- Pairs of variables in an active `$d`, and active variables, by the stacks of symbols.
 use Rattle.frame.proofs.Words.{◌≡◌, ◌∙◌, ap, sym, subst, arith, refl, ℕ, suc, ◌+◌, ◌-◌, ◌<◌, ◌≤◌, Bool, true, false, cond, not, ◌||◌, ◌&&◌, ◌==◌, nat_eq, List, [], ◌∷◌, ◌++◌, length, map, filter, take, slice_get, slice_get_within, Option, Some, None, length-take, same_Some, list_any, or-false, append_assoc, length-append, take-get, and_comm, list_any-map, AllBelow, AreBelow, Name, name_eq, has_name, name_at, decode, AreDistinct, Stmt, Database, Entry, Storage, stays_open, active_from, actives, actives_from, is_disj, is_var, is_variable, separated, variables, is_pair, groups, names_in, labels_in, statements_of, stmt_of, AreStored, history, stack_at, symbols_at, option_symbols, has_code, having_after, positions_with, IsOfKind, AreOfKind, AreTogether, have_both}
 use Rattle.frame.proofs.FoundByNumber.{map-back}
 use Rattle.frame.proofs.LegalAfter.{stands-at}
@@ -29,7 +29,7 @@ positions_with-any-after q found es c (p ∷ ps) = by (has_code es c p.0) (posit
     by true e = e ∙ swapped (q p.0) (list_any q found) rest
     by false e = e
 
--- one of those that have a symbol passes the test
+-- one of the positions with the symbol c passes a test exactly if one of all positions has c and passes
 pub positions_with-any : (q : ℕ → Bool) (es : List Entry) (c : ℕ) (ps : List (ℕ × Stmt)) → list_any q (positions_with es c ps) ≡ list_any (λ p. has_code es c p.0 && q p.0) ps
 positions_with-any q es c ps = positions_with-any-after q [] es c ps
 
@@ -37,7 +37,7 @@ pub some-any : (xs : List ℕ) → not (nat_eq (length xs) 0) ≡ list_any (λ x
 some-any [] = refl
 some-any (x ∷ xs) = grind arith
 
--- one that passes two tests passes the second
+-- if one passes both tests, one passes the second
 second-any : (f g : ℕ × Stmt → Bool) (ps : List (ℕ × Stmt)) → list_any (λ p. f p && g p) ps ≡ true → list_any g ps ≡ true
 second-any f g [] e = e
 second-any f g (p ∷ ps) e = by (f p) (g p) (second-any f g ps) e
@@ -47,7 +47,7 @@ second-any f g (p ∷ ps) e = by (f p) (g p) (second-any f g ps) e
     by true false rest h = rest h
     by false false rest h = rest h
 
--- ---- where the active statements stand
+-- ---- an active statement is at its position
 
 abbrev AreThere : Database → (Stmt → Bool) → List (ℕ × Stmt) → Type 0
 AreThere S kind [] = Unit {0}
@@ -70,7 +70,7 @@ same-any : (kind : Stmt → Bool) (S : Database) (f g : ℕ × Stmt → Bool) (p
 same-any kind S f g [] are same = refl
 same-any kind S f g (p ∷ ps) are same = ap (λ b. b || list_any f ps) (same p are.0.0 are.0.1) ∙ ap (λ b. g p || b) (same-any kind S f g ps are.1 same)
 
--- ---- by the storage
+-- ---- the pairs, by the storage
 
 module _ (k : Storage) (stored : AreStored k) (d : AreDistinct (names_in k)) (m : ℕ) where
   abbrev N : List Name
@@ -79,7 +79,7 @@ module _ (k : Storage) (stored : AreStored k) (d : AreDistinct (names_in k)) (m 
   abbrev T : Database
   T = take m (statements_of k)
 
-  -- a statement that is active has a symbol by its number where its list has the name
+  -- an active statement has the number x exactly if its list has the name of x
   pub code-name : (kind : Stmt → Bool) (lists : Stmt → List Name) → AreLists kind lists → (x : ℕ) → x < length N → (p : ℕ × Stmt) → slice_get T (p.0 - 1) ≡ Some p.1 → kind p.1 ≡ true
       → has_code k.entries x p.0 ≡ has_name (name_at N x) (lists p.1)
   code-name kind lists are x lt p stands of_kind =
@@ -106,7 +106,7 @@ module _ (k : Storage) (stored : AreStored k) (d : AreDistinct (names_in k)) (m 
       and-true true = refl
       and-true false = refl
 
-  -- x and y are disjoint if one of the `$d` in the stack of the one has the other
+  -- x and y are a pair exactly if they are different and a `$d` of the stack of x has y
   pub pair-is : (x y : ℕ) (st : List ℕ) → x < length N → y < length N → m ≤ length (statements_of k) → st ≡ stack_at (history k.disjoints x) (m + 1)
       → is_pair T (name_at N x) (name_at N y) ≡ (not (x == y) && list_any (λ p. has_code k.entries y p) st)
   pair-is x y st a b le is =
@@ -120,7 +120,7 @@ module _ (k : Storage) (stored : AreStored k) (d : AreDistinct (names_in k)) (m 
       ∙ sym (groups-any (λ names. has_name X names && has_name Y names) T refl))) in
       ap (λ t. not t && list_any (λ names. has_name X names && has_name Y names) (groups T)) (sym (same-number N x y d a b)) ∙ ap (λ t. not (nat_eq x y) && t) (sym both)
 
-  -- pairs have no order
+  -- x and y are a pair exactly if they are different and a `$d` of the stack of y has x
   pub pair-swapped : (x y : ℕ) (st : List ℕ) → x < length N → y < length N → m ≤ length (statements_of k) → st ≡ stack_at (history k.disjoints y) (m + 1)
       → is_pair T (name_at N x) (name_at N y) ≡ (not (x == y) && list_any (λ p. has_code k.entries x p) st)
   pair-swapped x y st a b le is =
@@ -152,7 +152,7 @@ module _ (k : Storage) (stored : AreStored k) (d : AreDistinct (names_in k)) (m 
           by found p ps true with without = with
           by found p ps false with without = without
 
-  -- the stack of a symbol at the position
+  -- the stack of a symbol at the position has the active `$d` that have the symbol
   stack-having : (c : ℕ) (st : List ℕ) → m ≤ length (statements_of k) → st ≡ stack_at (history k.disjoints c) (m + 1) → st ≡ positions_with k.entries c (actives is_disj T)
   stack-having c st le is = is ∙ (stored.disjoints.each c (m + 1) (omega arith) (omega (arith, le, as-many k)) ∙ ap (λ n. positions_with k.entries c (actives is_disj (take n (statements_of k)))) (omega arith))
 
@@ -171,7 +171,7 @@ module _ (k : Storage) (stored : AreStored k) (d : AreDistinct (names_in k)) (m 
       → is_pair T (name_at N x) (name_at N y) ≡ (not (x == y) && list_any (λ list. list_any (λ c. y == c) list) (map (symbols_at k.entries) st))
   row-is x y st a b le is = pair-is x y st a b le is ∙ ap (λ t. not (nat_eq x y) && t) (list_any-map (symbols_at k.entries) (λ list. list_any (λ c. nat_eq y c) list) st)
 
-  -- two symbols of one `$d` of the row stand together
+  -- two symbols of one `$d` in the stack are a pair
   pub row-together : (x : ℕ) (st : List ℕ) → m ≤ length (statements_of k) → st ≡ stack_at (history k.disjoints x) (m + 1) → AreTogether (record { statements = T; names = N }) (map (symbols_at k.entries) st)
   row-together x st le is = record { each = two }
     where
@@ -204,7 +204,7 @@ positions_with-less n m found es c (p ∷ ps) lt all within =
     by true with without = with
     by false with without = without
 
--- after a `$d` its symbols are those that have it on top
+-- right after a `$d`, the symbols with this `$d` on top of their stacks are its symbols
 module _ (k : Storage) (stored : AreStored k) (p c : ℕ) (of_kind : IsOfKind is_disj (statements_of k) p) (st : List ℕ) (is : st ≡ stack_at (history k.disjoints c) (p + 1)) where
   within : p ≤ length k.entries
   within = let one = of_kind.one in omega (arith, slice_get_within (statements_of k) (p - 1) of_kind.statement of_kind.stands, as-many k, one)
@@ -230,7 +230,7 @@ module _ (k : Storage) (stored : AreStored k) (p c : ℕ) (of_kind : IsOfKind is
           ≡ actives is_disj (take (p - 1) (statements_of k)) ++ (p, of_kind.statement) ∷ []
       last place = rw (of_kind.of_kind, place) refl
 
-  -- the `$d` itself stands after those before it
+  -- the other `$d` in the stack are before this one
   rest-less : AllLess p rest
   rest-less =
       let one = of_kind.one in

@@ -1,4 +1,4 @@
--- Names that no `$v` declares, and the last active `$d`.
+-- Names that no `$v` declares, and pairs by the last active `$d`.
 use Rattle.frame.proofs.Words.{list_any, sym, ◌∙◌, ap, ◌≡◌, ℕ, ◌-◌, ◌<◌, Bool, true, false, cond, ◌&&◌, ◌==◌, List, [], ◌∷◌, length, map, take, slice_get, Some, refl, or_from, both_ways, false_from_ne_true, Name, name_eq, has_name, active, variables, name_at, decode, AreDistinct, AreBelow, take-get, Kind, Var, Entry, stmt_by, stmt_of, is_var_kind, AreNumbered, ◌||◌, not, and_right, same_Some, Stmt, separated, names_in, labels_in, statements_of, Storage, AreStored, list_any-map, list_any-append, or-false, is_pair, groups, actives, last_active_of, LastActive, Database, is_disj, and-or_distrib_left, or_comm}
 use Rattle.frame.proofs.BlockWalkLemmas.{walk-over, IsBack, walk-back}
 use Rattle.frame.proofs.ActiveAfter.{active-stands}
@@ -14,7 +14,7 @@ variables-are : (kind : Kind) (label : Name) (names : List Name) → variables (
 variables-are Var label names = refl
 variables-are kind label names = refl
 
--- where no entry declares a name, no active statement does
+-- a name that no entry declares is declared by no active statement
 none-declared : (names labels : List Name) (n : ℕ) (x : Name) (es : List Entry) → ((k : ℕ) (e : Entry) → slice_get es k ≡ Some e → has_name x (variables (stmt_of names labels e)) ≡ false)
     → list_any (λ p. has_name x (variables p.1)) (active (take n (map (stmt_of names labels) es))) ≡ false
 none-declared names labels n x es h = false_from_ne_true (list_any (λ p. has_name x (variables p.1)) (active (take n (map (stmt_of names labels) es)))) (λ some.
@@ -24,7 +24,7 @@ none-declared names labels n x es h = false_from_ne_true (list_any (λ p. has_na
     let e = map-back (stmt_of names labels) es (length r.front) r.stmt g.1 in
     both_ways (has_name x (variables r.stmt)) (ap (λ t. has_name x (variables t)) e.2 ∙ h (length r.front) e.0 e.1) r.passes)
 
--- a name with no number is none that a `$v` declares
+-- a name without a number is declared by no active `$v`
 pub unnamed-none : (names labels : List Name) (m n : ℕ) (x : Name) (es : List Entry) → has_name x names ≡ false → AreNumbered (length names) m es
     → list_any (λ p. has_name x (variables p.1)) (active (take n (map (stmt_of names labels) es))) ≡ false
 unnamed-none names labels m n x es none a =
@@ -35,7 +35,7 @@ unnamed-none names labels m n x es none a =
     by true [] b = refl
     by true (c ∷ codes) b = or_from (name_eq x (name_at names c)) (has_name x (decode names codes)) (not-has names c x none b.0) (by true codes b.1)
 
--- ---- two stand together in the list of the last active `$d`, or in that of an earlier one
+-- ---- two variables are in the list of the last active `$d`, or in that of an earlier one
 
 pub groups-any : (test : List Name → Bool) (T : Database) → test [] ≡ false → list_any test (groups T) ≡ list_any (λ q. test (separated q.1)) (actives is_disj T)
 groups-any test T none = sym (any-active test T disjoint_lists none ∙ list_any-map (λ (q : ℕ × Stmt). separated q.1) test (active T))

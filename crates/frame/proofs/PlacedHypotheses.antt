@@ -1,9 +1,9 @@
--- Where the active statements that pass a test stand, and with them the mandatory hypotheses of a statement.
+-- The positions of the active statements that pass a test, and of the mandatory hypotheses of a statement.
 use Rattle.frame.proofs.Words.{list_any, sym, ◌∙◌, ap, subst, arith, inl, inr, ◌≡◌, ℕ, suc, ◌+◌, ◌&&◌, Bool, true, ◌⊎◌, List, [], ◌∷◌, ◌++◌, length, map, filter, refl, ⊎_map, or_right, or_cases, Name, has_name, Stmt, Database, stays_open, active, expr_of, is_essential, is_used, is_hypothesis, hypotheses, In}
 use Rattle.frame.proofs.ActiveAfter.{Stands, active-stands, stands-active}
 use Rattle.frame.proofs.ActivePositions.{IsActiveAt, active-members, members-active}
 
--- an active statement that passes the test is among the positions of those that do
+-- the position of an active statement that passes the test is among those listed
 pub members : (S : Database) (q : Stmt → Bool) (p : ℕ) (A : Database) (t : Stmt) (B : Database) → S ≡ A ++ t ∷ B → p ≡ suc (length A) → stays_open 0 B ≡ true → q t ≡ true → In p (map (λ y. y.0) (filter (λ y. q y.1) (active S)))
 members S q p A t B cut at_p stays h =
     let e : 1 + length A ≡ p = omega (arith, at_p) in
@@ -17,13 +17,13 @@ used-in S s x A t B whole stays is has =
     or_right (has_name x (expr_of s)) (list_any (λ r. q r.1) (active S))
     (ap (λ D. list_any (λ r. q r.1) (active D)) whole ∙ stands-active q 1 A t B stays (ap (λ b. b && has_name x (expr_of t)) is ∙ has))
 
--- and what is used stands in the assertion or in an active `$e`
+-- a used symbol occurs in the assertion or in an active `$e`
 pub used-cases : (S : Database) (s : Stmt) (x : Name) → is_used S s x ≡ true → (has_name x (expr_of s) ≡ true) ⊎ Stands S (λ t. is_essential t && has_name x (expr_of t))
 used-cases S s x h = ⊎_map (λ e. e) (active-stands (λ t. is_essential t && has_name x (expr_of t)) 1 S) (or_cases (has_name x (expr_of s)) _ h)
 
 -- ---- the mandatory hypotheses
 
--- a hypothesis of s stands at p
+-- p is the position of a mandatory hypothesis of s
 abbrev pub IsHyp : Database → Stmt → ℕ → Type 0
 IsHyp S s p = IsActiveAt S (is_hypothesis S s) p
 
@@ -35,6 +35,6 @@ listed : (S : Database) (s : Stmt) (ps : List ℕ) → ((p : ℕ) → In p ps �
 listed S s [] h = tt
 listed S s (p ∷ ps) h = (h p (inl refl), listed S s ps (λ q i. h q (inr i)))
 
--- each mandatory hypothesis stands at its position, and is active there
+-- at each position listed there is an active mandatory hypothesis
 pub hyps : (S : Database) (s : Stmt) → AreHyps S s (hypotheses S s)
 hyps S s = listed S s (hypotheses S s) (λ p i. active-members S (is_hypothesis S s) p [] S 1 refl refl i)

@@ -1,4 +1,4 @@
--- The positions of labels, one after another.
+-- The positions of labels, found one by one.
 use Rattle.frame.proofs.Words.{sym, ◌∙◌, inl, inr, arith, length-append, Bor, ◌≡◌, ℕ, ◌<◌, List, [], ◌∷◌, ◌++◌, length, map, get_or, Option, None, cases_lt, map_push, get_or_at, get_or_append_left, Name, Database, IsPosition, ArePositions}
 
 pub get-front : {A : Type 0} (xs ys : List A) (k : ℕ) (d : A) → k < length xs → get_or (xs ++ ys) k d ≡ get_or xs k d
@@ -7,7 +7,7 @@ get-front xs ys k d h = get_or_append_left xs ys d k h
 pub get-last : {A : Type 0} (xs : List A) (x : A) (k : ℕ) (d : A) → k ≡ length xs → get_or (xs ++ x ∷ []) k d ≡ x
 get-last xs x k d e = get_or_at xs x [] d k (sym e)
 
--- one more label
+-- the position of the next label is appended
 pub positions-end : (S : Database) (ls : List Name) (label : Name) (ps : List (Option ℕ)) (p : Option ℕ) → ArePositions S ls ps → IsPosition S label p → ArePositions S (ls ++ label ∷ []) (ps ++ p ∷ [])
 positions-end S ls label ps p a is = record {
   count = omega (arith, length-append ps (p ∷ []), length-append ls (label ∷ []), a.count);

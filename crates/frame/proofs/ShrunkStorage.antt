@@ -1,4 +1,4 @@
--- The storage after room was given back: its lists are as before.
+-- The storage after memory was released: its lists are as before.
 use Rattle.frame.proofs.Words.{◌≡◌, ◌∙◌, ap, sym, subst, refl, Bool, List, length, Stmt, Database, Entry, Storage, AreStored, statements_of, is_disj, is_var, StackVersion, IsUntil, AreSame, stack_at, AreFrames, AreStacks, EssentialSets}
 use Rattle.frame.proofs.EssentialSetLemmas.{sets-moved}
 

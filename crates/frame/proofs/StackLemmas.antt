@@ -1,4 +1,4 @@
--- The stacks by number: what one more statement changes, the first statements alone, and a `$}`.
+-- The stacks of symbols: after a statement is appended, after truncation, and after a `$}`.
 use Rattle.frame.proofs.Words.{◌≡◌, ◌∙◌, ap, sym, subst, arith, refl, inl, inr, ℕ, zero, suc, ◌+◌, ◌-◌, ◌<◌, ◌≤◌, ◌⊎◌, Bool, true, false, cond, ◌||◌, nat_eq, List, [], ◌∷◌, ◌++◌, length, filter, take, take_all, take-take, take-append-le, take-append_seam, length-append, length-take, length-take-le, get_or, slice_get, cases_lt, nat_le, list_any, list_any_more, append-nil, get-last, Stmt, Database, Entry, stays_open, active_from, is_open, is_close, actives, actives_from, is_disj, is_var, last_active_of_kind, kind_of, Storage, AreStored, names_in, labels_in, statements_of, stmt_of, length-map, Disj, Var, StackVersion, IsUntil, AreUntil, AreSame, AreKeptUntil, history, kept_until, pushed, gone_back, stack_at, until-later, until-kept, stack-later, stack-kept, stack-changed, changed-twice, until-changed, kept-changed, NextStatement, option_symbols, has_code, having_after, positions_with, AreStacks, opening, with_top, latest_of, KeepsUntil, AreChangedBy, IsNext, leb-true}
 use Rattle.mm_read.specs.declared.stmt.Stmt.TheVariants as stmt
 use Rattle.entries.specs.Histories.{AreWith}
@@ -6,10 +6,10 @@ use Rattle.frame.proofs.OpenLemmas.{IsNoClose}
 use Rattle.frame.proofs.LastActiveLemmas.{actives-push, actives-close}
 use Rattle.frame.proofs.BlockWalkLemmas.{get-take, last-within}
 
--- ---- a change of some symbols
+-- ---- the stacks of some symbols change
 
 module _ (f : List StackVersion → List StackVersion) (old mid : List (List StackVersion)) (codes : List ℕ) where
-  -- one symbol more
+  -- the stack of the next symbol changes
   pub changed-more : ((vs : List StackVersion) → f (f vs) ≡ f vs) → (i : ℕ) (new : List (List StackVersion)) → i < length codes → AreChangedBy f (take i codes) old mid
       → AreWith mid (get_or codes i 0) (f (history mid (get_or codes i 0))) new → AreChangedBy f (take (i + 1) codes) old new
   changed-more twice i new lt before with d =
@@ -83,7 +83,7 @@ module _ (at : ℕ) (one : 1 ≤ at) (old : List (List StackVersion)) (until : A
     kept = λ c. refl;
   }
 
--- ---- the positions of those that have a symbol
+-- ---- the positions of the statements that have a symbol
 
 positions_with-append : (found : List ℕ) (es : List Entry) (c : ℕ) (ps qs : List (ℕ × Stmt)) → having_after found es c (ps ++ qs) ≡ having_after (having_after found es c ps) es c qs
 positions_with-append found es c [] qs = refl
@@ -113,7 +113,7 @@ positions_with-same found es fs c n (p ∷ ps) are same =
 code-front : (es : List Entry) (c n p : ℕ) → 1 ≤ p → p ≤ n → has_code (take n es) c p ≡ has_code es c p
 code-front es c n p one le = ap (λ o. list_any (λ x. nat_eq c x) (option_symbols o)) (get-take (p - 1) n es (omega (arith, one, le)))
 
--- the statements that were active after the first m of n, by the first n entries
+-- the statements active after the first m statements are found in the first n entries, if m is at most n
 pub positions_with-front : (kind : Stmt → Bool) (es : List Entry) (c n m : ℕ) (S : Database) → m ≤ n → positions_with (take n es) c (actives kind (take m S)) ≡ positions_with es c (actives kind (take m S))
 positions_with-front kind es c n m S le =
     positions_with-same [] (take n es) es c n (actives kind (take m S)) (actives-in kind 1 1 n (take m S) (omega arith) (omega (arith, length-take {A = Stmt}, le)))
@@ -139,13 +139,13 @@ pub opening-back : (b : ℕ) → opening b - 1 ≡ b - 1
 opening-back zero = refl
 opening-back (suc b) = refl
 
--- ---- one statement more
+-- ---- a statement is appended
 
 module _ (kind : Stmt → Bool) (hs : List (List StackVersion)) (es : List Entry) (S : Database) (e : Entry) (s : Stmt) (are : AreStacks kind hs es S) (size : length es ≡ length S) where
   abbrev more : List Entry
   more = es ++ e ∷ []
 
-  -- by the entries with one more
+  -- the stacks of earlier positions, by the entries with the new one
   here : (c at : ℕ) → 1 ≤ at → at ≤ length es + 1 → stack_at (history hs c) at ≡ positions_with more c (actives kind (take (at - 1) S))
   here c at one le =
       are.each c at one le
@@ -177,12 +177,12 @@ module _ (kind : Stmt → Bool) (hs : List (List StackVersion)) (es : List Entry
           ap (stack_at (history new c)) end
           ∙ (next.latest c ∙ (last c ∙ ap (λ T. positions_with more c (actives kind T)) (sym (take_all (i - 1) (S ++ s ∷ []) (omega (arith, end, is, size, length-append S (s ∷ [])))))))
 
-  -- a statement of another kind
+  -- a statement of another kind leaves the stacks as they are
   pub latest-other : (at : ℕ) → at ≡ length es + 1 → is_close s ≡ false → kind s ≡ false → (c : ℕ) → stack_at (history hs c) at ≡ positions_with more c (actives kind (S ++ s ∷ []))
   latest-other at is close other c =
       all c at is ∙ ap (positions_with more c) (sym (actives-push kind S s close ∙ (ap (λ b. actives kind S ++ cond b ((1 + length S, s) ∷ []) []) other ∙ append-nil (actives kind S))))
 
-  -- one of the kind
+  -- a statement of the kind goes on top of the stacks of its symbols
   pub latest-own : (at : ℕ) → at ≡ length es + 1 → is_close s ≡ false → kind s ≡ true → (c : ℕ) → with_top e.symbols at hs c ≡ positions_with more c (actives kind (S ++ s ∷ []))
   latest-own at is close own c =
       let place : 1 + length S ≡ at = omega (arith, is, size) in
@@ -193,7 +193,7 @@ module _ (kind : Stmt → Bool) (hs : List (List StackVersion)) (es : List Entry
       ∙ (sym (positions_with-push more c (actives kind S) (at, s))
       ∙ ap (positions_with more c) (sym (actives-push kind S s close ∙ (ap (λ b. actives kind S ++ cond b ((1 + length S, s) ∷ []) []) own ∙ ap (λ n. actives kind S ++ (n, s) ∷ []) place)))))
 
-  -- a `$}`
+  -- a `$}` restores the stacks as they were at its `${`
   pub latest-close : IsNoClose kind → (block : ℕ) → block ≡ last_active_of_kind is_open S → s ≡ stmt.Close → (c : ℕ) → stack_at (history hs c) (opening block) ≡ positions_with more c (actives kind (S ++ s ∷ []))
   latest-close no_close block is closes c =
       let within = last-within is_open S refl in
@@ -219,7 +219,7 @@ module _ (hs : List (List StackVersion)) (es : List Entry) (S : Database) (e : E
       by (stmt.Var n) is = ap (λ l. with_top l x.at hs c) codes ∙ latest-own is_var hs es S e s are size x.at place (ap is_close is) (ap is_var is) c
       by t is = latest-other is_var hs es S e s are size x.at place (ap is_close is) (ap is_var is) c
 
--- ---- the first statements alone, and the same stacks in another table
+-- ---- the stacks of the first statements, and the same stacks in another table
 
 pub stacks-front : (kind : Stmt → Bool) (hs new : List (List StackVersion)) (es : List Entry) (S : Database) (n : ℕ) → AreStacks kind hs es S → n ≤ length es → AreKeptUntil n hs new → AreStacks kind new (take n es) (take n S)
 stacks-front kind hs new es S n are le kept = record {
@@ -241,11 +241,11 @@ stacks-same kind hs new es S are same = record {
   each = λ c at one low. ap (λ vs. stack_at vs at) (same c) ∙ are.each c at one low;
 }
 
--- a stack that is restored is as before
+-- if versions are added and removed again, the stacks are as before
 pub stacks-back : (kind : Stmt → Bool) (old mid new : List (List StackVersion)) (es : List Entry) (S : Database) → AreStacks kind old es S → KeepsUntil (length es) old mid → AreKeptUntil (length es) mid new → AreStacks kind new es S
 stacks-back kind old mid new es S are keeps kept = stacks-same kind old new es S are (λ c. kept c ∙ (keeps c ∙ until-kept (length es) (history old c) (are.until c)))
 
--- the stacks of a storage, with one statement more
+-- the stacks of a storage, after a statement is appended
 module _ (old : Storage) (s : Stmt) (e : Entry) (x : NextStatement) (stored : AreStored old) (place : x.at ≡ length old.entries + 1) (codes : x.codes.now ≡ e.symbols) (of_kind : x.kind ≡ kind_of s) (last_active : x.last_active ≡ old.last_active)
     (hs new : List (List StackVersion)) (es : List Entry) (T : Database) (entries : es ≡ old.entries ++ e ∷ []) (statements : T ≡ statements_of old ++ s ∷ []) where
   size : length old.entries ≡ length (statements_of old)
@@ -264,7 +264,7 @@ module _ (old : Storage) (s : Stmt) (e : Entry) (x : NextStatement) (stored : Ar
       let are : AreStacks is_var hs old.entries (statements_of old) = rw same stored.variables in
       stacks-next is_var hs old.entries (statements_of old) e s are size new es T x.at (latest_of Var x.kind x hs) place next (latest-var hs old.entries (statements_of old) e s x size place codes of_kind block are) entries statements
 
--- no statements
+-- the stacks of no statements are empty
 pub stacks-none : (kind : Stmt → Bool) → AreStacks kind [] [] []
 stacks-none kind = record { until = λ c. tt; each = λ c at one le. by c (at - 1) }
   where

@@ -1,9 +1,9 @@
--- The parts of the storage with one more statement: numbers, labels, positions, symbols.
+-- The parts of the storage after a statement is appended: numbers, labels, positions, symbols.
 use Rattle.frame.proofs.Words.{list_any, sym, ◌∙◌, ap, subst, arith, inl, inr, add-zero, ◌≡◌, ℕ, zero, suc, ◌+◌, ◌-◌, ◌<◌, ◌≤◌, Bool, true, false, cond, not, ◌&&◌, ◌||◌, ◌==◌, nat_lt, ◌⊎◌, List, [], ◌∷◌, ◌++◌, length, map, take, slice_get, Option, Some, None, refl, and-false, take-append-le, cases_lt, ltb-true, take-append_seam, Name, Stmt, Database, before, label_of, stays_open, is_close, is_open, count, IsLegal, G10, name_at, decode, AreBelow, LastActive, Kind, Float, Ess, Axiom, Prove, Entry, Symbol, stmt_by, stmt_of, positions_from, option_position, AreAllLegal, symbol_of, ReadsAs, floats, declares, second_is, is_float_kind, is_var_kind, last_from, IsLabelBelow, HasTwo, AreNumbered, AreUndeclared, AreZeroAfter, undeclared_symbol, AreKept, Extends, get-more, place, stays_open-append, below-deficit, no_deficit, deficit-close, count-left_open, get-push}
 use Rattle.frame.proofs.SymbolNumberLemmas.{decode-extends, name_at-extends, below-more}
 use Rattle.mm_read.specs.declared.stmt.Stmt.TheVariants as stmt
 
--- ---- an entry that was added keeps its meaning
+-- ---- an entry keeps its meaning if names and labels are appended
 
 pub stmt-more : (names names' labels labels' : List Name) (e : Entry) → Extends names names' → Extends labels labels' → AreBelow (length names) e.symbols → IsLabelBelow e.kind e.label (length labels)
     → stmt_of names' labels' e ≡ stmt_of names labels e
@@ -71,7 +71,7 @@ stays-push S stmt.Close h l =
     below-deficit 0 (S ++ stmt.Close ∷ []) (omega (arith, more, deficit-close S, count-left_open S, no_deficit S h))
 stays-push S s h l = stays_open-append 0 S s refl ∙ h
 
--- ---- a number that no entry has
+-- ---- a number that no entry uses
 
 above-second : (n c : ℕ) (codes : List ℕ) → AreBelow n codes → n ≤ c → second_is c codes ≡ false
 above-second n c (x ∷ y ∷ codes) h le = let a = h.1.0 in let l : y < c = omega (arith, a, le) in grind (arith, l)
@@ -109,7 +109,7 @@ get-zero [] (x ∷ more) (suc c) z le lt = get-zero [] more c z.1 (omega arith) 
 get-zero (x ∷ old) more zero z le lt = absurd (omega (arith, le))
 get-zero (x ∷ old) more (suc c) z le lt = get-zero old more c z (omega (arith, le)) (omega (arith, lt))
 
--- the symbols and more that nothing declares read as before
+-- the symbols, followed by symbols that nothing declares, have the same declarations
 pub still-reads : (names labels : List Name) (positions : List ℕ) (symbols : List Symbol) (replaced : List ℕ) (entries : List Entry) (last_active : LastActive) (between : List Symbol)
     → AreKept names labels positions symbols replaced entries last_active → AreZeroAfter symbols between → ReadsAs between (symbol_of entries)
 still-reads names labels positions symbols replaced entries last_active between k z c lt = by (cases_lt c (length names))

@@ -1,4 +1,4 @@
--- Reading an entry of the storage, and the position of a label.
+-- Reading an entry of the storage, and finding the position of a label.
 use Rattle.frame.proofs.Words.{sym, ◌∙◌, ap, subst, arith, inl, inr, ◌≡◌, ℕ, zero, suc, ◌+◌, ◌-◌, ◌<◌, ◌≤◌, true, false, ◌⊎◌, List, [], ◌∷◌, length, map, get_or, slice_get, Option, Some, None, option_map, refl, same_Some, slice_get-map, slice_get_within, get_or_from_slice_get, bytes_eq-Decides, both_ways, list_any_at, Name, Stmt, Database, stmt_at, label_of, expr_of, is_assertion, was_label, has_label, name_at, decode, labels_of, option_list, is_hypothesis_kind, Kind, Float, Ess, Axiom, Prove, Entry, is_label_kind, stmt_by, stmt_of, positions_from, option_position, HasTwo, AreNumbered, place}
 
 -- ---- reading an entry
@@ -33,7 +33,7 @@ entry-none names labels e = by e.kind
     by Float h = cc
     by kind h = cc
 
--- a statement that is no hypothesis and no assertion
+-- a statement that is neither a hypothesis nor an assertion
 pub neither : (names labels : List Name) (e : Entry) → (e.kind ≡ Float → ⊥) → (e.kind ≡ Ess → ⊥) → (e.kind ≡ Axiom → ⊥) → (e.kind ≡ Prove → ⊥)
     → (is_hypothesis_kind (stmt_of names labels e) ≡ false) × (is_assertion (stmt_of names labels e) ≡ false)
 neither names labels e = by e.kind
@@ -63,7 +63,7 @@ pub label-place : (at : ℕ) (S : Database) (x : Name) (n : ℕ) → n < length 
 label-place at [] x n h e = absurd (omega (arith, h))
 label-place at (s ∷ S) x n h e = place-step at s S x (label_of s) refl n h e (λ m. label-place (at + 1) S x m)
 
--- a label that no statement carries
+-- no statement has a label that was not used
 pub label-none : (S : Database) (x : Name) → was_label S x ≡ false → (i : ℕ) (s : Stmt) → slice_get S i ≡ Some s → label_of s ≡ Some x → ⊥
 label-none S x h i s g l =
     let there = ap (λ t. has_label x (label_of t)) (get_or_from_slice_get S i s s g) ∙ (ap (has_label x) l ∙ (bytes_eq-Decides x x).1 refl) in
@@ -77,10 +77,10 @@ pub entry-hypothesis : (names labels : List Name) (e : Entry) → (e.kind ≡ Fl
 entry-hypothesis names labels e (inl is) = rw is (refl, refl)
 entry-hypothesis names labels e (inr is) = rw is (refl, refl)
 
--- the statement of an entry stands at its position
+-- the statement of an entry is at the position of the entry
 pub entry-stands : (names labels : List Name) (es : List Entry) (at : ℕ) (e : Entry) → 1 ≤ at → slice_get es (at - 1) ≡ Some e → stmt_at (map (stmt_of names labels) es) at ≡ Some (stmt_of names labels e)
 entry-stands names labels es at e one g = stmt-at-suc (map (stmt_of names labels) es) at one ∙ get-stmt names labels es (at - 1) e g
 
--- the entry read is that of the statement
+-- the statement at the position of an entry is that of the entry
 pub is-entry : (names labels : List Name) (es : List Entry) (at : ℕ) (e : Entry) (s : Stmt) → 1 ≤ at → slice_get es (at - 1) ≡ Some e → stmt_at (map (stmt_of names labels) es) at ≡ Some s → stmt_of names labels e ≡ s
 is-entry names labels es at e s one g h = same_Some _ _ (sym (entry-stands names labels es at e one g) ∙ h)

@@ -1,11 +1,11 @@
--- Numbers and the names that they stand for, as both grow.
+-- Numbers and their names, as names and symbols are appended.
 use Rattle.frame.proofs.Words.{replicate, take_all, zero, ◌∙◌, ap, arith, ◌≡◌, ℕ, ◌<◌, ◌≤◌, List, [], ◌∷◌, ◌++◌, length, take, refl, suc, take-append_seam, Name, name_at, decode, AreBelow, Symbol, Extends, undeclared_symbol, AreUndeclared, AreZeroAfter, name_at-more}
 
--- cut back to where it began, the list is as before
+-- a list that is truncated to its old length is the old list
 pub take-extends : {A : Type 0} (a b : List A) → Extends a b → take (length a) b ≡ a
 take-extends a b p = ap (take (length a)) p.1 ∙ take-append_seam a p.0
 
--- symbols more that nothing declares
+-- symbols that nothing declares are appended
 pub zero-more : (a b : List Symbol) (n m : ℕ) → length a ≤ n → b ≡ take n a ++ replicate m undeclared_symbol → AreZeroAfter a b
 zero-more a b n m le is = (replicate m undeclared_symbol, is ∙ ap (λ r. r ++ replicate m undeclared_symbol) (take_all n a le), zeros m)
   where
@@ -29,12 +29,12 @@ pub below-push : (n : ℕ) (codes : List ℕ) (c : ℕ) → AreBelow n codes →
 below-push n [] c h l = (l, tt)
 below-push n (x ∷ codes) c h l = (h.0, below-push n codes c h.1 l)
 
--- numbers below a bound, of two lists together
+-- if the numbers of two lists are below a bound, so are those of both together
 pub below-append : (n : ℕ) (xs ys : List ℕ) → AreBelow n xs → AreBelow n ys → AreBelow n (xs ++ ys)
 below-append n [] ys h k = k
 below-append n (x ∷ xs) ys h k = (h.0, below-append n xs ys h.1 k)
 
--- and of the first of a list
+-- so are the first numbers of a list
 pub below-take : (n k : ℕ) (xs : List ℕ) → AreBelow n xs → AreBelow n (take k xs)
 below-take n (suc k) (x ∷ xs) h = (h.0, below-take n k xs h.1)
 below-take n k xs h = tt

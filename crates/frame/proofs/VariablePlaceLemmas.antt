@@ -1,4 +1,4 @@
--- The constant of an active `$f` is no variable, a variable that is used has an active `$f`, and the mandatory variables are those of the mandatory `$f`.
+-- The typecode of an active `$f` is no variable, a used variable has an active `$f`, and the mandatory variables are those of the mandatory `$f`.
 use Rattle.frame.proofs.Words.{list_any, ◌∙◌, ap, inl, inr, append_assoc, ◌≡◌, ℕ, suc, Bool, true, false, ◌||◌, List, [], ◌∷◌, ◌++◌, length, refl, not, ◌&&◌, or_left, or_cases, and_parts, not_both, list_any-append, list_any-from_Any, Any-from_list_any, Name, has_name, Stmt, Database, Expr, is_assertion, is_variable, is_float_of, stays_open, active, constants, variables, expr_of, is_essential, is_constant, has_float, IsLegal, starts_with_constant, is_used, is_mandatory, is_hypothesis, hypotheses, In, all-has, IsFirstFixed}
 use Rattle.mm_read.specs.declared.stmt.Stmt.TheVariants.{Float, Ess, Axiom, Prove}
 use Rattle.frame.proofs.LegalLabels.{AllKept}
@@ -10,7 +10,7 @@ use Rattle.frame.proofs.PlacedHypotheses.{members, used-cases}
 
 -- ---- constants and variables of legal statements
 
--- a statement that is active after A is active after A, t and B, where t and B close nothing of A
+-- if a statement that passes is active after A, and no later one closes a block of A, one is active after S
 still-active : (q : Stmt → Bool) (S A : Database) (t : Stmt) (B : Database) → S ≡ A ++ t ∷ B → stays_open 0 (t ∷ B) ≡ true → list_any (λ p. q p.1) (active A) ≡ true → list_any (λ p. q p.1) (active S) ≡ true
 still-active q S A t B whole stays h =
     let r = active-stands q 1 A h in
@@ -21,7 +21,7 @@ constant-front : (S A : Database) (t : Stmt) (B : Database) (x : Name) → S ≡
 constant-front S A t B x whole h =
     ap (λ w. is_constant w x) whole ∙ (list_any-append (λ s. has_name x (constants s)) A (t ∷ B) ∙ or_left (is_constant A x) _ h)
 
--- the constant of an active `$f` is no variable, and its variable is one
+-- the typecode of an active `$f` is not a variable, and its variable is one
 pub float-kinds : (S A : Database) (l c x : Name) (B : Database) → AllKept S → S ≡ A ++ Float l c x ∷ B → stays_open 0 B ≡ true → (is_variable S c ≡ false) × (is_variable S x ≡ true)
 float-kinds S A l c x B all whole stays =
     let legal = kept-legal S A (Float l c x) B all whole in
@@ -32,7 +32,7 @@ float-kinds S A l c x B all whole stays =
       still-active (λ s. has_name x (variables s)) S A (Float l c x) B whole stays (and_parts (is_variable A x) (not (has_float A x)) g7).0,
     )
 
--- an expression of a legal statement begins with a constant; where no constant is a variable, with no variable
+-- the expression of a legal statement begins with a constant, and so not with a variable if no constant is one
 fixed : (S A : Database) (s : Stmt) → ((x : Name) → is_constant A x ≡ true → is_variable S x ≡ false) → IsLegal A s → IsFirstFixed S (expr_of s)
 fixed S A s other legal = by s legal
   where
@@ -58,7 +58,7 @@ typed-own S (Axiom l e) x legal asserts h v = implied (is_variable S x) (has_flo
 typed-own S (Prove l e p) x legal asserts h v = implied (is_variable S x) (has_float S x) (all-has (λ y. not (is_variable S y) || has_float S y) x e (legal-keeps S (Prove l e p) legal).g9 h) v
 typed-own S s x legal asserts h v = cc
 
--- a statement that passes as an `$e` with x is an `$e`, and x stands in its expression
+-- a statement that is essential and has x in its expression is a `$e` whose expression has x
 pub is_ess : (t : Stmt) (x : Name) → (is_essential t && has_name x (expr_of t)) ≡ true → (l : Name) × (e : Expr) × (t ≡ Ess l e) × (has_name x e ≡ true)
 is_ess (Ess l e) x h = (l, e, refl, h)
 is_ess s x h = cc
@@ -76,7 +76,7 @@ typed-before S A l e B x all whole h v =
     ] in
     implied (is_variable A x) (has_float A x) (all-has (λ y. not (is_variable A y) || has_float A y) x e k.g9 h) var
 
--- a variable that is used has an active `$f`
+-- a used variable has an active `$f`
 pub used-typed : (S : Database) (s : Stmt) (x : Name) → AllKept S → IsLegal S s → is_assertion s ≡ true → is_used S s x ≡ true → is_variable S x ≡ true → has_float S x ≡ true
 used-typed S s x all legal asserts used v = elim (used-cases S s x used) [
   | inl h ↦ typed-own S s x legal asserts h v
@@ -97,7 +97,7 @@ pub record HasFloatAt (S : Database) (s : Stmt) (x : Name) : Type 0 where
   pub whole : S ≡ front ++ Float label constant x ∷ rest
   pub listed : In (suc (length front)) (hypotheses S s)
 
--- a mandatory variable has one
+-- a mandatory variable has a mandatory `$f`
 pub mandatory-float : (S : Database) (s : Stmt) (x : Name) → AllKept S → IsLegal S s → is_assertion s ≡ true → is_mandatory S s x ≡ true → HasFloatAt S s x
 mandatory-float S s x all legal asserts m =
     let p = and_parts (is_variable S x) (is_used S s x) m in

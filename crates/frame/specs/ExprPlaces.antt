@@ -1,4 +1,4 @@
--- Where each symbol of an expression stands, by numbers.
+-- Where each symbol of an expression occurs, by numbers.
 -- Metamath, 4.2.6: an image is substituted for every occurrence of a variable.
 -- The code keeps this only for long expressions.
 use Rattle.std.specs.Prelude.{◌≡◌, ℕ, List, length}

@@ -1,4 +1,4 @@
--- The step that a citation adds to a table, where a run takes the same step.
+-- The step that a citation adds to a table, if a run cites the same.
 use Rattle.steps.proofs.Words.{◌≡◌, ℕ, zero, suc, ◌-◌, ◌<◌, ◌≤◌, List, [], ◌∷◌, ◌++◌, length, map, drop, get_or, slice_get, Some, refl, sym, ◌∙◌, ap, subst, arith, inl, inr, length-map, map-append, get_or_from_slice_get, Name, Stmt, Expr, Database, stmt_at, before, expr_of, is_assertion, decode, Float, AssertionView, AreBelow, AllBelow, IsBound, IsViewOf, HasAssertion, hypotheses, Carries, IsHypothesis, IsInstance, premises, AreLegal, Cite, below-drop, IsTyped, AreRead, AreDifferent, AreNamed, Results, State, Cites, Steps, with_result, below, top, required-lengths, required-different, Meets, meets-step, read-over, cited-plain, append_cut, length-premises, not_both, apply-below, halves, length-top, map-drop, Row, no_row, expr_in, Follows, from_hypothesis, from_assertion, AreRows, row_of, rows_of, codes_in, progress_of, IsDraft, AgreesWithRun, GivesHypothesis, GivesAssertion, TableDraft, some-same, below-take}
 use Rattle.frame.specs.Substitution.{Images, CodeImages, apply as applied, code_apply}
 use Rattle.verify.specs.Machine.{of_hypothesis, of_assertion}
@@ -9,7 +9,7 @@ use Rattle.steps.proofs.PlacingLemmas.{found-draft, found-placed, found-tied, ma
 top-map : {A B : Type 0} (f : A → B) (n : ℕ) (xs : List A) → top n (map f xs) ≡ map f (top n xs)
 top-map f n xs = ap (λ l. drop (l - n) (map f xs)) (length-map xs f) ∙ sym (map-drop f (length xs - n) xs)
 
--- the codes of rows have names
+-- the symbol numbers of rows are below the count of names
 codes-named : (S : Database) (at : ℕ) (names : List Name) (rows : List Row) (ks : List ℕ) → AreRows S at names rows → AreBelow (length rows) ks → AllBelow (length names) (map (λ k. (get_or rows k no_row).expr) ks)
 codes-named S at names rows [] are b = tt
 codes-named S at names rows (k ∷ ks) are b = (one rows k are b.0, codes-named S at names rows ks are b.1)
@@ -80,7 +80,7 @@ module _ (S : Database) (at : ℕ) (names : List Name) (legal : AreLegal S names
     abbrev results : Results ℕ
     results = record { stack = map (codes_in d) d.stack.items; saved = map (codes_in d) d.saved.items; weight = st.weight }
 
-    -- each variable of the assertion is that of one mandatory `$f`
+    -- each variable of the assertion is that of exactly one mandatory `$f`
     bound : IsBound S a s
     bound = legal.bound a s has
 
@@ -88,11 +88,11 @@ module _ (S : Database) (at : ℕ) (names : List Name) (legal : AreLegal S names
     count' : length rows' ≡ length d.placed.items
     count' = length-map d.placed.items (row_of d.symbols)
 
-    -- a place of a placed step is one of a row
+    -- a place of a placed step is the place of a row
     in_rows : (ks : List ℕ) → AreBelow (length d.placed.items) ks → AreBelow (length rows') ks
     in_rows ks b = subst (λ m. AreBelow m ks) (sym count') b
 
-    -- the codes on the stack and those that are saved have names
+    -- the symbol numbers of the results on the stack and of the marked results are below the count of names
     are_named : AreNamed names results
     are_named = record { stack_named = codes-named S at names rows' d.stack.items is.rows (in_rows d.stack.items is.stack_below); saved_named = codes-named S at names rows' d.saved.items is.rows (in_rows d.saved.items is.saved_below) }
 
@@ -100,11 +100,11 @@ module _ (S : Database) (at : ℕ) (names : List Name) (legal : AreLegal S names
     map-map [] = refl
     map-map (k ∷ ks) = ap (λ r. expr_in names rows' k ∷ r) (map-map ks)
 
-    -- the run cites over what the codes of the rows stand for
+    -- the run cites the label over the expressions of the rows
     cites' : Cites S at label (map (decode names) results.stack) run.0 run.1
     cites' = subst (λ x. Cites S at label x run.0 run.1) (sym (map-map d.stack.items ∙ tied.stack)) run.2
 
-    -- so the codes on the stack are those that the assertion requires
+    -- so the results on top of the stack are those that the assertion requires
     meets' : Meets S names at a c results.stack run.1
     meets' = meets-step S names at a s c legal bound (cited-plain S names a s c cited) results label run.0 run.1 are_named carries has cites'
 
@@ -115,7 +115,7 @@ module _ (S : Database) (at : ℕ) (names : List Name) (legal : AreLegal S names
     top-codes : top n results.stack ≡ map (codes_in d) (top n d.stack.items)
     top-codes = top-map (codes_in d) n d.stack.items
 
-    -- the code for a `$f` begins with its typecode
+    -- the result for a `$f` begins with the typecode of the `$f`
     pub typed : (k x : ℕ) → slice_get c.hypotheses k ≡ Some (Float x) → IsTyped (get_or c.typecodes.now k 0) (get_or (map (codes_in d) (top n d.stack.items)) k [])
     typed k x kind = subst (λ es. IsTyped (get_or c.typecodes.now k 0) (get_or es k [])) top-codes (meets'.typed k x kind)
 
@@ -132,7 +132,7 @@ module _ (S : Database) (at : ℕ) (names : List Name) (legal : AreLegal S names
       takes : map (expr_in names rows') (top n d.stack.items) ≡ premises S a s images
       gives : run.1 ≡ applied images (expr_of s)
 
-    -- a citation of this label is an instance of this assertion
+    -- a citation of this label is one of this assertion, with some images
     instance' : (b : List Expr) (f : Expr) → Cites S at label st.stack b f → (σ : Images) × IsInstance S at a s σ × (st.stack ≡ b ++ premises S a s σ) × (f ≡ applied σ (expr_of s))
     instance' b f (of_hypothesis i t carries' active same whole) =
         let e : t ≡ s = some-same carries'.stands (ap (stmt_at S) (legal.once i a t s label carries' carries) ∙ carries.stands) in
@@ -146,7 +146,7 @@ module _ (S : Database) (at : ℕ) (names : List Name) (legal : AreLegal S names
           gives ∙ ap (λ u. applied σ (expr_of u)) e,
         )
 
-    -- the instance of the run, with the steps that it leaves and those that it takes
+    -- the images of the run; the results that remain on the stack, and those that are taken
     instance : Instance
     instance =
         let r = instance' run.0 run.1 run.2 in
@@ -198,7 +198,7 @@ module _ (S : Database) (at : ℕ) (names : List Name) (legal : AreLegal S names
     assertion-draft new (inl finds) = found-draft S at names legal d new is a_step (below n d.stack.items) run.1 finds low_rest assertion-same
     assertion-draft new (inr (ρ, read, makes)) = made-draft S at names legal d new is a_step (below n d.stack.items) (code_apply ρ c.conclusion.now) makes low_rest low_top (made-follows ρ read) (made-coded ρ read)
 
-    -- a step found or made records the citation, with what the run gives
+    -- whether the step was found or made, it records the citation, and its result is that of the run
     done' : (new : TableDraft) → GivesAssertion d new a c → IsRecorded S at names d label new (with_result st run.0 run.1)
     done' new (inl finds) = (
       (below n d.stack.items, a_step, finds.place, makes-step, found-placed S at names legal d new is a_step (below n d.stack.items) run.1 finds low_rest assertion-same, finds.stack, finds.saved),
@@ -216,6 +216,6 @@ module _ (S : Database) (at : ℕ) (names : List Name) (legal : AreLegal S names
     pub typecodes-count : length c.typecodes.now ≡ n
     typecodes-count = let l = required-lengths S names (hypotheses (before S a) s) c.typecodes.now c.hypotheses cited.required in l.0 ∙ sym l.1
 
-    -- no two of its `$f` are of one variable
+    -- no two of the mandatory `$f` have the same variable
     pub different : AreDifferent c.hypotheses
     different = required-different S names a s c.typecodes.now c.hypotheses bound cited.required

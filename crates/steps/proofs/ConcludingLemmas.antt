@@ -1,8 +1,8 @@
--- Images are read off results that begin with the typecodes of their hypotheses.
+-- The images are read from results that begin with the typecodes of their hypotheses.
 use Rattle.steps.proofs.Words.{◌≡◌, ℕ, Bool, true, false, List, [], length, map, get_or, slice_get, IfSome, None, Option, Some, Bor, subst, sym, ◌∙◌, Name, Expr, AreDistinct, decode, ArePlacesOf, SymbolGroups, decode-injective, AreBelow, AreExprPlaces, SymbolRange, symbols_in, images_at, AreWithin, Hypothesis, Float, IsTyped, AreRead, Reads, ReadsAll, reads-seen}
 
 module _ (xs ys typecodes : List ℕ) (hs : List Hypothesis) (places : List SymbolRange) (images : List (ℕ × SymbolRange)) (same : ys ≡ xs) (count : length places ≡ length hs) (within : AreWithin (length xs) places) where
-  -- the images read by places are those read off the results that stand there
+  -- the images read by ranges are those read from the results in these ranges
   seen : (b : Bool) → ReadsAll b (length hs) ys typecodes hs places images → Reads b typecodes hs (map (symbols_in xs) places) (images_at xs images)
   seen b r = reads-seen b xs typecodes hs places images count within (subst (λ s. ReadsAll b (length hs) s typecodes hs places images) same r)
 
@@ -15,7 +15,7 @@ module _ (xs ys typecodes : List ℕ) (hs : List Hypothesis) (places : List Symb
   pub all-read : (b : Bool) → ReadsAll b (length hs) ys typecodes hs places images → b ≡ true → AreRead typecodes hs (map (symbols_in xs) places) (images_at xs images)
   all-read b r e = subst (λ v. Reads v typecodes hs (map (symbols_in xs) places) (images_at xs images)) e (seen b r)
 
--- the places of an expression are those of its numbers
+-- the places of the symbols of an expression are those of their numbers
 pub standing-codes : (names : List Name) (e : List ℕ) (x : Expr) (standing : Option (Bor SymbolGroups)) → AreDistinct names → AreBelow (length names) e → decode names e ≡ x
     → IfSome standing (λ places. AreExprPlaces names x places.now) → IfSome standing (λ places. ArePlacesOf e places.now)
 standing-codes names e x None distinct below same p = tt

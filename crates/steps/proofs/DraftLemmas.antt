@@ -1,4 +1,4 @@
--- Rows in one buffer, one place at a time.
+-- The ranges of the rows in one buffer.
 use Rattle.steps.proofs.Words.{◌≡◌, ℕ, zero, suc, ◌+◌, ◌<◌, ◌≤◌, List, [], ◌∷◌, ◌++◌, length, map, take, get_or, refl, sym, ◌∙◌, ap, subst, arith, AreBelow, symbols_in, AreWithin, PlacedStep, no_row, row_of, place_in, AreInBuffer}
 
 pub place-get : (ps : List PlacedStep) (k : ℕ) (d : PlacedStep) → k < length ps → (get_or ps k d).place ≡ place_in ps k
@@ -11,7 +11,7 @@ map-more f [] i h = absurd (omega (arith, h))
 map-more f (x ∷ xs) zero h = refl
 map-more f (x ∷ xs) (suc i) h = let e : suc i + 1 ≡ suc (i + 1) = omega arith in ap (λ k. map f (take k (x ∷ xs))) e ∙ ap (λ r. f x ∷ r) (map-more f xs i (omega (arith, h)))
 
--- the expression of each placed step lies in the buffer
+-- the expression of each placed step is within the buffer
 pub in_buffer : (n : ℕ) (ps : List PlacedStep) (k : ℕ) → AreInBuffer n ps → k < length ps → let p = place_in ps k in (p.start ≤ p.end) × (p.end ≤ n)
 in_buffer n [] k b h = absurd (omega (arith, h))
 in_buffer n (p ∷ ps) zero b h = (b.0, b.1)

@@ -1,4 +1,4 @@
--- A row more: what stood before stands.
+-- The rows after a row is appended: the earlier rows stay.
 use Rattle.steps.proofs.Words.{◌≡◌, ◌≢◌, ℕ, zero, suc, ◌≤◌, ◌⊎◌, List, [], ◌∷◌, ◌++◌, length, map, slice_get, Some, None, refl, sym, ◌∙◌, ap, subst, arith, inl, inr, true≢false, true, false, Bool, BTreeMap, bytes_eq, Vec, Global, bytes_eq-Decides, slice_get_within, map_push, Name, Database, decode, AreBelow, seen-more, seen-last, get-front, PlacedStep, Step, Row, row, no_row, steps_of, expr_in, Follows, from_hypothesis, from_assertion, IsRow, AreRows, row_of, key_of, place_of, AreKnown, AreInBuffer, below-more, get-last}
 
 -- ---- one buffer
@@ -44,7 +44,7 @@ some-more [] x k y h = cc
 some-more (z ∷ xs) x zero y h = h
 some-more (z ∷ xs) x (suc k) y h = some-more xs x k y h
 
--- the row of a step
+-- each step is that of a row
 pub row-at : (rows : List Row) (k : ℕ) (step : Step) → slice_get (steps_of rows) k ≡ Some step → (row : Row) × (slice_get rows k ≡ Some row) × (row.step ≡ step)
 row-at [] k step h = cc
 row-at (r ∷ rows) zero step h = (r, refl, (let e : r.step ≡ step = cc in e))
@@ -78,7 +78,7 @@ module _ (S : Database) (at : ℕ) (names : List Name) where
           subst (λ x. IsRow S at names (rows ++ row ∷ []) k x) (sym same)
           (record { earlier = subst (λ n. AreBelow n row.step.taken) (sym e) earlier; follows = follows-more rows row row earlier follows; named = low })
 
--- ---- steps found again
+-- ---- finding a step that is there already
 
 same-key : (a b : Step) → key_of a ≡ key_of b → a ≡ b
 same-key a b e =

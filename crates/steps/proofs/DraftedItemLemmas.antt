@@ -1,8 +1,8 @@
--- The effect of one item on a draft.
+-- The effect of an item on the table that is built.
 use Rattle.steps.proofs.Words.{◌≡◌, ℕ, zero, suc, ◌-◌, ◌<◌, List, [], ◌∷◌, ◌++◌, length, map, get_or, slice_get, Option, Some, None, refl, sym, ◌∙◌, ap, subst, arith, length-append, length-map, map_push, slice_get-get_or, Name, Stmt, Expr, Database, stmt_at, AreBelow, Carries, IsHypothesis, IsMeaning, IsPosition, ArePositions, AreLegal, Nothing, Recall, Mark, State, Cites, with_result, with_mark, append_cut, get-map, Progress, steps_of, expr_in, AreRows, row_of, rows_of, AreInBuffer, AreKnown, IsDraft, AgreesWithRun, CanDo, IsDone, TableDraft, below-push, below-at}
 use Rattle.verify.specs.Machine.{of_hypothesis, of_assertion}
 
--- the last of a list
+-- a list that is not empty, split before its last element
 front-last : (xs : List ℕ) (d : ℕ) → 0 < length xs → (b : List ℕ) × (xs ≡ b ++ get_or xs (length xs - 1) d ∷ [])
 front-last [] d h = absurd (omega (arith, h))
 front-last (x ∷ []) d h = ([], refl)
@@ -103,7 +103,7 @@ module _ (S : Database) (at : ℕ) (names : List Name) (d : TableDraft) (is : Is
               (ap (map f) stack ∙ (map_push f d.stack.items p ∙ (ap (λ r. r ++ f p ∷ []) tied.stack ∙ ap (λ x. st.stack ++ x ∷ []) (sym one)))) (ap (map f) same_saved ∙ tied.saved)),
         )
 
--- a statement that may be cited is not nothing
+-- a statement that a run cites has a meaning
 pub never-nothing : (S : Database) (names : List Name) (at i : ℕ) (s : Stmt) (label : Name) (stack b : List Expr) (e : Expr) → AreLegal S names → Carries S i s label → IsMeaning S names at i Nothing
     → Cites S at label stack b e → ⊥
 never-nothing S names at i s label stack b e legal carries none (of_hypothesis j t carries' active same whole) =
@@ -113,7 +113,7 @@ never-nothing S names at i s label stack b e legal carries none (of_assertion a 
     let n : a ≡ i = legal.once a i t s label carries' carries in
     (none t (ap (stmt_at S) (sym n) ∙ carries'.stands)).1 (subst (λ k. k < at) n fits.earlier) fits.assertion
 
--- the place of a label that is cited
+-- the position found for a label is that of the statement with the label
 pub position-there : (S : Database) (labels : List Name) (positions : List (Option ℕ)) (k : ℕ) (o d : Option ℕ) → ArePositions S labels positions → k < length positions → o ≡ get_or positions k d
     → IsPosition S (get_or labels k []) o
 position-there S labels positions k o d are h e =

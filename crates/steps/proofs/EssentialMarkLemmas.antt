@@ -11,7 +11,7 @@ from-or-at (suc p) (suc j) h = on (from-or-at p j (omega (arith, h)))
     on (inl e) = inl (ap suc e)
     on (inr l) = inr (omega (arith, l))
 
--- ---- one mark
+-- ---- a mark is set
 
 set-only : (m : List Bool) (x k : ℕ) → HasMark (slice_set m x true) k → HasMark m k ⊎ (k ≡ x)
 set-only [] x k h = inl h
@@ -24,7 +24,7 @@ set-only (b ∷ m) (suc x) (suc k) h = on (set-only m x k h)
     on (inl e) = inl e
     on (inr e) = inr (ap suc e)
 
--- ---- marks one after another
+-- ---- marks are set one after another
 
 more-first : (x : ℕ) (ks : List ℕ) (m new : List Bool) → x < length m → MarksMore (slice_set m x true) new ks → MarksMore m new (x ∷ ks)
 more-first x ks m new low more = record { count = more.count ∙ length-set m x true; each = λ k. (λ h. only k ((more.each k).0 h), λ o. (more.each k).1 (there k o)) }
@@ -51,7 +51,7 @@ each-more [] m b = record { count = refl; each = λ k. (λ h. inl h, λ o. none 
 each-more (x ∷ ks) m b = more-first x ks m (mark_each ks (slice_set m x true)) b.0 (each-more ks (slice_set m x true) (subst (λ n. AreBelow n ks) (sym (length-set m x true)) b.1))
 
 module _ (S : Database) (steps : List Step) where
-  -- the last is marked
+  -- only the last step is marked at first
   marked-start : (marks : List Bool) → length marks ≡ length steps → ((k : ℕ) → HasMark marks k → length steps ≡ suc k) → ((k : ℕ) → length steps ≡ suc k → HasMark marks k) → AreMarkedFrom S steps (length steps) marks
   marked-start marks count only last = record {
     count = count;
@@ -60,7 +60,7 @@ module _ (S : Database) (steps : List Step) where
     closed = λ j k step from h at in_it. (let l = slice_get_within steps j step at in absurd (omega (arith, l, from)));
   }
 
-  -- no steps
+  -- if there are no steps, there are no marks
   marked-none : (marks : List Bool) → length steps ≡ 0 → marks ≡ replicate (length steps) false → AreMarkedFrom S steps (length steps) marks
   marked-none marks empty is = marked-start marks (ap length is ∙ length-replicate (length steps) false) (λ k h. absurd (bare k h)) (λ k e. absurd (omega (arith, empty, e)))
     where
@@ -70,7 +70,7 @@ module _ (S : Database) (steps : List Step) where
   abbrev none : List Bool
   none = replicate (length steps) false
 
-  -- the last step alone
+  -- if there are steps, the last one alone is marked
   marked-one : (marks : List Bool) → 0 < length steps → marks ≡ slice_set (replicate (length steps) false) (length steps - 1) true → AreMarkedFrom S steps (length steps) marks
   marked-one marks some is = marked-start marks (ap length is ∙ (length-set none (length steps - 1) true ∙ length-replicate (length steps) false)) (λ k h. only k (set-only none (length steps - 1) k (ap (λ m. get_or m k false) (sym is) ∙ h))) last
     where
@@ -91,7 +91,7 @@ module _ (S : Database) (steps : List Step) where
       by zero e = marked-none marks e (is ∙ (ap mark_last e ∙ sym (ap (λ n. replicate n false) e)))
       by (suc n) e = marked-one marks (omega (arith, e)) is
 
-  -- the step at p is not kept
+  -- the step at p is not marked, so nothing is marked for it
   pub marked-over : (p : ℕ) (marks : List Bool) → AreMarkedFrom S steps (suc p) marks → get_or marks p false ≡ false → AreMarkedFrom S steps p marks
   marked-over p marks m none = record {
     count = m.count;
@@ -104,7 +104,7 @@ module _ (S : Database) (steps : List Step) where
       by j k step (inl e) h at in_it = let x : get_or marks p false ≡ true = ap (λ i. get_or marks i false) (sym e) ∙ h in cc
       by j k step (inr l) h at in_it = m.closed j k step l h at in_it
 
-  -- the step at p is kept, and what it takes for a `$e` is marked
+  -- the step at p is marked, and so are the steps that it takes for a `$e`
   pub marked-on : (p : ℕ) (step : Step) (old new : List Bool) → AreMarkedFrom S steps (suc p) old → HasMark old p → slice_get steps p ≡ Some step → AreBelow p (essential_of S step) → MarksMore old new (essential_of S step) → AreMarkedFrom S steps p new
   marked-on p step old new m here at low more = record {
     count = more.count ∙ m.count;
@@ -125,7 +125,7 @@ module _ (S : Database) (steps : List Step) where
       by j k s (inr l) (inl h) at' in_it = (more.each k).1 (inl (m.closed j k s l h at' in_it))
       by j k s (inr l) (inr h) at' in_it = let x = below-get p (essential_of S step) h.0 j low h.1 in absurd (omega (arith, x, l))
 
-  -- all steps were looked at
+  -- all steps were visited
   module _ (marks : List Bool) (m : AreMarkedFrom S steps 0 marks) where
     -- each essential step is marked
     reached : {k : ℕ} → IsEssential S steps k → HasMark marks k

@@ -1,4 +1,4 @@
--- A map from lists of numbers has for each list but the one that was set what it had before.
+-- A map from lists of numbers, after one list is set, has the same values for all other lists.
 use Rattle.steps.proofs.Words.{◌≡◌, ◌≢◌, List, ℕ, Option, Vec, Global, BTreeMap, UpdatesBy, eq_by_cmp_equiv, slice_cmp, nat_list_cmp_total, nat_cmp, is_eq, place_of, apart, keeps}
 
 pub others-same : (xs : List ℕ) (m n : BTreeMap (Vec ℕ Global) ℕ) (w : Option ℕ) → UpdatesBy (λ a b. slice_cmp nat_cmp a.items b.items) (λ k. slice_cmp nat_cmp xs k.items) m n w

@@ -1,4 +1,4 @@
--- The lists that a table keeps are those of their assertions.
+-- The lists that a table keeps are those of its assertions.
 use Rattle.steps.proofs.Words.{◌≡◌, ℕ, zero, suc, ◌<◌, List, [], ◌∷◌, ◌++◌, length, map, slice_get, Some, refl, sym, ◌∙◌, ap, subst, arith, length-append, Name, Stmt, Database, stmt_at, before, expr_of, decode, AssertionView, IsViewOf, AreBelow, mandatory_groups, same_Some, HasPartsOf, Listed, AreMadeOf, AreListsOf, AreKept, IsAt}
 
 pub kept-push : (S : Database) (names : List Name) (ls : List Listed) (l : Listed) → AreKept S names ls → ((s : Stmt) → stmt_at S l.position ≡ Some s → AreListsOf S names l s) → AreKept S names (ls ++ l ∷ [])
@@ -20,7 +20,7 @@ at-end ls l position same = record {
     last [] = refl
     last (k ∷ ks) = last ks
 
--- what was made of an assertion's parts is of that assertion
+-- the list made of the parts of an assertion is that of the assertion
 pub made-of : (S : Database) (names : List Name) (a : ℕ) (s : Stmt) (c : AssertionView) (l : Listed) → IsViewOf S names a s c → AreMadeOf a c l → AreListsOf S names l s
 made-of S names a s c l is made = record {
   hypotheses_of = rw (made.at, made.typecodes_same, made.hypotheses_same) is.required;
@@ -32,7 +32,7 @@ made-of S names a s c l is made = record {
 pub whole-parts : (S : Database) (names : List Name) (a : ℕ) (s : Stmt) (c : AssertionView) → IsViewOf S names a s c → HasPartsOf S names a s c
 whole-parts S names a s c is = (c.groups, record { required = is.required; conclusion = is.conclusion; conclusion_below = is.conclusion_below; groups = is.groups; groups_below = is.groups_below })
 
--- the parts that are shown of a list that is kept
+-- a view of a list that is kept has the parts of the assertion
 pub kept-parts : (S : Database) (names : List Name) (ls : List Listed) (i a : ℕ) (l : Listed) (c : AssertionView) → AreKept S names ls → IsAt ls i a → slice_get ls i ≡ Some l → (s : Stmt) → stmt_at S a ≡ Some s
     → c.typecodes.now ≡ l.typecodes → c.hypotheses ≡ l.required → decode names c.conclusion.now ≡ expr_of s → AreBelow (length names) c.conclusion.now → HasPartsOf S names a s c
 kept-parts S names ls i a l c kept at here s stands typecodes required same below =

@@ -13,7 +13,7 @@ module _ (marks : List Bool) where
   pub before-other : (k : ℕ) → get_or marks k false ≡ false → marked_before marks (suc k) ≡ marked_before marks k
   before-other k h = ap (next k) h
 
-  -- a marked place stands at its number
+  -- the marked place k is at the index that is its number
   pub stands-at : (i k : ℕ) → k < i → HasMark marks k → slice_get (marked_before marks i) (number_of marks k) ≡ Some k
   stands-at zero k l h = absurd (omega (arith, l))
   stands-at (suc i) k l h = by (λ s. stands-at i k s h) (from-or-at k i (omega (arith, l))) (cases_Bool (get_or marks i false))
@@ -27,7 +27,7 @@ module _ (marks : List Bool) where
   abbrev IsNumbered : ℕ → ℕ → ℕ → Type 0
   IsNumbered i n k = (k < i) × HasMark marks k × (n ≡ number_of marks k)
 
-  -- a place that is numbered before i is numbered before the next
+  -- a place that has a number among those before i has it among those before i + 1
   wider : (i n k : ℕ) → IsNumbered i n k → IsNumbered (suc i) n k
   wider i n k r = (let l = r.0 in omega (arith, l), r.1, r.2)
 
@@ -35,7 +35,7 @@ module _ (marks : List Bool) where
   number-last i n k t before (inl e) = wider i n k (before e)
   number-last i n k t before (inr (e, same)) = subst (λ x. IsNumbered (suc i) n x) (sym same) (omega arith, t, e)
 
-  -- the place at a number is a marked place that has it
+  -- the place at an index is marked, and has the index as its number
   pub has-number : (i n k : ℕ) → slice_get (marked_before marks i) n ≡ Some k → (k < i) × HasMark marks k × (n ≡ number_of marks k)
   has-number zero n k h = cc
   has-number (suc i) n k h = by (has-number i n k) (cases_Bool (get_or marks i false))
@@ -44,7 +44,7 @@ module _ (marks : List Bool) where
       by before (inl t) = number-last i n k t before (some-front (marked_before marks i) i n k (ap (λ v. slice_get v n) (sym (before-marked i t)) ∙ h))
       by before (inr f) = wider i n k (before (ap (λ v. slice_get v n) (sym (before-other i f)) ∙ h))
 
-  -- a row more, or none
+  -- the rows after a marked place, and after another one
   pub kept-more : (f : ℕ → Row) (k : ℕ) (old new : List Row) → HasMark marks k → old ≡ map f (marked_before marks k) → new ≡ old ++ f k ∷ [] → new ≡ map f (marked_before marks (k + 1))
   kept-more f k old new h is e =
       let one : k + 1 ≡ suc k = omega arith in
@@ -59,7 +59,7 @@ module _ (marks : List Bool) where
   one-longer i (inl t) = let e = ap length (before-marked i t) in let m = length-append (marked_before marks i) (i ∷ []) in omega (arith, e, m)
   one-longer i (inr f) = let e = ap length (before-other i f) in omega (arith, e)
 
-  -- a later place has no smaller number
+  -- the number of a later place is not smaller
   longer : (j i : ℕ) → j ≤ i → number_of marks j ≤ number_of marks i
   longer j zero l = let e : j ≡ 0 = omega (arith, l) in subst (λ x. number_of marks x ≤ 0) (sym e) (omega arith)
   longer j (suc i) l = by (longer j i) (from-or-at j (suc i) l)
@@ -102,7 +102,7 @@ map-twice : {A B C : Type 0} (f : B → C) (g : A → B) (xs : List A) → map f
 map-twice f g [] = refl
 map-twice f g (x ∷ xs) = ap (λ r. f (g x) ∷ r) (map-twice f g xs)
 
--- the numbers of these places, looked up
+-- the new numbers of places, looked up
 pub numbers-are : (marks : List Bool) (k : ℕ) (numbers ks : List ℕ) → AreNumbers marks k numbers → ((i x : ℕ) → slice_get ks i ≡ Some x → x < k) → map (λ x. get_or numbers x 0) ks ≡ map (number_of marks) ks
 numbers-are marks k numbers ks are low = maps-each (λ x. get_or numbers x 0) (number_of marks) ks (λ i x e. are.each x (let l = low i x e in omega (arith, l)))
 
@@ -126,14 +126,14 @@ module _ (S : Database) (rows : List Row) (marks : List Bool) (are : AreMarks S 
   step-of : (k : ℕ) → k < length rows → slice_get (steps_of rows) k ≡ Some (get_or rows k no_row).step
   step-of k l = step-at rows k (get_or rows k no_row) (slice_get-get_or rows k no_row l)
 
-  -- a step that a marked step takes for a `$e` is kept, at its number
+  -- a step that a marked step takes for a `$e` is listed, at its new number
   numbered : (k : ℕ) → HasMark marks k → (i x : ℕ) → slice_get (essential_of S (get_or rows k no_row).step) i ≡ Some x → slice_get kept (number_of marks x) ≡ Some x
   numbered k h i x e =
       let taken : IsEssential S (steps_of rows) x = is_taken k (get_or rows k no_row).step ((are.exact k).0 h) (step-of k (within k h)) (i, e) in
       let m = (are.exact x).1 taken in
       stands-at marks (length rows) x (within x m) m
 
-  -- the row that is written for a marked place is its row, numbered anew
+  -- the row written for a marked place is its row, renumbered
   renumbered : (k : ℕ) → HasMark marks k → IsRenumbered S kept (get_or rows k no_row) (kept_row S rows marks k)
   renumbered k h = record {
     position = refl;

@@ -1,4 +1,4 @@
--- A step that stood already, or that is new, in a table while it is made.
+-- A step is placed in the table that is built: it is there already, or it is new.
 use Rattle.steps.proofs.Words.{◌≡◌, ℕ, ◌+◌, ◌<◌, ◌≤◌, List, [], ◌∷◌, ◌++◌, length, map, slice_get, Some, sym, ◌∙◌, ap, subst, arith, length-append, length-map, map_push, get_or_from_slice_get, slice_get_within, Name, Expr, Database, decode, AreBelow, AreLegal, State, with_result, Step, IsPlaced, stands, comes_last, Row, no_row, steps_of, expr_in, Follows, AreRows, row_of, rows_of, IsDraft, AgreesWithRun, Finds, TableDraft, below-push, below-more}
 use Rattle.frame.proofs.PositionLemmas.{get-last}
 use Rattle.steps.specs.Stored.Drafted as drafted
@@ -12,23 +12,23 @@ module _ (S : Database) (at : ℕ) (names : List Name) (legal : AreLegal S names
   count : length rows ≡ length d.placed.items
   count = length-map d.placed.items (row_of d.symbols)
 
-  -- a place of a placed step is one of a row
+  -- a place of a placed step is the place of a row
   rows_below : (ks : List ℕ) → AreBelow (length d.placed.items) ks → AreBelow (length rows) ks
   rows_below ks b = subst (λ n. AreBelow n ks) (sym count) b
 
-  -- ---- a step that stood already
+  -- ---- a step that is there already
 
   module _ (step : Step) (rest : List ℕ) (f : Expr) (finds : Finds d new step rest) (low : AreBelow (length d.placed.items) rest)
       (gives : (row : Row) → row.step ≡ step → Follows S at names rows row → decode names row.expr ≡ f) where
-    -- where the step was found, the rows stay
+    -- if the step was found, the rows stay
     same_rows : rows_of new ≡ rows
     same_rows = ap (λ s. map (row_of s) new.placed.items) finds.symbols ∙ ap (map (row_of d.symbols)) finds.placed
 
-    -- it stands where it was found
+    -- the step is at the place that was found
     at_step : slice_get (steps_of rows) finds.place ≡ Some step
     at_step = is.known.there step finds.place finds.found
 
-    -- the place where it was found is in the table
+    -- the place that was found is in the table
     found_low : finds.place < length d.placed.items
     found_low = let l = slice_get_within (steps_of rows) finds.place step at_step in let m = length-map rows (λ r. r.step) in let n = count in omega (arith, l, m, n)
 
@@ -54,32 +54,32 @@ module _ (S : Database) (at : ℕ) (names : List Name) (legal : AreLegal S names
           saved = ap (λ x. map (expr_in names x) new.saved.items) same_rows ∙ (ap (map (expr_in names rows)) finds.saved ∙ tied.saved);
         }
 
-  -- ---- a step that is new
+  -- ---- a new step
 
   module _ (step : Step) (rest e : List ℕ) (makes : drafted.Makes d new step rest e) (low : AreBelow (length d.placed.items) rest) (low_taken : AreBelow (length d.placed.items) step.taken)
       (follows : Follows S at names rows (record { step = step; expr = e })) (coded : AreBelow (length names) e) where
     abbrev row : Row
     row = record { step = step; expr = e }
 
-    -- the rows are those before, and the new one
+    -- the rows are the earlier ones and the new one
     more_rows : rows_of new ≡ rows ++ row ∷ []
     more_rows =
         ap (map (row_of new.symbols)) makes.placed
         ∙ rows-more d.symbols e new.symbols d.placed.items makes.made step is.inside makes.symbols makes.start makes.end makes.is_position makes.is_taken
 
-    -- the steps are those before, and the new one
+    -- the steps are the earlier ones and the new one
     more_steps : steps_of (rows_of new) ≡ steps_of rows ++ step ∷ []
     more_steps = ap steps_of more_rows ∙ map_push (λ r. r.step) rows row
 
-    -- there are as many steps as were placed
+    -- there are as many steps as placed ones
     steps_count : length (steps_of rows) ≡ length d.placed.items
     steps_count = length-map rows (λ r. r.step) ∙ count
 
-    -- one step more is placed
+    -- there is one more placed step
     longer : length new.placed.items ≡ length d.placed.items + 1
     longer = ap length makes.placed ∙ length-append d.placed.items (makes.made ∷ [])
 
-    -- the new step stood nowhere
+    -- the new step was at no place
     fresh : (k : ℕ) → slice_get (steps_of rows) k ≡ Some step → ⊥
     fresh k h = let x = is.known.all step k h in let y = makes.fresh in cc
 

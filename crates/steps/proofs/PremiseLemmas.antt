@@ -1,8 +1,8 @@
--- The places that a step takes for a `$e`, by its assertion's hypotheses.
+-- The places that a step takes for a `$e`, by the hypotheses of its assertion.
 use Rattle.steps.proofs.Words.{◌≡◌, ℕ, zero, suc, ◌+◌, ◌<◌, Bool, true, false, if◌then◌else◌, List, [], ◌∷◌, ◌++◌, length, drop, get_or, Some, refl, sym, ◌∙◌, ap, subst, arith, append_assoc, length-map, slice_get-get_or, Name, Stmt, Database, stmt_at, before, is_assertion, Hypothesis, Float, Essential, AreBelow, IsOf, AreRequired, HasAssertion, hypotheses, IsHypothesis, required-lengths, length-premises, not_both, Row, no_row, expr_in, Follows, from_hypothesis, from_assertion, AreRows, is_premise, for_premises, mandatory, essential_of, taken_by, some-same}
 use Rattle.mm_read.specs.declared.stmt.Stmt.TheVariants as stmt
 
--- the parts of the assertion tell which hypotheses are `$e`
+-- the places taken for a `$e` are found by the kinds of the hypotheses
 pub premises-by : (S : Database) (names : List Name) (ps typecodes : List ℕ) (hs : List Hypothesis) (taken : List ℕ) → AreRequired S names ps typecodes hs → for_premises S ps taken ≡ taken_by hs taken
 premises-by S names [] [] [] taken a = refl
 premises-by S names [] [] (h ∷ hs) taken a = absurd a
@@ -31,7 +31,7 @@ premises-by S names (p ∷ ps) (c ∷ typecodes) (h ∷ hs) (k ∷ taken) a =
 
 -- ---- one hypothesis after another
 
--- the place that is taken for one hypothesis
+-- the place taken for one hypothesis, if it is a `$e`
 abbrev pub taken_for : Hypothesis → ℕ → List ℕ
 taken_for (Float x) t = []
 taken_for (Essential p) t = t ∷ []
@@ -74,7 +74,7 @@ premises-low S n (p ∷ ps) (k ∷ taken) b = by (premises-low S n ps taken b.1)
     by rest false = rest
 
 module _ (S : Database) (at : ℕ) (names : List Name) (rows : List Row) (row : Row) (follows : Follows S at names rows row) (position : ℕ) (is : position ≡ row.step.position) where
-  -- a step that cites an assertion
+  -- a step that cites an assertion takes as many steps as this has mandatory hypotheses
   takes-all : (s : Stmt) → HasAssertion S position s → Follows S at names rows row → length row.step.taken ≡ length (hypotheses (before S position) s)
   takes-all s has (from_hypothesis t active none e) = absurd (not_both t active.kind (ap is_assertion (some-same active.stands (ap (stmt_at S) (sym is) ∙ has.0)) ∙ has.1))
   takes-all s has (from_assertion t σ fits takes e) =
@@ -91,7 +91,7 @@ module _ (S : Database) (at : ℕ) (names : List Name) (rows : List Row) (row : 
       ap (λ p. for_premises S (mandatory S p (stmt_at S p)) row.step.taken) (sym is)
       ∙ (ap (λ o. for_premises S (mandatory S position o) row.step.taken) has.0 ∙ premises-by S names (hypotheses (before S position) s) typecodes hs row.step.taken required)
 
-  -- a step that cites a hypothesis
+  -- a step that cites a hypothesis takes no step for a `$e`
   takes-none : (s : Stmt) → IsHypothesis S at position s → Follows S at names rows row → [] ≡ essential_of S row.step
   takes-none s active (from_hypothesis t active' none e) =
       sym (ap (for_premises S (mandatory S row.step.position (stmt_at S row.step.position))) none ∙ premises-none S (mandatory S row.step.position (stmt_at S row.step.position)))
@@ -100,7 +100,7 @@ module _ (S : Database) (at : ℕ) (names : List Name) (rows : List Row) (row : 
   pub none-essential : (s : Stmt) → IsHypothesis S at position s → [] ≡ essential_of S row.step
   none-essential s active = takes-none s active follows
 
-  -- a step cites something
+  -- a step cites an active hypothesis or an earlier assertion
   something : ((s : Stmt) → stmt_at S position ≡ Some s → (IsHypothesis S at position s → ⊥) × (position < at → is_assertion s ≡ true → ⊥)) → Follows S at names rows row → ⊥
   something nothing (from_hypothesis s active none e) = (nothing s (ap (stmt_at S) is ∙ active.stands)).0 (subst (λ p. IsHypothesis S at p s) (sym is) active)
   something nothing (from_assertion s σ fits takes e) = (nothing s (ap (stmt_at S) is ∙ fits.stands)).1 (subst (λ p. p < at) (sym is) fits.earlier) fits.assertion

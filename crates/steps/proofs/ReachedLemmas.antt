@@ -1,4 +1,4 @@
--- How far the items were recorded, and that the rest of them runs through.
+-- The items recorded so far; a run takes the others.
 use Rattle.steps.proofs.Words.{◌≡◌, ℕ, zero, suc, ◌-◌, ◌+◌, ◌<◌, ◌≤◌, List, [], ◌∷◌, length, map, take, drop, get_or, Some, refl, sym, ◌∙◌, ap, subst, arith, length-map, drop_all, Name, Stmt, Expr, Database, stmt_at, expr_of, AreLegal, Item, item_of, items_of, State, start, Steps, Runs, IsRight, conclude_same, spellings_run, items-more, all-taken, progress, RecordsItems, AreSteps, steps_of, expr_in, row_of, rows_of, progress_of, AgreesWithRun, CanDo, IsDone, TableDraft, some-same}
 use Rattle.steps.proofs.SoundLemmas.{records-sound, records-snoc, nothing-sound, root-last}
 
@@ -34,7 +34,7 @@ module _ (S : Database) (at : ℕ) (names : List Name) where
         recorded = ap (λ r. progress (steps_of r) [] []) (sym rows) ∙ (ap (λ s. progress (steps_of (rows_of d)) s []) (sym stack) ∙ ap (λ s. progress (steps_of (rows_of d)) d.stack.items s) (sym saved));
       }
 
-  -- the item may be done
+  -- the run does the next item, and then the others
   pub reached-run : (labels : List Name) (numbers : List ℕ) (i : ℕ) (d : TableDraft) → i < length numbers → (r : Reached labels numbers i d) → (next : State) × Steps S at r.state (item_of labels (get_or numbers i 0)) next × Runs S at next (map (item_of labels) (drop (i + 1) numbers)) r.end
   reached-run labels numbers i d h r = subst (λ is. Runs S at r.state is r.end) (drop-more labels numbers i h) r.rest
 
@@ -57,7 +57,7 @@ module _ (S : Database) (at : ℕ) (names : List Name) where
             (records-snoc S at (map (item_of labels) (take i numbers)) (item_of labels (get_or numbers i 0)) (progress [] [] []) (progress_of d) (progress_of new) r.recorded y.0);
       }
 
-  -- all were done
+  -- all items were done
   module _ (labels : List Name) (numbers : List ℕ) (items : List Item) (i : ℕ) (d : TableDraft) (same : items_of labels numbers ≡ items) (h : length numbers ≤ i) (r : Reached labels numbers i d) where
     -- the run is at its end
     over : r.state ≡ r.end
@@ -69,7 +69,7 @@ module _ (S : Database) (at : ℕ) (names : List Name) where
     one-left : map (expr_in names (rows_of d)) d.stack.items ≡ expr_of r.stmt ∷ []
     one-left = r.tied.stack ∙ (ap (λ s. s.stack) over ∙ r.ends)
 
-    -- a stack of one expression is one place, whose row has it
+    -- if the stack has one expression, it has one place, and its row has the expression
     root : (xs : List ℕ) (e : Expr) → map (expr_in names (rows_of d)) xs ≡ e ∷ [] → (n : ℕ) × (xs ≡ n ∷ []) × (expr_in names (rows_of d) n ≡ e)
     root [] e q = cc
     root (x ∷ []) e q = (x, refl, (let p : expr_in names (rows_of d) x ≡ e = cc in p))

@@ -1,4 +1,4 @@
--- Properties of the steps of items, whatever the items are.
+-- Properties of the steps of any items.
 use Rattle.steps.proofs.Words.{◌≡◌, ℕ, zero, suc, ◌-◌, ◌<◌, ◌⊎◌, List, [], ◌∷◌, ◌++◌, length, slice_get, Some, refl, sym, ◌∙◌, ap, subst, arith, length-append, inl, inr, slice_get_within, Name, Database, AreBelow, Item, Cite, Recall, Mark, below-get, Step, Progress, progress, IsPlaced, stands, comes_last, Makes, of_hypothesis, of_assertion, RecordsItem, RecordsItems, AreSteps, below-push, below-more, get-last}
 use Rattle.steps.proofs.DraftRowLemmas.{some-front, some-more}
 
@@ -13,7 +13,7 @@ pub below-split : (n : ℕ) (xs ys : List ℕ) → AreBelow n (xs ++ ys) → Are
 below-split n [] ys b = (tt, b)
 below-split n (x ∷ xs) ys b = let r = below-split n xs ys b.1 in ((b.0, r.0), r.1)
 
--- a place of two lists one after the other
+-- an element of two lists together is one of the first at its index, or one of the second
 some-split : (xs ys : List ℕ) (k x : ℕ) → slice_get (xs ++ ys) k ≡ Some x → (slice_get xs k ≡ Some x) ⊎ ((j : ℕ) × (slice_get ys j ≡ Some x))
 some-split [] ys k x h = inr (k, h)
 some-split (y ∷ xs) ys zero x h = inl h
@@ -23,7 +23,7 @@ some-split (y ∷ xs) ys (suc k) x h = some-split xs ys k x h
 
 module _ (p q : Progress) (is : IsSound p) (below : List ℕ) (step : Step) (n : ℕ) (low : AreBelow (length p.steps) below) (low_taken : AreBelow (length p.steps) step.taken)
     (waits : (k x : ℕ) → slice_get p.stack k ≡ Some x → (slice_get below k ≡ Some x) ⊎ ((j : ℕ) × (slice_get step.taken j ≡ Some x))) (stack : q.stack ≡ below ++ n ∷ []) (saved : q.saved ≡ p.saved) where
-  -- with a step that stood already all stays sound
+  -- after a step that was there already is placed, the properties hold
   stood : slice_get p.steps n ≡ Some step → q.steps ≡ p.steps → IsSound q
   stood h same = record {
     stack_below = subst (λ s. AreBelow (length s) q.stack) (sym same) (subst (AreBelow (length p.steps)) (sym stack) (below-push (length p.steps) below n low (slice_get_within p.steps n step h)));
@@ -43,7 +43,7 @@ module _ (p q : Progress) (is : IsSound p) (below : List ℕ) (step : Step) (n :
               let y = slice_get_within p.steps n step h in
               absurd (omega (arith, x, y, e))
 
-  -- with a new step after all others all stays sound
+  -- after a new step is appended, the properties hold
   added : ((k : ℕ) → slice_get p.steps k ≡ Some step → ⊥) → n ≡ length p.steps → q.steps ≡ p.steps ++ step ∷ [] → IsSound q
   added fresh place more =
       let len : length q.steps ≡ suc (length p.steps) = (let l = length-append p.steps (step ∷ []) in let m = ap length more in omega (arith, l, m)) in
@@ -65,13 +65,13 @@ module _ (p q : Progress) (is : IsSound p) (below : List ℕ) (step : Step) (n :
       once j k s (inr (e, same)) (inl f) = absurd (fresh k (f ∙ ap Some same))
       once j k s (inr (e, same)) (inr (f, same')) = e ∙ sym f
 
-  -- so it does with a step that is placed, either way
+  -- after a step is placed, either way, the properties hold
   pub cited : IsPlaced p.steps step q.steps n → IsSound q
   cited (stands h same) = stood h same
   cited (comes_last fresh place more) = added fresh place more
 
 module _ (S : Database) (at : ℕ) where
-  -- after a citation all is sound
+  -- after a citation the properties hold
   cites : (p q : Progress) (label : Name) → IsSound p → RecordsItem S at p (Cite label) q → IsSound q
   cites p q label is (below, step, n, makes, placed, stack, saved) = by makes
     where
@@ -82,7 +82,7 @@ module _ (S : Database) (at : ℕ) where
           let b = below-split (length p.steps) below step.taken (subst (AreBelow (length p.steps)) whole is.stack_below) in
           cited p q is below step n b.0 b.1 (λ k x h. some-split below step.taken k x (ap (λ v. slice_get v k) (sym whole) ∙ h)) stack saved placed
 
-  -- after a recall all is sound
+  -- after a recall the properties hold
   recalls : (p : Progress) (n : ℕ) → IsSound p → n < length p.steps → IsSound (progress p.steps (p.stack ++ n ∷ []) p.saved)
   recalls p n is low = record {
     stack_below = below-push (length p.steps) p.stack n is.stack_below low;
@@ -92,7 +92,7 @@ module _ (S : Database) (at : ℕ) where
     last = λ m e. let r = is.last m e in (r.0, some-more p.stack n r.0 m r.1);
   }
 
-  -- after a mark all is sound
+  -- after a mark the properties hold
   marks : (p : Progress) (n : ℕ) → IsSound p → n < length p.steps → IsSound (progress p.steps p.stack (p.saved ++ n ∷ []))
   marks p n is low = record {
     stack_below = is.stack_below;
@@ -119,7 +119,7 @@ module _ (S : Database) (at : ℕ) where
 pub nothing-sound : IsSound (progress [] [] [])
 nothing-sound = record { stack_below = tt; saved_below = tt; ordered = λ k s e. (let x = e in cc); once = λ j k s e f. (let x = e in cc); last = λ n e. absurd (omega (arith, e)) }
 
--- the one result that is left is that of the last step
+-- if one result is left, it is that of the last step
 pub root-last : (p : Progress) (n : ℕ) → IsSound p → p.stack ≡ n ∷ [] → length p.steps ≡ suc n
 root-last p n is one =
     let low = (subst (AreBelow (length p.steps)) one is.stack_below).0 in

@@ -1,4 +1,4 @@
--- The steps of items last_unfolded to the derivation that the items spell.
+-- The last of the steps of a list of items unfolds to the derivation that the items spell.
 use Rattle.steps.proofs.Words.{◌≡◌, ℕ, zero, suc, ◌+◌, ◌-◌, ◌<◌, Bool, true, false, if◌then◌else◌, List, [], ◌∷◌, ◌++◌, length, map, slice_get, Some, refl, sym, ◌∙◌, ap, subst, arith, length-append, length-map, map_push, map-append, map-at, Name, Stmt, Database, stmt_at, is_assertion, AreBelow, IsHypothesis, HasLabelsOnce, Item, Cite, Recall, Mark, Derivation, hyp, apply, from_list, Trees, trees, a_hypothesis, an_assertion, Grows, GrowsBy, pick, IsRight, Derives, not_both, leaves, map-pick, trees-same, get-front, Step, Progress, progress, IsPlaced, stands, comes_last, Makes, of_hypothesis, of_assertion, RecordsItem, RecordsItems, AreSteps, has_assertion, citation_over, unfolded_after, unfolded, last_unfolded}
 use Rattle.frame.proofs.PositionLemmas.{get-last}
 use Rattle.steps.proofs.SoundLemmas.{IsSound, record_item-sound, nothing-sound, below-split}
@@ -23,7 +23,7 @@ module _ (S : Database) where
   unfolded-length : (steps : List Step) → length (unfolded S steps) ≡ length steps
   unfolded-length steps = let r = after-length [] steps in omega (arith, r)
 
-  -- the derivations that stood already
+  -- the derivations before those of these steps stay
   front-kept : (ts : List Derivation) (steps : List Step) (k : ℕ) → k < length ts → pick (unfolded_after S ts steps) k ≡ pick ts k
   front-kept ts [] k l = refl
   front-kept ts (s ∷ steps) k l =
@@ -34,7 +34,7 @@ module _ (S : Database) where
   fronts-kept ts steps [] b = refl
   fronts-kept ts steps (k ∷ ks) b = ap (λ t. t ∷ map (pick (unfolded_after S ts steps)) ks) (front-kept ts steps k b.0) ∙ ap (λ r. pick ts k ∷ r) (fronts-kept ts steps ks b.1)
 
-  -- the derivation of a step
+  -- the derivation of a step is its citation, applied to the derivations of the steps that it takes
   after-at : (ts : List Derivation) (steps : List Step) (n : ℕ) (step : Step) → slice_get steps n ≡ Some step → AreBelow (length ts + n) step.taken
       → pick (unfolded_after S ts steps) (length ts + n) ≡ citation_over S (unfolded_after S ts steps) step
   after-at ts [] n step h b = cc
@@ -59,12 +59,12 @@ module _ (S : Database) where
   unfolded-at : (steps : List Step) (n : ℕ) (step : Step) → slice_get steps n ≡ Some step → AreBelow n step.taken → pick (unfolded S steps) n ≡ citation_over S (unfolded S steps) step
   unfolded-at steps n step h b = let e : 0 + n ≡ n = omega arith in ap (pick (unfolded S steps)) (sym e) ∙ after-at [] steps n step h (subst (λ k. AreBelow k step.taken) (sym e) b)
 
-  -- ---- the machine over derivations does the items that are recorded
+  -- ---- a machine over derivations takes the items that are recorded
 
   abbrev seen : Progress → Trees
   seen p = trees (map (pick (unfolded S p.steps)) p.stack) (map (pick (unfolded S p.steps)) p.saved)
 
-  -- a citation puts the derivation of its step on those below
+  -- after a citation, the derivation of its step is on top of those below
   cites-over : (p q : Progress) (below : List ℕ) (step : Step) (n : ℕ) → IsSound p → AreBelow (length p.steps) below → IsPlaced p.steps step q.steps n → q.stack ≡ below ++ n ∷ [] → q.saved ≡ p.saved
       → seen q ≡ trees (map (pick (unfolded S p.steps)) below ++ citation_over S (unfolded S p.steps) step ∷ []) (map (pick (unfolded S p.steps)) p.saved)
   cites-over p q below step n is low (stands h same) stack saved =

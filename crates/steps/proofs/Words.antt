@@ -1,4 +1,4 @@
--- The words in which this crate is proved, passed on from one place.
+-- The definitions and lemmas of other crates that the proofs of this crate use, re-exported from one place.
 pub use Rattle.entries.proofs.StatementRecordLemmas.{get-last}
 pub use Rattle.entries.specs.Hypotheses.{told}
 pub use Rattle.entries.specs.SymbolPlaces.{ArePlacesOf, SymbolGroups}

@@ -1,4 +1,4 @@
--- Variables of one active `$d`: each two of them are disjoint.
+-- The variables of one active `$d` are pairwise disjoint.
 use Rattle.subst.proofs.Words.{◌≡◌, ℕ, ◌+◌, ◌<◌, ◌&&◌, ◌||◌, ◌==◌, true, false, not, true≢false, List, length, take, get_or, list_any, bit_at, bit_or, Option, Some, refl, sym, ◌∙◌, ap, subst, arith, inl, inr, and_from, or_left, or_right, eq-eqb, list_any_at, get_or-take, length-take, below-at, name_at, is_pair, AreBelow, Numbered, Places, IsAt, IsPlace, Grows, IsAmong, AreBitsOf, PlaceWord, RowWord, IsFact, AreFacts, ArePairs, RecordsWord}
 use Rattle.subst.proofs.BitsLemmas.{differ, zero-none, or-either}
 use Rattle.subst.proofs.VariablePlaceLemmas.{among-before, among-last}
@@ -6,7 +6,7 @@ use Rattle.subst.proofs.DisjointRowLemmas.{facts-recorded}
 
 -- ---- the bits of a list
 
--- a place has one variable
+-- a place has only one variable
 at-same : (f : Places) (j x y : ℕ) → IsAt f j x → IsAt f j y → x ≡ y
 at-same f j x y one two = sym one.same ∙ two.same
 
@@ -22,20 +22,20 @@ bits-grown f g bits n list grows h = record {
       h.once i j x a b (subst (IsAt f i) (at-same g i one.0 x (grows.each i one.0 one.2) p) one.2) (subst (IsAt f j) (at-same g j two.0 x (grows.each j two.0 two.2) q) two.2));
 }
 
--- a symbol that stands there already
+-- a symbol that occurred before adds no bit
 pub bits-again : (f : Places) (bits n : ℕ) (list : List ℕ) → AreBitsOf f bits n list → AreBitsOf f bits (n + 1) list
 bits-again f bits n list h = record { only = λ j b. (let o = h.only j b in (o.0, among-before n list o.0 o.1, o.2)); once = h.once }
 
 some-same : (i j : ℕ) (o : Option ℕ) → o ≡ Some i → o ≡ Some j → i ≡ j
 some-same i j o a b = cc
 
--- a symbol more
+-- the next symbol adds the bit of its place
 module _ (v : Numbered) (f : Places) (bits bit n : ℕ) (list : List ℕ) (place : Option ℕ) (low : n < length list) (h : AreBitsOf f bits n list) (none : list_any (λ y. y == get_or list n 0) (take n list) ≡ false)
     (is : (j : ℕ) → bit_at bit j ≡ 1 → place ≡ Some j) (at : IsPlace v f (get_or list n 0) place) where
   own : (j : ℕ) → bit_at bit j ≡ 1 → IsAt f j (get_or list n 0)
   own j b = subst (IsPlace v f (get_or list n 0)) (is j b) at
 
-  -- a place of the former symbols is not that of the last one
+  -- a place of an earlier symbol is not a place of the last one
   other : (i j x : ℕ) → bit_at bits i ≡ 1 → bit_at bit j ≡ 1 → IsAt f i x → IsAt f j x → ⊥
   other i j x a b p q =
       let o = h.only i a in
@@ -59,7 +59,7 @@ module _ (v : Numbered) (f : Places) (bits bit n : ℕ) (list : List ℕ) (place
 
 -- ---- the active `$d`, from the last one back
 
--- the `$d` that are left tell no more than all of them
+-- each pair of the `$d` that are left is a pair of all of them
 pub record ArePairsOf (v u : Numbered) : Type 0 where
   pub names : u.names ≡ v.names
   pub each : (x y : ℕ) → x < length v.names → y < length v.names → is_pair u.statements (name_at v.names x) (name_at v.names y) ≡ true → is_pair v.statements (name_at v.names x) (name_at v.names y) ≡ true
@@ -67,7 +67,7 @@ pub record ArePairsOf (v u : Numbered) : Type 0 where
 pub pairs-own : (v u : Numbered) → u ≡ v → ArePairsOf v u
 pairs-own v u e = rw e (record { names = refl; each = λ x y hx hy h. h })
 
--- a symbol of the list stands in it, and has a name
+-- a symbol of the list passes the test for the list, and has a name
 pub in-list : (list : List ℕ) (x : ℕ) → IsAmong (length list) list x → list_any (λ c. x == c) list ≡ true
 in-list list x p = list_any_at (λ c. x == c) list p.0 0 p.1 (eq-eqb _ _ (sym p.2))
 
@@ -87,7 +87,7 @@ module _ (v u w : Numbered) (list : List ℕ) (pairs : ArePairsOf v u)
         pairs.each x y hx hy ((rw pairs.names at decides) x y hx hy ∙ or_left _ _ (and_from _ _ (ap not (differ x y other)) (and_from _ _ (in-list list x p) (in-list list y q)))));
   }
 
--- ---- what is recorded of a list
+-- ---- the facts recorded of a list
 
 module _ (v : Numbered) (f : Places) (list : List ℕ) (bits : ℕ) (pairs : ArePairs v list) (are : AreBitsOf f bits (length list) list) where
   listed-fact : (p q : ℕ) → bit_at bits p ≡ 1 → bit_at bits q ≡ 1 → (p ≡ q → ⊥) → IsFact v f p q

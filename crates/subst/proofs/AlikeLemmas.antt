@@ -1,10 +1,10 @@
--- How far two lists are the same, found in lanes of symbols.
+-- The length of the common prefix of two lists, found by comparing symbols in lanes.
 use Rattle.subst.proofs.Words.{◌≡◌, ℕ, suc, ◌+◌, ◌-◌, ◌≤◌, Bool, true, false, not, cond, List, [], ◌∷◌, length, take, map, refl, sym, ◌∙◌, ap, subst, arith, ◌%◌, ◌^◌, eqb, eqb-true, w32, zip2, mask_l, top, count_trailing_zeros, prefix_len, tops_compared, trailing_mask_l, leading_from_mask_l, mask_l-mod, length-zip2, length-take-le, map-id, prefix_len-le-length, take-take}
 
 abbrev are_other : ℕ → ℕ → Bool
 are_other a b = not (eqb a b)
 
--- as far as no lane differs
+-- two lists are the same up to the first symbols that differ
 same : (xs ys : List ℕ) → let n = prefix_len not (zip2 are_other xs ys) in take n xs ≡ take n ys
 same [] ys = refl
 same (x ∷ xs) [] = refl
@@ -36,11 +36,11 @@ module _ (xs ys : List ℕ) (long : 16 ≤ length xs) (other : 16 ≤ length ys)
   as_far : (n : ℕ) → n ≤ 16 → n ≡ prefix_len not lanes → take n xs ≡ take n ys
   as_far n h e = sym (take-take n 16 xs h) ∙ (subst (λ m. take m (take 16 xs) ≡ take m (take 16 ys)) (sym e) (same (take 16 xs) (take 16 ys)) ∙ take-take n 16 ys h)
 
-  -- where it is 0 all of them are the same
+  -- if the mask is 0, the first sixteen symbols are the same
   pub all_same : mask_of xs ys ≡ 0 → take 16 xs ≡ take 16 ys
   all_same e = as_far 16 (omega arith) (sym (leading_from_mask_l (λ b. b) lanes (sym mask_is ∙ e) ∙ size))
 
-  -- else those before its lowest bit
+  -- else the symbols before its lowest bit are the same
   pub first_same : (mask_of xs ys ≡ 0 → ⊥) → let n = count_trailing_zeros 64 (mask_of xs ys) in take n xs ≡ take n ys
   first_same some =
       let first = ap (count_trailing_zeros 64) mask_is ∙ trailing_mask_l (λ b. b) 64 lanes (omega (arith, size)) (omega (arith, some, mask_is)) in

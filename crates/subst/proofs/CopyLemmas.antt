@@ -1,17 +1,17 @@
--- Symbols copied and written within one buffer.
+-- Copying and writing symbols within one buffer.
 use Rattle.subst.proofs.Words.{◌≡◌, ℕ, ◌+◌, ◌-◌, ◌<◌, ◌≤◌, min, List, ◌++◌, length, take, drop, get_or, sym, ◌∙◌, ap, subst, arith, length-append, append-nil, take_all, drop_all, append_assoc, take-add, length-take-le, take-take, drop-drop, drop-take, take-append-add, take-append_seam, take_more_put_chunk, length-chunk, chunk, put_chunk, code_image, code_apply, SymbolRange, symbols_in, images_at, AreInside, IsWritten}
 use Rattle.subst.proofs.WrittenImages.{apply-take, len-take, len-within}
 use Rattle.subst.proofs.SymbolRangeLemmas.{length-seen}
 use Rattle.subst.proofs.ImageRangesLemmas.{image-more}
 
--- two lists that begin alike have the same ranges there
+-- two lists whose first symbols are the same have the same ranges among them
 range-same : (x y : List ℕ) (at from k : ℕ) → take at x ≡ take at y → from + k ≤ at → take k (drop from x) ≡ take k (drop from y)
 range-same x y at from k e h = range x ∙ (ap (λ s. drop from (take (from + k) s)) e ∙ sym (range y))
   where
     range : (s : List ℕ) → take k (drop from s) ≡ drop from (take (from + k) (take at s))
     range s = sym (drop-take from k s) ∙ ap (drop from) (sym (take-take (from + k) at s h))
 
--- one more block of a run
+-- another block of 32 symbols is copied
 pub copy-on : (x x0 x' : List ℕ) (from len at done : ℕ) → from + len ≤ at → at + len + 32 ≤ length x → done ≤ len
     → take (at + min done len) x ≡ take at x0 ++ take (min done len) (drop from x0) → at ≤ length x0 → x' ≡ put_chunk (at + done) x (chunk (from + done) 32 x)
     → take (at + min (done + 32) len) x' ≡ take at x0 ++ take (min (done + 32) len) (drop from x0)
@@ -51,7 +51,7 @@ copy-first x from len at before room =
     (subst (λ n. take (at + n) x ≡ take at x ++ take n (drop from x)) (sym none) (ap (λ n. take n x) (sym here) ∙ sym (append-nil (take at x))))
     (omega (arith, room)) (ap (λ n. put_chunk n x (chunk from 32 x)) here ∙ ap (λ n. put_chunk (at + 0) x (chunk n 32 x)) there)
 
--- the symbols at a place, as a run
+-- copying as many symbols as a range has, from its start, writes the symbols of the range
 pub place-written : (x y : List ℕ) (at len : ℕ) (p : SymbolRange) → p.start ≤ p.end → p.end ≤ at → at ≤ length x → len ≡ p.end - p.start → at + len ≤ length y
     → take (at + len) y ≡ take at x ++ take len (drop p.start x) → IsWritten x y at (symbols_in (take at x) p) (at + len)
 place-written x y at len p low high long e room copied =
@@ -69,7 +69,7 @@ place-lacks x at last p low high long less =
     let size : length (symbols_in (take at x) p) ≡ p.end - p.start = length-seen (take at x) p low (omega (arith, high, seam)) in
     omega (arith, size, less)
 
--- what stood before is as it was
+-- the symbols before `at` stay as they are
 pub written-kept : (x y e : List ℕ) (at end : ℕ) → at ≤ length x → IsWritten x y at e end → take at y ≡ take at x
 written-kept x y e at end long w =
     let moved = w.moved in
@@ -79,13 +79,13 @@ written-kept x y e at end long w =
 pub kept-on : (x0 x y : List ℕ) (at end : ℕ) → at ≤ end → take end y ≡ take end x → take at x ≡ take at x0 → take at y ≡ take at x0
 kept-on x0 x y at end h e f = sym (take-take at end y h) ∙ (ap (take at) e ∙ (take-take at end x h ∙ f))
 
--- a vector whose slice was written whole
+-- a vector whose whole slice was written is that slice
 pub whole : (n : ℕ) (s d items : List ℕ) → d ≡ items → length d ≡ n → length s ≡ length d → take n (s ++ drop (length s) items) ≡ s
 whole n s d items same long count =
     let size = ap length same in
     ap (λ r. take n (s ++ r)) (drop_all (length s) items (omega (arith, size, count))) ∙ (ap (take n) (append-nil s) ∙ take_all n s (omega (arith, count, long)))
 
--- where the first symbols of that vector are those that count
+-- if the slice still has the first symbols, so has the vector
 pub slice-kept : (n at : ℕ) (s d items now : List ℕ) → d ≡ items → length d ≡ n → length s ≡ length d → take at d ≡ now → take at s ≡ take at d → take at (take n (s ++ drop (length s) items)) ≡ now
 slice-kept n at s d items now same long count seen kept = ap (take at) (whole n s d items same long count) ∙ (kept ∙ seen)
 
@@ -97,7 +97,7 @@ slice-filled n at end s d items now ps t same long count seen w = (
   w.moved ∙ ap (λ x. at + length (code_apply (images_at x ps) t)) seen,
 )
 
--- the image of one more symbol
+-- the image of the next symbol is written
 pub fill-on : (x0 x x' image : List ℕ) (ps : List (ℕ × SymbolRange)) (t : List ℕ) (i at end e : ℕ) → AreInside at ps → at ≤ length x0 → i < length t
     → IsWritten x0 x at (code_apply (images_at (take at x0) ps) (take i t)) end
     → code_image (images_at (take end x) ps) (get_or t i 0) ≡ image → IsWritten x x' end image e

@@ -1,4 +1,4 @@
--- The test of the disjoint variable condition holds exactly where its two sentences do.
+-- The test of the disjoint variable condition succeeds exactly if both conditions on the images of disjoint variables hold.
 use Rattle.subst.proofs.Words.{◌≡◌, Bool, true, false, not, ◌&&◌, ◌||◌, List, [], ◌∷◌, refl, list_all, list_any, sym, ◌∙◌, ap, true≢false, inl, inr, and_parts, and_from, not-true, or_left, or_right, or_cases, cases_Bool, not_from_false, false_from_ne_true, Name, name_eq, has_name, Expr, Database, is_variable, name_same, same_name, groups, is_pair, together, Images, image, are_disjoint, is_group_disjoint, are_groups_disjoint, all-from, pair_at, disjoint-from, DisjointConditionLaw, AreImagesDisjoint, all-has}
 
 -- ---- two images
@@ -24,7 +24,7 @@ module _ (S : Database) where
           same : name_eq u v ≡ true → ⊥
           same is = k.none_shared u p in_e (ap (λ w. has_name w f) (same_name u v is) ∙ in_f)
 
-  -- a symbol that is no variable is disjoint from all
+  -- a constant alone has no variable
   no_variable : (x u : Name) → is_variable S x ≡ false → is_variable S u ≡ true → has_name u (x ∷ []) ≡ true → ⊥
   no_variable x u none var in_x = by (name_eq u x) refl in_x
     where
@@ -32,11 +32,11 @@ module _ (S : Database) where
       by true same h = true≢false (sym var ∙ (ap (is_variable S) (same_name u x same) ∙ none))
       by false same h = cc
 
-  -- a constant as an image is disjoint from each other image
+  -- an image that is a constant is disjoint from each image
   pub constant_left : (x : Name) (f : Expr) → is_variable S x ≡ false → are_disjoint S (x ∷ []) f ≡ true
   constant_left x f none = disjoint-from S (x ∷ []) f (λ u v p q in_e in_f. absurd (no_variable x u none p in_e))
 
-  -- the same from the right
+  -- each image is disjoint from one that is a constant
   pub constant_right : (e : Expr) (y : Name) → is_variable S y ≡ false → are_disjoint S e (y ∷ []) ≡ true
   constant_right e y none = disjoint-from S e (y ∷ []) (λ u v p q in_e in_f. absurd (no_variable y v none q in_f))
 
@@ -74,7 +74,7 @@ module _ (S : Database) (σ : Images) where
       (groups-from lists (λ x y t. let p = and_parts (not (name_eq x y)) (list_any (both x y) lists) t in
       k x y (and_from (not (name_eq x y)) (both x y names || list_any (both x y) lists) p.0 (or_right (both x y names) (list_any (both x y) lists) p.1))))
 
--- groups are disjoint where both sentences hold of each two of their variables, and only there
+-- the test succeeds exactly if the images of any two disjoint variables meet both conditions
 pub disjoint_condition_law : DisjointConditionLaw
 disjoint_condition_law S σ lists = (
   λ h x y t.

@@ -13,11 +13,11 @@ fact-grown v f g p q grows h = record { row = (place-grown f g p grows h.row).th
 pub facts-grown : (v : Numbered) (f g : Places) (ws : List RowWord) → Grows f g → AreFacts v f ws → AreFacts v g ws
 facts-grown v f g ws grows facts = record { each = λ p q h. fact-grown v f g p q grows (facts.each p q h) }
 
--- a bit of the row that was found
+-- a bit that is set in the row found is a fact
 pub row-fact : (ws : List RowWord) (p index k b : ℕ) → IsRowAt ws p index k → bit_at (get_or ws k no_row).bits b ≡ 1 → HasFact ws p (64 * index + b)
 row-fact ws p index k b at set = record { word = k; there = at.there; row = at.place_same; bit = b; place = ap (λ n. 64 * n + b) (sym at.index_same); set = set }
 
--- a row more
+-- a row is appended
 module _ (ws : List RowWord) (p : ℕ) (w : PlaceWord) where
   abbrev new_row : RowWord
   new_row = record { place = p; index = w.index; bits = w.bits }
@@ -37,7 +37,7 @@ module _ (ws : List RowWord) (p : ℕ) (w : PlaceWord) where
   pub records-pushed : RecordsWord ws (ws ++ (record { place = p; index = w.index; bits = w.bits }) ∷ []) p w
   records-pushed = record { only = pushed-fact }
 
--- more bits in the row that was found
+-- bits are added to the row that was found
 module _ (ws : List RowWord) (p k bits : ℕ) (w : PlaceWord) (at : IsRowAt ws p w.index k) (own : (get_or ws k no_row).bits ≡ bits) where
   abbrev longer : RowWord
   longer = record { place = p; index = w.index; bits = bit_or bits w.bits }
@@ -87,7 +87,7 @@ told-more v f p ws n first next = record {
 pub told-all : (v : Numbered) (f : Places) (p : ℕ) (ws : List PlaceWord) (n : ℕ) → length ws ≤ n → AreToldFirst v f p ws n → DecidesAll v f p ws true
 told-all v f p ws n long told = λ q h. (let low = h.there in told.each h.word q (omega (arith, long, low)) h.has)
 
--- what is not recorded of a word was asked for, or nothing is left
+-- if the variable is disjoint from those of the word that are not recorded, it is disjoint from all of the word
 pub told-word : (v : Numbered) (f : Places) (rows : List RowWord) (p : ℕ) (w : PlaceWord) (known : ℕ) → w.bits < 2 ^ 64 → known < 2 ^ 64 → AreFacts v f rows → ((b : ℕ) → bit_at known b ≡ 1 → HasFact rows p (64 * w.index + b))
     → DecidesWord v f p (record { index = w.index; bits = bit_and w.bits (bit_not w64 known) }) true → DecidesWord v f p w true
 told-word v f rows p w known fits other facts recorded asked = λ q h. elim (and-rest w.bits known h.bit fits other h.set) [
@@ -100,7 +100,7 @@ missing-bit w known q h = record { bit = h.bit; place = h.place; set = and-left 
 
 -- ---- words of the first 64 places
 
--- what is not recorded of them is nothing
+-- if no place of the word is without a fact, each has one
 pub found-bits : (rows : List RowWord) (p others known : ℕ) → others < 2 ^ 64 → known < 2 ^ 64 → ((b : ℕ) → bit_at known b ≡ 1 → HasFact rows p (64 * 0 + b)) → bit_and others (bit_not w64 known) ≡ 0 → (q : ℕ) → bit_at others q ≡ 1 → HasFact rows p q
 found-bits rows p others known fits other recorded none q h = elim (and-rest others known q fits other h) [
   | inl old ↦ subst (HasFact rows p) (let e : 64 * 0 + q ≡ q = omega arith in e) (recorded q old)
@@ -141,7 +141,7 @@ are_told-more v f words ws n first next = record { each = λ p q h b. elim (word
 pub are_told-all : (v : Numbered) (f : Places) (words ws : List PlaceWord) (n : ℕ) → length words ≤ n → AreTold v f words ws n → DecidesEach v f words ws true
 are_told-all v f words ws n long told = λ p q h b. told.each p q (let low = h.there in record { word = h.word; there = omega (arith, low, long); has = h.has }) b
 
--- the places of a word that were asked for
+-- if the variable is disjoint from those of the word, the facts are still true after the word is recorded
 pub told-facts : (v : Numbered) (f : Places) (old new : List RowWord) (p : ℕ) (w : PlaceWord) → AreFacts v f old → RecordsWord old new p w → p < length f.variables → ((b : ℕ) → bit_at w.bits b ≡ 1 → 64 * w.index + b < length f.variables)
     → DecidesWord v f p w true → AreFacts v f new
 told-facts v f old new p w facts records row below told = facts-recorded v f old new p w facts records (λ q h. (let place = h.place in let low = below h.bit h.set in record { row = row; place = omega (arith, place, low); kept = told q h }))

@@ -1,4 +1,4 @@
--- Two images of numbers, symbol by symbol: whether they are disjoint.
+-- Whether two images of numbers are disjoint, symbol by symbol.
 use Rattle.subst.proofs.Words.{◌≡◌, ℕ, suc, ◌<◌, Bool, true, not, ◌||◌, List, [], ◌∷◌, length, get_or, refl, list_all, sym, ◌∙◌, ap, arith, and_from, both_ways, true_from_ne_false, list_all-map, list_all_at, is_variable, name_at, decode, are_disjoint, is_pair, Numbered, Places, is_kept, IsAt, IsAmong}
 
 abbrev pub is_good : Numbered → ℕ → ℕ → Bool
@@ -17,7 +17,7 @@ pub at-all : (p : ℕ → Bool) (xs : List ℕ) (k : ℕ) → list_all p xs ≡ 
 at-all p xs k h l = true_from_ne_false (p (get_or xs k 0)) (λ e. both_ways (list_all p xs) (list_all_at p xs k 0 l e) h)
 
 module _ (v : Numbered) (xs ys : List ℕ) where
-  -- two images are disjoint where each symbol of the one is good with each of the other
+  -- two images are disjoint exactly if each symbol of the one is good with each of the other
   good_rows : are_disjoint v.statements (decode v.names xs) (decode v.names ys) ≡ list_all (λ x. list_all (is_good v x) ys) xs
   good_rows = simp list_all-map
 

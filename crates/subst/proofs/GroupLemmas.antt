@@ -1,4 +1,4 @@
--- The images of each two numbers of a group, each held against those before it.
+-- The images of the numbers of a group, each tested against the earlier ones.
 use Rattle.subst.proofs.Words.{◌≡◌, ℕ, zero, suc, ◌+◌, ◌<◌, ◌≤◌, Bool, true, false, not, ◌||◌, ◌&&◌, ◌==◌, List, [], ◌∷◌, length, map, take, drop, get_or, slice_get, slice_range, Some, refl, list_all, list_any, position_or_len, sym, ◌∙◌, ap, subst, arith, inl, inr, true≢false, lt-ltb, and_from, and_parts, or_right, cases_eq, or_cases, or_left, cases_Bool, false_from_ne_true, list_all-map, list_all_at, list_all_more, list_any_at, get_or-take, get_or_default, length-take, take_all, eqb-true, last_part, Name, name_eq, has_name, Expr, Database, name_at, decode, AreDistinct, name_same, same_name, name_eq-comm, is_pair, groups, Numbered, CodeImages, code_image, image, images_of_names, are_disjoint, is_group_disjoint, are_groups_disjoint, AreBelow, AllBelow, image_named, are_two_disjoint, is_number_disjoint, are_numbers_disjoint, pair_at, disjoint-from, Places, ArePlaced, ArePlacesOf, HasVariable, IsAmong, HasPlace, PlaceWord, WordRange, IsIn, IsRangeOf, AddsWords, DecidesEach, get_or_from_slice_get, slice_get-get_or, slice_get_within, Any-from_list_any, and_comm}
 use Rattle.subst.proofs.BitsLemmas.{differ}
 use Rattle.subst.proofs.VariablePlaceLemmas.{grows-own, has-more, places-same, at-variable}
@@ -18,7 +18,7 @@ below-group n [] i g b h = absurd (cc)
 below-group n (f ∷ groups) zero g b h = let e : f ≡ g = cc in subst (AreBelow n) e b.0
 below-group n (f ∷ groups) (suc i) g b h = below-group n groups i g b.1 h
 
--- a group that is not disjoint, and one more that is
+-- if a group fails the test, not all pass; if the next one passes, so do the first i + 1
 pub group-stops : (p : List ℕ → Bool) (groups : List (List ℕ)) (i : ℕ) (g : List ℕ) → slice_get groups i ≡ Some g → p g ≡ false → list_all p groups ≡ false
 group-stops p groups i g h e =
     list_all_at p groups i [] (slice_get_within groups i g h) (ap p (get_or_from_slice_get groups i g [] h) ∙ e)
@@ -27,7 +27,7 @@ pub group-goes_on : (p : List ℕ → Bool) (groups : List (List ℕ)) (i : ℕ)
 group-goes_on p groups i g h before here =
     list_all_more p groups i [] (slice_get_within groups i g h) ∙ and_from _ _ before (ap p (get_or_from_slice_get groups i g [] h) ∙ here)
 
--- a group that is equal to the one before it
+-- a group that is equal to the one before it also passes the test
 pub group-repeated : (p : List ℕ → Bool) (groups : List (List ℕ)) (i j : ℕ) → i ≡ j + 1 → i < length groups → slice_get groups i ≡ slice_get groups j → list_all p (take i groups) ≡ true → list_all p (take (i + 1) groups) ≡ true
 group-repeated p groups i j next less same before =
     let within : j < length groups = omega (arith, next, less) in
@@ -39,7 +39,7 @@ any-same : {A : Type 0} (p q : A → Bool) (xs : List A) → ((x : A) → p x �
 any-same p q [] h = refl
 any-same p q (x ∷ xs) h = ap (λ b. b || list_any p xs) (h x) ∙ ap (λ b. q x || b) (any-same p q xs h)
 
--- ---- the disjoint variable condition has no order
+-- ---- the disjoint variable condition is symmetric
 
 pair-swap : (D : Database) (x y : Name) → is_pair D x y ≡ is_pair D y x
 pair-swap D x y =
@@ -62,13 +62,13 @@ module _ (D : Database) (image_of : ℕ → Expr) where
     | inr disjoint ↦ or_right (l == k) _ (disjoint-swap D (image_of k) (image_of l) disjoint)
   ]
 
--- ---- each held against those before it
+-- ---- each image is tested against the earlier ones
 
 module _ (D : Database) (image_of : ℕ → Expr) (group : List ℕ) where
   abbrev two : ℕ → ℕ → Bool
   two a b = are_two_disjoint D image_of (get_or group a 0) (get_or group b 0)
 
-  -- the images of each two of the first n numbers are disjoint
+  -- the images of the first n numbers are pairwise disjoint
   pub record ArePairwise (n : ℕ) : Type 0 where
     pub each : (a b : ℕ) → a < n → b < n → two a b ≡ true
 
@@ -88,14 +88,14 @@ module _ (D : Database) (image_of : ℕ → Expr) (group : List ℕ) where
       all-at (is_number_disjoint D image_of group) group
       (λ a h. all-at (are_two_disjoint D image_of (get_or group a 0)) group (λ b l. all.each a b (omega (arith, h, long)) (omega (arith, l, long))))
 
-  -- the image of the next number is disjoint from those of the numbers before it
+  -- if the image of the next number is disjoint from the earlier ones, the first n + 1 are pairwise disjoint
   pub pairwise-next : (n : ℕ) → n < length group → ArePairwise n → is_number_disjoint D image_of (take n group) (get_or group n 0) ≡ true → ArePairwise (n + 1)
   pairwise-next n there front told =
       pairwise-more n front
       (λ a h. two-swap D image_of (get_or group n 0) (get_or group a 0)
       (ap (are_two_disjoint D image_of (get_or group n 0)) (sym (get_or-take n group a 0 h)) ∙ at-all (are_two_disjoint D image_of (get_or group n 0)) (take n group) a told (omega (arith, length-take n group, h, there))))
 
-  -- or it is not
+  -- if it is not, the images of the group are not disjoint
   pub number-clash : (n : ℕ) → n < length group → is_number_disjoint D image_of (take n group) (get_or group n 0) ≡ false → are_numbers_disjoint D image_of group ≡ false
   number-clash n there told = false_from_ne_true (are_numbers_disjoint D image_of group) (λ all. true≢false (sym (front all) ∙ told))
     where
@@ -106,7 +106,7 @@ module _ (D : Database) (image_of : ℕ → Expr) (group : List ℕ) where
           (λ k h. (let low : k < n = omega (arith, length-take n group, h, there) in
           ap (are_two_disjoint D image_of (get_or group n 0)) (get_or-take n group k 0 low) ∙ at-all (are_two_disjoint D image_of (get_or group n 0)) group k row (omega (arith, low, there))))
 
--- ---- one image held against those of a list
+-- ---- one image is tested against those of a list
 
 module _ (D : Database) (image_of : ℕ → Expr) (xs : List ℕ) (k n : ℕ) where
   pub held-more : n < length xs → is_number_disjoint D image_of (take n xs) k ≡ true → are_disjoint D (image_of k) (image_of (get_or xs n 0)) ≡ true → is_number_disjoint D image_of (take (n + 1) xs) k ≡ true
@@ -121,7 +121,7 @@ module _ (D : Database) (image_of : ℕ → Expr) (xs : List ℕ) (k n : ℕ) wh
   pub held-all : length xs ≤ n → is_number_disjoint D image_of (take n xs) k ≡ true → is_number_disjoint D image_of xs k ≡ true
   held-all long front = ap (λ ys. is_number_disjoint D image_of ys k) (sym (take_all n xs long)) ∙ front
 
--- two images, by the words of their variables
+-- two images, by the words of the places of their variables
 module _ (v : Numbered) (f : Places) (placed : ArePlaced v f) (xs ys : List ℕ) (words : List PlaceWord) (r s : WordRange) (own : IsRangeOf v f words r xs) (other : IsRangeOf v f words s ys) where
   listed-places : (zs : List ℕ) (t : WordRange) → IsRangeOf v f words t zs → ArePlacesOf v f (HasPlace (slice_range words t.start t.end)) (IsAmong (length zs) zs)
   listed-places zs t is = places-same v f f (IsIn words t) (HasPlace (slice_range words t.start t.end)) _ (grows-own f) (λ j. in-listed words t j is.low is.high) (λ j. listed-in words t j is.low is.high) is.are
@@ -141,7 +141,7 @@ module _ (v : Numbered) (f : Places) (placed : ArePlaced v f) (xs ys : List ℕ)
       sym (false_from_ne_true _
       (λ all. true≢false (sym (last_part _ _ _ (at-variable v f p one.0 placed one.2).variable (at-variable v f q two.0 placed two.2).variable (good-at v xs ys all one.0 two.0 one.1 two.1)) ∙ (sym (at-names v f p q one.0 two.0 one.2 two.2) ∙ told.4))))
 
--- x stands in one of the images of the first n numbers
+-- x occurs in the image of one of the first n numbers
 abbrev pub IsInImages : CodeImages → List ℕ → ℕ → ℕ → Type 0
 IsInImages σ group n x = (a : ℕ) × (a < n) × IsAmong (length (code_image σ (get_or group a 0))) (code_image σ (get_or group a 0)) x
 
@@ -153,7 +153,7 @@ module _ (v : Numbered) (f : Places) (placed : ArePlaced v f) (σ : CodeImages) 
   abbrev listed : List PlaceWord
   listed = slice_range words r.start r.end
 
-  -- the places of the next image, as a list of words
+  -- the list of words has the places of the variables of the next image
   own-listed : ArePlacesOf v f (HasPlace listed) (IsAmong (length (image_at n)) (image_at n))
   own-listed = places-same v f f (IsIn words r) (HasPlace listed) _ (grows-own f) (λ j. in-listed words r j own.low own.high) (λ j. listed-in words r j own.low own.high) own.are
 
@@ -169,7 +169,7 @@ module _ (v : Numbered) (f : Places) (placed : ArePlaced v f) (σ : CodeImages) 
     ];
   }
 
-  -- each image before is disjoint from it
+  -- each earlier image is disjoint from the next one
   pub next-disjoint : DecidesEach v f listed set true → (a : ℕ) → a < n → are_two_disjoint v.statements (image_named v.names σ) (get_or group a 0) (get_or group n 0) ≡ true
   next-disjoint told a h =
       or_right (get_or group a 0 == get_or group n 0) _
@@ -180,7 +180,7 @@ module _ (v : Numbered) (f : Places) (placed : ArePlaced v f) (σ : CodeImages) 
       good x y (inr one) (inl none) = or_left _ _ (or_right _ _ (ap not none))
       good x y (inr one) (inr two) = or_right _ _ (pair-swap v.statements (name_at v.names x) (name_at v.names y) ∙ (sym (at-names v f two.0 one.0 y x two.1 one.1) ∙ told two.0 one.0 two.2 one.2))
 
-  -- or one is not
+  -- one of the earlier images is not disjoint from the next one
   pub next-clash : DecidesEach v f listed set false → (a : ℕ) × (a < n) × (are_disjoint v.statements (image_named v.names σ (get_or group a 0)) (image_named v.names σ (get_or group n 0)) ≡ false)
   next-clash told =
       let p = told.0 in
@@ -194,7 +194,7 @@ module _ (v : Numbered) (f : Places) (placed : ArePlaced v f) (σ : CodeImages) 
             (good-at v (image_at a) (image_at n) all one.0 two.0 one.1.2 two.1)) ∙ (sym (at-names v f p q two.0 one.0 two.2 one.2) ∙ told.4))),
       )
 
--- ---- a number that stands in the group before
+-- ---- a number that occurred in the group before
 
 module _ (D : Database) (image_of : ℕ → Expr) (group : List ℕ) (n : ℕ) where
   pub held-clash : (a : ℕ) → a < n → n < length group → are_disjoint D (image_of (get_or group a 0)) (image_of (get_or group n 0)) ≡ false → list_any (λ x. x == get_or group n 0) (take n group) ≡ false → are_numbers_disjoint D image_of group ≡ false
@@ -227,7 +227,7 @@ repeat-images v f σ group n P any h =
       only = λ j p. (let o = h.only j p in (o.0, (o.1.0, omega (arith, o.1.1), o.1.2), o.2));
     }
 
--- ---- numbers for names
+-- ---- numbers in place of names
 
 all-below : (n : ℕ) (p q : ℕ → Bool) (xs : List ℕ) → AreBelow n xs → ((k : ℕ) → k < n → p k ≡ q k) → list_all p xs ≡ list_all q xs
 all-below n p q [] b h = refl

@@ -6,7 +6,7 @@ use Rattle.subst.proofs.ImageRangesLemmas.{image-some}
 pub pairs-none : (v : Numbered) (symbols : List ℕ) → AreDisjointPairs v symbols []
 pairs-none v symbols = record { each = All-nil (IsDisjointPair v symbols) }
 
--- the symbols grew
+-- symbols are appended to the buffer
 inside-over : (symbols more : List ℕ) (p : SymbolRange) → IsInside symbols p → IsInside (symbols ++ more) p
 inside-over symbols more p h = let high = h.high in record { low = h.low; high = omega (arith, high, length-append symbols more) }
 
@@ -20,12 +20,12 @@ pair-over v symbols more p h = record {
 pub pairs-over : (v : Numbered) (symbols more : List ℕ) (pairs : List ImagePair) → AreDisjointPairs v symbols pairs → AreDisjointPairs v (symbols ++ more) pairs
 pairs-over v symbols more pairs h = record { each = All-weaker (IsDisjointPair v symbols) (IsDisjointPair v (symbols ++ more)) (pair-over v symbols more) pairs h.each }
 
--- a pair more
+-- a pair is recorded
 pub pairs-noted : (v : Numbered) (symbols : List ℕ) (old new : List ImagePair) (p : ImagePair) → RecordsPair old new p → IsDisjointPair v symbols p → AreDisjointPairs v symbols old → AreDisjointPairs v symbols new
 pairs-noted v symbols old new p (inl e) own h = rw e h
 pairs-noted v symbols old new p (inr e) own h = rw e (record { each = All-push (IsDisjointPair v symbols) old p h.each own })
 
--- the images of two symbols, by where they lie
+-- the images of two symbols, by their ranges
 module _ (v : Numbered) (symbols : List ℕ) (images : List (ℕ × SymbolRange)) (x y : ℕ) (p : ImagePair) (first : lookup (nat_eq x) images ≡ Some p.left) (second : lookup (nat_eq y) images ≡ Some p.right) where
   named-seen : are_named_disjoint v symbols images x y ≡ are_disjoint v.statements (decode v.names (symbols_in symbols p.left)) (decode v.names (symbols_in symbols p.right))
   named-seen = rw (image-some symbols images x p.left first, image-some symbols images y p.right second) refl

@@ -1,8 +1,8 @@
--- Images that are places in a buffer that grows.
+-- Images that are ranges of a buffer that grows.
 use Rattle.subst.proofs.Words.{◌≡◌, ℕ, ◌≤◌, Bool, true, false, inl, inr, cases_Bool, cond, nat_eq, List, [], ◌∷◌, ◌++◌, length, Option, Some, None, refl, lookup, sym, ◌∙◌, ap, subst, arith, code_image, SymbolRange, symbols_in, images_at, AreInside}
 use Rattle.subst.proofs.SymbolRangeLemmas.{seen-more}
 
--- the image of a symbol, by the place that was found for it
+-- the image of a symbol, by the range that was found for it
 abbrev pub by_place : List ℕ → ℕ → Option SymbolRange → List ℕ
 by_place symbols x None = x ∷ []
 by_place symbols x (Some p) = symbols_in symbols p
@@ -17,7 +17,7 @@ image-some symbols ps x p h = image-by_place symbols ps x ∙ ap (by_place symbo
 pub image-none : (symbols : List ℕ) (ps : List (ℕ × SymbolRange)) (x : ℕ) → lookup (nat_eq x) ps ≡ None → code_image (images_at symbols ps) x ≡ x ∷ []
 image-none symbols ps x h = image-by_place symbols ps x ∙ ap (by_place symbols x) h
 
--- after the images the buffer may grow
+-- appending symbols to the buffer does not change the images
 pub image-more : (xs ys : List ℕ) (ps : List (ℕ × SymbolRange)) (x : ℕ) → AreInside (length xs) ps → code_image (images_at (xs ++ ys) ps) x ≡ code_image (images_at xs ps) x
 image-more xs ys ps x w = image-by_place (xs ++ ys) ps x ∙ (by (lookup (nat_eq x) ps) refl ∙ sym (image-by_place xs ps x))
   where
@@ -31,7 +31,7 @@ inside-more n m ps h w = record { each = λ x p e. let k = w.each x p e in (k.0,
 pub inside-none : (n : ℕ) → AreInside n []
 inside-none n = record { each = λ x p e. cc }
 
--- one place that was set
+-- the range of one image is set
 pub inside-set : (n : ℕ) (ps qs : List (ℕ × SymbolRange)) (s : ℕ) (p : SymbolRange) → AreInside n ps → ((x : ℕ) → lookup (nat_eq x) qs ≡ cond (nat_eq x s) (Some p) (lookup (nat_eq x) ps))
     → p.start ≤ p.end → p.end ≤ n → AreInside n qs
 inside-set n ps qs s p w set low high = record { each = λ x q e. by x q (nat_eq x s) (sym (set x) ∙ e) (w.each x q) }
@@ -40,7 +40,7 @@ inside-set n ps qs s p w set low high = record { each = λ x q e. by x q (nat_eq
     by x q true e rest = let same : p ≡ q = cc in subst (λ r. (r.start ≤ r.end) × (r.end ≤ n)) same (low, high)
     by x q false e rest = rest e
 
--- what was set, as images
+-- the images after one is set
 pub image-set : (xs ys : List ℕ) (ps qs : List (ℕ × SymbolRange)) (s : ℕ) (p : SymbolRange) (x : ℕ) → AreInside (length xs) ps → ((y : ℕ) → lookup (nat_eq y) qs ≡ cond (nat_eq y s) (Some p) (lookup (nat_eq y) ps))
     → symbols_in (xs ++ ys) p ≡ ys → code_image (images_at (xs ++ ys) qs) x ≡ cond (nat_eq x s) ys (code_image (images_at xs ps) x)
 image-set xs ys ps qs s p x w set seen =

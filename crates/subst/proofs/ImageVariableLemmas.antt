@@ -1,4 +1,4 @@
--- The words of the variables of images, and where they lie.
+-- The words of the places of the variables of images, and the ranges of these words.
 use Rattle.subst.proofs.Words.{◌≡◌, ℕ, ◌+◌, ◌-◌, ◌<◌, ◌≤◌, List, [], ◌∷◌, ◌++◌, length, take, drop, get_or, slice_range, refl, sym, ◌∙◌, ap, subst, arith, inl, inr, append-nil, get_or_append_left, get_or-append_right, get_or-append-add, get_or-drop, get_or-take, drop-drop, drop-take, length-append, length-take, length-drop, Numbered, code_image, SymbolRange, symbols_in, images_at, Places, Grows, GrowsWords, IsAmong, PlaceWord, ArePlacesBelow, HasBit, HasPlace, near_word, no_word, AddsSymbols, AddsWords, RecordedImages, WordRange, ReadImage, LongImage, IsIn, IsRangeOf, IsLong, AreImagesRecorded, AreRead, Appends, AppendsWord, KeepsMost, KeepsRest, KeepsImage, RecordsImage, All-nil, All-push, All-weaker, All-contains}
 use Rattle.subst.proofs.VariablePlaceLemmas.{grows-own, has-more, places-below, places-same}
 use Rattle.subst.proofs.PlaceSetLemmas.{place-none}
@@ -19,7 +19,7 @@ range-grown v f g words more r image grows h = let high = h.high in record {
   are = places-same v f g (IsIn words r) (IsIn (words ++ more) r) (IsAmong (length image) image) grows (in-more words more r) (λ j. in-less words more r j high) h.are;
 }
 
--- the words of a range, as a list
+-- the list of the words of a range
 length-words : (words : List PlaceWord) (a b : ℕ) → a ≤ b → b ≤ length words → length (slice_range words a b) ≡ b - a
 length-words words a b low high = omega (arith, length-take (b - a) (drop a words), length-drop a words, low, high)
 
@@ -49,7 +49,7 @@ listed-in words r j low high h =
       has = subst (λ u. HasBit u j) (get_or-take (r.end - r.start) (drop r.start words) k no_word less ∙ get_or-drop r.start words k no_word) h.has;
     }
 
--- ---- what is recorded stays
+-- ---- the records that stay
 
 pub most-own : (n : RecordedImages) → KeepsMost n n
 most-own n = ([], n.list, ap (λ s. record { words = s; list = n.list; kept = n.kept; read = n.read; long = n.long }) (sym (append-nil n.words)))
@@ -87,7 +87,7 @@ read-most v f g symbols images old new grows keeps h =
           (λ e is. range-grown v f g old.words keeps.0 e.words (code_image (images_at symbols images) e.symbol) grows is) old.read h.each;
     })
 
--- the symbols grew
+-- symbols are appended to the buffer
 pub recorded-over : (v : Numbered) (f : Places) (symbols more : List ℕ) (n : RecordedImages) → AreImagesRecorded v f symbols n → AreImagesRecorded v f (symbols ++ more) n
 recorded-over v f symbols more n h = record {
   kept = h.kept;
@@ -133,7 +133,7 @@ read-none v f symbols images n none = record { each = rw none (All-nil (λ (e : 
 
 -- ---- the list
 
--- the places of a range that was recorded are those of the variables of its image
+-- the words of a recorded range add the places of the variables of its image
 pub range-symbols : (v : Numbered) (f : Places) (words old new : List PlaceWord) (r : WordRange) (image : List ℕ) → IsRangeOf v f words r image → AddsWords old new (slice_range words r.start r.end) → AddsSymbols v f (HasPlace old) (HasPlace new) (length image) image
 range-symbols v f words old new r image range adds = record {
   before = adds.before;
@@ -141,7 +141,7 @@ range-symbols v f words old new r image range adds = record {
   only = λ j b. elim (adds.only j b) [ inl before ↦ inl before | inr own ↦ inr (range.are.only j (listed-in words r j range.low range.high own)) ];
 }
 
--- the list after the words
+-- the list is appended to the words
 module _ (words list : List PlaceWord) where
   abbrev pub after_words : WordRange
   after_words = record { start = length words; end = length (words ++ list) }
@@ -178,13 +178,13 @@ appended-range v f old new r image appends adds = rw (appends.whole, appends.ran
 pub word-range : (v : Numbered) (f : Places) (old new : RecordedImages) (w : PlaceWord) (r : WordRange) (image : List ℕ) → AppendsWord old new w r → AddsSymbols v f (HasPlace []) (HasPlace (w ∷ [])) (length image) image → IsRangeOf v f new.words r image
 word-range v f old new w r image appends adds = rw (appends.whole, appends.range) (list-range old.words (w ∷ []) v f image adds)
 
--- a list of one word of the first 64 places
+-- a list of one word with the index 0 is a word of the first 64 places
 pub one-near : (ws : List PlaceWord) (w : PlaceWord) → length ws ≡ 1 → get_or ws 0 w ≡ w → w.index ≡ 0 → ws ≡ near_word w.bits ∷ []
 one-near [] w size same index = absurd (omega (arith, size))
 one-near (x ∷ []) w size same index = rw same (ap (λ i. (record { index = i; bits = w.bits }) ∷ []) index)
 one-near (x ∷ y ∷ ws) w size same index = absurd (omega (arith, size))
 
--- ---- what was found
+-- ---- the ranges that were found
 
 pub long-range : (v : Numbered) (f : Places) (symbols : List ℕ) (n : RecordedImages) (image : SymbolRange) (r : WordRange) → AreImagesRecorded v f symbols n → (k : ℕ) → k < length n.long → get_or n.long k (record { image = image; words = r }) ≡ record { image = image; words = r }
     → IsLong v f symbols n.words n.kept (record { image = image; words = r })
@@ -194,7 +194,7 @@ pub read-range : (v : Numbered) (f : Places) (symbols : List ℕ) (images : List
     → IsRangeOf v f n.words r (code_image (images_at symbols images) x)
 read-range v f symbols images n x r read k low same = All-contains (λ (e : ReadImage). IsRangeOf v f n.words e.words (code_image (images_at symbols images) e.symbol)) n.read (record { symbol = x; words = r }) read.each (k, low, same)
 
--- ---- what was kept
+-- ---- an image is recorded
 
 pub recorded-image : (v : Numbered) (f : Places) (symbols : List ℕ) (old new : RecordedImages) (x : ℕ) (r : WordRange) → KeepsImage old new x r → AreImagesRecorded v f symbols old → AreImagesRecorded v f symbols new
 recorded-image v f symbols old new x r (inl e) h = rw e h
@@ -209,7 +209,7 @@ read-image v f symbols images old new x r (inl e) own h = rw e h
 read-image v f symbols images old new x r (inr e) own h =
     rw e (record { each = All-push (λ (i : ReadImage). IsRangeOf v f old.words i.words (code_image (images_at symbols images) i.symbol)) old.read (record { symbol = x; words = r }) h.each own })
 
--- ---- words at the end
+-- ---- words are appended
 
 pub words-own : (n : RecordedImages) → GrowsWords n n
 words-own n = ([], sym (append-nil n.words))
@@ -223,11 +223,11 @@ words-kept a b c x r h k = (h.0, words-image b c x r k ∙ ap (λ (n : RecordedI
 pub range-words : (v : Numbered) (f g : Places) (old new : RecordedImages) (r : WordRange) (image : List ℕ) → Grows f g → GrowsWords old new → IsRangeOf v f old.words r image → IsRangeOf v g new.words r image
 range-words v f g old new r image grows more h = rw more.1 (range-grown v f g old.words more.0 r image grows h)
 
--- the places of a range are those of variables
+-- each place of a range is that of a variable
 pub range-below : (v : Numbered) (f : Places) (words : List PlaceWord) (r : WordRange) (image : List ℕ) → IsRangeOf v f words r image → ArePlacesBelow (length f.variables) (slice_range words r.start r.end)
 range-below v f words r image h = λ j p. places-below v f (IsIn words r) (IsAmong (length image) image) h.are j (listed-in words r j h.low h.high p)
 
--- a long image more
+-- a long image is recorded
 pub recorded-long : (v : Numbered) (f : Places) (symbols : List ℕ) (old new : RecordedImages) (image : SymbolRange) → RecordsImage old new image → image.start ≤ image.end → image.end ≤ length symbols
     → AddsSymbols v f (HasPlace []) (HasPlace old.list) (length (symbols_in symbols image)) (symbols_in symbols image) → AreImagesRecorded v f symbols old → AreImagesRecorded v f symbols new
 recorded-long v f symbols old new image (inl keeps) low high own h = recorded-most v f f symbols old new (grows-own f) keeps h
@@ -243,7 +243,7 @@ recorded-long v f symbols old new image (inr e) low high own h =
           (record { low = low; high = high; within = omega arith; range = list-range old.words old.list v f (symbols_in symbols image) own });
     })
 
--- what stands after the first symbol
+-- a range without its first symbol
 pub seen-without_first : (xs rest : List ℕ) (p q : SymbolRange) (x : ℕ) → p.start < p.end → q.start ≡ p.start + 1 → q.end ≡ p.end → symbols_in xs p ≡ x ∷ rest → symbols_in xs q ≡ rest
 seen-without_first xs rest p q x some low high e =
     let size : p.end - p.start ≡ 1 + (p.end - (p.start + 1)) = omega (arith, some) in

@@ -34,14 +34,14 @@ mark-taken marks i low marked = record {
   only = λ y m. elim (cases_eq y i) [ inl same ↦ subst (IsMarked marks) (sym same) marked | inr other ↦ sym (get_or-set_other marks i y false false other) ∙ m ];
 }
 
--- ---- the marks of the variables at the places of a word, and of words
+-- ---- removing the marks of the variables at the places of words
 
--- the mark of the variable at a place was taken away
+-- the variable at the place was marked, and its mark was removed
 pub record IsOut (f : Places) (old new : List Bool) (j : ℕ) : Type 0 where
   pub was : IsMarked old (number_at f j)
   pub gone : IsMarked new (number_at f j) → ⊥
 
--- so far, but for those that are left
+-- the marks at the places of the word were removed, except at the bits that are left
 pub record IsWordTaken (f : Places) (w : PlaceWord) (old new : List Bool) (rest : ℕ) : Type 0 where
   pub only : (y : ℕ) → IsMarked new y → IsMarked old y
   pub bits : IsTaken (λ b. IsOut f old new (64 * w.index + b)) w.bits rest
@@ -89,7 +89,7 @@ words_taken-all f ws n old new long taken = record { was = λ j h. taken.was j (
     among : (j : ℕ) → HasPlace ws j → HasAmong n ws j
     among j h = let low = h.there in record { word = h.word; there = omega (arith, low, long); has = h.has }
 
--- the marks of both were there, one after the other
+-- if the marks at the places of both are removed in turn, the list has the variables of both
 pub both-taken : (f : Places) (words others : List PlaceWord) (list : List ℕ) (first now last : List Bool) → AreMarksOf (length list) list first → TakesPlaces f (HasPlace words) first now → TakesPlaces f (HasPlace others) now last → HasBoth f words others list
 both-taken f words others list first now last are left right = record {
   left = λ j h. are.only (number_at f j) (left.was j h);
@@ -99,7 +99,7 @@ both-taken f words others list first now last are left right = record {
 
 -- ---- the `$d` that are left of a row
 
--- each two symbols of one of them stand together
+-- any two symbols of one of the `$d` are a pair
 pub record IsRow (v : Numbered) (row : List (List ℕ)) : Type 0 where
   pub below : AllBelow (length v.names) row
   pub together : AreTogether v row
@@ -114,6 +114,6 @@ row-pairs v list old rest e row =
     let h = subst (IsRow v) e row in
     record { each = λ x y p q other. h.together.each x y (named v list h.below.0 x p) (named v list h.below.0 y q) (differ x y other) (or_left _ _ (and_from _ _ (in-list list x p) (in-list list y q))) }
 
--- the variables of one `$d` are disjoint
+-- if one `$d` has the variables of both images, and they share none, the images are disjoint
 pub one-tells : (v : Numbered) (f : Places) (words others : List PlaceWord) (list : List ℕ) → ArePairs v list → HasBoth f words others list → DecidesEach v f words others true
 one-tells v f words others list pairs both = λ p q h k. pairs.each (number_at f p) (number_at f q) (both.left p h) (both.right q k) (both.other p q h k)

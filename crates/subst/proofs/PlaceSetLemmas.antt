@@ -6,7 +6,7 @@ use Rattle.subst.proofs.VariablePlaceLemmas.{grows-own, has-more, among-none, am
 pub place-none : (j : ℕ) → HasPlace [] j → ⊥
 place-none j h = let low = h.there in omega (arith, low)
 
--- a word more
+-- a word is appended
 pub place-before : (ws : List PlaceWord) (w : PlaceWord) (j : ℕ) → HasPlace ws j → HasPlace (ws ++ w ∷ []) j
 place-before ws w j h = let low = h.there in record { word = h.word; there = omega (arith, low, length_push ws w); has = subst (λ u. HasBit u j) (sym (get_or_append_left ws (w ∷ []) no_word h.word low)) h.has }
 
@@ -21,7 +21,7 @@ place-either ws w j h =
       | inr last ↦ let same : length ws ≡ h.word = omega (arith, low, last, length_push ws w) in inr (subst (λ u. HasBit u j) (get_or_push ws w no_word h.word same) h.has)
     ]
 
--- a word in the place of one at k
+-- the word at the index k is replaced
 module _ (ws : List PlaceWord) (k : ℕ) (w : PlaceWord) (low : k < length ws) where
   set-other : (j : ℕ) (h : HasPlace ws j) → (h.word ≡ k → ⊥) → HasPlace (slice_set ws k w) j
   set-other j h other = let there = h.there in record { word = h.word; there = omega (arith, there, length-set ws k w); has = subst (λ u. HasBit u j) (sym (get_or-set_other ws k h.word w no_word other)) h.has }
@@ -49,12 +49,12 @@ one-has place index k low e = record { bit = k; place = e; set = one-own k low }
 pub one-is : (place index k j : ℕ) → k < 64 → place ≡ 64 * index + k → HasBit (one_word index k) j → j ≡ place
 one-is place index k j low e h = let b = one-only k h.bit low h.set in let p = h.place in omega (arith, b, p, e)
 
--- ---- a word more
+-- ---- a word is added
 
 pub adds-pushed : (ws : List PlaceWord) (w : PlaceWord) → AddsWord ws (ws ++ w ∷ []) w
 adds-pushed ws w = record { before = place-before ws w; added = place-pushed ws w; only = place-either ws w }
 
--- in the word that stands at i
+-- the bits are added to the word at the index i
 pub adds-set : (ws : List PlaceWord) (i bits : ℕ) (w : PlaceWord) → i < length ws → (get_or ws i no_word).index ≡ w.index → (get_or ws i no_word).bits ≡ bits → AddsWord ws (slice_set ws i (record { index = w.index; bits = bit_or bits w.bits })) w
 adds-set ws i bits w there same_index same_bits =
     let u : PlaceWord = record { index = w.index; bits = bit_or bits w.bits } in record {
@@ -69,7 +69,7 @@ adds-set ws i bits w there same_index same_bits =
       ];
     }
 
--- ---- a place more, in the set or in the word at hand
+-- ---- a place is added, to the set or to the word at hand
 
 pub takes-here : (ws : List PlaceWord) (w : PlaceWord) (place index k : ℕ) → k < 64 → place ≡ 64 * index + k → w.index ≡ index → TakesPlace ws w ws (record { index = index; bits = bit_or w.bits (1 * 2 ^ k % 2 ^ 64) }) place
 takes-here ws w place index k low e same = record {
@@ -93,7 +93,7 @@ takes-next old new w place index k low e adds = record {
 
 -- ---- a list of words
 
--- one more of a list
+-- a place of the first n + 1 words is one of the first n, or of the last
 pub word-more : (n : ℕ) (ws : List PlaceWord) (j : ℕ) → HasAmong (n + 1) ws j → HasAmong n ws j ⊎ HasBit (get_or ws n no_word) j
 word-more n ws j h = let there = h.there in elim (cases_eq h.word n) [
   | inl same ↦ inr (subst (λ m. HasBit (get_or ws m no_word) j) same h.has)
@@ -145,19 +145,19 @@ symbols-same v f Old Now New n image there back h = record {
   only = λ j p. h.only j (back j p);
 }
 
--- no word at hand yet
+-- at the start the word at hand is empty
 pub symbols-start : (v : Numbered) (f : Places) (ws : List PlaceWord) (image : List ℕ) → AddsSymbols v f (HasPlace ws) (HasEither ws (record { index = 0; bits = 0 })) 0 image
 symbols-start v f ws image =
     symbols-same v f (HasPlace ws) (HasPlace ws) (HasEither ws (record { index = 0; bits = 0 })) 0 image (λ j p. inl p) (λ j h. elim h [ inl p ↦ p | inr b ↦ absurd (zero-none b.bit b.set) ]) (symbols-none v f (HasPlace ws) image)
 
--- the word at hand is added in the end, or has no place
+-- at the end the word at hand is added to the set
 pub symbols-end : (v : Numbered) (f : Places) (Old : ℕ → Type 0) (ws new : List PlaceWord) (w : PlaceWord) (n : ℕ) (image : List ℕ) → AddsWord ws new w → AddsSymbols v f Old (HasEither ws w) n image → AddsSymbols v f Old (HasPlace new) n image
 symbols-end v f Old ws new w n image adds = symbols-same v f Old (HasEither ws w) (HasPlace new) n image (λ j h. elim h [ inl p ↦ adds.before j p | inr b ↦ adds.added j b ]) adds.only
 
 pub symbols-empty : (v : Numbered) (f : Places) (Old : ℕ → Type 0) (ws : List PlaceWord) (w : PlaceWord) (n : ℕ) (image : List ℕ) → w.bits ≡ 0 → AddsSymbols v f Old (HasEither ws w) n image → AddsSymbols v f Old (HasPlace ws) n image
 symbols-empty v f Old ws w n image none = symbols-same v f Old (HasEither ws w) (HasPlace ws) n image (λ j h. elim h [ inl p ↦ p | inr b ↦ absurd (zero-none b.bit (ap (λ m. bit_at m b.bit) (sym none) ∙ b.set)) ]) (λ j p. inl p)
 
--- a symbol that is no variable
+-- a symbol that is no variable adds no place
 pub symbols-constant : (v : Numbered) (f g : Places) (Old Now : ℕ → Type 0) (n : ℕ) (image : List ℕ) → Grows f g → is_variable v.statements (name_at v.names (get_or image n 0)) ≡ false → AddsSymbols v f Old Now n image → AddsSymbols v g Old Now (n + 1) image
 symbols-constant v f g Old Now n image grows none h = record {
   before = h.before;
@@ -179,7 +179,7 @@ symbols-variable v f g Old ws new w next n place image grows at takes h = record
   ];
 }
 
--- a variable more below 64
+-- a variable at a place below 64 is added
 pub symbols-near : (v : Numbered) (f : Places) (bits n place : ℕ) (image : List ℕ) → place < 64 → IsAt f place (get_or image n 0) → AddsSymbols v f (HasPlace []) (HasEither [] (near_word bits)) n image
     → AddsSymbols v f (HasPlace []) (HasEither [] (near_word (bit_or bits (1 * 2 ^ place % 2 ^ 64)))) (n + 1) image
 symbols-near v f bits n place image low at h =
@@ -213,7 +213,7 @@ symbols-joined v f g Old Now New xs ys grows first next = record {
   ];
 }
 
--- symbols that stand there already
+-- symbols that occurred before add no places
 pub symbols-again : (v : Numbered) (f : Places) (Old New : ℕ → Type 0) (xs ys : List ℕ) → ((x : ℕ) → IsAmong (length ys) ys x → IsAmong (length xs) xs x) → AddsSymbols v f Old New (length xs) xs → AddsSymbols v f Old New (length (xs ++ ys)) (xs ++ ys)
 symbols-again v f Old New xs ys there h = record {
   before = h.before;

@@ -1,7 +1,7 @@
--- Substitution and the disjoint variable condition, worked out.
+-- Examples of substitution and of the disjoint variable condition.
 use Rattle.subst.proofs.Words.{◌≡◌, [], ◌∷◌, codes, refl, true, false, before, apply, code_apply, are_disjoint, are_groups_disjoint, w, row_seven}
 
--- x and y in one another's place, put in at once
+-- x and y are swapped, since images are substituted simultaneously
 swapped : apply ((codes "x", w (codes "y")) ∷ (codes "y", w (codes "x")) ∷ []) (w (codes "|- x R y")) ≡ w (codes "|- y R x")
 swapped = refl
 
@@ -9,15 +9,15 @@ swapped = refl
 swapped_numbers : code_apply ((4, 5 ∷ []) ∷ (5, 4 ∷ []) ∷ []) (0 ∷ 4 ∷ 3 ∷ 5 ∷ []) ≡ 0 ∷ 5 ∷ 3 ∷ 4 ∷ []
 swapped_numbers = refl
 
--- an empty image leaves nothing in the place of x
+-- an empty image removes x
 empty_image : apply ((codes "x", []) ∷ []) (w (codes "|- ( x )")) ≡ w (codes "|- ( )")
 empty_image = refl
 
--- nothing makes x and z disjoint outside of the block, and the second block does
+-- outside the block no `$d` makes x and z disjoint
 outside_the_block : are_disjoint (before row_seven 10) (w (codes "x")) (w (codes "z")) ≡ false
 outside_the_block = refl
 
--- a `$d` in an open block makes x and z disjoint
+-- in the block its `$d` makes x and z disjoint
 inside_the_block : are_disjoint row_seven (w (codes "x")) (w (codes "z")) ≡ true
 inside_the_block = refl
 
@@ -25,7 +25,7 @@ inside_the_block = refl
 shared_variable : are_disjoint row_seven (w (codes "x")) (w (codes "x")) ≡ false
 shared_variable = refl
 
--- a constant in both images is no hindrance
+-- a constant may be in both images
 shared_constant : are_disjoint row_seven (w (codes "R")) (w (codes "R")) ≡ true
 shared_constant = refl
 

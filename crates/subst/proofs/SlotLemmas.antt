@@ -1,4 +1,4 @@
--- What the table of images says of a symbol.
+-- The image of a symbol in the table of images.
 use Rattle.subst.proofs.Words.{◌≡◌, ℕ, zero, suc, ◌+◌, ◌<◌, ◌≤◌, ◌==◌, true, false, cond, nat_eq, List, [], ◌∷◌, ◌++◌, length, get_or, replicate, slice_set, Option, Some, None, refl, lookup, sym, ◌∙◌, ap, arith, inl, inr, cases_Bool, SymbolRange, Slot, placed, AreUpTo, nat_tests}
 
 abbrev pub slot_of : ℕ → List Slot → ℕ → Option SymbolRange
@@ -6,7 +6,7 @@ slot_of round [] x = None
 slot_of round (s ∷ slots) zero = cond (s.round == round) (Some s.place) None
 slot_of round (s ∷ slots) (suc x) = slot_of round slots x
 
--- a symbol before those of the table has none
+-- a table of the symbols from k on has no image of an earlier symbol
 before : (round k : ℕ) (slots : List Slot) (x : ℕ) → x < k → lookup (nat_eq x) (placed round k slots) ≡ None
 before round k [] x h = refl
 before round k (s ∷ slots) x h =
@@ -14,7 +14,7 @@ before round k (s ∷ slots) x h =
     let rest : lookup (nat_eq x) (placed round (suc k) slots) ≡ None = before round (suc k) slots x (omega (arith, h)) in
     elim (cases_Bool (s.round == round)) [ inl e ↦ rw (e, other) rest | inr e ↦ rw e rest ]
 
--- the table, numbered from k on, gives the symbol k + x what the slot at x says
+-- a table of the symbols from k on has for k + x the image in the slot at x
 from : (round k : ℕ) (slots : List Slot) (x : ℕ) → lookup (nat_eq (k + x)) (placed round k slots) ≡ slot_of round slots x
 from round k [] x = refl
 from round k (s ∷ slots) zero =
@@ -29,7 +29,7 @@ from round k (s ∷ slots) (suc x) =
 pub placed-slot : (round : ℕ) (slots : List Slot) (x : ℕ) → lookup (nat_eq x) (placed round 0 slots) ≡ slot_of round slots x
 placed-slot round slots x = let e : x ≡ 0 + x = omega arith in ap (λ n. lookup (nat_eq n) (placed round 0 slots)) e ∙ from round 0 slots x
 
--- past the end
+-- a symbol past the end of the table has no image
 pub slot-none : (round : ℕ) (slots : List Slot) (x : ℕ) → length slots ≤ x → slot_of round slots x ≡ None
 slot-none round [] x h = refl
 slot-none round (s ∷ slots) zero h = absurd (omega (arith, h))
@@ -40,7 +40,7 @@ slot-at round [] x d h = absurd (omega (arith, h))
 slot-at round (s ∷ slots) zero d h = refl
 slot-at round (s ∷ slots) (suc x) d h = slot-at round slots x d (omega (arith, h))
 
--- a later round has set nothing
+-- no image was set in a later round
 pub placed-later : (round later k : ℕ) (slots : List Slot) → AreUpTo round slots → round < later → placed later k slots ≡ []
 placed-later round later k [] u h = refl
 placed-later round later k (s ∷ slots) u h =
@@ -52,7 +52,7 @@ pub up_to-later : (round later : ℕ) (slots : List Slot) → AreUpTo round slot
 up_to-later round later [] u h = tt
 up_to-later round later (s ∷ slots) u h = (let low = u.0 in omega (arith, low, h), up_to-later round later slots u.1 h)
 
--- ---- slots of no round
+-- ---- slots that were never set
 
 module _ (e : Slot) (unset : e.round ≡ 0) where
   placed-none : (round k m : ℕ) → 1 ≤ round → placed round k (replicate m e) ≡ []
@@ -73,7 +73,7 @@ module _ (e : Slot) (unset : e.round ≡ 0) where
   up_to-more round [] m u = up_to-none round m
   up_to-more round (s ∷ slots) m u = (u.0, up_to-more round slots m u.1)
 
--- ---- one slot that is set
+-- ---- a slot is set
 
 pub up_to-set : (round : ℕ) (slots : List Slot) (i : ℕ) (s : Slot) → AreUpTo round slots → s.round ≤ round → AreUpTo round (slice_set slots i s)
 up_to-set round [] i s u h = tt

@@ -1,11 +1,11 @@
--- Substitution over numbers is substitution over the names that they stand for.
+-- Substitution over numbers is substitution over their names.
 use Rattle.subst.proofs.Words.{◌≡◌, ℕ, zero, suc, Bool, true, false, cond, not, nat_lt, ◌||◌, ◌+◌, List, [], ◌∷◌, ◌++◌, length, Some, None, refl, list_all, position_or_len, sym, ◌∙◌, ap, arith, and_parts, ltb-true, lt-ltb, or_parts, Name, name_eq, has_name, name_at, decode, code_of, AreDistinct, name_same, name_eq-comm, CodeImages, code_image, code_apply, image, images_from, images_of_names, found-number, unknown-number, SubstitutionOverNames}
 
--- one less on both sides keeps a number below the other
+-- if n + 1 < m + 1, then n < m
 tail_lt : (n m : ℕ) → nat_lt (suc n) (suc m) ≡ true → nat_lt n m ≡ true
 tail_lt n m h = lt-ltb n m (omega (arith, ltb-true (suc n) (suc m) h))
 
--- a name that does not stand among the names is not the one at a place
+-- a name that is not in a list differs from the name at each index
 not_at : (x : Name) (names : List Name) (n : ℕ) → has_name x names ≡ false → nat_lt n (length names) ≡ true → name_eq x (name_at names n) ≡ false
 not_at x [] n h k = absurd (omega (arith, ltb-true n 0 k))
 not_at x (y ∷ names) zero h k = (or_parts (name_eq x y) (has_name x names) h).0
@@ -15,7 +15,7 @@ pub decode-append : (names : List Name) (a b : List ℕ) → decode names (a ++ 
 decode-append names [] b = refl
 decode-append names (x ∷ a) b = ap (λ r. name_at names x ∷ r) (decode-append names a b)
 
--- the image of a name among images of names
+-- the image of a name of the list is that of its number, and other names are their own images
 image-at : (names : List Name) (σ : CodeImages) (k : ℕ) (xs : List Name) (x : Name)
     → image (images_from names σ k xs) x ≡ cond (has_name x xs) (decode names (code_image σ (k + position_or_len (name_eq x) xs))) (x ∷ [])
 image-at names σ k [] x = refl
@@ -41,13 +41,13 @@ image-named names σ x n h =
     place true e = let f : position_or_len (name_eq x) names ≡ n = cc in omega (arith, f)
     place false e = cc
 
--- and a name with no number has none
+-- a name without a number is its own image
 pub image-unnamed : (names : List Name) (σ : CodeImages) (x : Name) → code_of names x ≡ None → image (images_of_names names σ) x ≡ x ∷ []
 image-unnamed names σ x h =
     image-at names σ 0 names x
     ∙ ap (λ b. cond b (decode names (code_image σ (0 + position_or_len (name_eq x) names))) (x ∷ [])) (unknown-number names x (sym h))
 
--- a number's name has that number, where names are distinct
+-- the name of a number has this number, if the names are distinct
 pub place-of : (names : List Name) (n : ℕ) → AreDistinct names → nat_lt n (length names) ≡ true
     → (has_name (name_at names n) names ≡ true) × (position_or_len (name_eq (name_at names n)) names ≡ n)
 place-of [] n d h = absurd (omega (arith, ltb-true n 0 h))
@@ -72,7 +72,7 @@ image-decode names σ n d h =
     ∙ (ap (λ b. cond b (decode names (code_image σ (0 + position_or_len (name_eq (name_at names n)) names))) (name_at names n ∷ [])) p.0
     ∙ ap (λ m. decode names (code_image σ m)) same))
 
--- images of numbers put in, then read as names, are images of names put in
+-- substituting over numbers and then reading the names is reading the names and then substituting
 pub substitution_over_names : SubstitutionOverNames
 substitution_over_names names σ [] d codes = refl
 substitution_over_names names σ (x ∷ e) d codes =

@@ -1,4 +1,4 @@
--- Places in a buffer that grows.
+-- Ranges of a buffer that grows.
 use Rattle.subst.proofs.Words.{◌≡◌, ℕ, zero, suc, ◌-◌, ◌<◌, ◌≤◌, List, [], ◌∷◌, ◌++◌, length, map, take, drop, get_or, slice_get, Some, refl, ◌∙◌, ap, subst, arith, length-append, length-drop, take-append-le, drop-append-le, length-take-le, take_all, drop-append_seam, SymbolRange, symbols_in, AreWithin}
 
 pub seen-more : (xs ys : List ℕ) (p : SymbolRange) → p.start ≤ p.end → p.end ≤ length xs → symbols_in (xs ++ ys) p ≡ symbols_in xs p
@@ -40,7 +40,7 @@ seen-new xs ys =
     let e = length-append xs ys in
     ap (take (length (xs ++ ys) - length xs)) (drop-append_seam xs ys) ∙ take_all (length (xs ++ ys) - length xs) ys (omega (arith, e))
 
--- what stands at the end of the buffer
+-- the range of the symbols appended last
 pub seen-last : (xs ys zs : List ℕ) (p : SymbolRange) → zs ≡ xs ++ ys → p.start ≡ length xs → p.end ≡ length zs → symbols_in zs p ≡ ys
 seen-last xs ys zs p e low high =
     ap (λ s. take (p.end - s) (drop s zs)) low

@@ -1,9 +1,9 @@
--- What is left of an expression without the symbols whose images are empty has the same result: such images add nothing.
+-- An expression without the symbols whose images are empty has the same result.
 use Rattle.subst.proofs.Words.{append-nil, ◌≡◌, ℕ, zero, suc, ◌+◌, ◌-◌, ◌<◌, ◌≤◌, Bool, true, false, true≢false, inl, inr, cond, nat_eq, List, [], ◌∷◌, ◌++◌, length, take, take_all, drop, slice_get, Option, Some, None, refl, lookup, sym, ◌∙◌, ap, subst, arith, code_image, code_apply, SymbolRange, images_at, ⊎_elim, get_or, cases_lt, ltb-false, Contains, cons_option, filter, filter_map, flat_map, All-contains, Contains-append_cases, Contains-append_left, Contains-append_right, filter_map-append, flat_map_more, take_more, get_or_from_slice_get, slice_get-get_or, slice_get_within, IsGroupOf, AreGroupsFrom, IsGrouped, AreAbove, Ascends, In, AreThose, contains-in, in-contains, has_nonempty_image, is_range_nonempty, is_symbol_left, is_group_left, group_left, remaining}
 use Rattle.entries.specs.SymbolPlaces.{ArePlacesOf, SymbolGroups}
 use Rattle.subst.proofs.ImageRangesLemmas.{image-some}
 
--- ---- an image that is empty
+-- ---- a symbol whose image is empty
 
 vanished : (symbols : List ℕ) (ps : List (ℕ × SymbolRange)) (x : ℕ) → has_nonempty_image ps x ≡ false → code_image (images_at symbols ps) x ≡ []
 vanished symbols ps x h = by (lookup (nat_eq x) ps) refl h
@@ -19,19 +19,19 @@ remaining-step : (symbols : List ℕ) (ps : List (ℕ × SymbolRange)) (x : ℕ)
 remaining-step symbols ps x e rest true h = ap (λ r. code_image (images_at symbols ps) x ++ r) rest
 remaining-step symbols ps x e rest false h = rest ∙ ap (λ r. r ++ code_apply (images_at symbols ps) e) (sym (vanished symbols ps x h))
 
--- the same result without them
+-- without such symbols the result is the same
 pub apply-remaining : (symbols : List ℕ) (ps : List (ℕ × SymbolRange)) (e : List ℕ) → code_apply (images_at symbols ps) (remaining ps e) ≡ code_apply (images_at symbols ps) e
 apply-remaining symbols ps [] = refl
 apply-remaining symbols ps (x ∷ e) = remaining-step symbols ps x e (apply-remaining symbols ps e) (has_nonempty_image ps x) refl
 
--- ---- the groups that are left
+-- ---- the groups of the symbols that are left
 
--- all indexes of a group tell the same
+-- a group is left exactly if the image of its symbol is not empty
 group-left : (ps : List (ℕ × SymbolRange)) (e : List ℕ) (s : ℕ) (g : List ℕ) → IsGroupOf e s g → is_group_left ps e g ≡ has_nonempty_image ps s
 group-left ps e s [] h = absurd (let some = h.some in omega (arith, some))
 group-left ps e s (i ∷ g) h = ap (is_symbol_left ps) (h.only 0 i (omega arith))
 
--- what is collected are indexes of symbols that are left
+-- each index collected is that of a symbol that is left
 collected-only : (ps : List (ℕ × SymbolRange)) (e ss : List ℕ) (gs : List (List ℕ)) (low : ℕ) → AreGroupsFrom e low ss gs → (i : ℕ) → Contains (flat_map (group_left ps e) gs) i → (x : ℕ) × (slice_get e i ≡ Some x) × (has_nonempty_image ps x ≡ true)
 collected-only ps e [] [] low h i c = absurd (let l = c.1 in omega (arith, l))
 collected-only ps e (s ∷ ss) [] low h i c = absurd h
@@ -43,7 +43,7 @@ collected-only ps e (s ∷ ss) (g ∷ gs) low h i c =
     by true l here = (s, All-contains (λ k. slice_get e k ≡ Some s) g i h.1.only here, sym l)
     by false l here = absurd (let n = here.1 in omega (arith, n))
 
--- and all of them
+-- each index of a symbol that is left is collected
 collected-all : (ps : List (ℕ × SymbolRange)) (e ss : List ℕ) (gs : List (List ℕ)) (low : ℕ) → AreGroupsFrom e low ss gs → (i x : ℕ) → slice_get e i ≡ Some x → has_nonempty_image ps x ≡ true → IsGrouped i gs → Contains (flat_map (group_left ps e) gs) i
 collected-all ps e ss [] low h i x at left in_one = absurd in_one
 collected-all ps e [] (g ∷ gs) low h i x at left in_one = absurd h
@@ -54,7 +54,7 @@ collected-all ps e (s ∷ ss) (g ∷ gs) low h i x at left (inl here) =
     let kept : is_group_left ps e g ≡ true = group-left ps e s g h.1 ∙ (ap (has_nonempty_image ps) (sym same) ∙ left) in
     Contains-append_left (group_left ps e g) (flat_map (group_left ps e) gs) i (subst (λ b. Contains (cond b g []) i) (sym kept) here)
 
--- one more group is gone over
+-- the next group is visited
 collect-more : (f : List ℕ → List ℕ) (gs : List (List ℕ)) (at : ℕ) (g old new : List ℕ) → slice_get gs at ≡ Some g → old ≡ flat_map f (take at gs) → new ≡ old ++ f g → new ≡ flat_map f (take (at + 1) gs)
 collect-more f gs at g old new here is more =
     let within = slice_get_within gs at g here in
@@ -67,7 +67,7 @@ collect-kept ps e gs at g old new here is kept more = collect-more (group_left p
 collect-passed : (ps : List (ℕ × SymbolRange)) (e : List ℕ) (gs : List (List ℕ)) (at : ℕ) (g old : List ℕ) → slice_get gs at ≡ Some g → old ≡ flat_map (group_left ps e) (take at gs) → is_group_left ps e g ≡ false → old ≡ flat_map (group_left ps e) (take (at + 1) gs)
 collect-passed ps e gs at g old here is passed = collect-more (group_left ps e) gs at g old old here is (sym (append-nil old) ∙ ap (λ b. old ++ cond b g []) (sym passed))
 
--- each symbol has its group
+-- there are as many groups as symbols
 pub groups-count : (e ss : List ℕ) (gs : List (List ℕ)) (low : ℕ) → AreGroupsFrom e low ss gs → length gs ≡ length ss
 groups-count e [] [] low h = refl
 groups-count e [] (g ∷ gs) low h = absurd h
@@ -80,7 +80,7 @@ group-at e (s ∷ ss) [] low at h l = absurd h
 group-at e (s ∷ ss) (g ∷ gs) low zero h l = h.1
 group-at e (s ∷ ss) (g ∷ gs) low (suc at) h l = group-at e ss gs (suc s) at h.2 (omega (arith, l))
 
--- a group is left where its symbol is
+-- a group is left exactly if its symbol is
 module _ (ps : List (ℕ × SymbolRange)) (e : List ℕ) (gs : SymbolGroups) (places : ArePlacesOf e gs) where
   told : (at : ℕ) (b : Bool) → at < length gs.symbols → has_nonempty_image ps (get_or gs.symbols at 0) ≡ b → is_group_left ps e (get_or gs.groups at []) ≡ b
   told at b within h = group-left ps e (get_or gs.symbols at 0) (get_or gs.groups at []) (group-at e gs.symbols gs.groups 0 at places.each within) ∙ h
@@ -94,7 +94,7 @@ module _ (ps : List (ℕ × SymbolRange)) (e : List ℕ) (gs : SymbolGroups) (pl
       let same : get_or gs.groups at [] ≡ g = get_or_from_slice_get gs.groups at g [] here in
       collect-kept ps e gs.groups at g old new here done (subst (λ x. is_group_left ps e x ≡ true) same (told at true within kept)) more
 
-  -- symbols that are passed add nothing
+  -- symbols that are skipped add no indexes
   pub symbols-passed : (from more to : ℕ) (old : List ℕ) → from + more ≡ to → to ≤ length gs.symbols → old ≡ flat_map (group_left ps e) (take from gs.groups)
       → ((j : ℕ) → from ≤ j → j < to → has_nonempty_image ps (get_or gs.symbols j 0) ≡ false) → old ≡ flat_map (group_left ps e) (take to gs.groups)
   symbols-passed from zero to old count within done passed = (let n : from ≡ to = omega (arith, count) in done ∙ ap (λ m. flat_map (group_left ps e) (take m gs.groups)) n)
@@ -103,25 +103,25 @@ module _ (ps : List (ℕ × SymbolRange)) (e : List ℕ) (gs : SymbolGroups) (pl
       let next = collect-passed ps e gs.groups from (get_or gs.groups from []) old (there from here) done (told from false here (passed from (omega arith) (omega (arith, count)))) in
       symbols-passed (from + 1) more to old (omega (arith, count)) within next (λ j low high. passed j (omega (arith, low)) high)
 
-  -- and the symbols to the end of all groups
+  -- after the last symbol all groups were visited
   pub all-groups : (at : ℕ) (found : List ℕ) → length gs.symbols ≤ at → found ≡ flat_map (group_left ps e) (take at gs.groups) → found ≡ flat_map (group_left ps e) gs.groups
   all-groups at found end done = done ∙ ap (flat_map (group_left ps e)) (take_all at gs.groups (let n = groups-count e gs.symbols gs.groups 0 places.each in omega (arith, n, end)))
 
--- ---- indexes in order, and the symbols that stand there
+-- ---- ascending indexes, and the symbols at these
 
 above-member : (q p : ℕ) (xs : List ℕ) → AreAbove q xs → In p xs → q < p
 above-member q p [] a i = absurd i
 above-member q p (x ∷ xs) a (inl e) = let l = a.0 in omega (arith, l, e)
 above-member q p (x ∷ xs) a (inr i) = above-member q p xs a.1 i
 
--- the indexes from k on of the symbols that pass, where the symbols from there on are e
+-- the list has exactly the indexes from k on whose symbols pass, in ascending order
 record ArePicked (p : ℕ → Bool) (f : ℕ → Option ℕ) (k : ℕ) (list : List ℕ) : Type 0 where
   pub ascends : Ascends list
   pub low : (i : ℕ) → In i list → k ≤ i
   pub only : (i : ℕ) → In i list → (x : ℕ) × (f i ≡ Some x) × (p x ≡ true)
   pub all : (i x : ℕ) → k ≤ i → f i ≡ Some x → p x ≡ true → In i list
 
--- the symbol at k passes, or not
+-- the list gives the symbol at k, if it passes, and then those after it
 pick-one : (p : ℕ → Bool) (f : ℕ → Option ℕ) (x : ℕ) (e : List ℕ) (k : ℕ) → f k ≡ Some x → ((list : List ℕ) → ArePicked p f (suc k) list → filter_map f list ≡ filter p e)
     → (b : Bool) → p x ≡ b → (list : List ℕ) → ArePicked p f k list → filter_map f list ≡ cond b (x ∷ filter p e) (filter p e)
 pick-one p f x e k here rest false t list h = rest list (record {
@@ -163,7 +163,7 @@ picks p f (x ∷ e) k list at h =
     let here : f k ≡ Some x = (let n : k ≡ k + 0 = omega arith in ap f n ∙ at 0) in
     pick-one p f x e k here (λ l a. picks p f e (suc k) l (λ j. let n : suc k + j ≡ k + suc j = omega arith in ap f n ∙ at (suc j)) a) (p x) refl list h
 
--- the indexes of the groups that are left, in order, give the symbols that are left
+-- the indexes of the groups that are left, in ascending order, give the symbols that are left
 pub remaining-read : (ps : List (ℕ × SymbolRange)) (e : List ℕ) (gs : SymbolGroups) (all list : List ℕ) → ArePlacesOf e gs → all ≡ flat_map (group_left ps e) gs.groups → AreThose (λ i. In i all) list → filter_map (slice_get e) list ≡ remaining ps e
 remaining-read ps e gs all list places is those =
     picks (has_nonempty_image ps) (slice_get e) e 0 list (λ j. let n : 0 + j ≡ j = omega arith in ap (slice_get e) n) (record {
@@ -173,7 +173,7 @@ remaining-read ps e gs all list places is those =
       all = λ i x l at left. those.all i (contains-in i all (subst (λ xs. Contains xs i) (sym is) (collected-all ps e gs.symbols gs.groups 0 places.each i x at left (places.all i (slice_get_within e i x at)))));
     })
 
--- one more index is read
+-- the next index is read
 pub read-more : (f : ℕ → Option ℕ) (is : List ℕ) (k : ℕ) (old : List ℕ) (o : Option ℕ) → k < length is → old ≡ filter_map f (take k is) → f (get_or is k 0) ≡ o → old ++ cons_option o [] ≡ filter_map f (take (k + 1) is)
 read-more f is k old o h done at =
     ap (λ r. r ++ cons_option o []) done

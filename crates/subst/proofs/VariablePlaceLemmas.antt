@@ -1,4 +1,4 @@
--- The places of variables, and how more of them are given.
+-- The places of variables, as symbols are met.
 use Rattle.subst.proofs.Words.{◌≡◌, ℕ, ◌+◌, ◌<◌, ◌⊎◌, false, List, [], ◌∷◌, ◌++◌, length, get_or, Option, Some, None, Result, Ok, Err, OnOk, is_ok, is_err, if◌then◌else◌, refl, sym, ◌∙◌, ap, subst, arith, inl, inr, cases_eq, get_or_append_left, get_or_push, length_push, Numbered, MetSymbol, Places, is_kept, IsAt, Grows, IsPlace, IsListed, IsVariable, ArePlaced, HasVariable, ArePlacesOf, IsAmong, All-nil, All-same, All-push, All-weaker, All-contains}
 
 pub grows-own : (f : Places) → Grows f f
@@ -11,7 +11,7 @@ grows-twice f g h a b = record { each = λ j x at. b.each j x (a.each j x at) }
 pub place-grown : (f g : Places) (j : ℕ) → Grows f g → j < length f.variables → IsAt g j (get_or f.variables j 0)
 place-grown f g j grows h = grows.each j (get_or f.variables j 0) (record { there = h; same = refl })
 
--- a variable that stays has its name
+-- whether the variables at two places are disjoint does not change
 pub kept-grown : (v : Numbered) (f g : Places) (i j : ℕ) → Grows f g → i < length f.variables → j < length f.variables → is_kept v g i j ≡ is_kept v f i j
 kept-grown v f g i j grows hi hj = rw ((place-grown f g i grows hi).same, (place-grown f g j grows hj).same) refl
 
@@ -22,14 +22,14 @@ is_place-grown v f g x (Some j) grows h = grows.each j x h
 pub listed-place : (v : Numbered) (f : Places) (x : ℕ) (o : Option ℕ) → ArePlaced v f → IsListed f x o → IsPlace v f x o
 listed-place v f x o placed at = All-contains (λ (s : MetSymbol). IsPlace v f s.number s.place) f.symbols (record { number = x; place = o }) placed.symbols at
 
--- the variable at a place
+-- the symbol at a place is a variable
 pub at-variable : (v : Numbered) (f : Places) (j x : ℕ) → ArePlaced v f → IsAt f j x → IsVariable v x
 at-variable v f j x placed at = subst (IsVariable v) at.same (placed.variables j 0 at.there)
 
 pub placed-none : (v : Numbered) (f : Places) → f.symbols ≡ [] → f.variables ≡ [] → ArePlaced v f
 placed-none v f a b = record { symbols = All-same (λ (s : MetSymbol). IsPlace v f s.number s.place) f.symbols [] a (All-nil (λ (s : MetSymbol). IsPlace v f s.number s.place)); variables = All-same (IsVariable v) f.variables [] b (All-nil (IsVariable v)) }
 
--- a symbol more that was met
+-- the record of a symbol is appended
 pub placed-symbol : (v : Numbered) (f : Places) (s : MetSymbol) → ArePlaced v f → IsPlace v f s.number s.place → let g : Places = record { symbols = f.symbols ++ s ∷ []; variables = f.variables } in ArePlaced v g × Grows f g × IsPlace v g s.number s.place
 placed-symbol v f s placed own =
     let g : Places = record { symbols = f.symbols ++ s ∷ []; variables = f.variables } in
@@ -42,7 +42,7 @@ placed-symbol v f s placed own =
       is_place-grown v f g s.number s.place grows own,
     )
 
--- a variable more
+-- a variable is appended
 pub placed-variable : (v : Numbered) (f : Places) (x : ℕ) → ArePlaced v f → IsVariable v x → let g : Places = record { symbols = f.symbols; variables = f.variables ++ x ∷ [] } in ArePlaced v g × Grows f g × IsAt g (length f.variables) x
 placed-variable v f x placed is =
     let g : Places = record { symbols = f.symbols; variables = f.variables ++ x ∷ [] } in
@@ -68,18 +68,18 @@ places-same v f g P Q R grows there back h = record {
   only = λ j q. (let o = h.only j (back j q) in (o.0, o.1, grows.each j o.0 o.2));
 }
 
--- the places of a set are those of variables
+-- each place of the set is that of a variable
 pub places-below : (v : Numbered) (f : Places) (P R : ℕ → Type 0) → ArePlacesOf v f P R → (j : ℕ) → P j → j < length f.variables
 places-below v f P R h j p = (h.only j p).2.there
 
--- no place for no symbol
+-- an empty set has the places of no symbols
 pub places-none : (v : Numbered) (f : Places) (P R : ℕ → Type 0) → ((j : ℕ) → P j → ⊥) → ((x : ℕ) → R x → ⊥) → ArePlacesOf v f P R
 places-none v f P R none no_symbol = record { each = λ x r. absurd (no_symbol x r); only = λ j p. absurd (none j p) }
 
 pub among-none : (xs : List ℕ) (x : ℕ) → IsAmong 0 xs x → ⊥
 among-none xs x p = omega (arith, p.1)
 
--- one more of a list
+-- one of the first n + 1 numbers is one of the first n, or the last
 pub among-more : (n : ℕ) (xs : List ℕ) (x : ℕ) → IsAmong (n + 1) xs x → IsAmong n xs x ⊎ (get_or xs n 0 ≡ x)
 among-more n xs x p = elim (cases_eq p.0 n) [ inl same ↦ inr (ap (λ m. get_or xs m 0) (sym same) ∙ p.2) | inr other ↦ inl (p.0, omega (arith, p.1, other), p.2) ]
 
@@ -89,7 +89,7 @@ among-before n xs x p = (p.0, omega (arith, p.1), p.2)
 pub among-last : (n : ℕ) (xs : List ℕ) → IsAmong (n + 1) xs (get_or xs n 0)
 among-last n xs = (n, omega arith, refl)
 
--- what a push left, where it succeeded
+-- the value after a push that succeeds
 pub pushed : {T E A : Type 0} (r : Result T E) (x a b : A) → is_err r ≡ false → x ≡ (if is_ok r then a else b) → x ≡ a
 pushed (Ok t) x a b e h = h
 pushed (Err f) x a b e h = cc

@@ -20,7 +20,7 @@ declared-declared-requires c =
     let k = c.args.storage.now in let w = (goal.at.declared-declared-requires c).After-entry-entry in
     two-of (length (names_in k)) (length (labels_in k)) k.entries c.requires.stored.kept.coded (length (front w)) (last w) (gone w).here
 
--- the declarations that the last entry replaced, after those that the entries before it replaced
+-- the declarations that the last entry replaced
 abbrev after : After-entry-entry → List ℕ → List ℕ
 after w declared = map (λ k. last_of (last w).kind (symbol_of (front w) k)) declared
 

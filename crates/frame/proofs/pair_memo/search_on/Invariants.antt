@@ -1,7 +1,7 @@
 use Rattle.frame.proofs.Words.{length, IsLeft}
 use Rattle.frame.proofs.pair_memo.search_on.Given as goal
 
--- the `$d` that are left decide
+-- x and y are a pair exactly if a `$d` that is left has both
 abbrev pub invariant-loop-position : goal.invariant-loop-position
 invariant-loop-position l = IsLeft l.storage l.at l.x l.y l.left
 

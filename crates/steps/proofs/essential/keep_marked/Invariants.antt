@@ -1,7 +1,7 @@
 use Rattle.steps.proofs.Words.{◌≡◌, map, AreKept, marked_before, AreNumbers, kept_row}
 use Rattle.steps.proofs.essential.keep_marked.Given as goal
 
--- the marked rows before this place
+-- the marked rows before this place are written, and their numbers recorded
 abbrev pub invariant-loop-place : goal.invariant-loop-place
 invariant-loop-place l =
     AreNumbers l.marks l.place l.numbers.items

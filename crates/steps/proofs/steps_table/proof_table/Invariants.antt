@@ -2,7 +2,7 @@ use Rattle.steps.proofs.Words.{◌≡◌, List, Name, ArePositions, AreLegal, it
 use Rattle.steps.proofs.ReachedLemmas.{Reached}
 use Rattle.steps.proofs.steps_table.proof_table.Given as goal
 
--- after the items so far
+-- the items so far are recorded in the table
 abbrev pub invariant-loop-number : goal.invariant-loop-number
 invariant-loop-number l =
     AreLegal l.frames.statements l.frames.names

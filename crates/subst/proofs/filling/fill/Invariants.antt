@@ -1,7 +1,7 @@
 use Rattle.subst.proofs.Words.{◌≡◌, ◌+◌, ◌≤◌, ℕ, List, length, take, code_apply, images_at, IsWritten}
 use Rattle.subst.proofs.filling.fill.Given as goal
 
--- what is written of the first symbols, and that there is room for those after them
+-- the result for the first symbols is written, and there is room for that of the others
 pub record IsFilled (old new : List ℕ) (at : ℕ) (e : List ℕ) (end k n last : ℕ) : Type 0 where
   pub written : IsWritten old new at e end
   pub few : end ≤ last + k

@@ -2,7 +2,7 @@ use Rattle.entries.proofs.Words.{ℕ, ◌≡◌, ◌<◌, ◌+◌, ◌^◌, inl,
 use Rattle.entries.proofs.JoinedSetLemmas.{below-left, below-right}
 use Rattle.entries.proofs.position_sets.PositionSets.rank.Goals as goal
 
--- the positions that were counted and those that are left are few, since a part that is not the whole set has been
+-- the count of positions so far and the size of the part that is left are together below 2^32
 still-few : (below part left right : ℕ) → (0 < below → below + part < 2 ^ 32) → part < 2 ^ 32 → part ≡ left + 1 + right → below + (left + 1) + right < 2 ^ 32
 still-few below part left right room few long =
     elim (eq-zero-or-pos below) [

@@ -2,7 +2,7 @@ use Rattle.subst.proofs.Words.{◌≡◌, ℕ, bit_at, HasFact}
 use Rattle.subst.proofs.BitsLemmas.{IsTaken}
 use Rattle.subst.proofs.disjoint_rows.DisjointRows.are_found.Given as goal
 
--- the places that were taken were found to be disjoint from those of the other word
+-- the places visited are recorded to be disjoint from those of the other word
 abbrev pub invariant-loop-rest : goal.invariant-loop-rest
 invariant-loop-rest l = IsTaken (λ b. (q : ℕ) → bit_at l.others q ≡ 1 → HasFact l.self b q) l.bits l.rest
 

@@ -2,7 +2,7 @@ use Rattle.subst.proofs.Words.{◌+◌, ◌*◌, true, AreFacts, DecidesAll}
 use Rattle.subst.proofs.BitsLemmas.{IsTaken}
 use Rattle.subst.proofs.disjoint_rows.DisjointRows.is_word_disjoint.Given as goal
 
--- the variables that were taken are disjoint from those of the set
+-- the variables visited are disjoint from those of the set
 abbrev pub invariant-loop-rest : goal.invariant-loop-rest
 invariant-loop-rest l = AreFacts l.pairs l.variables l.self × IsTaken (λ b. DecidesAll l.pairs l.variables (64 * l.word.index + b) l.others true) l.word.bits l.rest
 

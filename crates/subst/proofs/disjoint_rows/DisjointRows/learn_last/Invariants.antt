@@ -2,7 +2,7 @@ use Rattle.subst.proofs.Words.{length, AreFacts, ArePlaced, Grows}
 use Rattle.subst.proofs.ActivePairLemmas.{ArePairsOf}
 use Rattle.subst.proofs.disjoint_rows.DisjointRows.learn_last.Given as goal
 
--- the `$d` that are left tell no more than all of them
+-- each pair of the `$d` that are left is a pair of all of them
 abbrev pub invariant-loop-list : goal.invariant-loop-list
 invariant-loop-list l = ArePlaced l.pairs l.variables × Grows l.fn.variables l.variables × AreFacts l.pairs l.variables l.self × ArePairsOf l.pairs l.before
 

@@ -1,7 +1,7 @@
 use Rattle.subst.proofs.Words.{◌≡◌, true, take, images_at, image_named, is_number_disjoint, AreRead, AreTables, Grows}
 use Rattle.subst.proofs.disjoint_tables.DisjointTables.is_disjoint.Given as goal
 
--- the images so far are disjoint from it
+-- the images so far are disjoint from that of the number
 abbrev pub invariant-loop-other : goal.invariant-loop-other
 invariant-loop-other l =
     AreTables l.pairs l.symbols l.self

@@ -2,7 +2,7 @@ use Rattle.subst.proofs.Words.{AreRead, AreTables, ArePlacesOf, HasPlace, image_
 use Rattle.subst.proofs.GroupLemmas.{ArePairwise, IsInImages}
 use Rattle.subst.proofs.disjoint_tables.DisjointTables.is_group_disjoint.Given as goal
 
--- the images so far are disjoint, and their variables recorded
+-- the images so far are pairwise disjoint, and the places of their variables recorded
 abbrev pub invariant-loop-index : goal.invariant-loop-index
 invariant-loop-index l =
     AreTables l.pairs l.symbols l.self

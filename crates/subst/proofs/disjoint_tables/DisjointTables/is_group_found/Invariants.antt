@@ -2,7 +2,7 @@ use Rattle.subst.proofs.Words.{[], ◌∷◌, AreRead, AreTables, ArePlacesOf, H
 use Rattle.subst.proofs.GroupLemmas.{ArePairwise, IsInImages}
 use Rattle.subst.proofs.disjoint_tables.DisjointTables.is_group_found.Given as goal
 
--- the images so far are disjoint, and the places of their variables are those of a word
+-- the images so far are pairwise disjoint, and the places of their variables are those of a word
 abbrev pub invariant-loop-k : goal.invariant-loop-k
 invariant-loop-k l =
     AreTables l.pairs l.symbols l.self

@@ -12,7 +12,7 @@ not-some : {A : Type 0} (o : Option A) → is_some o ≡ false → o ≡ None
 not-some (Some x) e = cc
 not-some None e = refl
 
--- the result, by its first symbol and the images of the others
+-- the result is its first symbol, followed by the images of the others
 seen-first : (symbols : List ℕ) (images : List (ℕ × SymbolRange)) (e : List ℕ) (p : SymbolRange) (x : ℕ) (rest : List ℕ) → symbols_in symbols p ≡ code_apply (images_at symbols images) e → e ≡ x ∷ rest → code_image (images_at symbols images) x ≡ x ∷ []
     → symbols_in symbols p ≡ x ∷ code_apply (images_at symbols images) rest
 seen-first symbols images e p x rest whole first own = whole ∙ (ap (code_apply (images_at symbols images)) first ∙ ap (λ i. i ++ code_apply (images_at symbols images) rest) own)

@@ -2,7 +2,7 @@ use Rattle.subst.proofs.Words.{take, code_apply, images_at, AddsImage, AreTables
 use Rattle.subst.proofs.DisjointTableLemmas.{rest_of}
 use Rattle.subst.proofs.disjoint_tables.DisjointTables.record_result.Given as goal
 
--- the variables of the images so far were listed
+-- the places of the variables of the images so far are listed
 abbrev pub invariant-loop-index : goal.invariant-loop-index
 invariant-loop-index l =
     AreTables l.pairs l.symbols l.self

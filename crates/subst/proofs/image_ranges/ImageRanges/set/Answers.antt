@@ -3,7 +3,7 @@ use Rattle.subst.proofs.SlotLemmas.{placed-slot, placed-more, slot-set, up_to-se
 use Rattle.subst.proofs.image_ranges.ImageRanges.set.Goals as goal
 use Rattle.subst.proofs.image_ranges.ImageRanges.set.Goals.{then-index-len+in_ok-add_slots, else-index-len}
 
--- the table has the slot, and the same images
+-- the table has a slot for the symbol, and the images are as before
 ready : (c : goal.After-self-1) → let t = c.if-index-len.self-inside in
     (1 ≤ t.round) × AreUpTo t.round t.slots.items × (c.args.symbol < length t.slots.items) × (placed t.round 0 t.slots.items ≡ c.args.self.now)
 ready c =

@@ -3,7 +3,7 @@ use Rattle.subst.proofs.SlotLemmas.{placed-slot, slot-none, slot-at}
 use Rattle.subst.proofs.image_ranges.ImageTable.get.Goals as goal
 use Rattle.subst.proofs.BitsLemmas.{differ}
 
--- a slot of this round, and one of another
+-- the slot of a symbol has its image exactly if it was set in this round
 found : (round : ℕ) (slots : List Slot) (x : ℕ) (s : Slot) (b : Bool) → true ≡ nat_lt x (length slots) → s ≡ get_or slots x s → (s.round == round) ≡ b
     → cond b (Some s.place) None ≡ lookup (nat_eq x) (placed round 0 slots)
 found round slots x s b h is test =

@@ -2,7 +2,7 @@ use Rattle.subst.proofs.Words.{length}
 use Rattle.subst.proofs.OneListLemmas.{IsRow}
 use Rattle.subst.proofs.one_list.OneDisjointList.are_in_one.Given as goal
 
--- each two symbols of a `$d` that is left stand together
+-- any two symbols of a `$d` that is left are a pair
 abbrev pub invariant-loop-list : goal.invariant-loop-list
 invariant-loop-list l = IsRow l.pairs l.row
 

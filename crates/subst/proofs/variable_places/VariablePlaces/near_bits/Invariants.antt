@@ -1,6 +1,6 @@
 use Rattle.subst.proofs.Words.{[], AddsSymbols, HasEither, HasPlace, near_word}
 use Rattle.subst.proofs.variable_places.VariablePlaces.near_bits.Given as goal
 
--- the variables of the symbols so far
+-- the bits are the places of the variables of the symbols so far
 abbrev pub invariant-loop-symbol : goal.invariant-loop-symbol
 invariant-loop-symbol l = AddsSymbols l.pairs l.self (HasPlace []) (HasEither [] (near_word l.bits)) l.symbol-index l.image
