@@ -1,7 +1,7 @@
 -- The files of a site, written one after another.
 use Rattle.sites.proofs.Words.{◌≡◌, ℕ, suc, ◌+◌, ◌<◌, ◌≤◌, List, [], ◌∷◌, ◌++◌, length, take, get_or, slice_get, Some, option_map, Result, Ok, Err, OnOk, sym, ◌∙◌, ap, subst, refl, arith, append_assoc, append-nil, take_more, length-take-le, HasAssertion, Database, Stmt, Axiom, Open, Name, bare, bares, stmt_at, stmt_at-bares, WritesNamed, page_file, page_files}
 
--- ---- one after another
+-- ---- files, one after another
 
 pub writes-then : {F : Type 0} (writes : F → List ℕ → List ℕ → F → Type 0) (old mid new : F) (names more : List (List ℕ))
     → WritesNamed writes old names mid → WritesNamed writes mid more new → WritesNamed writes old (names ++ more) new

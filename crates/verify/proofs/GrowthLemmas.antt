@@ -79,7 +79,7 @@ module _ (S : Database) (at : ℕ) where
     grows_same st x y (Recall k) p q = p.2 ∙ (ap (λ t. trees (st.stack ++ t ∷ []) st.saved) (kept_same st.saved k p.0 q.0 p.1 q.1) ∙ sym q.2)
     grows_same st x y Mark p q = p.3 ∙ (ap (λ t. trees st.stack (st.saved ++ t ∷ [])) (same_from_push p.0 q.0 p.1 q.1 (sym p.2 ∙ q.2)).1 ∙ sym q.3)
 
-    -- so have items one after another
+    -- items one after another have at most one effect
     pub grows_by_same : (items : List Item) (st x y : Trees) → GrowsBy S at st items x → GrowsBy S at st items y → x ≡ y
     grows_by_same [] st x y p q = sym p ∙ q
     grows_by_same (item ∷ items) st x y p q = grows_by_same items p.0 x y p.2 (subst (λ r. GrowsBy S at r items y) (sym (grows_same st p.0 q.0 item p.1 q.1)) q.2)

@@ -133,7 +133,7 @@ pub both-at : (gs : List (List ℕ)) (i x y : ℕ) (g : List ℕ) → slice_get 
 both-at gs i x y g here a b =
     list_any_at (has_both x y) gs i [] (slice_get_within gs i g here) (ap (has_both x y) (get_or_from_slice_get gs i g [] here) ∙ and_from _ _ a b)
 
--- ---- what is kept
+-- ---- the lists and facts that are kept
 
 pub kept_none : (S : Database) (names : List Name) (kept : Kept) → kept.lists ≡ [] → kept.facts ≡ [] → AreKeptFor S names kept
 kept_none S names kept no_lists no_facts = record {
