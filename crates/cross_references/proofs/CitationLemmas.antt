@@ -1,7 +1,7 @@
 -- The statements that items cite, as a list of positions.
 use Rattle.cross_references.proofs.Words.{◌≡◌, ◌⊎◌, ℕ, zero, suc, ◌+◌, ◌-◌, ◌<◌, ◌≤◌, true, List, [], ◌∷◌, ◌++◌, length, take, get_or, filter_map, Option, Some, None, option_map, slice_get, cons_option, sym, ◌∙◌, ap, subst, refl, arith, inl, inr, append_assoc, cases_lt, get_or_past, take_more, filter_map-append, slice_get-map, ArePositions, HasLabelsOnce, IsPosition, Carries, In, AreThose, those-by, map-back, legal-labels, Good, IsProofOf, place_of, HasItems, ItemsCite, Cites, position-is, legal-each, not-there, cites-of, cited-of, Name, Database, Stmt, Prove, item_of, items_of, Item, Cite, Recall, item-cite, item-recall, position_list, bares, is_provable, label_of, stmt_at}
 
--- ---- the positions that numbers stand for
+-- ---- the positions of the statements that numbers cite
 
 module _ (S : Database) (labels : List Name) (positions : List (Option ℕ)) (are : ArePositions S labels positions) (once : HasLabelsOnce S) where
   -- an item that cites a statement
@@ -30,7 +30,7 @@ module _ (S : Database) (labels : List Name) (positions : List (Option ℕ)) (ar
     | inr more ↦ absurd (let e : Recall (suc (n - length labels)) ≡ Cite c.label = sym (item-recall labels (suc n) n refl more) ∙ c.cites in cc)
   ]
 
-  -- one of the numbers stands for the position
+  -- one of the numbers stands for this position
   record HasNumber (numbers : List ℕ) (a : ℕ) : Type 0 where
     pub place : ℕ
     pub number : ℕ
@@ -97,7 +97,7 @@ cites-nothing S at s stands other = record {
   only = λ p i. absurd i;
 }
 
--- the positions of one number more
+-- the positions of one more number
 pub positions-more : (positions : List (Option ℕ)) (numbers : List ℕ) (i : ℕ) → i < length numbers
     → filter_map (place_of positions) (take (i + 1) numbers) ≡ filter_map (place_of positions) (take i numbers) ++ position_list (place_of positions (get_or numbers i 0))
 positions-more positions numbers i h =

@@ -21,7 +21,7 @@ has-one q old new is = subst (HasMore (λ p. p ≡ q) old) (sym is) (record {
   only = λ p i. elim (last-out p q old i) [ inl e ↦ inr e | inr o ↦ inl o ];
 })
 
--- ---- of the first positions
+-- ---- the first positions
 
 pub in-more : (positions : List ℕ) (i p : ℕ) → i < length positions → In p (take (i + 1) positions) → In p (take i positions) ⊎ (p ≡ get_or positions i 0)
 in-more positions i p h is =
@@ -62,18 +62,18 @@ module _ (R : ℕ → ℕ → Type 0) (positions : List ℕ) (i : ℕ) where
       (λ p q. more-some p h q) (λ p q. some-more p h q)
       (has-both (OfSome R (take i positions)) (R (get_or positions i 0)) a b c m n)
 
--- none of no positions
+-- no number is among no positions
 pub some-none : (R : ℕ → ℕ → Type 0) (p : ℕ) → OfSome R [] p → ⊥
 some-none R p is = absurd is.among
 
--- what was collected from nothing, in order
+-- the sorted list of all that was added to an empty list
 pub those-collected : (P : ℕ → Type 0) (none new list : List ℕ) → none ≡ [] → HasMore P none new → AreThose (λ p. In p new) list → AreThose P list
 those-collected P none new list is h those =
     those-by those (λ p i. elim (h.only p i) [ inl o ↦ absurd (subst (In p) is o) | inr x ↦ x ]) (λ p x. h.all p x)
 
 -- ---- ascending lists
 
--- the next position is none of those before it
+-- no position is in an ascending list of greater positions
 above-in : (p q : ℕ) (ps : List ℕ) → AreAbove q ps → In p ps → q < p
 above-in p q [] above i = absurd i
 above-in p q (x ∷ ps) above (inl e) = let h = above.0 in omega (arith, h, e)
@@ -102,14 +102,14 @@ above-zero : (ps : List ℕ) → ((p : ℕ) → In p ps → 0 < p) → AreAbove 
 above-zero [] h = tt
 above-zero (p ∷ ps) h = (h p (inl refl), above-zero ps (λ q i. h q (inr i)))
 
--- positions above 0 that pass, said in the words of questions
+-- an ascending list of the positions above 0 with a property has the form of the contracts
 pub those-where : (P : ℕ → Type 0) (list : List ℕ) → AreThose P list → ((p : ℕ) → P p → 0 < p) → ArePositionsWhere P list
 those-where P list those some = record {
   rising = rises-from 0 list (above-zero list (λ p i. some p (those.only p i))) those.ascends;
   holding = λ a. ((λ i. those.only a (place-in list i.0 a i.1)), λ p. in-place a list (those.all a p));
 }
 
--- one more, above all that are there
+-- a list that ascends still does when a greater number is appended
 pub ascends-last : (ps : List ℕ) (q : ℕ) → Ascends ps → ((p : ℕ) → In p ps → p < q) → Ascends (ps ++ q ∷ [])
 ascends-last [] q asc below = (tt, tt)
 ascends-last (p ∷ ps) q asc below = (above-last ps asc.0, ascends-last ps q asc.1 (λ x i. below x (inr i)))
@@ -118,7 +118,7 @@ ascends-last (p ∷ ps) q asc below = (above-last ps asc.0, ascends-last ps q as
     above-last [] a = (below p (inl refl), tt)
     above-last (x ∷ xs) a = (a.0, above-last xs a.1)
 
--- ---- what a collector keeps
+-- ---- the list and the rounds of a collector
 
 pub in-at : (ps : List ℕ) (i : ℕ) → i < length ps → In (get_or ps i 0) ps
 in-at ps i h = place-in ps i (get_or ps i 0) (slice_get-get_or ps i 0 h)
@@ -130,7 +130,7 @@ pub on-ok : {T E A B : Type 0} (r : Result T E) → (A → B) → OnOk r A → O
 on-ok (Ok v) f h = f h
 on-ok (Err e) f h = tt
 
--- a position that was added in this round is there
+-- a position that was added in this round is already in the list
 pub has_already : (list rounds : List ℕ) (round position : ℕ) → IsRoundTable list rounds round → get_or rounds position 0 ≡ round → HasMore (λ p. p ≡ position) list list
 has_already list rounds round position are here = record {
   stays = λ p i. i;
@@ -141,7 +141,7 @@ has_already list rounds round position are here = record {
 pub has_pushed : (position : ℕ) (old new : List ℕ) → new ≡ old ++ position ∷ [] → HasMore (λ p. p ≡ position) old new
 has_pushed position old new is = has-one position old new is
 
--- one more position, and its round
+-- a position is added to the list, with its round
 pub rounds_more : (list rounds new news : List ℕ) (round position : ℕ) → IsRoundTable list rounds round → new ≡ list ++ position ∷ [] → news ≡ slice_set rounds position round → IsRoundTable new news round
 rounds_more list rounds new news round position are is set = record {
   some = are.some;

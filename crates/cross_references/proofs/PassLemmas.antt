@@ -1,8 +1,8 @@
--- The steps of the pass over the statements.
+-- One step of the pass over the statements.
 use Rattle.cross_references.proofs.Words.{◌≡◌, ◌⊎◌, ◌↔◌, ℕ, zero, suc, ◌+◌, ◌-◌, ◌<◌, ◌≤◌, Bool, true, false, IsTrue, List, [], ◌∷◌, ◌++◌, length, map, take, drop, get_or, replicate, slice_set, Some, sym, ◌∙◌, ap, subst, refl, arith, inl, inr, take_all, length-append, append-nil, cases_eq, cases_lt, Vec, drop_all, get_or-map, map-append, map-set, get_or-set_other, get_or-set_same, get_or_append_left, get_or_past, length-map, length-set, length-replicate, Ascends, has_position, In, AreThose, HasMore, OfSome, last-in, last-out, those-by, in-has, has-in, Good, Cites, RestsOn, directly, through, Uses, IsAxiomAt, IsUser, is_axiom, cites-below, Database, Stmt, stmt_at, stands-within, ArePositionsWhere, AreListsOf, AreReferences, lists_of, AddsAxiom, AreWithin, HaveCitingAdded, AreDone}
 use Rattle.cross_references.proofs.ListLemmas.{has-as, has-both, in-more, more-in, next-apart, those-where, ascends-last}
 
--- what is cited stands before
+-- a statement that is cited is an earlier one
 pub cites-within : (S : Database) (n a : ℕ) → Good S → Cites S (suc n) a → (0 < a) × (a ≤ n)
 cites-within S n a good c =
     let one = c.one in
@@ -41,9 +41,9 @@ module _ (S : Database) (good : Good S) (n : ℕ) (axioms : List (List ℕ)) (ci
   pub uses-those : (list : List ℕ) → AreThose (OfSome (AddsAxiom S axioms) cited) list → AreThose (Uses S (suc n)) list
   uses-those list given = those-by given added-uses (λ a u. uses-added a u.0 u.1)
 
--- ---- the citing statements
+-- ---- the statements that cite
 
--- those of the first statements that cite the one at the index k
+-- a statement up to n that cites the statement at index k
 abbrev pub CiteUpto : Database → ℕ → ℕ → ℕ → Type 0
 CiteUpto S n k j = (j ≤ n) × Cites S j (suc k)
 
@@ -84,7 +84,7 @@ citing-next S n k cited old new those have are = by (has_position (suc k) cited)
         (have.others k (λ i. let f : true ≡ false = sym (in-has (suc k) cited i) ∙ e in cc))
         (λ c. let f : true ≡ false = sym (in-has (suc k) cited (those.all (suc k) c)) ∙ e in cc)
 
--- one list more has the citing statement
+-- the citing statement is added to the list of one more position
 pub citing-pushed : (at : ℕ) (positions : List ℕ) (i p : ℕ) (first old new : List (List ℕ)) → Ascends positions → i < length positions → p ≡ get_or positions i 0 → 0 < p → p ≤ length first
     → new ≡ slice_set old (p - 1) (get_or old (p - 1) [] ++ at ∷ []) → HaveCitingAdded at (take i positions) first old → HaveCitingAdded at (take (i + 1) positions) first new
 citing-pushed at positions i zero first old new asc h is some within set have = absurd (omega (arith, some))
@@ -128,7 +128,7 @@ citing-all at positions i old new h have = subst (λ ps. HaveCitingAdded at ps o
 
 -- ---- all statements
 
--- so many empty lists
+-- a list of empty lists
 abbrev pub empties : ℕ → List (List ℕ)
 empties count = replicate count []
 
@@ -220,7 +220,7 @@ lists-count us = length-map us (λ (v : Vec ℕ). v.items)
 pub lists-push : (us vs : List (Vec ℕ)) (v : Vec ℕ) → vs ≡ us ++ v ∷ [] → lists_of vs ≡ lists_of us ++ v.items ∷ []
 lists-push us vs v is = ap lists_of is ∙ map-append (λ (w : Vec ℕ). w.items) us (v ∷ [])
 
--- ---- what one position gives
+-- ---- one position is added
 
 pub added-more : (S : Database) (axioms : List (List ℕ)) (p : ℕ) (old mid new : List ℕ) (s : Stmt) (list : List ℕ) → stmt_at S p ≡ Some s
     → HasMore (λ q. IsTrue (is_axiom s) × (q ≡ p)) old mid → list ≡ get_or axioms (p - 1) [] → HasMore (λ q. In q list) mid new → HasMore (AddsAxiom S axioms p) old new
@@ -239,12 +239,12 @@ added-more S axioms p old mid new s list stands first is more =
         inl (subst (λ t. IsTrue (is_axiom t)) same there.kind, h.1)
     from q (inr i) = inr (subst (In q) (sym is) i)
 
--- lists that were lent whole
+-- if a list of lists is lent whole and comes back with the same length, it is replaced by the one that came back
 pub lent-lists : (n : ℕ) (s old : List (Vec ℕ)) → length s ≡ length old → n ≡ length old → take n (s ++ drop (length s) old) ≡ s
 lent-lists n s old same all =
     ap (λ r. take n (s ++ r)) (drop_all (length s) old (omega (arith, same))) ∙ (ap (take n) (append-nil s) ∙ take_all n s (omega (arith, same, all)))
 
--- ---- what the calls say, in the words of the pass
+-- ---- the results of the calls in the form of the pass
 
 pub have-as : (at m : ℕ) (ps qs : List ℕ) (lent old new : List (Vec ℕ)) → m ≡ at → ps ≡ qs → lent ≡ old → HaveCitingAdded m ps (lists_of lent) (lists_of new) → HaveCitingAdded at qs (lists_of old) (lists_of new)
 have-as at m ps qs lent old new same is all have =

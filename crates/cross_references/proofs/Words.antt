@@ -1,4 +1,4 @@
--- The words in which this crate is proved, passed on from one place.
+-- Re-exports of the definitions and lemmas with which this crate is proved.
 pub use Rattle.cross_references.specs.PassState.{AreDone, IsRoundTable, AreWithin, AddsAxiom, HaveCitingAdded, position_list, lists_of}
 pub use Rattle.cross_references.specs.References.{AreListsOf, AreReferences, ArePositionsWhere}
 pub use Rattle.entries.specs.PositionSets.{AreAbove, Ascends, has_position}

@@ -40,7 +40,7 @@ part-skip T S s nothing = skips nothing
 part-skip T S s (keeps {T = T'} {S = S'} p) = keeps (part-skip T' S' s p)
 part-skip T S s (skips {S = S'} p) = skips (part-skip T S' s p)
 
--- ---- statements by place
+-- ---- statements by index
 
 pub get-within : (T : Database) (k : ℕ) (s : Stmt) → slice_get T k ≡ Some s → (k < length T) × (s ≡ get_or T k s)
 get-within [] k s e = absurd (let f = e in cc)
@@ -52,7 +52,7 @@ get-some [] n s d less e = absurd (omega (arith, less))
 get-some (t ∷ S) zero s d less e = ap Some (sym e)
 get-some (t ∷ S) (suc n) s d less e = get-some S n s d (omega (arith, less)) e
 
--- the first statements and the next one are one more
+-- the first n statements and the next one are the first n + 1
 longer : (S : Database) (n : ℕ) (s : Stmt) → n < length S → s ≡ get_or S n s → take (n + 1) S ≡ take n S ++ s ∷ []
 longer S n s less is = take_more S n s less ∙ ap (λ r. take n S ++ r ∷ []) (sym is)
 

@@ -1,4 +1,4 @@
--- Statements and lists that a test found the same.
+-- Statements and lists that a test finds to be the same.
 use Rattle.std.specs.Prelude.{◌≡◌, ℕ, zero, suc, ◌||◌, ◌<◌, true, List, [], ◌∷◌, length, map, get_or}
 use Rattle.std.specs.List.{list_all, list_any}
 use Rattle.std.proofs.Common.{sym, ◌∙◌, ap, arith}

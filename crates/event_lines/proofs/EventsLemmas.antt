@@ -1,20 +1,20 @@
--- A script of the lines of events.
+-- A script that is made of the lines of events.
 use Rattle.event_lines.proofs.Words.{◌≡◌, ℕ, ◌+◌, ◌^◌, ◌<◌, ◌==◌, Bool, true, false, List, [], ◌∷◌, ◌++◌, codes, count_by, decimal, map, flat_map, Some, Result, Ok, refl, AllByRecursion, list_any, sym, ◌∙◌, ap, arith, length, take, drop, get_or, append_assoc, append-nil, length-append, subst, take_at, drop_at, get_or_at, Entry, Text, Charter, AreNames, Submission, Event, Offer, Begin, Deliver, Restart, Carried, PlayLine, Node, split_at, prepended, script_from, script_of, with_line, play_line_of, bytes_before, text_passed, bytes_found, bytes_rest, EventIsInRange, EntryIsInRange, TextIsInRange, event_text, events_text, offer_lines, text_offer_lines, play_line_of_event, spaced, entry_words}
 use Rattle.commands.specs.declared.node_line.NodeLine.TheVariants.{Offer as OfferLine}
 use Rattle.event_lines.proofs.DecimalLemmas.{without-decimal}
 use Rattle.event_lines.proofs.WordsLemmas.{Without, without-append, without-spaced, split_before}
 use Rattle.event_lines.proofs.LinesLemmas.{begin_says, restart_says, deliver_says, offer_says, bytes_say, charter_says}
 
--- the lines of a text, and the result of parsing a script that begins with them
+-- the result of parsing the lines of a text as a script
 abbrev lines_say : ℕ → List ℕ → Result (List PlayLine) ℕ
 lines_say number bytes = script_from play_line_of number 0 (split_at 10 bytes)
 
--- a text at the front of a script is this line
+-- a text at the front of a script is read as this line
 abbrev IsRead : List ℕ → PlayLine → Type 0
 IsRead text line = (number : ℕ) (rest : List ℕ) → (next : ℕ) × (lines_say number (text ++ rest) ≡ prepended line (lines_say next rest))
 
 module _ (line : List ℕ) (free : Without 10 line) (some : 0 < length line) where
-  -- the first line, and those after it
+  -- the first line is parsed, and then the lines after it
   one_line : (number : ℕ) (rest : List ℕ) → lines_say number (line ++ 10 ∷ rest)
       ≡ with_line number (play_line_of line (split_at 10 rest)) (λ count. script_from play_line_of (number + 1) count (split_at 10 rest))
   one_line number rest = ap (script_from play_line_of number 0) (split_before 10 line rest free) ∙ by line some
@@ -24,7 +24,7 @@ module _ (line : List ℕ) (free : Without 10 line) (some : 0 < length line) whe
       by [] none = absurd (omega arith)
       by (c ∷ cs) more = refl
 
-  -- a line without a text
+  -- a line that takes no further lines
   read_without_text : (x : PlayLine) → ((lines : List (List ℕ)) → play_line_of line lines ≡ Some (x, 0)) → IsRead (line ++ codes "\n") x
   read_without_text x says = λ number rest. (
     number + 1,
@@ -33,7 +33,7 @@ module _ (line : List ℕ) (free : Without 10 line) (some : 0 < length line) whe
         ∙ ap (λ o. with_line number o (λ count. script_from play_line_of (number + 1) count (split_at 10 rest))) (says (split_at 10 rest))),
   )
 
-  -- a line whose text are the bytes that follow
+  -- a line whose text is in the bytes that follow it
   module _ (text : List ℕ) (x : PlayLine)
       (says : (rest : List ℕ) → play_line_of line (split_at 10 (text ++ 10 ∷ rest)) ≡ Some (x, count_by (λ b. b == 10) text + 1)) where
     read_bytes : IsRead (line ++ codes "\n" ++ text ++ codes "\n") x
@@ -59,7 +59,7 @@ module _ (line : List ℕ) (free : Without 10 line) (some : 0 < length line) whe
               ∙ ap (script_from play_line_of (number + 1 + count) 0) (sym after)))),
         )
 
--- the bytes of a text at the front of others
+-- the bytes of a text are read from the lines that begin with it, and its line feeds are counted
 bytes_at : (text rest : List ℕ) → bytes_before (length text) (split_at 10 (text ++ 10 ∷ rest)) ≡ Some (text, count_by (λ b. b == 10) text + 1)
 bytes_at text rest =
     let all : List ℕ = text ++ 10 ∷ rest in
@@ -67,11 +67,11 @@ bytes_at text rest =
     let feed : get_or all (length text) 0 ≡ 10 = get_or_at text 10 rest 0 (length text) refl in
     bytes_found (length text) all (ap (λ b. b == 10) feed) ∙ ap (λ t. Some (t, count_by (λ b. b == 10) t + 1)) front
 
--- a list with something in front has something
+-- a list is not empty if something is appended to a list that is not empty
 longer : (xs ys : List ℕ) → 0 < length xs → 0 < length (xs ++ ys)
 longer xs ys some = omega (arith, length-append xs ys)
 
--- numbers are words
+-- the digits of a number have no byte below the digits
 free_of : (c n : ℕ) → c < 48 → n < 2 ^ 64 → Without c (decimal n)
 free_of c n low small = without-decimal c n low small
 
@@ -156,7 +156,7 @@ read_event (Begin k) fits = read_number (codes "begin") k _ refl (omega arith) (
 read_event (Deliver n) fits = read_number (codes "deliver") n _ refl (omega arith) fits (λ lines. deliver_says n lines fits (free_of 32 n (omega arith) fits, tt))
 read_event (Restart k) fits = read_number (codes "restart") k _ refl (omega arith) (wide k fits) (λ lines. restart_says k lines fits (free_of 32 k (omega arith) (wide k fits), tt))
 
--- so are the lines of events
+-- the lines of several events are read as theirs
 read_events : (es : List (Event Carried)) (number : ℕ) → AllByRecursion EventIsInRange es → lines_say number (events_text es) ≡ Ok (map play_line_of_event es)
 read_events [] number fits = refl
 read_events (e ∷ es) number (first, others) =
@@ -179,7 +179,7 @@ text_more : (es : List (Event Carried)) (e : Event Carried) → events_text (es 
 text_more [] e = append-nil (event_text e)
 text_more (x ∷ es) e = ap (λ l. event_text x ++ l) (text_more es e) ∙ sym (append_assoc (event_text x) (events_text es) (event_text e))
 
--- one event more
+-- one more event
 pub written_more : (es now : List (Event Carried)) (text next : List ℕ) (e : Event Carried) → now ≡ es ++ e ∷ [] → AreWritten es text
     → next ≡ text ++ event_text e → EventIsInRange e → AreWritten now next
 written_more es now text next e more so appended fits =
@@ -189,6 +189,6 @@ written_more es now text next e more so appended fits =
       fit = fit_more es e so.fit fits;
     })
 
--- all of them
+-- the text of all events is parsed as their lines
 pub written_parses : (es : List (Event Carried)) (text : List ℕ) → AreWritten es text → script_of play_line_of text ≡ Ok (map play_line_of_event es)
 written_parses es text so = ap (script_of play_line_of) so.lines ∙ events_parse es so.fit

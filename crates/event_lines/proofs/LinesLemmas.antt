@@ -35,12 +35,12 @@ entry_at-words k a s ws node author serial =
     ∙ (ap (λ o. after_serial k a o ws) (number_of-decimal s serial)
     ∙ ap (λ n. Some (record { node = n; author = a; serial = s }, ws)) (node_of-small k node)))
 
--- the meaning of a line, by its words
+-- a line is parsed by the words that it splits into
 parsed_by : (line : List ℕ) (lines : List (List ℕ)) (words : Words) (x : Option (PlayLine × ℕ))
     → split_at 32 line ≡ words → by_first_word (play_line_by lines) words ≡ x → play_line_of line lines ≡ x
 parsed_by line lines words x is says = ap (by_first_word (play_line_by lines)) is ∙ says
 
--- an offer of a text, and of a charter, by their parts
+-- the lines that offer a text, and those that offer a charter, from their parts
 abbrev text_line : NodeEntryId → Option (List ℕ × ℕ) → Option (PlayLine × ℕ)
 text_line at text = option_map (λ (o : OfferedEntry × ℕ). (Node (Offer o.0), o.1))
     (option_and_then (λ (t : List ℕ × ℕ). Some (record { node = at.node; entry = Text (record { author = at.author; serial = at.serial; text = t.0 }) }, t.1)) text)
@@ -87,7 +87,7 @@ module _ (lines : List (List ℕ)) where
         ap charter_line_at (entry_at-words k a s (map decimal names) node author serial)
         ∙ ap (charter_line (record { node = k; author = a; serial = s })) is
 
--- the names of a charter
+-- the numbers of a charter are read from their digits
 
 numbers_of-decimals : (ns : List ℕ) → AllByRecursion (λ n. n < 2 ^ 64) ns → numbers_of (map decimal ns) ≡ Some ns
 numbers_of-decimals [] small = refl
@@ -110,7 +110,7 @@ names_of-decimals ns h small =
     ap (λ o. option_and_then (λ names. if are_names names then Some names else None) o) (numbers_of-decimals ns small)
     ∙ ap (λ b. if b then Some ns else None) (are_names-AreNames ns h)
 
--- the lines
+-- the lines of events are parsed as these events
 
 pub begin_says : (k : ℕ) (lines : List (List ℕ)) → k < 256 → AllByRecursion (Without 32) (decimal k ∷ [])
     → play_line_of (codes "begin" ++ spaced (decimal k ∷ [])) lines ≡ Some (Node (Begin k), 0)

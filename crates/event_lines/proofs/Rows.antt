@@ -10,11 +10,11 @@ three = decimal_digit 3 (omega arith)
 seven : decimal 7 ≡ codes "7"
 seven = decimal_digit 7 (omega arith)
 
--- a text on its line
+-- a text without a line feed is on the line of its offer
 offer : event_text (Offer 1 (record { 0 = Text (record { author = 7; serial = 3; text = codes "$c a $." }) })) ≡ codes "offer 1 7 3 $c a $.\n"
 offer = rw (one, seven, three) refl
 
--- a text with a line feed, of three bytes
+-- a text of three bytes with a line feed is after the line of its offer
 offer_bytes : event_text (Offer 1 (record { 0 = Text (record { author = 7; serial = 3; text = codes "a\nb" }) })) ≡ codes "offer-bytes 1 7 3 3\na\nb\n"
 offer_bytes = rw (one, seven, three) refl
 

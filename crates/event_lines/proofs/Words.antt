@@ -1,4 +1,4 @@
--- The words in which this crate is proved, passed on from one place.
+-- Re-exports of the definitions and lemmas with which this crate is proved.
 pub use Rattle.commands.proofs.ScriptsLemmas.{text_passed}
 pub use Rattle.commands.proofs.TextsLemmas.{bytes_found, bytes_rest}
 pub use Rattle.commands.specs.LineWords.{Words, last_value, by_first_word, entry_at, node_of, number_at, one_node, one_number}

@@ -1,11 +1,11 @@
--- Lines made of words, and the words that they are read as.
+-- Lines that are made of words, and the words that they split into.
 use Rattle.event_lines.proofs.Words.{◌≡◌, ℕ, ◌==◌, Bool, true, false, ◌||◌, List, [], ◌∷◌, ◌++◌, codes, flat_map, refl, AllByRecursion, list_any, onto_first, slice_split, sym, ◌∙◌, ap, append_assoc, append-nil, eq-eqb, list_any-append, slice_split-cons_yes, slice_split-cons_no, split_at, spaced, spaced_word}
 
 -- the byte is not in the text
 abbrev pub Without : ℕ → List ℕ → Type 0
 Without c bytes = list_any (λ b. b == c) bytes ≡ false
 
--- neither of two tests passes
+-- if the disjunction of two tests fails, neither test passes
 neither : (a b : Bool) → (a || b) ≡ false → (a ≡ false) × (b ≡ false)
 neither true b h = absurd (cc)
 neither false b h = (refl, h)
@@ -27,14 +27,14 @@ split_before c (x ∷ xs) ys none =
     let parts : ((x == c) ≡ false) × (list_any (λ b. b == c) xs ≡ false) = neither (x == c) (list_any (λ b. b == c) xs) none in
     slice_split-cons_no (λ b. b == c) x (xs ++ c ∷ ys) parts.0 ∙ ap (onto_first x) (split_before c xs ys parts.1)
 
--- words are read as they are
+-- a line of words splits into these words at its spaces
 pub split_words : (word : List ℕ) (words : List (List ℕ)) → Without 32 word → AllByRecursion (Without 32) words
     → split_at 32 (word ++ spaced words) ≡ word ∷ words
 split_words word [] one none = ap (split_at 32) (append-nil word) ∙ split_one 32 word one
 split_words word (w ∷ words) one (next, others) =
     split_before 32 word (w ++ spaced words) one ∙ ap (λ l. word ∷ l) (split_words w words next others)
 
--- so are words before a text, whose own words follow them
+-- a line of words and a text splits into these words and those of the text
 pub split_text : (word : List ℕ) (words : List (List ℕ)) (text : List ℕ) → Without 32 word → AllByRecursion (Without 32) words
     → split_at 32 (word ++ (spaced words ++ codes " " ++ text)) ≡ (word ∷ words) ++ split_at 32 text
 split_text word [] text one none = split_before 32 word text one
@@ -47,7 +47,7 @@ split_text word (w ∷ words) text one (next, others) =
     ∙ (split_before 32 word (w ++ (spaced words ++ codes " " ++ text)) one
     ∙ ap (λ l. word ∷ l) (split_text w words text next others))
 
--- a byte that is in no word, and is no space, is not in the line of words
+-- a byte that is no space, and is in no word, is not in the line of the words
 pub without-spaced : (c : ℕ) (words : List (List ℕ)) → (32 == c) ≡ false → AllByRecursion (Without c) words → Without c (spaced words)
 without-spaced c [] other none = refl
 without-spaced c (w ∷ words) other (first, others) =

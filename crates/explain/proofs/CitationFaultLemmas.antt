@@ -1,22 +1,22 @@
--- Hypotheses that require other results.
+-- Hypotheses that require other results than they have.
 use Rattle.explain.proofs.Words.{◌≡◌, ℕ, ◌+◌, ◌<◌, List, [], ◌∷◌, ◌++◌, length, take, get_or, map, refl, sym, ◌∙◌, ap, subst, add-one, Some, slice_get, Bor, Vec, take-suc, slice_get-get_or, slice_get_read, take-map, map_push, Name, Stmt, Database, Expr, stmt_at, expr_of, name_at, decode, AreDistinct, Hypothesis, AreBelow, IsRequired, IsOf, IsTypecode, expr_at, option_expr, Fault, UnknownLabel, Inactive, NotEarlier, TooFewResults, OtherTypecode, OtherExpression, NotDisjoint, TooManySymbols, NoMarkedResult, named_expressions, before, hypotheses, images_read, named_images, AreVariables, required_result, AllMatch, IsFirstMismatch, HasOtherTypecode, HasOtherTypecodeThan, HasOtherTypecodeNumber, IsFloat, IsFaultOfResult, IsMismatchFault, map-at, name_at-injective, decode-injective}
 use Rattle.mm_read.specs.declared.stmt.Stmt.TheVariants as stmt
 use Rattle.entries.specs.declared.assertion_view.Hypothesis.TheVariants as hypothesis
 use Rattle.frame.specs.Substitution.{Images, CodeImages, code_apply, apply as applied}
 use Rattle.explain.proofs.NamedLemmas.{apply_same}
 
--- the expression of the statement that stands there
+-- the expression at a position is that of the statement there
 pub expr_is : (S : Database) (p : ℕ) (s : Stmt) → stmt_at S p ≡ Some s → expr_at S p ≡ expr_of s
 expr_is S p s e = ap option_expr e
 
 module _ (S : Database) (names : List Name) (σ : Images) (ps : List ℕ) (results : List (Bor (List ℕ))) (k : ℕ) (r : Bor (List ℕ))
     (within : k < length ps) (inside : k < length results) (here : r ≡ get_or results k r)
     (before : AllMatch S σ (take k ps) (take k (named_expressions names results))) where
-  -- this result stands among the results by name
+  -- the result by name at this index
   result_is : slice_get (named_expressions names results) k ≡ Some (decode names r.now)
   result_is = map-at (λ v. decode names v.now) results k r (slice_get_read results (length results) k r refl inside here)
 
-  -- the results by name up to this one are those before it, and it
+  -- the first k + 1 results by name are the first k and this one
   last_is : take (k + 1) (named_expressions names results) ≡ take k (named_expressions names results) ++ decode names r.now ∷ []
   last_is =
       take-map (λ v. decode names v.now) (k + 1) results
@@ -25,7 +25,7 @@ module _ (S : Database) (names : List Name) (σ : Images) (ps : List ℕ) (resul
       ∙ (map_push (λ v. decode names v.now) (take k results) r
       ∙ ap (λ l. l ++ decode names r.now ∷ []) (sym (take-map (λ v. decode names v.now) k results)))))
 
-  -- one hypothesis more has its result
+  -- the next hypothesis has the result that it requires
   pub fit_more : required_result S σ (get_or ps k 0) ≡ decode names r.now → AllMatch S σ (take (k + 1) ps) (take (k + 1) (named_expressions names results))
   fit_more e =
       ap (λ n. map (required_result S σ) (take n ps)) (add-one k)
@@ -34,7 +34,7 @@ module _ (S : Database) (names : List Name) (σ : Images) (ps : List ℕ) (resul
       ∙ (ap (λ l. l ++ required_result S σ (get_or ps k 0) ∷ []) before
       ∙ (ap (λ x. take k (named_expressions names results) ++ x ∷ []) e ∙ sym last_is))))
 
-  -- or it requires another
+  -- the next hypothesis requires another result than it has
   pub other_here : (required : List ℕ) → AreDistinct names → AreBelow (length names) required → AreBelow (length names) r.now → decode names required ≡ required_result S σ (get_or ps k 0) → (r.now ≡ required → ⊥)
       → IsFirstMismatch S σ ps (named_expressions names results) k (get_or ps k 0) (decode names required) (decode names r.now)
   other_here required distinct low below is differ = record {
@@ -45,14 +45,14 @@ module _ (S : Database) (names : List Name) (σ : Images) (ps : List ℕ) (resul
     before = before;
   }
 
--- the fault of the result
+-- the fault of a result
 module _ (S : Database) (names : List Name) (distinct : AreDistinct names) (p typecode : ℕ) (kind : Hypothesis) (is : IsRequired S names p typecode kind) where
-  -- an expression that does not begin with this number does not begin with its name
+  -- an expression whose first number is not this typecode does not begin with the name of the typecode
   begins_other : (c : Name) (e : List ℕ) → typecode < length names → name_at names typecode ≡ c → AreBelow (length names) e → HasOtherTypecodeNumber typecode e → HasOtherTypecode c (decode names e)
   begins_other c [] h n below starts = tt
   begins_other c (x ∷ e) h n below starts = λ same. starts (name_at-injective names x typecode distinct below.0 h (same ∙ sym n))
 
-  -- the result for a `$f` that begins with another number begins with another constant
+  -- if the result for a `$f` does not begin with its typecode by number, it does not by name
   pub other_constant : (e : List ℕ) → AreBelow (length names) e → IsFloat kind → HasOtherTypecodeNumber typecode e → HasOtherTypecodeThan (stmt_at S p) (decode names e)
   other_constant e below float starts = subst (λ o. HasOtherTypecodeThan o (decode names e)) (sym is.stands) (by is.stmt kind is.first is.is float)
     where
@@ -75,13 +75,13 @@ module _ (S : Database) (names : List Name) (distinct : AreDistinct names) (p ty
       by (stmt.Prove l w r) (hypothesis.Float x) first of float = absurd of
       by (stmt.Prove l w r) (hypothesis.Essential q) first of float = absurd float
 
--- the result that a hypothesis requires, by number
+-- the result that a hypothesis requires, computed by number
 pub required_is : (S : Database) (names : List Name) → AreDistinct names → (σ : CodeImages) → AreVariables (length names) σ → (p : ℕ) (s : Stmt) → stmt_at S p ≡ Some s
     → (e : List ℕ) → decode names e ≡ expr_of s → AreBelow (length names) e → (required : List ℕ) → required ≡ code_apply σ e → decode names required ≡ required_result S (named_images names σ) p
 required_is S names distinct σ variables p s stands e is below required same =
     ap (decode names) same ∙ (apply_same names distinct σ e variables below ∙ ap (λ x. applied (named_images names σ) x) (is ∙ sym (expr_is S p s stands)))
 
--- the fault is a mismatch
+-- the fault is that of the first mismatch
 pub mismatch_is : (S : Database) (names : List Name) (a : ℕ) (s : Stmt) (rs : List Expr) (kind : Hypothesis) (typecode p k : ℕ) (required actual : Vec ℕ) (fault : Fault)
     → IsFaultOfResult kind typecode a p required actual fault
     → IsFirstMismatch S (images_read S (hypotheses (before S a) s) rs) (hypotheses (before S a) s) rs k p (decode names required.items) (decode names actual.items)

@@ -18,7 +18,7 @@ pairs-push : (S : Database) (names : List Name) (σ : Images) (ps : List Variabl
 pairs-push S names σ [] p h one = (one, tt)
 pairs-push S names σ (q ∷ ps) p h one = (h.0, pairs-push S names σ ps p h.1 one)
 
--- the pair at an index is one of the pairs
+-- the pair at an index is a disjoint pair
 pair-of : (S : Database) (names : List Name) (σ : Images) (ps : List VariablePair) (i : ℕ) (p : VariablePair) → AreDisjointPairs S names σ ps → slice_get ps i ≡ Some p → IsDisjointPair S names σ p.first p.second
 pair-of S names σ [] i p h e = absurd (cc)
 pair-of S names σ (q ∷ ps) zero p h e = let same : q ≡ p = cc in subst (λ (r : VariablePair). IsDisjointPair S names σ r.first r.second) same h.0
@@ -32,7 +32,7 @@ pair-there S names σ ps i x y h there =
       | inr turned ↦ disjoint-swap S (image σ (name_at names y)) (image σ (name_at names x)) (subst (λ v. IsDisjointPair S names σ v x) turned.0 (subst (λ v. IsDisjointPair S names σ there.0.first v) turned.1 one))
     ]
 
--- a pair more, or not if it could not be recorded
+-- a disjoint pair is appended, or the list stays as it is because memory ran out
 pub pairs-after : (S : Database) (names : List Name) (σ : Images) (old new : List VariablePair) (p : VariablePair) (pushed : Bool) → AreDisjointPairs S names σ old → IsDisjointPair S names σ p.first p.second
     → new ≡ (if pushed then old ++ p ∷ [] else old) → AreDisjointPairs S names σ new
 pairs-after S names σ old new p true h one is = subst (AreDisjointPairs S names σ) (sym is) (pairs-push S names σ old p h one)

@@ -1,4 +1,4 @@
--- The image of a symbol, by the first entry for it, and the symbols of images.
+-- The image of a symbol, by the first entry for it; the symbols of images.
 use Rattle.explain.proofs.Words.{◌≡◌, ℕ, suc, ◌+◌, ◌<◌, Bool, true, false, cond, List, [], ◌∷◌, ◌++◌, length, drop, take, get_or, arith, refl, sym, ◌∙◌, ap, subst, Option, None, Some, Ordering, Less, Equal, Greater, slice_get, ⊎_elim, take-append-drop, append-nil, length-append, IfSome, IfNone, IfOk, Result, Ok, Err, nat_eq, bytes_eq, MatchOption, ◌==◌, ◌↔◌, MatchOrdering, nat_cmp, is_eq, ranked, both_ways, cases_eq, eqb-true, eq-eqb, bytes_eq-Decides, get_or_from_slice_get, slice_get-get_or, drop-cons, take-append_seam, AreBelow, code_image, code_apply, below-append, Image, IsImageIndex, code_images, AreImages}
 use Rattle.std.proofs.Common.{Bor}
 
@@ -30,7 +30,7 @@ other_number a b ne = by (nat_eq b a) refl
     by true e = absurd (ne (grind (arith, e)))
     by false e = refl
 
--- with the image at i before the last ones, its index is that of its variable
+-- the image at i is put before the later ones, and i becomes the index of its variable
 module _ (all : List Image) (i : ℕ) (d : Image) (inside : i < length all) (x : ℕ) where
   placed_after : (old : Option ℕ) → nat_eq x (get_or all i d).variable ≡ false → IsImageIndex all (drop (suc i) all) x old → IsImageIndex all (get_or all i d ∷ drop (suc i) all) x old
   placed_after None t h = ap (λ b. cond b (get_or all i d).symbols.now (code_image (code_images (drop (suc i) all)) x)) t ∙ h
@@ -46,11 +46,11 @@ module _ (all : List Image) (i : ℕ) (d : Image) (inside : i < length all) (x :
       (λ ne. subst (IsImageIndex all (image ∷ drop (suc i) all) x) (sym (e ∙ ap (λ b. cond b (Some i) old) (other_key image.variable x ne))) (placed_after old (other_number image.variable x ne) h))
       (cases_eq image.variable x))
 
--- the image at an index
+-- the image at an index of an equal list
 pub there-is : (all list : List Image) (i : ℕ) (image d : Image) → list ≡ all → slice_get all i ≡ Some image → (get_or list i d).symbols.now ≡ image.symbols.now
 there-is all list i image d same there = ap (λ y. y.symbols.now) (ap (λ l. get_or l i d) same ∙ get_or_from_slice_get all i image d there)
 
--- a property of a value holds for a result that is that value
+-- a property of a value holds of a result that is that value
 pub ok_is : {A E : Type 0} (P : A → Type 0) (x : A) (r : Result A E) → IfOk r (λ y. y ≡ x) → P x → IfOk r P
 ok_is P x (Ok y) e h = subst P (sym e) h
 ok_is P x (Err y) e h = tt
@@ -79,7 +79,7 @@ pub after_image_none : (symbols image : List ℕ) (r : Option (Bor (List ℕ)))
 after_image_none symbols image None h = λ rest e. prefix_none symbols image rest h e
 after_image_none symbols image (Some x) h = tt
 
--- where symbols are a list and others, they are the list if no others are there
+-- if symbols are a list followed by a rest, they are equal to the list if and only if the rest is empty
 pub nothing_left : (applied whole rest : List ℕ) → whole ≡ applied ++ rest → (b : Bool) → b ≡ (length rest == 0) → (b ≡ true) ↔ (whole ≡ applied)
 nothing_left applied whole rest front b is = (
   λ yes. front ∙ (ap (λ r. applied ++ r) (none rest (eqb-true (length rest) 0 (sym is ∙ yes))) ∙ append-nil applied),

@@ -1,9 +1,9 @@
--- Letters read up to one of them, and what the next one does.
+-- Letters that are read up to an index, and the effect of the next letter.
 use Rattle.explain.proofs.Words.{◌≡◌, ◌≢◌, ℕ, ◌+◌, ◌-◌, ◌*◌, ◌<◌, ◌≤◌, Bool, true, false, ◌&&◌, nat_le, List, [], ◌∷◌, ◌++◌, length, Some, slice_get, refl, option_map, sym, ◌∙◌, ap, subst, arith, append_assoc, append-nil, length-append, inl, inr, list_all-append, or_left, or_right, le-leb, Name, Item, IsNumber, is_first, is_last, number_from, items_of, before_rest, numbers_from, starts_with_mark, WritesRow, is_first-true, number_of-placed, placed-number_of, first_bounds, last_bounds, is_first-false, is_last-true, WritesRow-read, LetterBreak, LetterFault, marks_in, IsEnd, fault_index, IsAllowed, IsOver, BeginsWith, Breaks, IsLetterBreak, zeros, IsReadTo, before-none}
 use Rattle.explain.specs.Breaks.{IsNoLetter}
 use Rattle.explain.proofs.LetterNumberLemmas.{at-append, not-empty, marks-zeros, zeros-number, zeros-mark, before-push, over, last-over, zero-or}
 
--- ---- nothing read yet
+-- ---- no letters are read yet
 
 pub read-none : (labels : ℕ) (letters : List ℕ) → starts_with_mark letters ≡ false → IsReadTo labels letters 0 labels 0 0
 read-none labels letters starts = record {
@@ -28,28 +28,28 @@ read-none labels letters starts = record {
 }
 
 module _ (labels : ℕ) (letters : List ℕ) (index limit digits begin : ℕ) (r : IsReadTo labels letters index limit digits begin) where
-  -- the letters before the word write items
+  -- the letters that are read, under a list of so many labels
   module _ (names : List Name) (count : length names ≡ labels) where
     front-starts : (front more : List ℕ) → letters ≡ front ++ more → starts_with_mark front ≡ false
     front-starts [] more e = refl
     front-starts (x ∷ front) more e = sym (ap starts_with_mark e) ∙ r.starts
 
-    -- the letters before the word that is begun write the items of the numbers read
+    -- the letters before the word that is begun write the items of the numbers read so far
     writes : WritesRow names r.front (items_of names r.numbers)
     writes =
         let read : numbers_from labels 0 r.front ≡ Some r.numbers =
         ap (numbers_from labels 0) (sym (append-nil r.front)) ∙ (r.reads [] ∙ ap Some (append-nil r.numbers)) in
         WritesRow-read names r.front r.numbers (front-starts r.front (r.begun ++ r.rest) r.whole) (ap (λ n. numbers_from n 0 r.front) count ∙ read)
 
-    -- the greatest number allowed is the count of the labels and of the marks so far
+    -- the greatest allowed number is the count of the labels and the marks so far
     greatest : limit ≡ length names + marks_in (items_of names r.numbers)
     greatest = r.limit_is ∙ (ap (λ n. n + zeros r.numbers) (sym count) ∙ ap (λ z. length names + z) (sym (marks-zeros names r.numbers)))
 
-    -- the letters begun go on to a word whose number is allowed, or there are none
+    -- the letters that are begun are the beginning of a word with an allowed number, or there are none
     allowed : IsAllowed limit r.begun
     allowed = elim (zero-or digits) [ inl e ↦ inl (r.empty e) | inr e ↦ inr (65 ∷ [], 20 * digits + 1, placed-number_of (r.begun ++ 65 ∷ []) (20 * digits + 1) (r.counts (65 ∷ [])), let q = r.room e in omega (arith, q)) ]
 
-    -- the rule that is broken is that of the word that is begun
+    -- a rule that the begun word breaks at the next letter is the rule that the letters break
     pub broken-at : (broken : LetterBreak) (fault : LetterFault) (letter : ℕ) → broken.fault ≡ fault → broken.letter ≡ letter → Breaks fault limit (items_of names r.numbers) r.begun r.rest
         → letter ≡ fault_index fault (length r.front) (length r.begun) → IsLetterBreak names letters broken
     broken-at broken fault letter is at breaks place = record {
@@ -66,24 +66,24 @@ module _ (labels : ℕ) (letters : List ℕ) (index limit digits begin : ℕ) (r
       letter_is = at ∙ (place ∙ ap (λ f. fault_index f (length r.front) (length r.begun)) (sym is));
     }
 
-    -- all letters are read
+    -- if all letters are read, they write items
     pub all-read : letters ≡ r.front → (items : List Item) × WritesRow names letters items
     all-read e = (items_of names r.numbers, subst (λ l. WritesRow names l (items_of names r.numbers)) (sym e) writes)
 
-  -- the letters are those that are read, and the rest after them
+  -- the letters are those that are read, followed by the rest
   split : letters ≡ (r.front ++ r.begun) ++ r.rest
   split = r.whole ∙ sym (append_assoc r.front r.begun r.rest)
 
-  -- as many letters are read as the index says
+  -- the number of letters that are read is the index
   long : length (r.front ++ r.begun) ≡ index
   long = length-append r.front r.begun ∙ r.at_index
 
-  -- the end of the letters
+  -- if a list begins with as many elements as it has in all, nothing follows them
   drop-end : (xs ys : List ℕ) (i : ℕ) → length xs ≡ i → length (xs ++ ys) ≤ i → ys ≡ []
   drop-end xs [] i e h = refl
   drop-end xs (y ∷ ys) i e h = absurd (let l = length-append xs (y ∷ ys) in omega (arith, e, h, l))
 
-  -- where the index is the end of the letters, none are left
+  -- if the index is not below the number of letters, none are left
   pub ended : length letters ≤ index → r.rest ≡ []
   ended h = drop-end (r.front ++ r.begun) r.rest index long (subst (λ l. length l ≤ index) split h)
 
@@ -97,7 +97,7 @@ module _ (labels : ℕ) (letters : List ℕ) (index limit digits begin : ℕ) (r
   some-begun h e = h (r.some e)
 
   module _ (letter : ℕ) (here : slice_get letters index ≡ Some letter) where
-    -- the letter at the index is the first of the rest
+    -- the letter at the index is the first one of the rest
     next : (more : List ℕ) × (r.rest ≡ letter ∷ more)
     next = at-append (r.front ++ r.begun) r.rest index letter long (sym (ap (λ l. slice_get l index) split) ∙ here)
 
@@ -107,7 +107,7 @@ module _ (labels : ℕ) (letters : List ℕ) (index limit digits begin : ℕ) (r
     pub ends-so : letter ≡ 90 → IsEnd r.rest
     ends-so e = subst IsEnd (sym next.1) e
 
-    -- a word or a mark ends here
+    -- a word or a mark ends with this letter
     done : (n limit' : ℕ) → ((text : List ℕ) → numbers_from limit digits (letter ∷ text) ≡ option_map (λ more. n ∷ more) (numbers_from limit' 0 text))
         → limit' ≡ labels + zeros (r.numbers ++ n ∷ []) → zeros (r.numbers ++ n ∷ []) ≤ index + 1 → IsReadTo labels letters (index + 1) limit' 0 (index + 1)
     done n limit' step limit_is few = record {
@@ -192,7 +192,7 @@ module _ (labels : ℕ) (letters : List ℕ) (index limit digits begin : ℕ) (r
         first-counts : (word : Name) → number_from digits (letter ∷ word) ≡ number_from (5 * digits + (letter - 84)) word
         first-counts word = rw first refl
 
-    -- every word that begins so is too great
+    -- the number of a word that begins so is counted from the letters that are begun
     counted : (word : Name) (n : ℕ) → IsNumber (r.begun ++ letter ∷ word) n → number_from digits (letter ∷ word) ≡ Some n
     counted word n is = sym (r.counts (letter ∷ word)) ∙ number_of-placed (r.begun ++ letter ∷ word) n is
 

@@ -43,7 +43,7 @@ before-push numbers n (Some more) = ap Some (sym (append_assoc numbers (n ∷ []
 
 -- ---- numbers above a limit
 
--- no word that begins so has a number within the limit
+-- each word that begins so has a number above the limit
 pub over : (limit digits : ℕ) (word : Name) (n : ℕ) → limit ≤ 20 * digits → number_from digits word ≡ Some n → limit < n
 over limit digits [] n h e = absurd (none-some n e)
 over limit digits (letter ∷ word) n h e = by (λ more. over limit (5 * digits + (letter - 84)) word n (omega (arith, h)) more) (is_first letter) (is_last letter) refl (is_empty word) e

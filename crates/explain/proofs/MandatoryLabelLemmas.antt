@@ -7,7 +7,7 @@ get-map [] k d h = absurd (omega (arith, h))
 get-map (p ∷ ps) zero d h = refl
 get-map (p ∷ ps) (suc k) d h = get-map ps k d (omega (arith, h))
 
--- the hypothesis at a position stands there
+-- the position of a mandatory hypothesis, and its statement
 pub record Stands (S : Database) (p : ℕ) : Type 0 where
   pub stmt : Stmt
   pub stands : stmt_at S p ≡ Some stmt
@@ -22,7 +22,7 @@ stands-at S at s ps k p d provable are less is =
     let place = stands-within S p one.0 one.1.stands in
     record { stmt = one.0; stands = one.1.stands; positive = place.0; within = place.1 }
 
--- the labels so far, with one more
+-- the labels of the first hypotheses, with that of the next one
 pub labels-more : (S : Database) (ps : List ℕ) (k p d : ℕ) (label : Name) (front after : List Name) (h : Stands S p) → k < length ps → p ≡ get_or ps k d → Some label ≡ label_of h.stmt
     → front ≡ map (λ i. label_or_none (stmt_at S i)) (take k ps) → after ≡ front ++ label ∷ [] → after ≡ map (λ i. label_or_none (stmt_at S i)) (take (k + 1) ps)
 labels-more S ps k p d label front after h less is labelled so_far added =

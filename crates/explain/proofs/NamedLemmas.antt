@@ -1,4 +1,4 @@
--- Images by number and images of names.
+-- Images by number and by name.
 use Rattle.explain.proofs.Words.{◌≡◌, ℕ, zero, suc, ◌+◌, ◌<◌, Bool, true, false, cond, List, [], ◌∷◌, ◌++◌, length, drop, get_or, map, arith, refl, sym, ◌∙◌, ap, add-one, append_assoc, Some, nat_eq, Bor, Name, name_eq, Stmt, Database, stmt_at, name_at, decode, AreDistinct, Hypothesis, Float, Essential, AreBelow, AreRequired, IsOf, CodeImages, code_image, code_apply, image, apply, same-number, Image, codes, code_images, named_expressions, image_at, images_read, code_at, codes_read, named_images, AreVariables, decode-append}
 use Rattle.mm_read.specs.declared.stmt.Stmt.TheVariants as stmt
 
@@ -10,10 +10,10 @@ named-append : (names : List Name) (σ τ : CodeImages) → named_images names (
 named-append names [] τ = refl
 named-append names (p ∷ σ) τ = ap (λ r. (name_at names p.0, decode names p.1) ∷ r) (named-append names σ τ)
 
--- ---- putting images in, by number and by name
+-- ---- substitution by number and by name
 
 module _ (names : List Name) (distinct : AreDistinct names) where
-  -- the image of a number, named, is the image of its name
+  -- the image of a number, decoded, is the image of its name
   pub image_same : (σ : CodeImages) (x : ℕ) → AreVariables (length names) σ → x < length names → decode names (code_image σ x) ≡ image (named_images names σ) (name_at names x)
   image_same [] x h l = refl
   image_same (p ∷ σ) x h l = by (nat_eq x p.0) refl (image_same σ x h.1 l)
@@ -26,7 +26,7 @@ module _ (names : List Name) (distinct : AreDistinct names) where
       by true e rest = ap (λ b. decode names (cond b p.1 (code_image σ x))) e ∙ sym (ap (λ b. cond b (decode names p.1) (image (named_images names σ) (name_at names x))) (sym same ∙ e))
       by false e rest = ap (λ b. decode names (cond b p.1 (code_image σ x))) e ∙ (rest ∙ sym (ap (λ b. cond b (decode names p.1) (image (named_images names σ) (name_at names x))) (sym same ∙ e)))
 
-  -- with images put in by number, a list is named as its names with the named images put in
+  -- decoding after substitution by number is substitution by name after decoding
   pub apply_same : (σ : CodeImages) (e : List ℕ) → AreVariables (length names) σ → AreBelow (length names) e → decode names (code_apply σ e) ≡ apply (named_images names σ) (decode names e)
   apply_same σ [] h l = refl
   apply_same σ (x ∷ e) h l =
@@ -35,7 +35,7 @@ module _ (names : List Name) (distinct : AreDistinct names) where
 
 -- ---- the images that are read
 
--- one hypothesis reads the same from a result by number and by name
+-- the image that a hypothesis gives from its result is the same by number and by name
 image_is : (S : Database) (names : List Name) (p : ℕ) (s : Stmt) (h : Hypothesis) (e : List ℕ) → stmt_at S p ≡ Some s → IsOf names p s h
     → (named_images names (code_at h e) ≡ image_at (stmt_at S p) (decode names e)) × AreVariables (length names) (code_at h e)
 image_is S names p (stmt.Float l c v) (Float x) e stands is =
@@ -62,7 +62,7 @@ variables-append : (n : ℕ) (σ τ : CodeImages) → AreVariables n σ → AreV
 variables-append n [] τ h k = k
 variables-append n (p ∷ σ) τ h k = (h.0, variables-append n σ τ h.1 k)
 
--- all hypotheses read the same from the results by number and by name
+-- the images that all hypotheses give from their results are the same by number and by name
 pub images_are : (S : Database) (names : List Name) (ps typecodes : List ℕ) (hs : List Hypothesis) (es : List (List ℕ)) → AreRequired S names ps typecodes hs
     → (named_images names (codes_read hs es) ≡ images_read S ps (map (decode names) es)) × AreVariables (length names) (codes_read hs es)
 images_are S names [] [] [] es required = (refl, tt)
@@ -79,11 +79,11 @@ images_are S names (p ∷ ps) (x ∷ typecodes) (h ∷ hs) (e ∷ es) required =
       variables-append (length names) (code_at h e) (codes_read hs es) one.1 rest.1,
     )
 
--- ---- numbers that stand for the same names are the same
+-- ---- numbers with the same names are the same
 
--- ---- reading one result more
+-- ---- one more result is read
 
--- the images left to read are those of this result and of those after it
+-- the images of the remaining results are those of the next one and those after it
 read_step : (kinds : List Hypothesis) (results : List (Bor (List ℕ))) (k : ℕ) (h : Hypothesis) → k < length kinds → k < length results
     → get_or kinds k (Float 0) ≡ h → (r : Bor (List ℕ)) → r ≡ get_or results k r
     → codes_read (drop k kinds) (codes (drop k results)) ≡ code_at h r.now ++ codes_read (drop (suc k) kinds) (codes (drop (suc k) results))
@@ -93,7 +93,7 @@ read_step (x ∷ kinds) (y ∷ results) zero h within inside is r here =
     ap (λ z. code_at z y.now ++ codes_read kinds (codes results)) is ∙ ap (λ (v : Bor (List ℕ)). code_at h v.now ++ codes_read kinds (codes results)) (sym here)
 read_step (x ∷ kinds) (y ∷ results) (suc k) h within inside is r here = read_step kinds results k h (omega (arith, within)) (omega (arith, inside)) is r here
 
--- with the result of a `$f` added, the images read and those left to read are the same whole
+-- when the result for a `$f` is read, the images so far and those of the remaining results stay the same list
 pub read_more : (kinds : List Hypothesis) (results : List (Bor (List ℕ))) (k x : ℕ) (old new : List Image) (image : Image) (whole : CodeImages) → k < length kinds → k < length results
     → get_or kinds k (Float 0) ≡ Float x → (r : Bor (List ℕ)) → r ≡ get_or results k r → image.variable ≡ x → image.symbols.now ≡ drop 1 r.now → new ≡ old ++ image ∷ []
     → code_images old ++ codes_read (drop k kinds) (codes (drop k results)) ≡ whole
@@ -113,7 +113,7 @@ read_more kinds results k x old new image whole within inside is r here variable
     map-append [] image = refl
     map-append (y ∷ old) image = ap (λ l. (y.variable, y.symbols.now) ∷ l) (map-append old image)
 
--- the result of a `$e` gives no image
+-- the result for a `$e` gives no image
 pub read_skip : (kinds : List Hypothesis) (results : List (Bor (List ℕ))) (k : ℕ) (images : List Image) (whole : CodeImages) → k < length kinds → k < length results
     → ((x : ℕ) → get_or kinds k (Float 0) ≡ Float x → ⊥)
     → code_images images ++ codes_read (drop k kinds) (codes (drop k results)) ≡ whole

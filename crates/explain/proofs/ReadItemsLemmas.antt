@@ -1,4 +1,4 @@
--- From the result of a reader of proof code to the items that the tokens write.
+-- From the answer of a reader of proof code to the items that the tokens write.
 use Rattle.explain.proofs.Words.{◌≡◌, ◌⊎◌, ◌↔◌, true, IsTrue, List, Option, Some, None, Result, Ok, Err, IfOk, MatchOption, subst, inl, inr, Name, Item, CodeFault, Unfinished, Malformed, Writes, WritesPacked, IsMalformed, is_compressed, is_unfinished, one_answer, malformed-none}
 
 abbrev Found : List Name → List Name → Option (List Item) → Type 0

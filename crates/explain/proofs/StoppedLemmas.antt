@@ -1,4 +1,4 @@
--- Where the run over the items stops, as the first fault.
+-- The item or the end where the run stops is the first fault.
 use Rattle.explain.proofs.Words.{nat_lt, nat_tests, ◌≡◌, ◌≢◌, Bool, true, false, ℕ, zero, suc, ◌+◌, ◌-◌, ◌<◌, ◌≤◌, List, [], ◌∷◌, ◌++◌, length, map, take, drop, get_or, arith, refl, sym, ◌∙◌, ap, subst, Option, Some, None, slice_get, length-drop, Vec, Name, Stmt, Database, Expr, decode, stmt_at, expr_of, Carries, Item, Cite, Recall, Mark, item_of, items_of, Fault, TooManySymbols, NoMarkedResult, UnknownLabel, Reason, Gives, Fails, RunsWell, IsFirstFault, IsPosition, ArePositions, without_cached, Results, State, start, IsSaved, Runs, IsStopped, item-cite, get_or_default, same_Some, SYMBOLS_LIMIT}
 use Rattle.explain.specs.declared.reason.Reason.TheVariants as reason
 use Rattle.explain.specs.FirstFault.{IsEnd}
@@ -8,19 +8,19 @@ use Rattle.verify.specs.Stops.{IsOther}
 use Rattle.verify.proofs.Words.{take_all, length-map, slice_get-get_or, slice_get_within}
 
 module _ (S : Database) (names : List Name) (at : ℕ) (items : List Item) (k labels : ℕ) (st : Results ℕ) (stopped : IsStopped S at names items k labels st) where
-  -- the results before it, by name
+  -- the results before the item, by name
   abbrev pub held : State
   held = named names (without_cached labels st)
 
-  -- the items before it run well
+  -- the items before the item run within the limit
   pub runs_well : RunsWell S at (take k items) held
   runs_well = record { runs = stopped.stops.runs; light = stopped.light }
 
-  -- a mark of nothing
+  -- a mark without a result
   pub fails_mark : (what : Item) → slice_get items k ≡ Some what → Mark ≡ what → Fails S names at held what NoMarkedResult
   fails_mark what there same = subst (λ i. Fails S names at held i NoMarkedResult) same (mark_fails S at held stopped.light (stopped.stops.stuck Mark (there ∙ ap Some (sym same))))
 
-  -- a recall of a saved result, or of none
+  -- a recall of a saved result, or of one that is not saved
   pub fails_recall_heavy : (what : Item) (i : ℕ) → slice_get items k ≡ Some what → Recall (suc i) ≡ what → i < length st.saved - labels → Fails S names at held what TooManySymbols
   fails_recall_heavy what i there same less =
       let l = length-drop labels st.saved in let m = length-map (drop labels st.saved) (decode names) in
@@ -45,16 +45,16 @@ module _ (S : Database) (names : List Name) (at : ℕ) (items : List Item) (k la
           let over : length st.saved - labels ≤ i = grind (arith, nat_tests) in
           subst (Fails S names at held what) (sym (unmarked over)) (fails_recall_none what i same over)
 
-  -- a citation of a statement that gives a result passes the limit
+  -- each result that a citation gives makes the proof too heavy
   pub cannot_cite : (label : Name) (i : ℕ) (r : Stmt) → slice_get items k ≡ Some (Cite label) → Carries S i r label
       → (s : Stmt) (below : List Expr) (e : Expr) → stmt_at S i ≡ Some s → Gives S at i s held.stack below e → SYMBOLS_LIMIT < held.weight + length e
   cannot_cite label i r there carries = cite_stuck S at held stopped.light label i r carries (stopped.stops.stuck (Cite label) there)
 
-  -- the fault of an item
+  -- the fault of an item is the first fault
   pub first_at : (s : Stmt) (what : Item) (fault : Fault) → slice_get items k ≡ Some what → Fails S names at held what fault → IsFirstFault S names at s items (reason.Item k fault)
   first_at s what fault there fails = (held, what, runs_well, there, fails)
 
--- the fault of the end
+-- the fault at the end
 module _ (S : Database) (names : List Name) (at : ℕ) (items : List Item) (labels : ℕ) (st : Results ℕ) (s : Stmt) (stopped : IsStopped S at names items (length items) labels st) (other : IsOther names st s) where
   whole : RunsWell S at items (held S names at items (length items) labels st stopped)
   whole = subst (λ is. RunsWell S at is (held S names at items (length items) labels st stopped)) (take_all (length items) items (omega arith)) (runs_well S names at items (length items) labels st stopped)
@@ -71,7 +71,7 @@ module _ (labels : List Name) (numbers : List ℕ) (items : List Item) (k : ℕ)
   pub number_within : k < length items → k < length numbers
   number_within less = let l = length-map numbers (item_of labels) in let same = ap length is in omega (arith, less, l, same)
 
-  -- the item at an index
+  -- the item at an index is that of the number at the index
   pub item_there : k < length items → slice_get items k ≡ Some (item_of labels (get_or numbers k 0))
   item_there less =
       let there = slice_get-get_or items k Mark less in
@@ -88,11 +88,11 @@ module _ (labels : List Name) (numbers : List ℕ) (items : List Item) (k : ℕ)
   cite_there less some within =
       item_there less ∙ ap Some (item-cite labels (get_or numbers k 0) (get_or numbers k 0 - 1) (omega (arith, some)) (omega (arith, some, within)))
 
--- the statement that the label at an index names, by its position
+-- the position at an index is that of the statement with the label at the index
 pub position_at : (S : Database) (labels : List Name) (positions : List (Option ℕ)) (k : ℕ) (d o : Option ℕ) → ArePositions S labels positions → k < length positions → o ≡ get_or positions k d → IsPosition S (get_or labels k []) o
 position_at S labels positions k d o are less is = subst (IsPosition S (get_or labels k [])) (get_or_default positions k None d less ∙ sym is) (found-at S labels positions k are less)
 
--- one result
+-- a stack of one result
 pub one_result : (stack : List (List ℕ)) (e proved : List ℕ) → length stack ≡ 1 → slice_get stack 0 ≡ Some e → proved ≡ e → stack ≡ proved ∷ []
 one_result [] e proved one there same = absurd (omega (arith, one))
 one_result (x ∷ []) e proved one there same = ap (λ y. y ∷ []) (same_Some x e there ∙ sym same)

@@ -26,7 +26,7 @@ module _ (t : Name → Bool) where
     pub first-here : t word ≡ true → IsFirst t words index word rest
     first-here h = record { front = p.front; whole = p.whole ∙ ap (λ l. p.front ++ l) e; index_is = p.index_is; before = p.before; here = h }
 
-    -- the words before this one, this one and those after it are all words
+    -- the words before this one, this one and the rest are as many as all words
     pub room : index + 1 + length rest ≡ length words
     room = let l = length-append p.front left in let q = p.index_is in let a = ap length e in let w = ap length p.whole in omega (arith, l, q, a, w)
 
@@ -52,7 +52,7 @@ listed-labels mandatory (w ∷ words) h =
 
 -- ---- tokens that write
 
--- where no token fails the test for `?`, the proof is not unfinished
+-- if no token has the byte `?`, the proof is not unfinished
 pub finished : (mandatory tokens : List Name) → list_any (fails mandatory test.Unfinished) tokens ≡ false → is_unfinished tokens ≡ false
 finished mandatory tokens h = h
 
@@ -93,7 +93,7 @@ module _ (tokens mandatory words : List Name) (index : ℕ) (word : Name) (rest 
   finish-listing closing is same = subst (λ w. IsListing tokens mandatory index w rest) ((bytes_eq-Decides word closing).0 same ∙ is) listing-of
 
 module _ (tokens mandatory : List Name) (index : ℕ) (rest : List Name) (l : IsListing tokens mandatory index finish rest) (many : ℕ) (all : many ≡ length mandatory) (letters : List ℕ) (text : letters ≡ joined rest) where
-  -- the labels are the mandatory ones and those listed before `)`
+  -- there are as many labels as mandatory ones and ones listed before `)`
   count : length (mandatory ++ l.first.front) ≡ many + index
   count = let a = length-append mandatory l.first.front in let p = l.first.index_is in omega (arith, a, p, all)
 

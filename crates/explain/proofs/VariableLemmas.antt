@@ -1,11 +1,11 @@
--- The variables of expressions, each once.
+-- The list of the variables of an expression, each once.
 use Rattle.explain.proofs.Words.{◌≡◌, ℕ, zero, suc, ◌+◌, ◌<◌, Bool, true, false, not, ◌||◌, true≢false, List, [], ◌∷◌, ◌++◌, length, take, get_or, arith, refl, sym, ◌∙◌, ap, subst, add-one, Some, slice_get, ◌⊎◌, inl, inr, ⊎_elim, cond, Vec, list_all, BTreeSet, contains, nat_cmp, is_eq, cases_Bool, cases_eq, or_cases, list_any-append, slice_get_within, get_or_from_slice_get, Name, name_eq, has_name, Expr, Database, is_variable, all-has, name_at, decode, name_same, same_name, AreBelow, are_disjoint, is_pair, all-from, kept_by, Image, AreUnpairedIn, is_permitted_pair, AreImages, AreListsOf, AreVariablesOf}
 use Rattle.explain.proofs.ImagesLemmas.{other_key}
 use Rattle.explain.proofs.ViolationLemmas.{has_at}
 
--- ---- one symbol more
+-- ---- one more symbol
 
--- a name among those of one symbol more is among those of the symbols before, or is that of the symbol
+-- a name among the first i + 1 symbols is among the first i, or is that of symbol i
 pub has_more : (names : List Name) (xs : List ℕ) (i : ℕ) (v : Name) → i < length xs → has_name v (decode names (take (i + 1) xs)) ≡ true
     → (has_name v (decode names (take i xs)) ≡ true) ⊎ (v ≡ name_at names (get_or xs i 0))
 has_more names xs i v inside h = go xs i inside (ap (λ n. has_name v (decode names (take n xs))) (sym (add-one i)) ∙ h)
@@ -22,7 +22,7 @@ has_more names xs i v inside h = go xs i inside (ap (λ n. has_name v (decode na
         (λ e. ⊎_elim (λ f. inl (or-last (name_eq v (name_at names x)) (has_name v (decode names (take i xs))) f)) (λ f. inr f) (go xs i (omega (arith, inside)) e))
         (or_cases (name_eq v (name_at names x)) (has_name v (decode names (take (suc i) xs))) h)
 
--- the names of a list with one number more
+-- the names of a list with one more number
 module _ (names : List Name) (old new : List ℕ) (code : ℕ) (added : new ≡ old ++ code ∷ []) where
   spread : (v : Name) → has_name v (decode names new) ≡ (has_name v (decode names old) || has_name v (name_at names code ∷ []))
   spread v = ap (λ l. has_name v (decode names l)) added ∙ (ap (has_name v) (decode-append old) ∙ list_any-append (name_eq v) (decode names old) (name_at names code ∷ []))
@@ -62,7 +62,7 @@ module _ (names : List Name) (old new : List ℕ) (code : ℕ) (added : new ≡ 
       ⊎_elim (λ same. subst (λ y. has_name (name_at names y) (decode names new) ≡ true) same pushed_has)
       (λ ne. pushed_kept (name_at names x) (seen x (sym (ap (λ b. cond b true (contains nat_cmp s x)) (other_key code x ne)) ∙ (sym (updates x) ∙ h)))) (cases_eq code x)
 
--- the name of a number that stands there is among those of the list
+-- the name of a number in the list is among its names
 pub has_there : (names : List Name) (list xs : List ℕ) (i code : ℕ) → list ≡ xs → slice_get list i ≡ Some code → has_name (name_at names code) (decode names xs) ≡ true
 has_there names list xs i code same there =
     let e = ap (λ l. slice_get l i) (sym same) ∙ there in
@@ -104,20 +104,20 @@ lists-push S names images lists new k d list h inside one added =
     go (x ∷ images) [] (suc k) inside one h = absurd h
     go (x ∷ images) (l ∷ lists) (suc k) inside one h = (h.0, go images lists k (omega (arith, inside)) one h.1)
 
--- a symbol is its own list
+-- the list of an image that is one symbol may be that symbol
 pub own-list : (S : Database) (names : List Name) (x : ℕ) (image own : List ℕ) → x < length names → image ≡ x ∷ [] → own ≡ x ∷ [] → AreVariablesOf S names image own
 own-list S names x image own low is same =
     subst (λ e. AreVariablesOf S names e own) (sym is) (subst (λ e. AreVariablesOf S names (x ∷ []) e) (sym same) (record { below = (low, tt); each = λ v h k. h; only = λ v h. h }))
 
--- ---- disjoint lists are those of disjoint expressions
+-- ---- disjointness of expressions, by their lists of variables
 
 module _ (S : Database) (names : List Name) where
-  -- a test that passes symbols that are no variables passes an expression if it passes its list
+  -- if a test passes all symbols that are no variables, and the list, it passes the expression
   all-list : (p : Name → Bool) (e l : List ℕ) → AreVariablesOf S names e l → ((v : Name) → is_variable S v ≡ false → p v ≡ true) → list_all p (decode names l) ≡ true → list_all p (decode names e) ≡ true
   all-list p e l of others h =
       all-from p (decode names e) (λ v stands. ⊎_elim (λ t. all-has p v (decode names l) h (of.each v stands t)) (λ f. others v f) (cases_Bool (is_variable S v)))
 
-  -- an expression whose list is empty is disjoint from each other
+  -- an expression without variables is disjoint from each other expression
   pub no_variables : (e l : List ℕ) (f : Expr) → AreVariablesOf S names e l → length l ≡ 0 → are_disjoint S (decode names e) f ≡ true
   no_variables e l f of none =
       all-list (λ u. list_all (is_permitted_pair S u) f) e l of (λ u no. all-from (is_permitted_pair S u) f (λ v stands. kept_by (is_variable S u) (is_variable S v) (is_pair S u v) no)) (empty l none)

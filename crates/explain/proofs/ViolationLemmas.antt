@@ -2,7 +2,7 @@
 use Rattle.explain.proofs.Words.{◌≡◌, ℕ, zero, suc, ◌+◌, ◌-◌, ◌<◌, Bool, true, false, not, ◌&&◌, ◌||◌, List, [], ◌∷◌, length, drop, take, get_or, map, arith, refl, sym, ◌∙◌, ap, add-one, Some, slice_get, Database, Images, DisjointViolation, IsViolation, IsViolationIn, nat_eq, list_all, list_any, drop-cons, or-true, and_parts, get_or_from_slice_get, slice_get-get_or, Name, name_eq, has_name, name_at, decode, name_same, goes_on}
 
 module _ (names : List Name) (p : Name → Bool) (xs : List ℕ) (i : ℕ) where
-  -- an element that passes leaves the test to those after it
+  -- if an element passes, the test of the rest decides
   pub all_step : i < length xs → p (name_at names (get_or xs i 0)) ≡ true → list_all p (decode names (drop i xs)) ≡ list_all p (decode names (drop (i + 1) xs))
   all_step inside e =
       ap (λ l. list_all p (decode names l)) (drop-cons xs i 0 inside)
@@ -16,7 +16,7 @@ has_at names (x ∷ xs) (suc i) h =
     let y = name_at names (get_or xs i 0) in
     ap (λ b. name_eq y (name_at names x) || b) (has_at names xs i (omega (arith, h))) ∙ or-true (name_eq y (name_at names x))
 
--- the test distinguishes numbers that are not equal
+-- the test for equality fails for numbers that differ
 pub numbers_differ : (m n : ℕ) → (n ≡ m → ⊥) → nat_eq m n ≡ false
 numbers_differ m n h = by (nat_eq m n) refl
   where
@@ -24,14 +24,14 @@ numbers_differ m n h = by (nat_eq m n) refl
     by true e = absurd (h (grind (arith, e)))
     by false e = refl
 
--- ---- the lists
+-- ---- groups
 
 module _ (p : List Name → Bool) (f : List ℕ → List Name) (xs : List (List ℕ)) (k : ℕ) (inside : k < length xs) (before : list_all p (map f (take k xs)) ≡ true) where
-  -- one list more passes
+  -- one more group passes
   pub group_passes : (x : List ℕ) → slice_get xs k ≡ Some x → p (f x) ≡ true → list_all p (map f (take (k + 1) xs)) ≡ true
   group_passes x e h = goes_on p f xs k [] inside before (ap (λ y. p (f y)) (get_or_from_slice_get xs k x [] e) ∙ h)
 
-  -- .. also one that is equal to the one before it
+  -- a group that is equal to the one before it passes
   pub repeated_passes : 0 < k → slice_get xs k ≡ slice_get xs (k - 1) → list_all p (map f (take (k + 1) xs)) ≡ true
   repeated_passes more same =
       group_passes (get_or xs (k - 1) []) (same ∙ slice_get-get_or xs (k - 1) [] (omega (arith, inside, more))) (passed xs k (k - 1) (omega (arith, more)) (omega (arith, inside, more)) before)
@@ -46,13 +46,13 @@ pub no_groups : (xs : List (List ℕ)) → length xs ≡ 0 → xs ≡ []
 no_groups [] h = refl
 no_groups (x ∷ xs) h = absurd (omega (arith, h))
 
--- where one list passes, some list does
+-- if one list passes, some list passes
 any_group : {A : Type 0} (t : List Name → Bool) (f : A → List Name) (xs : List A) (k : ℕ) (x : A) → slice_get xs k ≡ Some x → t (f x) ≡ true → list_any t (map f xs) ≡ true
 any_group t f [] k x e h = cc
 any_group t f (y ∷ xs) zero x e h = let same : y ≡ x = cc in ap (λ b. b || list_any t (map f xs)) (ap (λ z. t (f z)) same ∙ h)
 any_group t f (y ∷ xs) (suc k) x e h = ap (λ b. t (f y) || b) (any_group t f xs k x e h) ∙ or-true (t (f y))
 
--- a violation in one of the lists is a violation of the whole
+-- a violation in one of the groups is a violation
 pub violation_is : (S : Database) (names : List Name) (σ : Images) (groups : List (List ℕ)) (k : ℕ) (group : List ℕ) (c : DisjointViolation) → slice_get groups k ≡ Some group
     → IsViolationIn S names σ (decode names group) c → IsViolation S names σ (map (decode names) groups) c
 violation_is S names σ groups k group c e is =

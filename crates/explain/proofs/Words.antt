@@ -1,4 +1,4 @@
--- The words in which this crate is proved, passed on from one place.
+-- Re-exports of the definitions and lemmas with which this crate is proved.
 pub use Rattle.entries.specs.declared.assertion_view.Hypothesis.{Hypothesis}
 pub use Rattle.entries.specs.declared.assertion_view.Hypothesis.TheVariants.{Essential, Float}
 pub use Rattle.explain.specs.Breaks.{AreLettersBroken, BeginsWith, Breaks, IsAllowed, IsEnd, IsFirst, IsLetterBreak, IsListing, IsNotLabel, IsOver, fails, joined, marks_in, fault_index}

@@ -1,8 +1,8 @@
--- Wrong results, from the tests of the code.
+-- Wrong results, from the tests in the code.
 use Rattle.explain.proofs.Words.{◌≡◌, ℕ, List, sym, ◌∙◌, ap, subst, true, Name, Stmt, Database, Expr, are_groups_disjoint, DisjointViolation, Fault, UnknownLabel, Inactive, NotEarlier, TooFewResults, OtherTypecode, OtherExpression, NotDisjoint, TooManySymbols, NoMarkedResult, IsViolation, IsMismatchFault, IsResultsFault}
 use Rattle.frame.specs.Substitution.{Images}
 
--- a mismatch is wrong
+-- a mismatch makes the results wrong
 pub wrong_is : (S : Database) (names : List Name) (at a : ℕ) (s : Stmt) (rs : List Expr) (fault : Fault) → IsMismatchFault S names a s rs fault → IsResultsFault S names at a s rs fault
 wrong_is S names at a s rs UnknownLabel h = absurd h
 wrong_is S names at a s rs (Inactive i) h = absurd h
@@ -15,7 +15,7 @@ wrong_is S names at a s rs TooManySymbols h = absurd h
 wrong_is S names at a s rs NoMarkedResult h = absurd h
 
 module _ {T S : Database} {ns names : List Name} {σ τ : Images} {gs hs : List (List Name)} (same : T ≡ S) (named : ns ≡ names) (images : σ ≡ τ) (lists : gs ≡ hs) where
-  -- a violation stays one where statements, names, images and lists are equal
+  -- a violation stays one if statements, names, images and groups are replaced with equal ones
   pub violation_moved : (c : DisjointViolation) → IsViolation T ns σ gs c → IsViolation S names τ hs c
   violation_moved c is =
       subst (λ l. IsViolation S names τ l c) lists
@@ -23,7 +23,7 @@ module _ {T S : Database} {ns names : List Name} {σ τ : Images} {gs hs : List 
       (subst (λ n. IsViolation S n σ gs c) named
       (subst (λ D. IsViolation D ns σ gs c) same is)))
 
-  -- disjoint variables stay so where statements, images and lists are equal
+  -- groups stay disjoint if statements, images and groups are replaced with equal ones
   pub disjoint_moved : are_groups_disjoint T σ gs ≡ true → are_groups_disjoint S τ hs ≡ true
   disjoint_moved is =
       sym (ap (λ D. are_groups_disjoint D σ gs) same ∙ (ap (λ i. are_groups_disjoint S i gs) images ∙ ap (λ l. are_groups_disjoint S τ l) lists)) ∙ is

@@ -1,9 +1,9 @@
--- The result of an extraction is an extract: the part if it was found to be one, and else the whole.
+-- The result of an extraction is an extract: the part if the code finds it to be one, and the whole list otherwise.
 use Rattle.extract.proofs.Words.{◌≡◌, ◌||◌, ℕ, true, List, [], ◌∷◌, ◌++◌, length, Some, Result, Ok, Err, IfOk, refl, list_any, AllByRecursion, ◌∙◌, ap, subst, or_right, Name, name_eq, has_name, Stmt, Open, Close, Const, Var, Disj, Float, Ess, Axiom, Prove, Database, Reads, name_same, label_of, is_assertion, stands-within, Good, NamesAssertion, AreValidLabels, IsPart, HasSameAssertion, is_listed_assertion, HaveSameAssertions, IsExtract, part-whole}
 
 -- ---- each label
 
--- a property of each assertion that one of these valid labels names holds of each label
+-- a property of each assertion that a valid label names holds of each of the labels
 every : (S : Database) (P : Name → Type 0) (earlier labels : List Name) → AreValidLabels S earlier labels → ((label : Name) → NamesAssertion S label → has_name label labels ≡ true → P label) → AllByRecursion P labels
 every S P earlier [] valid holds = tt
 every S P earlier (label ∷ labels) valid holds =

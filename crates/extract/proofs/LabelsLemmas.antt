@@ -6,7 +6,7 @@ use Rattle.extract.proofs.Words.{◌≡◌, ℕ, ◌+◌, ◌<◌, ◌≤◌, tr
 label-at : {A : Type 0} (f : A → Name) (xs : List A) (n : ℕ) (x : A) (label : Name) → n < length xs → label ≡ f (get_or xs n x) → label ≡ get_or (map f xs) n label
 label-at f xs n x label less e = e ∙ sym (get_or-map f xs n x label less)
 
--- ---- one label more
+-- ---- one more label
 
 pub valid-last : (S : Database) (earlier front : List Name) (label : Name) → AreValidLabels S earlier front → IsValidLabel S (earlier ++ front) label → AreValidLabels S earlier (front ++ label ∷ [])
 valid-last S earlier [] label rs r = (subst (λ e. IsValidLabel S e label) (append-nil earlier) r, tt)
@@ -54,7 +54,7 @@ module _ (S F : Database) (same : F ≡ bares S) (once : HasLabelsOnce F) where
   fault-one earlier label Memory g v w = absurd v
   fault-one earlier label f Memory v w = absurd w
 
-  -- ---- the walk over the labels
+  -- ---- the loop over the labels
 
   pub first-more : (labels : List Name) (n : ℕ) (label : Name) → n < length labels → label ≡ get_or labels n label → AreFirstValid S labels n → IsValidLabel S (take n labels) label → AreFirstValid S labels (n + 1)
   first-more labels n label less is p r =
@@ -88,14 +88,14 @@ module _ (S F : Database) (same : F ≡ bares S) (once : HasLabelsOnce F) where
       by (inl v) = fault-one (take n labels) label g f w v
       by (inr q) = absurd (valid-fault (take n labels) label g q.0 w)
 
-  -- the same for labels that are seen as names
+  -- the same, if the labels are the names of the elements of a list
 
   module _ {A : Type 0} (f : A → Name) (xs : List A) (n : ℕ) (x : A) (label : Name) (less : n < length xs) (e : label ≡ f (get_or xs n x)) (p : AreFirstValid S (map f xs) n) where
-    -- the place is one of the names
+    -- the index is within the names
     inside : n < length (map f xs)
     inside = subst (λ m. n < m) (sym (length-map xs f)) less
 
-    -- the first names are those of the first elements
+    -- the names of the first elements are the first names
     front : map f (take n xs) ≡ take n (map f xs)
     front = sym (take-map f n xs)
 
@@ -114,7 +114,7 @@ module _ (S F : Database) (same : F ≡ bares S) (once : HasLabelsOnce F) where
   pub first-end : (labels : List Name) (n : ℕ) (f : ExtractFault) → length labels ≤ n → AreFirstValid S labels n → IsFirstLabelFault S [] labels f → ⊥
   first-end labels n f over p first = subst (λ ls. IsFirstLabelFault S (take n labels) ls f) (drop_all n labels over) (p.rest f first)
 
--- ---- an assertion that stands at a position
+-- ---- an assertion at a position
 
 bare-kind : (s : Stmt) → is_assertion s ≡ true → is_assertion (bare s) ≡ true
 bare-kind (Axiom label expr) h = refl

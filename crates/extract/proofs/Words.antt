@@ -1,4 +1,4 @@
--- The words in which this crate is proved, passed on from one place.
+-- Re-exports of the definitions and lemmas with which this crate is proved.
 pub use Rattle.database_parts.proofs.ParallelLemmas.{part-whole}
 pub use Rattle.database_parts.specs.Parts.{HasSameAssertion, IsPart}
 pub use Rattle.database_parts.specs.Walk.{HaveSameAssertions, is_listed_assertion}

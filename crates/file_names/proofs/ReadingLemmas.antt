@@ -1,4 +1,4 @@
--- A name is read back to its label, and has bytes of names alone.
+-- A label can be read back from its file name, and a file name has only bytes that such names may have.
 use Rattle.std.specs.Prelude.{◌≡◌, ◌⊎◌, ℕ, ◌+◌, ◌-◌, ◌<◌, ◌^◌, ◌==◌, nat_le, Bool, true, false, not, if◌then◌else◌, List, [], ◌∷◌, ◌++◌, length, codes, decimal}
 use Rattle.std.specs.List.{list_all}
 use Rattle.std.specs.Char.{digit_value, is_ascii_uppercase, is_ascii_digit}
@@ -14,7 +14,7 @@ use Rattle.file_names.specs.FileNames.{escaped_byte, escaped, reserved, plus_if_
 use Rattle.file_names.specs.Laws as laws
 use Rattle.file_names.specs.Laws.{is_name_byte, is_empty_or_begins_with_dot}
 
--- the label that a name spells; the flag says that a `+` was read
+-- the label that a file name spells; the flag is set after a `+`
 read_by : Bool → List ℕ → Name
 read_by marked [] = []
 read_by true (b ∷ bytes) = (if b == 46 then b else b - 32) ∷ read_by false bytes
@@ -74,7 +74,7 @@ digit_bytes : (text : List ℕ) → AllDigits 10 text → list_all is_ascii_digi
 digit_bytes [] all = refl
 digit_bytes (c ∷ cs) all = and_from _ _ (digit_byte c all.0) (digit_bytes cs all.1)
 
--- digits, at least one
+-- a text of digits, at least one
 record AreDigits (text : List ℕ) : Type 0 where
   pub first : ℕ
   pub rest : List ℕ
@@ -90,7 +90,7 @@ decimal-digits n fits =
     let numeral = (decimal_is_IsNumeral n fits).0 in
     are-digits (decimal n) numeral.0 (digit_bytes (decimal n) numeral.1)
 
--- a digit after a `+` reads as no byte of a label
+-- a digit after a `+` is read as a byte that no label has
 no_label_byte : (d : ℕ) → is_ascii_digit d ≡ true → is_label_byte (if d == 46 then d else d - 32) ≡ false
 no_label_byte d h = by (d == 46) refl
   where
@@ -98,9 +98,9 @@ no_label_byte d h = by (d == 46) refl
     by true e = let no : d ≡ 46 = grind (arith, nat_tests, e) in absurd (true≢false (sym h ∙ ap is_ascii_digit no))
     by false e = grind (arith, nat_tests, h)
 
--- ---- names differ
+-- ---- different names
 
--- no spelled name is a numbered one
+-- no spelled name is equal to a numbered one
 spelled-numbered : (label : Name) (p : ℕ) → is_spelled label ≡ true → p < 2 ^ 64 → spelled label ≡ numbered p → ⊥
 unfolding read_by
 spelled-numbered label p h fits same =
@@ -124,7 +124,7 @@ names-differ one other p q pf qf same =
     stems-differ one other p q pf qf (is_spelled one) refl (is_spelled other) refl
     (append_cancel_right (if is_spelled one then spelled one else numbered p) (if is_spelled other then spelled other else numbered q) (codes ".html") same)
 
--- ---- names stay in a folder
+-- ---- names stay within a folder
 
 name_bytes : (b : ℕ) → is_label_byte b ≡ true → list_all is_name_byte (escaped_byte b) ≡ true
 name_bytes b h = by (is_ascii_uppercase b) refl (b == 46) refl
@@ -166,7 +166,7 @@ digits_in_names (c ∷ cs) h =
     let parts = and_parts (is_ascii_digit c) (list_all is_ascii_digit cs) h in
     and_from _ _ (let d = parts.0 in let named : is_name_byte c ≡ true = grind (arith, nat_tests, d) in named) (digits_in_names cs parts.1)
 
--- the bytes of a name without its ending, the first of them no dot
+-- a file name without its ending, whose first byte is no dot
 record IsStem (text : List ℕ) : Type 0 where
   pub bytes : list_all is_name_byte text ≡ true
   pub undotted : (rest : List ℕ) → is_empty_or_begins_with_dot (text ++ rest) ≡ false

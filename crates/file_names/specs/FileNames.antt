@@ -5,7 +5,7 @@ use Rattle.std.specs.Prelude.{ℕ, ◌+◌, ◌==◌, nat_le, Bool, ◌&&◌, if
 use Rattle.std.specs.Char.{is_ascii_uppercase}
 use Rattle.mm_lex.specs.Alphabet.{Name, has_name, is_label}
 
--- an uppercase letter as `+` and its lowercase letter, a dot as `+.`, another byte as it stands
+-- an uppercase letter as `+` and its lowercase letter, a dot as `+.`, any other byte unchanged
 abbrev pub escaped_byte : ℕ → List ℕ
 escaped_byte b = if is_ascii_uppercase b then 43 ∷ (b + 32) ∷ [] else if b == 46 then 43 ∷ b ∷ [] else b ∷ []
 

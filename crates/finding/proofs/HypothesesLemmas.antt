@@ -1,9 +1,9 @@
--- The `$e` with a pattern that are kept, and the hypotheses of an assertion.
+-- The `$e` that match a pattern, and the hypotheses of an assertion.
 use Rattle.finding.proofs.Words.{◌≡◌, ℕ, zero, suc, ◌+◌, ◌-◌, ◌<◌, ◌≤◌, Bool, true, false, ◌&&◌, nat_le, nat_lt, List, [], ◌∷◌, ◌++◌, length, take, drop, map, filter, Option, Some, None, slice_get, get_or, refl, ap, sym, ◌∙◌, subst, arith, inl, inr, length-append, lt-ltb, take-take, take-append-drop, ◌↔◌, ◌⊎◌, IsFalse, IsTrue, OnOk, Result, option_map, option_and_then, and_from, and_parts, both_ways, cases_lt, ltb-true, get_or-take, get_or_append_left, get_or_at, same_Some, slice_get-get_or, on_ok_weaker, Stmt, Ess, Database, active_from, bare, bares, before, is_active, is_essential, stays_open, stmt_at, stmt_at-bares, is_hypothesis_kind, hypotheses, is_hypothesis, In, IsActiveAt, active-members, members-active, active-stays, get-take, cut-here, drop-front, length-cut, stays_open-front, Part, AreMatchingEssentials, AreRecorded, IsTrimmedLength, IsActiveHypothesis, SearchQuery, WithHypotheses, HasPattern, essential_expr, essential_at, SomeEssentialHas}
 
 -- ---- one statement
 
--- an `$e` stands at a position
+-- a `$e` is the statement at a position
 record IsThere (S : Database) (i : ℕ) : Type 0 where
   pub stmt : Stmt
   pub stands : stmt_at (bares S) i ≡ Some stmt
@@ -38,7 +38,7 @@ active-below F i at h =
 stays-shorter : (X : Database) (a b : ℕ) → a ≤ b → stays_open 0 (take b X) ≡ true → stays_open 0 (take a X) ≡ true
 stays-shorter X a b le h = ap (stays_open 0) (sym (take-take a b X le)) ∙ stays_open-front 0 (take a (take b X)) (drop a (take b X)) (ap (stays_open 0) (take-append-drop a (take b X)) ∙ h)
 
--- a statement that is active one statement later is active
+-- a statement that is active before a later statement is active before the one in between
 active-earlier : (F : Database) (i at : ℕ) → i < at → is_active F i (at + 1) ≡ true → is_active F i at ≡ true
 active-earlier F i at lt h =
     let both = and_parts (nat_le 1 i && nat_lt i (at + 1)) (stays_open 0 (take (at + 1 - 1 - i) (drop i F))) h in
@@ -46,7 +46,7 @@ active-earlier F i at lt h =
     let stays : stays_open 0 (take (at - 1 - i) (drop i F)) ≡ true = stays-shorter (drop i F) (at - 1 - i) (at + 1 - 1 - i) (omega arith) both.1 in
     and_from (nat_le 1 i && nat_lt i at) (stays_open 0 (take (at - 1 - i) (drop i F))) (and_from (nat_le 1 i) (nat_lt i at) first.0 (lt-ltb i at lt)) stays
 
--- an active `$e` is a hypothesis of the assertion ..
+-- an active `$e` is a hypothesis of any assertion at that position
 listed : (F : Database) (at i : ℕ) (s t : Stmt) → stmt_at F i ≡ Some t → is_essential t ≡ true → is_active F i at ≡ true → In i (hypotheses (before F at) s)
 listed F at zero s t stands kind active = cc
 listed F at (suc k) s t stands kind active =
@@ -59,7 +59,7 @@ listed F at (suc k) s t stands kind active =
     let place : 1 + length (take k T) ≡ suc k = omega (arith, length-cut T k t here) in
     subst (λ n. In n (hypotheses T s)) place (subst (λ D. In (1 + length (take k T)) (map (λ x. x.0) (filter (λ x. is_hypothesis T s x.1) (active_from 1 D)))) (sym (cut-here T k t here)) found)
 
--- .. whose hypotheses are active
+-- the hypotheses of an assertion are active
 active-listed : (F : Database) (at i : ℕ) (s : Stmt) → In i (hypotheses (before F at) s) → (is_active F i at ≡ true) × (i < at)
 active-listed F at i s in_list =
     let T : Database = before F at in
@@ -76,7 +76,7 @@ active-listed F at i s in_list =
     length-before (d ∷ D) zero = omega arith
     length-before (d ∷ D) (suc n) = let m = length-before D n in omega (arith, m)
 
--- ---- the `$e` with a pattern
+-- ---- the `$e` that match a pattern
 
 module _ (p : List Part) (S : Database) where
   some-from : (i : ℕ) (positions : List ℕ) → In i positions → HasPattern p (essential_at S i) → SomeEssentialHas p S positions
@@ -92,7 +92,7 @@ module _ (p : List Part) (S : Database) where
   active-hypothesis : (at i : ℕ) → HasPattern p (essential_at S i) → is_active (bares S) i at ≡ true → IsActiveHypothesis (bares S) at i
   active-hypothesis at i has active = let t = there p S i has in (t.stmt, record { stands = t.stands; kind = kind-of t.stmt t.essential; active = active })
 
-  -- none before the first statement
+  -- there are none before the first statement
   pub kept-none : AreMatchingEssentials p S 0 []
   kept-none = record { each = λ k lt. absurd (omega (arith, lt)); all = λ i le has active. absurd (none i le has) }
     where
@@ -104,7 +104,7 @@ module _ (p : List Part) (S : Database) where
     earlier : (i : ℕ) → i < at → is_active (bares S) i (at + 1) ≡ true → is_active (bares S) i (n + 1) ≡ true
     earlier i lt active = subst (λ m. is_active (bares S) i m ≡ true) (sym next) (active-earlier (bares S) i at lt active)
 
-    -- one statement more, which has it ..
+    -- a statement that matches is added to the list
     pub kept-with : (s : Stmt) (list new : List ℕ) → stmt_at S at ≡ Some s → HasPattern p (essential_expr s) → new ≡ list ++ at ∷ [] → AreMatchingEssentials p S n list → AreMatchingEssentials p S at new
     kept-with s list new stands has pushed kept = subst (AreMatchingEssentials p S at) (sym pushed) (record { each = each; all = all })
       where
@@ -134,7 +134,7 @@ module _ (p : List Part) (S : Database) where
                 (f.0, omega (arith, f1, count), get_or_append_left list (at ∷ []) 0 f.0 f.1 ∙ f.2)
             by (inr ge) = (length list, omega (arith, count), get_or_at list at [] 0 (length list) refl ∙ (let e : at ≡ i = omega (arith, le, ge) in e))
 
-    -- .. or has it not
+    -- a statement that does not match leaves the list as it is
     pub kept-without : (s : Stmt) (list : List ℕ) → stmt_at S at ≡ Some s → (HasPattern p (essential_expr s) → ⊥) → AreMatchingEssentials p S n list → AreMatchingEssentials p S at list
     kept-without s list stands lacks kept = record { each = each; all = all }
       where
@@ -150,13 +150,13 @@ module _ (p : List Part) (S : Database) where
                 let e : i ≡ at = omega (arith, le, ge) in
                 absurd (lacks (subst (λ o. HasPattern p (option_and_then essential_expr o)) stands (subst (λ m. HasPattern p (essential_at S m)) e h)))
 
-    -- either
+    -- either of the two, by the answer of the test
     pub kept-one : {T E : Type 0} (s : Stmt) (list new : List ℕ) (has : Bool) (r : Result T E) → stmt_at S at ≡ Some s → IsTrue has ↔ HasPattern p (essential_expr s)
         → (IsTrue has → OnOk r (new ≡ list ++ at ∷ [])) → (IsFalse has → OnOk r (new ≡ list)) → AreMatchingEssentials p S n list → OnOk r (AreMatchingEssentials p S at new)
     kept-one s list new true r stands is pushed same kept = on_ok_weaker r (λ e. kept-with s list new stands (is.0 refl) e kept) (pushed refl)
     kept-one s list new false r stands is pushed same kept = on_ok_weaker r (λ e. subst (AreMatchingEssentials p S at) (sym e) (kept-without s list stands (λ h. both_ways false refl (is.1 h)) kept)) (same refl)
 
-    -- what is left of them
+    -- only `$e` that are no longer active are removed from the end of the list
     module _ (old new : List ℕ) (left : IsTrimmedLength (bares S) at old (length new)) (front : new ≡ take (length new) old) where
       same : (k : ℕ) → k < length new → get_or new k 0 ≡ get_or old k 0
       same k lt = ap (λ l. get_or l k 0) front ∙ get_or-take (length new) old k 0 lt
@@ -177,7 +177,7 @@ module _ (p : List Part) (S : Database) where
                   at_place (inl lt) = (f.0, lt, same f.0 lt ∙ f.2)
                   at_place (inr past) = absurd (left.gone f.0 past f.1 (subst (IsActiveHypothesis (bares S) at) (sym f.2) (active-hypothesis at i has (subst (λ m. is_active (bares S) i m ≡ true) next active))))
 
-      -- one is left just if an `$e` among the hypotheses has it
+      -- the list is not empty if and only if a `$e` among the hypotheses matches the pattern
       pub some-left : (s : Stmt) (is : Bool) → AreMatchingEssentials p S n old → IsTrue is ↔ (0 < length new) → IsTrue is ↔ SomeEssentialHas p S (hypotheses (before (bares S) at) s)
       some-left s is kept h = (λ yes. forward (h.0 yes), λ some. h.1 (back some))
         where
@@ -199,12 +199,12 @@ module _ (p : List Part) (S : Database) where
               let f1 = f.1 in
               omega (arith, f1)
 
--- nothing is kept before the first statement
+-- the list is empty before the first statement
 pub recorded_none : (query : SearchQuery) (S : Database) → AreRecorded query S 0 []
 recorded_none (WithHypotheses p) S = kept-none p S
 recorded_none query S = tt
 
--- ---- how many are left
+-- ---- the length after removal
 
 other-default : (list : List ℕ) (k d : ℕ) → k < length list → get_or list k 0 ≡ get_or list k d
 other-default list k d lt = same_Some (get_or list k 0) (get_or list k d) (sym (slice_get-get_or list k 0 lt) ∙ slice_get-get_or list k d lt)

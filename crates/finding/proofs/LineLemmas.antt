@@ -1,12 +1,12 @@
--- The lines of what is found, a statement at a time.
+-- The lines of the statements that are found, one statement after another.
 use Rattle.finding.proofs.Words.{◌≡◌, ℕ, zero, suc, ◌+◌, ◌<◌, ◌≤◌, Bool, true, false, List, [], ◌∷◌, ◌++◌, length, take, Option, Some, None, slice_get, get_or, refl, ap, sym, ◌∙◌, subst, arith, append_assoc, inl, inr, ◌↔◌, ◌⊎◌, IsTrue, IfOk, Result, both_ways, slice_get-get_or, IfOk-weaker, append-nil, take_all, Stmt, Database, stmt_at, line_if, IsLineIf, AreFoundLines}
 
--- the line of a statement that was judged
+-- the line of a statement, by the answer of the test
 judged : (matches : Type 0) (is : Bool) (s : Stmt) → IsTrue is ↔ matches → IsLineIf matches s (line_if is s)
 judged matches true s h = inl (h.0 refl, refl)
 judged matches false s h = inr (λ c. both_ways false refl (h.1 c), refl)
 
--- one statement more
+-- the lines with that of one more statement
 pub lines_more : (matches : ℕ → Stmt → Type 0) (from at : ℕ) (S : Database) (i : ℕ) (s : Stmt) (is : Bool) (old new : List ℕ) → AreFoundLines matches from (take i S) old
     → slice_get S i ≡ Some s → from + i ≡ at → IsTrue is ↔ matches at s → new ≡ old ++ line_if is s → AreFoundLines matches from (take (suc i) S) new
 lines_more matches from at [] i s is old new before e place h added = absurd (none_is e)
@@ -24,7 +24,7 @@ lines_more matches from at (r ∷ S) (suc i) s is old new before e place h added
     let more = lines_more matches (from + 1) at S i s is rest (rest ++ line_if is s) before.4 e (omega (arith, place)) h refl in
     (line, rest ++ line_if is s, added ∙ (ap (λ l. l ++ line_if is s) before.2 ∙ append_assoc line rest (line_if is s)), before.3, more)
 
--- the same for the one at an index within the list
+-- the same for the statement at an index within the list
 pub lines_on : (matches : ℕ → Stmt → Type 0) (S : Database) (i : ℕ) (s : Stmt) (is : Bool) (old new : List ℕ) → AreFoundLines matches 0 (take i S) old
     → i < length S → s ≡ get_or S i s → IsTrue is ↔ matches i s → new ≡ old ++ line_if is s → AreFoundLines matches 0 (take (i + 1) S) new
 lines_on matches S i s is old new before within same h added =
@@ -32,20 +32,20 @@ lines_on matches S i s is old new before within same h added =
     let here : slice_get S i ≡ Some s = slice_get-get_or S i s within ∙ ap Some (sym same) in
     subst (λ n. AreFoundLines matches 0 (take n S) new) next (lines_more matches 0 i S i s is old new before here (omega arith) h added)
 
--- all of them
+-- the lines of all statements
 pub lines_all : (matches : ℕ → Stmt → Type 0) (S : Database) (i : ℕ) (lines : List ℕ) → length S ≤ i → AreFoundLines matches 0 (take i S) lines → AreFoundLines matches 0 S lines
 lines_all matches S i lines past is = subst (λ T. AreFoundLines matches 0 T lines) (take_all i S past) is
 
--- the statement at an index has the position after it
+-- the statement at an index has the position that is one greater
 pub stands_at : (S : Database) (i : ℕ) (s : Stmt) → i < length S → s ≡ get_or S i s → stmt_at S (i + 1) ≡ Some s
 stands_at S i s within same =
     let next : i + 1 ≡ suc i = omega arith in
     ap (stmt_at S) next ∙ (slice_get-get_or S i s within ∙ ap Some (sym same))
 
--- an assertion that matches
+-- an answer on an assertion is one on a statement that is an assertion
 pub with_assertion : {E : Type 0} (B : Type 0) (a : Bool) → a ≡ true → (r : Result Bool E) → IfOk r (λ is. IsTrue is ↔ B) → IfOk r (λ is. IsTrue is ↔ (IsTrue a × B))
 with_assertion B a e r h = IfOk-weaker r _ _ (λ is b. (λ yes. (e, b.0 yes), λ both. b.1 both.1)) h
 
--- one of two, and not the first
+-- if the first property fails, the second decides whether one of the two holds
 pub either_later : (A B : Type 0) (own is : Bool) → own ≡ false → IsTrue own ↔ A → IsTrue is ↔ B → IsTrue is ↔ (A ⊎ B)
 either_later A B own is fails first b = (λ yes. inr (b.0 yes), λ one. elim one [ inl a ↦ absurd (both_ways own fails (first.1 a)) | inr some ↦ b.1 some ])

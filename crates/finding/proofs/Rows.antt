@@ -1,7 +1,7 @@
--- Lines of what is found in a small database.
+-- The lines of statements that are found.
 use Rattle.finding.proofs.Words.{◌≡◌, [], ◌∷◌, codes, refl, Axiom, Prove, Open, found_line}
 
--- an axiom and a theorem by their expressions, and no other statement
+-- a line for an axiom and for a theorem, and none for any other statement
 axiom_line : found_line (Axiom (codes "tze") (codes "term" ∷ codes "0" ∷ [])) ≡ codes "tze term 0\n"
 axiom_line = refl
 

@@ -1,4 +1,4 @@
--- The words in which this crate is proved, passed on from one place.
+-- Re-exports of the definitions and lemmas with which this crate is proved.
 pub use Rattle.finding.specs.Essentials.{AreMatchingEssentials, AreRecorded, IsTrimmedLength, IsActiveHypothesis}
 pub use Rattle.finding.specs.Matching.{IsMatch, AssertionMatches, HasPattern, SomeEssentialHas, essential_at, essential_expr}
 pub use Rattle.finding.specs.Lines.{AreFoundLines, IsLineIf, found_line, line_if}

@@ -1,4 +1,4 @@
--- One verdict: one answer is true of a text that is judged after given statements, under a given charter.
+-- A text that is judged after given statements, under a given charter, has at most one verdict.
 use Rattle.library.proofs.Words.{◌≡◌, ◌≢◌, ℕ, zero, suc, ◌+◌, ◌-◌, ◌<◌, ◌≤◌, true, false, IsTrue, IsFalse, List, ◌++◌, length, Option, Some, None, refl, sym, ◌∙◌, ap, subst, arith, Name, Stmt, Database, tokens_of, Reads, HasTokens, IsNoDatabase, BrokenRule, proof_of, first_broken, is_unfinished, Submission, Cause, TooLong, Shape, NotChartered, Rule, Proof, Unfinished, Verdict, Added, Refused, first_forbidden, Good, IsReadable, IsAllowed, IsFirstUnproved, IsFault, IsCause, LexFault, IsLexFault, IsClean-no_fault, AreTokens-no_comment_fault, one_statement_list, MOST_BYTES, some-same, same_tokens}
 use Rattle.mm_lex.specs.declared.fault.LexFault.TheVariants as lex
 use Rattle.library.specs.declared.verdict.Cause.TheVariants.{Text}
@@ -31,13 +31,13 @@ one-unproved L T m n s r p q = by (m - n) refl (n - m) refl
 -- ---- one verdict
 
 module _ (L : Database) (charter : Option (List ℕ)) (submission : Submission) where
-  -- the verdict on a text
+  -- the meaning of a verdict on a text
   abbrev pub IsVerdict : Verdict → Type 0
   IsVerdict Added = (T : Database) × IsAllowed charter submission T × Good (L ++ T)
   IsVerdict (Refused cause) = IsCause L charter submission cause
   IsVerdict verdict = ⊥
 
-  -- the verdict on a text that reads as T, where its author may not declare this statement of it, or may declare all
+  -- the verdict on a text that reads as T, by the number of its first forbidden statement, if there is one
   abbrev Late : Database → Option ℕ → Verdict → Type 0
   Late T (Some n) verdict = verdict ≡ Refused (NotChartered n)
   Late T None Added = Good (L ++ T)
@@ -93,7 +93,7 @@ module _ (L : Database) (charter : Option (List ℕ)) (submission : Submission) 
   abbrev IsShapeless : Type 0
   IsShapeless = (length submission.text ≤ MOST_BYTES) × ((tokens : List Name) × HasTokens submission.text tokens × IsNoDatabase tokens)
 
-  -- how far a text was read when it was decided
+  -- the stages at which a verdict can be reached
   data Reason (v : Verdict) : Type 0 where
     long : v ≡ Refused TooLong → IsLong → Reason v
     faulty : v ≡ Refused Text → IsFaulty → Reason v
@@ -132,6 +132,6 @@ module _ (L : Database) (charter : Option (List ℕ)) (submission : Submission) 
   one-reason v w (late T r l) (late U r' m) =
       one-late U (first_forbidden charter submission.author U) v w (subst (λ V. Late V (first_forbidden charter submission.author V) v) (one-reading submission.text T U r.read r'.read) l) m
 
-  -- a text has one verdict
+  -- a text has at most one verdict
   pub one-verdict : (v w : Verdict) → IsVerdict v → IsVerdict w → v ≡ w
   one-verdict v w p q = one-reason v w (reason v p) (reason w q)

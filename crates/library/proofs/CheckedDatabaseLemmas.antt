@@ -1,4 +1,4 @@
--- A text whole or not at all: what the judging of its statements makes of good statements.
+-- A text is added whole or not at all; good statements with a judged text are good.
 use Rattle.library.proofs.Words.{◌≡◌, ℕ, zero, suc, ◌+◌, ◌-◌, ◌<◌, ◌≤◌, ◌&&◌, [], ◌∷◌, ◌++◌, length, take, drop, get_or, Option, Some, None, refl, list_all, sym, ◌∙◌, ap, subst, arith, inl, inr, Result, Ok, IfOk, length-append, true_from_ne_false, true≢false, map-append, take-append-drop, length-take-le, length-map, take_rest, take-append_seam, drop-append_seam, Stmt, Database, AreShaped, is_shaped, BrokenRule, bare, bares, is_provable, stmt_at, first_broken, stands-within, IsProvable, Good, IsProved, IsFirstUnproved, IsKnown, IsLeastUnproved, IsJudged, IsChecked, list_all-append, IsAdded, IsAddedAfter, Tables}
 use Rattle.library.specs.declared.adding.Added.{Added}
 use Rattle.library.proofs.FrontLemmas.{stmt_at-after, stands_index}
@@ -15,10 +15,10 @@ bares-bares (s ∷ S) = ap (λ t. t ∷ bares (bares S)) (bare-bare s) ∙ ap (�
 pub shaped-append : (S T : Database) → AreShaped S → AreShaped T → AreShaped (S ++ T)
 shaped-append S T p q = list_all-append is_shaped S T ∙ (ap (λ b. b && list_all is_shaped T) p ∙ q)
 
--- ---- judged after the first statements
+-- ---- a text judged after the first statements
 
 module _ (L T : Database) where
-  -- a `$p` of T stands after L
+  -- a `$p` of T has a position after L when T follows L
   stands-after : (n : ℕ) (s : Stmt) → IsProvable T n s → (length L < length L + n) × (length L + n ≤ length (L ++ T))
   stands-after n s p =
       let w = stands-within T n s p.stands in
@@ -44,7 +44,7 @@ module _ (L T : Database) where
             earlier = λ m r below p. let w = stands-after m r p in least.3 (length L + m) w.0 (omega (arith, here, below)) r (provable-after L T m r p);
           }
 
--- the same for a list that is cut
+-- the same for a list that is split in two
 module _ (S : Database) (front : ℕ) (within : front ≤ length S) where
   least-cut : (o : Option ℕ) → IsLeastUnproved S front o → IsLeastUnproved (take front S ++ drop front S) (length (take front S)) o
   least-cut o h =
@@ -63,12 +63,12 @@ module _ (S : Database) (front : ℕ) (within : front ≤ length S) where
 pub known-front : (S : Database) (front known : ℕ) → IsKnown S front known → front ≤ length S
 known-front S front known h = omega (arith, h.low, h.within)
 
--- where none is broken
+-- if no broken rule is found, none is broken
 pub legal-after : {E : Type 0} (S : Database) (front : ℕ) (broken : Result (Option (ℕ × BrokenRule)) E) (found : Option (ℕ × BrokenRule))
     → IfOk broken (λ b. b ≡ first_broken 1 (take front S) (drop front S)) → broken ≡ Ok found → found ≡ None → first_broken 1 (take front S) (drop front S) ≡ None
 legal-after S front broken found h is none = sym (subst (λ r. IfOk r (λ b. b ≡ first_broken 1 (take front S) (drop front S))) is h) ∙ none
 
--- ---- added whole, or gone back
+-- ---- added whole, or undone
 
 good-more : (L T : Database) → Good L → IsJudged L T None → Good (L ++ T)
 good-more L T good judged = record { legal = legal-more L T good.legal judged.0; proved = by }
@@ -79,7 +79,7 @@ good-more L T good judged = record { legal = legal-more L T good.legal judged.0;
       | inr q ↦ subst (IsProved (L ++ T)) (sym q.1) (judged.1 q.0 s q.2)
     ]
 
--- the statements that were added, as a slice
+-- the statements that were added, as the rest of a list
 module _ (S : Database) (front : ℕ) {tables : Tables} (checked : IsChecked (take front S) tables) (within : front ≤ length S) where
   all-bares : (old new : Database) → old ≡ bares (take front S) → new ≡ old ++ bares (drop front S) → new ≡ bares S
   all-bares old new before after =
@@ -98,6 +98,6 @@ module _ (S : Database) (front : ℕ) {tables : Tables} (checked : IsChecked (ta
         known = rw (take-append-drop front S, length-take-le front S within) at (h.known (take front S) alone);
       }
 
--- a text that is appended
+-- good statements are good with a text appended that was judged to be right
 pub good-after : {L : Database} (T : Database) {whole : Database} {front : ℕ} → Good L → whole ≡ L ++ T → front ≡ length L → IsJudged (take front whole) (drop front whole) None → Good (L ++ T)
 good-after {L = L} T good is_whole is_front judged = good-more L T good (rw (is_whole, is_front, take-append_seam L T, drop-append_seam L T) at judged)

@@ -1,4 +1,4 @@
--- A proof cites earlier statements, and a walk down has marked the statements that citations lead to.
+-- A proof cites earlier statements only; a walk towards the first position marks the statements that citations lead to.
 use Rattle.library.proofs.Words.{◌≡◌, ◌↔◌, ◌⊎◌, ℕ, zero, suc, ◌-◌, ◌<◌, ◌≤◌, Bool, true, false, List, [], ◌∷◌, ◌++◌, length, get_or, Some, option_map, slice_get, slice_set, replicate, refl, sym, ◌∙◌, ap, subst, arith, inl, inr, cases_eq, get_or_default, Name, Stmt, Database, bare, bares, stmt_at, label_of, proof_of, stmt_at-bares, Carries, HasLabelsOnce, Item, Cite, Recall, Mark, one_list, Derivation, Derivations, Spells, SpellsAll, cites_hypothesis, cites_assertion, recalls, marks, spells_none, spells_more, mandatory_labels, IsRight, Good, HasItems, ItemsCite, Cites, RestsOn, directly, through, IsMarked, is_marked, Marks, label_of-bare, legal-labels}
 use Rattle.library.proofs.FrontLemmas.{active-below}
 use Rattle.library.proofs.UseMarkLemmas.{marked-within, one-marked, get-either}
@@ -15,7 +15,7 @@ carries-whole S a s label c =
     let u = unbare (stmt_at S a) s (sym (stmt_at-bares S a) ∙ c.stands) in
     (u.0, record { stands = u.1; carried = sym (label_of-bare u.0) ∙ (ap label_of u.2 ∙ c.carried) })
 
--- no two of good statements carry one label
+-- no two statements of a good list carry the same label
 pub labels-once : (S : Database) → Good S → HasLabelsOnce (bares S)
 labels-once S good i j s r label p q =
     let one = carries-whole S i s label p in
@@ -31,7 +31,7 @@ one-items S at items other p q =
 -- ---- a proof cites earlier statements
 
 module _ (S : Database) (at : ℕ) where
-  -- each label that is cited is that of an earlier statement
+  -- each label that the items cite is that of an earlier statement
   abbrev AllEarlier : List Item → Type 0
   AllEarlier items = (k : ℕ) (label : Name) → slice_get items k ≡ Some (Cite label) → (i : ℕ) × (s : Stmt) × Carries S i s label × (i < at)
 
@@ -98,7 +98,7 @@ module _ (S F : Database) (same : F ≡ bares S) (at : ℕ) where
         whole = λ a within c. m.whole a within (cited-of items a has c);
       }
 
--- nothing is marked
+-- if no statement has the property, the marks stay the same
 pub marks-nothing : (P : ℕ → Type 0) (ms : List Bool) → ((a : ℕ) → P a → ⊥) → Marks P ms ms
 marks-nothing P ms none = record { count = refl; kept = λ a h. h; sound = λ a h. inl h; whole = λ a within p. absurd (none a p) }
 
@@ -108,7 +108,7 @@ rests-more : (S : Database) (j b a : ℕ) → RestsOn S j b → Cites S b a → 
 rests-more S j b a (directly d) c = through d (directly c)
 rests-more S j b a (through {b = m} d r) c = through d (rests-more S m b a r c)
 
--- the positions above p are done: just j and what it rests on is marked, and what those above p cite
+-- the positions above p are done: j is marked, and otherwise only statements that j rests on; those that marked ones cite are
 pub record IsWalked (S : Database) (j p : ℕ) (ms : List Bool) : Type 0 where
   pub count : length ms ≡ j
   pub below : p ≤ j
@@ -127,7 +127,7 @@ walk-start S j ms h is =
       closed = λ b a above m c. absurd (let e = (o.1 b).0 m in omega (arith, above, e));
     }
 
--- one position down, whose marks say whether what it cites is marked
+-- one step of the walk: if position p is marked, the statements that it cites are marked
 pub walk-step : (S : Database) (j p : ℕ) (ms ms' : List Bool) → Good S → 0 < p → Marks (λ a. IsMarked ms p × Cites S p a) ms ms' → IsWalked S j p ms → IsWalked S j (p - 1) ms'
 walk-step S j p ms ms' good positive m w =
     record {
@@ -167,7 +167,7 @@ walk-end S j p ms done w a = (w.sound a, reached)
 
 -- ---- one position of the walk
 
--- the result of the test of a mark
+-- the bit at the index of a position is its mark
 bit-marked : (ms : List Bool) (p : ℕ) (bit : Bool) → 0 < p → p ≤ length ms → bit ≡ get_or ms (p - 1) bit → is_marked ms (Some p) ≡ bit
 bit-marked ms zero bit h within is = absurd (omega (arith, h))
 bit-marked ms (suc n) bit h within is =

@@ -1,4 +1,4 @@
--- Who uses a statement, and the `$a` that a proof uses: the labels of what a walk over the positions has marked.
+-- The users of a statement, and the `$a` that a proof uses: the labels of the positions that a walk has marked.
 use Rattle.library.proofs.Words.{◌≡◌, ◌↔◌, ◌⊎◌, ℕ, zero, suc, ◌+◌, ◌-◌, ◌<◌, ◌≤◌, Bool, true, false, cond, ◌&&◌, List, [], ◌∷◌, ◌++◌, length, replicate, get_or, false_from_ne_true, Some, None, Option, slice_get, slice_set, refl, sym, ◌∙◌, ap, subst, arith, inl, inr, append-nil, cases_eq, map-append, Name, Stmt, Prove, Database, bares, stmt_at, is_provable, stands-within, Item, label_or_none, Good, HasItems, Cites, RestsOn, directly, through, IsUser, Rises, IsIn, AreLabelsOf, IsMarked, mark, ItemsCiteMarked, ProofCitesMarked, Axiom, IsProvable, Uses, is_axiom, IsAxiomAt, IsMarkedAxiom, get-last, get-more, set-get_or}
 use Rattle.library.proofs.ProvingLemmas.{not-there}
 use Rattle.library.proofs.UseMarkLemmas.{mark-count, mark-kept, mark-sound, mark-whole, one-marked, get-either, marked-within}
@@ -20,12 +20,12 @@ in-either k n ns i = elim (get-either ns (n ∷ []) i.0 k i.1) [ inl there ↦ i
     only zero e = let f = e in let same : n ≡ k = cc in sym same
     only (suc p) e = absurd (let f = e in cc)
 
--- those that pass up to a position
+-- the positions up to p that have the property
 abbrev pub Upto : (ℕ → Type 0) → ℕ → ℕ → Type 0
 Upto P p j = (j ≤ p) × P j
 
 module _ (S : Database) (P : ℕ → Type 0) (p : ℕ) (labels : List Name) (are : AreLabelsOf S (Upto P p) labels) where
-  -- each position listed so far is below the next
+  -- each position that is listed so far is below the next one
   below : (k : ℕ) → IsIn k are.positions → k < suc p
   below k i = let h = ((are.passing k).0 i).0 in omega (arith, h)
 
@@ -62,23 +62,23 @@ module _ (S : Database) (P : ℕ → Type 0) (p : ℕ) (labels : List Name) (are
         | inr apart ↦ (are.passing k).1 (let h = u.0 in omega (arith, h, apart), u.1)
       ]
 
-  -- the next position is listed where it passes
+  -- the label of the next position is added if it has the property
   pub labels-next : (b : Bool) → (b ≡ true → P (suc p)) → (P (suc p) → b ≡ true) → AreLabelsOf S (Upto P (suc p)) (labels ++ cond b (label_or_none (stmt_at S (suc p)) ∷ []) [])
   labels-next true passes shown = labels-take (passes refl)
   labels-next false passes shown = subst (AreLabelsOf S (Upto P (suc p))) (sym (append-nil labels)) (labels-pass (λ h. let f = shown h in let e : false ≡ true = f in cc))
 
--- where none passes up to a position there are no labels
+-- if no position up to p has the property, there are no labels
 pub labels-none : (S : Database) (P : ℕ → Type 0) (p : ℕ) → ((j : ℕ) → j ≤ p → P j → ⊥) → AreLabelsOf S (Upto P p) []
 labels-none S P p none = record { positions = []; rising = tt; passing = λ j. ((λ i. absurd (let e = i.1 in cc)), λ u. absurd (none j u.0 u.1)); labelled = refl }
 
--- the labels of those that pass are those of the same positions under another name
+-- the labels for a property are those for an equivalent property
 pub labels-same : (S : Database) (P Q : ℕ → Type 0) (labels : List Name) → AreLabelsOf S P labels → ((a : ℕ) → P a ↔ Q a) → AreLabelsOf S Q labels
 labels-same S P Q labels are same =
     record { positions = are.positions; rising = are.rising; passing = λ a. ((λ i. (same a).0 ((are.passing a).0 i)), λ q. (are.passing a).1 ((same a).1 q)); labelled = are.labelled }
 
--- ---- the walk up
+-- ---- the walk towards the last position
 
--- a position that is marked: the one of the query, or of all users one up to p
+-- a position that has to be marked: that of the query, or that of a user up to p if all users are meant
 abbrev IsSought : Database → Bool → ℕ → ℕ → ℕ → Type 0
 IsSought S all a p b = (b ≡ a) ⊎ ((b ≤ p) × (all ≡ true) × RestsOn S b a)
 
@@ -88,7 +88,7 @@ pub record IsSearched (S : Database) (all : Bool) (a p : ℕ) (marks : List Bool
   pub marked : (b : ℕ) → IsMarked marks b ↔ IsSought S all a p b
   pub listed : AreLabelsOf S (Upto (IsUser S all a) p) labels
 
--- whether the proof of the next one meets a mark tells whether it is a user
+-- the next statement is a user if and only if its proof cites a marked statement
 user-meets : (S : Database) (all : Bool) (a p : ℕ) (marks : List Bool) (labels : List Name) → Good S → IsSearched S all a p marks labels → IsUser S all a (suc p) → ProofCitesMarked S (suc p) marks
 user-meets S true a p marks labels good w (directly c) = (a, (w.marked a).1 (inl refl), c)
 user-meets S true a p marks labels good w (through {b = b} c r) = (b, (w.marked b).1 (inr (let less = cites-below S (suc p) b good c in omega (arith, less), refl, r)), c)
@@ -103,12 +103,12 @@ meets-user S all a p marks labels w (b, m, c) = by all ((w.marked b).0 m)
     by false (inl same) = subst (Cites S (suc p)) same c
     by false (inr q) = absurd (let e = q.1 in cc)
 
--- which position is marked
+-- a position is marked only if its proof was found to cite a marked statement and all users are meant
 when-some : (found all : Bool) (at b : ℕ) → cond (found && all) (Some at) None ≡ Some b → (found ≡ true) × (all ≡ true) × (at ≡ b)
 when-some true true at b e = (refl, refl, let f = e in cc)
 when-some found all at b e = absurd (let f = e in cc)
 
--- where the proof cites a statement that is marked its label is added, and where all users are meant it is marked too
+-- if the proof cites a marked statement, its label is added, and it is marked too if all users are meant
 module _ (S : Database) (all : Bool) (a p : ℕ) (marks marks' : List Bool) (labels labels' : List Name) (good : Good S) (within : suc p ≤ length S) (w : IsSearched S all a p marks labels) (found : Bool)
     (meets : found ≡ true ↔ ProofCitesMarked S (suc p) marks) (set : marks' ≡ mark (cond (found && all) (Some (suc p)) None) marks) (added : labels' ≡ labels ++ cond found (label_or_none (stmt_at S (suc p)) ∷ []) []) where
   abbrev Here : Option ℕ
@@ -151,7 +151,7 @@ module _ (S : Database) (all : Bool) (a p : ℕ) (marks marks' : List Bool) (lab
         listed = subst (AreLabelsOf S (Upto (IsUser S all a) (suc p))) (sym added) (labels-next S (IsUser S all a) p labels w.listed found uses met);
       }
 
--- ---- its beginning and its end
+-- ---- the beginning and the end of the walk
 
 rests-above : (S : Database) (a j : ℕ) → Good S → RestsOn S j a → a < j
 rests-above S a j good (directly c) = cites-below S j a good c
@@ -191,12 +191,12 @@ pub not-provable : (s : Stmt) → ((label : Name) (expr proof : List Name) → s
 not-provable (Prove label expr proof) other h = other label expr proof refl
 not-provable s other h = let e = h in cc
 
--- a place that is not marked is set
+-- setting the bit of an unmarked position marks it if all users are meant
 set-all : (all : Bool) (ms : List Bool) (k : ℕ) → get_or ms k false ≡ false → slice_set ms k all ≡ mark (cond all (Some (suc k)) None) ms
 set-all true ms k h = refl
 set-all false ms k h = ap (slice_set ms k) (sym h) ∙ set-get_or ms k false
 
--- the statement after position p is no `$p`, or its proof meets no mark, or it does
+-- the next statement is no `$p`, or its proof cites no marked statement, or its proof cites one
 module _ (S : Database) (all : Bool) (a p : ℕ) (marks : List Bool) (labels : List Name) (good : Good S) (within : p < length S) (w : IsSearched S all a p marks labels) where
   next : p + 1 ≡ suc p
   next = omega arith
@@ -233,7 +233,7 @@ module _ (S : Database) (all : Bool) (a p : ℕ) (marks : List Bool) (labels : L
 kind-of : (S : Database) (a : ℕ) (s : Stmt) → stmt_at S a ≡ Some s → IsAxiomAt S a → is_axiom s ≡ true
 kind-of S a s stands h = ap is_axiom (let e : Some s ≡ Some h.stmt = sym stands ∙ h.stands in let same : s ≡ h.stmt = cc in same) ∙ h.kind
 
--- another statement adds no label
+-- a statement that is no `$a` adds no label
 pub no-axiom : (s : Stmt) (labels : List Name) → ((label : Name) (expr : List Name) → s ≡ Axiom label expr → ⊥) → labels ++ cond (is_axiom s) (label_or_none (Some s) ∷ []) [] ≡ labels
 no-axiom (Axiom label expr) labels other = absurd (other label expr refl)
 no-axiom s labels other = append-nil labels

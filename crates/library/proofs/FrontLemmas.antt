@@ -1,4 +1,4 @@
--- The values that are read of the first statements of a list stay the same when others are appended.
+-- Values that are read from the first statements of a list stay the same when others are appended.
 use Rattle.library.proofs.Words.{◌≡◌, ℕ, zero, suc, ◌+◌, ◌-◌, ◌<◌, ◌≤◌, true, ◌&&◌, nat_le, nat_lt, List, [], ◌∷◌, ◌++◌, length, map, take, drop, get_or, Some, slice_get, refl, sym, ◌∙◌, ap, subst, arith, and_parts, nat_tests, take-append-le, drop-append-le, length-drop, take-append-drop, slice_get-get_or, Stmt, Prove, Database, stmt_at, before, bare, is_active, stays_open, hypotheses, is_hypothesis_kind, stands-within, stmt_stays, hypothesis-kinds, IsHyp, AreHyps, hyps}
 
 pub get-front : {A : Type 0} (xs ys : List A) (n : ℕ) → n < length xs → slice_get (xs ++ ys) n ≡ slice_get xs n
@@ -38,7 +38,7 @@ active-later S T i j within h =
 
 -- ---- mandatory hypotheses
 
--- a `$f` or `$e` stands there
+-- a `$f` or `$e` is at the position
 pub record IsHypothesisAt (S : Database) (p : ℕ) : Type 0 where
   pub stmt : Stmt
   pub stands : stmt_at S p ≡ Some stmt
@@ -61,7 +61,7 @@ hypotheses-stand S s = by (hypotheses S s) (hyps S s)
     by [] h = tt
     by (p ∷ ps) h = (one p h.0, by ps h.1)
 
--- a property of each position of a list is one of each hypothesis
+-- functions that agree on all positions up to the last statement agree on a list of positions of hypotheses
 pub map-stand : {A : Type 0} (S : Database) (f g : ℕ → A) → ((i : ℕ) → i ≤ length S → f i ≡ g i) → (ps : List ℕ) → AreHypothesesAt S ps → map f ps ≡ map g ps
 map-stand S f g same [] h = refl
 map-stand S f g same (p ∷ ps) h = ap (λ v. v ∷ map f ps) (same p (stands-within S p h.0.stmt h.0.stands).1) ∙ ap (λ vs. g p ∷ vs) (map-stand S f g same ps h.1)
@@ -90,7 +90,7 @@ pub kind-bare : (s : Stmt) → is_hypothesis_kind (bare s) ≡ is_hypothesis_kin
 kind-bare (Prove label expr proof) = refl
 kind-bare s = refl
 
--- the statement at an index
+-- the statement at a position is the one at the index that is one less
 pub stands_index : (S : Database) (at : ℕ) (s : Stmt) → 1 ≤ at → at ≤ length S → s ≡ get_or S (at - 1) s → stmt_at S at ≡ Some s
 stands_index S at s positive within is =
     let e : at ≡ suc (at - 1) = omega (arith, positive) in

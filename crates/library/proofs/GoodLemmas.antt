@@ -1,5 +1,5 @@
--- Good statements with a text after them: its own `$p` are to be proved, those before it stay proved, since a derivation looks
--- at earlier statements alone.
+-- Good statements with a text after them: only the `$p` of the text have to be proved. Those before it stay proved, since a
+-- derivation depends on earlier statements only.
 use Rattle.library.proofs.Words.{◌≡◌, ℕ, ◌-◌, ◌≤◌, IsTrue, List, ◌∷◌, ◌++◌, length, map, zero, suc, ◌+◌, refl, ◌⊎◌, list_all, sym, ◌∙◌, ap, subst, arith, inl, inr, map-append, length-map, Name, Stmt, Expr, Database, before, is_variable, bare, bares, stmt_at, proof_of, stands-within, hypotheses, mandatory_groups, Carries, IsHypothesis, IsInstance, premises, expr_at, option_expr, Item, Derivation, Derivations, hyp, apply, more, Spells, SpellsAll, cites_hypothesis, cites_assertion, recalls, marks, spells_none, spells_more, IsRight, IsProvable, stmt_stays, Writes, mandatory_labels, label_or_none, IsProved, are_groups_disjoint, Concludes, ConcludeAll}
 use Rattle.frame.specs.Substitution.{Images, apply as applied}
 use Rattle.library.proofs.FrontLemmas.{stmt_at-front, before-front, active-later, map-stand, hypotheses-at, stmt_at-after}
@@ -64,7 +64,7 @@ module _ (S T : Database) where
       spells-all-later (spells_more first rest between first_weight rest_weight one all whole weighs) =
           spells_more first rest between first_weight rest_weight (spells-later one) (spells-all-later all) whole weighs
 
-    -- a right proof stays right
+    -- a right proof stays right when statements are appended
     right-later : (items : List Item) → IsRight S at items → IsRight (S ++ T) at items
     right-later items (t, d) = (
       t,
@@ -84,7 +84,7 @@ module _ (S T : Database) where
 pub provable-later : (S T : Database) (at : ℕ) (s : Stmt) → IsProvable S at s → IsProvable (S ++ T) at s
 provable-later S T at s p = record { stands = stmt_stays S T at s p.stands; provable = p.provable }
 
--- a `$p` of the whole is one of the first statements or one of the others
+-- a `$p` of two joined lists is one of the first list or one of the second
 pub provable-where : (S T : Database) (at : ℕ) (s : Stmt) → IsProvable (S ++ T) at s
     → ((at ≤ length S) × IsProvable S at s) ⊎ ((n : ℕ) × (at ≡ length S + n) × IsProvable T n s)
 provable-where S T at s p = by (at - length S) refl
@@ -107,7 +107,7 @@ labels-front S T at s within =
     ∙ map-stand S (λ i. label_or_none (stmt_at (S ++ T) i)) (λ i. label_or_none (stmt_at S i))
     (λ i h. ap label_or_none (stmt_at-front S T i h)) (hypotheses (before S at) s) (hypotheses-at S at s)
 
--- a proved `$p` stays proved
+-- a proved `$p` stays proved when statements are appended
 pub proved-later : (S T : Database) (at : ℕ) → IsProved S at → IsProved (S ++ T) at
 proved-later S T at p =
     let within = (stands-within S at p.stmt p.provable.stands).1 in

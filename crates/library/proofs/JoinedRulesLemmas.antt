@@ -1,4 +1,4 @@
--- The rules over two lists, one after the other.
+-- The rules over two joined lists.
 use Rattle.library.proofs.Words.{◌≡◌, ℕ, zero, suc, Bool, true, false, cond, IsTrue, ◌+◌, ◌-◌, [], ◌∷◌, ◌++◌, map, take, slice_get, Option, Some, None, refl, sym, ◌∙◌, ap, subst, arith, append_assoc, append-nil, map-append, Stmt, Prove, Database, bare, bares, before, stmt_at, broken_rule, end_rule, first_broken, or_later, numbered, AllLegal, IsLegal, G10, is_closed, Good, broken_rule-bares, end_rule-bares}
 use Rattle.scope.specs.declared.rule.Rule.{Rule}
 
@@ -15,7 +15,7 @@ none-numbered : (m n : ℕ) (rule : Option Rule) → numbered m rule ≡ None �
 none-numbered m n None h = refl
 none-numbered m n (Some rule) h = cc
 
--- that no rule is broken does not hang on the numbers
+-- whether a rule is broken does not depend on the number of the first statement
 pub none-broken : (m n : ℕ) (S T : Database) → first_broken m S T ≡ None → first_broken n S T ≡ None
 none-broken m n S [] h = none-numbered m n (end_rule S) h
 none-broken m n S (s ∷ T) h =
@@ -35,7 +35,7 @@ none-join m n S (s ∷ A) T legal h =
     ap (λ r. or_later m r (first_broken (m + 1) (S ++ s ∷ []) (A ++ T))) legal.0
     ∙ none-join (m + 1) n (S ++ s ∷ []) A T legal.1 (ap (λ U. first_broken n U T) (append_assoc S (s ∷ []) A) ∙ h)
 
--- a legal list with a text after it is legal where the text breaks no rule
+-- a legal list followed by a text that breaks no rule is legal
 pub legal-more : (L T : Database) → AllLegal L → first_broken 1 L T ≡ None → AllLegal (L ++ T)
 legal-more L T legal h = none-join 1 1 [] L T (none-split 1 1 [] L [] (ap (first_broken 1 []) (append-nil L) ∙ legal)).0 h
 
@@ -70,13 +70,13 @@ pub bare-bare : (s : Stmt) → bare (bare s) ≡ bare s
 bare-bare (Prove label expr proof) = refl
 bare-bare s = refl
 
--- one legal statement taken, the others decide
+-- after a legal statement, the first broken rule is that of the other statements
 pub first_broken-taken : (at : ℕ) (S : Database) (s : Stmt) (T : Database) → IsLegal S s → first_broken at S (s ∷ T) ≡ first_broken (at + 1) (S ++ bare s ∷ []) T
 first_broken-taken at S s T legal =
     ap (λ r. or_later at r (first_broken (at + 1) (S ++ s ∷ []) T)) legal
     ∙ first_broken-bares (at + 1) (S ++ s ∷ []) (S ++ bare s ∷ []) T (map-append bare S (s ∷ []) ∙ (ap (λ v. map bare S ++ v ∷ []) (sym (bare-bare s)) ∙ sym (map-append bare S (bare s ∷ []))))
 
--- where no block breaks a rule at the end, all are closed
+-- if no rule is broken at the end, all blocks are closed
 none-open : (at : ℕ) (closed : Bool) → numbered at (cond closed None (Some G10)) ≡ None → closed ≡ true
 none-open at true h = refl
 none-open at false h = cc

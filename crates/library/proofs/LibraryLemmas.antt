@@ -1,4 +1,4 @@
--- The library of a log is one, it only grows, and it is good.
+-- A log has at most one library, which only grows and is good.
 use Rattle.library.proofs.Words.{◌≡◌, ℕ, ◌==◌, ◌&&◌, List, [], ◌∷◌, ◌++◌, Option, Some, None, refl, sym, ◌∙◌, ap, subst, append-nil, append_assoc, arith, map-append, option_map, both_ways, Stmt, Database, IsProvable, Submission, Text, Charter, Verdict, Added, Refused, Cause, may_declare, Good, Replica, empty, status, status_of, decided_with, Decides, AppliesAt, Applies, Runs, IsLibraryOf, Entry}
 use Rattle.library.proofs.CausesLemmas.{one-verdict, one-reading}
 
@@ -35,7 +35,7 @@ applies-at-one : (first : Option Verdict) (old new other : Replica) (entry : Ent
 applies-at-one (Some first) old new other entry v w p q = (p.0 ∙ sym q.0, p.1 ∙ sym q.1)
 applies-at-one None old new other entry v w p q = decides-one old new other entry v w p q
 
--- an entry makes one replica of a replica, with one verdict
+-- the replica and the verdict that an entry makes of a replica are unique
 pub applies-determined : (old new other : Replica) (entry : Option Entry) (v w : Verdict) → Applies old entry v new → Applies old entry w other → (v ≡ w) × (new ≡ other)
 applies-determined old new other None v w p q = (p.0 ∙ sym q.0, p.1 ∙ sym q.1)
 applies-determined old new other (Some entry) v w p q = applies-at-one (status_of old entry) old new other entry v w p q
@@ -48,7 +48,7 @@ Grows old new = (more : Database) × (new.statements ≡ old.statements ++ more)
 abbrev pub Continues : Replica → Replica → Type 0
 Continues old new = Grows old new × (Good old.statements → Good new.statements)
 
--- statements that stay the same grow by nothing
+-- a replica with the same statements continues the old one
 stays : (old new : Replica) → new.statements ≡ old.statements → Continues old new
 stays old new e = (([], e ∙ sym (append-nil old.statements)), λ good. subst Good (sym e) good)
 
@@ -101,11 +101,11 @@ runs-continues (entry ∷ log) old new p =
     let all = rest.0 in
     ((one.0 ++ all.0, all.1 ∙ (ap (λ S. S ++ all.0) one.1 ∙ append_assoc old.statements one.0 all.0)), λ good. rest.1 (first.1 good))
 
--- one more entry of the log
+-- the library of a log with one more entry
 pub library-more : (log : List (Option Entry)) (old new : Replica) (entry : Option Entry) (v : Verdict) → IsLibraryOf log old → Applies old entry v new → IsLibraryOf (log ++ entry ∷ []) new
 library-more log old new entry v p q = runs-append log (entry ∷ []) empty old new p (new, v, q, refl)
 
--- the library of a log begins the library of a longer one
+-- the statements of the library of a log are the first ones of the library of a longer log
 pub library-begins : (log more : List (Option Entry)) (one all : Replica) → IsLibraryOf log one → IsLibraryOf (log ++ more) all → Grows one all
 library-begins log more one all p q =
     let cut = runs-split log more empty all q in

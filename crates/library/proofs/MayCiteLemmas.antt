@@ -1,4 +1,4 @@
--- A proof cites a mandatory hypothesis, or a statement that a token before `)` names.
+-- A proof cites only mandatory hypotheses and statements that a token before `)` names.
 use Rattle.library.proofs.Words.{◌≡◌, ◌↔◌, ◌⊎◌, ℕ, zero, suc, ◌+◌, Bool, true, false, ◌||◌, if◌then◌else◌, List, [], ◌∷◌, ◌++◌, Option, Some, None, slice_get, refl, list_all, list_any, sym, ◌∙◌, ap, subst, inl, inr, true≢false, append-nil, bytes_eq-Decides, or_right, and_parts, false_from_ne_true, any_passes_from_place, Name, name_eq, has_name, is_label, Stmt, Float, Ess, Database, bare, bares, before, stmt_at, label_of, proof_of, hypotheses, Carries, is_hypothesis_kind, HasLabelsOnce, IsPosition, Item, Cite, Recall, Mark, AreItems, Writes, begin, finish, label_or_none, mandatory_labels, IsProvable, IsMarked, is_marked, listed_in, ListsNone, ListsSome, ProofCitesMarked, Cites, name_same, map-back}
 use Rattle.library.proofs.FrontLemmas.{hypothesis-there, hypotheses-at, hypotheses-bare}
 use Rattle.library.proofs.UseMarkLemmas.{get-either, position-is}
@@ -7,7 +7,7 @@ use Rattle.library.proofs.ProvingLemmas.{written-of}
 
 -- ---- the labels of items
 
--- the label that an item cites stands among the labels
+-- the label that an item cites is one of the labels
 row-label : (labels : List Name) (marks : ℕ) (row : List Name) (items : List Item) → AreItems labels marks row items → (place : ℕ) (label : Name) → slice_get items place ≡ Some (Cite label) → (k : ℕ) × (slice_get labels k ≡ Some label)
 row-label labels marks (word ∷ row) (Mark ∷ items) are (suc place) label e = row-label labels (marks + 1) row items are.1 place label e
 row-label labels marks (word ∷ row) (Cite cited ∷ items) are zero label e = let same : cited ≡ label = (let h = e in cc) in let m = are.2 in (m.0, m.2 ∙ ap Some same)
@@ -24,7 +24,7 @@ no-finish label is = false_from_ne_true (name_eq label finish) (λ e. true≢fal
 listed-more : (token : Name) (tokens : List Name) → name_eq token finish ≡ false → listed_in (token ∷ tokens) ≡ token ∷ listed_in tokens
 listed-more token tokens e = ap (λ t. if t then [] else token ∷ listed_in tokens) e
 
--- labels up to `)` are listed
+-- the labels before `)` are listed
 labels-listed : (labels rest : List Name) → list_all is_label labels ≡ true → (k : ℕ) (label : Name) → slice_get labels k ≡ Some label → has_name label (listed_in (labels ++ rest)) ≡ true
 labels-listed [] rest are k label e = absurd (let h = e in cc)
 labels-listed (token ∷ labels) rest are k label e =
@@ -57,7 +57,7 @@ cited-label tokens mandatory items (inr plain) place label e =
 -- ---- the tokens, one after another
 
 module _ (F : Database) (once : HasLabelsOnce F) (marks : List Bool) where
-  -- a token that names nothing marked is no label of what is marked
+  -- a token that names no marked statement is not the label of one
   other-label : (token : Name) (place : Option ℕ) → IsPosition F token place → is_marked marks place ≡ false → (a : ℕ) (s : Stmt) (label : Name) → IsMarked marks a → Carries F a s label → name_eq label token ≡ false
   other-label token place p none a s label m c =
       false_from_ne_true (name_eq label token) (λ e.
@@ -74,7 +74,7 @@ module _ (F : Database) (once : HasLabelsOnce F) (marks : List Bool) where
       ∙ (ap (has_name label) (listed-more token rest (ap (name_eq token) (sym is) ∙ goes_on))
       ∙ ap (λ b. b || has_name label (listed_in rest)) (other-label token place p none a s label m c)))
 
-  -- a token that names something marked
+  -- a token that names a marked statement
   pub lists-some : (tokens left rest : List Name) (token closing : Name) (place : Option ℕ) → left ≡ token ∷ rest → closing ≡ finish → name_eq token closing ≡ false → IsPosition F token place → is_marked marks place ≡ true
       → ((a : ℕ) (s : Stmt) (label : Name) → IsMarked marks a → Carries F a s label → has_name label (listed_in tokens) ≡ has_name label (listed_in left))
       → ListsSome F tokens marks
@@ -112,7 +112,7 @@ module _ (S F : Database) (same : F ≡ bares S) (once : HasLabelsOnce F) (at : 
       let labelled : label_or_none (Some h.stmt) ≡ label = ap label_or_none (sym h.stands ∙ ap (λ U. stmt_at U i) same) ∙ sym m.2 in
       there ∙ ap Some (once i a h.stmt r label (record { stands = h.stands; carried = kind-labelled h.stmt h.kind ∙ ap Some labelled }) c)
 
-  -- where neither a mandatory hypothesis nor what a token names is marked, the proof cites nothing that is
+  -- if no mandatory hypothesis is marked, and no token names a marked statement, the proof cites none
   pub meets-nothing : (tokens : List Name) → proof_of s ≡ tokens → list_any (λ p. is_marked marks (Some p)) (hypotheses (before F at) (bare s)) ≡ false → ListsNone F tokens marks → false ≡ true ↔ ProofCitesMarked S at marks
   meets-nothing tokens e mandatory lists = ((λ f. absurd (let g = f in cc)), λ m. absurd (nothing m.0 m.1 m.2))
     where

@@ -1,4 +1,4 @@
--- Whether a compressed proof cites what is marked, from its numbers and from a test of each of its labels.
+-- Whether a compressed proof cites a marked statement, by its numbers and a test of each of its labels.
 use Rattle.library.proofs.Words.{◌≡◌, ◌↔◌, ℕ, zero, suc, ◌+◌, ◌-◌, ◌<◌, ◌≤◌, Bool, true, false, ◌||◌, if◌then◌else◌, List, [], ◌∷◌, ◌++◌, length, map, get_or, slice_index_or, take, drop, Option, Some, None, option_map, slice_get, refl, list_any, true≢false, length-append, sym, ◌∙◌, ap, subst, arith, append_assoc, inl, inr, slice_get-map, bytes_eq-Decides, map-append, length-map, length-drop, take_more, drop_more, get_or_append_left, append-nil, both_ways, true_from_ne_false, cases_lt, Name, name_eq, has_name, Stmt, Database, bare, bares, before, stmt_at, proof_of, hypotheses, HasLabelsOnce, IsPosition, Item, Cite, Recall, item_of, items_of, finish, Writes, WritesCompressed, WritesPacked, WritesPlain, is_compressed, label_or_none, mandatory_labels, IsProvable, Good, HasItems, is_marked, place_of, AreLabelMarks, ItemsCiteMarked, ProofCitesMarked, listed_in, ListsNone, ListsSome, get_or-map, get_or_from_slice_get, slice_get_within, get_or-append_right, take-add, cases_Bool, map-map, IsHeading, share_label, positions-end, apart-written, shared-none, item-cite, item-recall}
 use Rattle.library.proofs.FrontLemmas.{AreHypothesesAt, hypotheses-at}
 use Rattle.library.proofs.UseMarkLemmas.{meets-items}
@@ -32,7 +32,7 @@ module _ (S : Database) (marks : List Bool) where
         tests = sym (map-map (is_marked marks) (λ i. Some i) ps);
       }
 
-  -- the mandatory hypotheses of the assertion s
+  -- the tests of the mandatory hypotheses of the assertion s
   pub mandatory-wanted : (at : ℕ) (s : Stmt) (positions : List ℕ) (wanted : List Bool) → positions ≡ hypotheses (before S at) s → wanted ≡ map (λ p. is_marked marks (Some p)) positions
       → AreLabelMarks S (mandatory_labels S at s) marks wanted
   mandatory-wanted at s positions wanted are is =
@@ -75,7 +75,7 @@ number-tested : (marks wanted : List Bool) (places : List (Option ℕ)) → want
 number-tested marks wanted places tests zero = refl
 number-tested marks wanted places tests (suc n) = ap (λ bs. get_or bs n false) tests ∙ get_or-map (is_marked marks) places n None
 
--- the test of a number, by the hypotheses or by what is listed after them
+-- the test of a number is that of its mandatory hypothesis, or that of a label listed after these
 pub wanted-first : (marks : List Bool) (positions : List ℕ) (wanted : List Bool) (n position : ℕ) → (n ≡ 0 → ⊥) → slice_get positions (n - 1) ≡ Some position
     → is_marked (map (λ p. is_marked marks (Some p)) positions ++ wanted) (Some n) ≡ is_marked marks (Some position)
 wanted-first marks positions wanted zero position n_is here = absurd (n_is refl)
@@ -106,7 +106,7 @@ tested-meets S labels marks wanted numbers found once w is =
     meets-items S labels w.places w.named once numbers (items_of labels numbers) marks found refl
     (is ∙ any-same (λ n. is_marked wanted (Some n)) (λ n. is_marked marks (place_of w.places n)) (number-tested marks wanted w.places w.tests) numbers)
 
--- a number cites the same statement when more labels follow
+-- a number that cites a label also cites it when more labels follow
 item-front : (labels rest : List Name) (n : ℕ) (label : Name) → item_of labels n ≡ Cite label → item_of (labels ++ rest) n ≡ Cite label
 item-front labels rest zero label e = absurd (let f = e in cc)
 item-front labels rest (suc n) label e = elim (cases_lt n (length labels)) [
@@ -129,7 +129,7 @@ front-meets S labels rest marks numbers m =
 take-split : (words : List Name) (n m : ℕ) → n ≤ m → (rest : List Name) × (take m words ≡ take n words ++ rest)
 take-split words n m h = (take (m - n) (drop n words), let e : m ≡ n + (m - n) = omega (arith, h) in ap (λ k. take k words) e ∙ take-add n (m - n) words)
 
--- the numbers meet by the first n labels, so they meet by all
+-- if the numbers cite a marked statement by the first n labels, they do by all labels
 pub early-meets : (S : Database) (marks : List Bool) (words left : List Name) (n count : ℕ) (old wanted : List Bool) (numbers : List ℕ) → AreTested S marks words left n old wanted → n ≤ count → HasLabelsOnce S
     → true ≡ list_any (λ n. is_marked wanted (Some n)) numbers → (front : List Name) → AreLabelMarks S front marks old → true ≡ true ↔ ItemsCiteMarked S (items_of (front ++ take count words) numbers) marks
 early-meets S marks words left n count old wanted numbers tested less once any front w =
@@ -148,7 +148,7 @@ late-meets S marks words left n count old wanted numbers found tested same once 
 
 -- ---- the labels that a heading lists
 
--- where the tokens of a compressed proof write items under these labels, it was found whether one cites a statement that is marked
+-- if the tokens of a compressed proof write items under these labels, the flag says whether these cite a marked statement
 abbrev pub TellsMeeting : Database → List Name → List Name → List Bool → Bool → Type 0
 TellsMeeting S mandatory tokens marks found =
     (other : List Item) → WritesCompressed tokens mandatory other → (items : List Item) × WritesCompressed tokens mandatory items × (found ≡ true ↔ ItemsCiteMarked S items marks)
@@ -208,7 +208,7 @@ module _ (F : Database) (tokens : List Name) (items : List Item) (marks : List B
 -- ---- the `$p` of good statements
 
 module _ (S F : Database) (same : F ≡ bares S) (good : Good S) (at : ℕ) (s : Stmt) (tokens : List Name) (provable : IsProvable S at s) (e : proof_of s ≡ tokens) (marks : List Bool) where
-  -- its proof, by its items
+  -- the proof of the `$p` has items
   good-items : (items : List Item) × HasItems S at items
   good-items = let p = good.proved at s provable in (p.items, record { stmt = p.stmt; provable = p.provable; written = p.written })
 
@@ -225,7 +225,7 @@ module _ (S F : Database) (same : F ≡ bares S) (good : Good S) (at : ℕ) (s :
       packed-of : (labels : List Name) (items : List Item) → Writes tokens labels items → WritesPacked tokens labels items
       packed-of labels items written = elim written [ inl packed ↦ packed.1 | inr plain ↦ absurd (both_ways (is_compressed tokens) plain.0 compressed) ]
 
-  -- a normal proof cites the statements that its tokens list
+  -- for a normal proof, the search among its tokens decides whether it cites a marked statement
   pub listed-meets : is_compressed tokens ≡ false → (found : Bool) → (found ≡ false → ListsNone F tokens marks) → (found ≡ true → ListsSome F tokens marks) → found ≡ true ↔ ProofCitesMarked S at marks
   listed-meets plain found none some =
       let one = good-items in

@@ -1,4 +1,4 @@
--- No charter, no difference: a log of texts has the library of the definition that knows no charter.
+-- A log without charters has the same library under the definition that knows no charters.
 use Rattle.library.proofs.Words.{◌≡◌, ◌↔◌, List, [], ◌∷◌, map, option_map, Option, Some, None, refl, sym, ◌∙◌, ap, subst, Database, Submission, Text, Verdict, Added, Refused, Cause, TooLong, BadText, Shape, NotChartered, IsCause, Replica, Decided, status, Decides, AppliesAt, Applies, Runs, PlainReplica, IsPlainCause, PlainDecides, PlainAppliesAt, PlainApplies, PlainRuns, without_charter}
 
 -- ---- causes
@@ -26,7 +26,7 @@ bare_of S decided = record { statements = S; decided = decided; charter = None }
 abbrev plain_of : Database → List Decided → PlainReplica
 plain_of S decided = record { statements = S; decided = decided }
 
--- a library without a charter is its statements and what was decided
+-- a library without a charter is determined by its statements and its decided entries
 whole : (replica : Replica) → replica.charter ≡ None → replica ≡ bare_of replica.statements replica.decided
 whole replica e = ap (λ charter. record replica { charter = charter }) e
 

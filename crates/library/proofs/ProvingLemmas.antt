@@ -1,11 +1,11 @@
--- From the verifier's answer to whether a `$p` is proved, and the labels with which its tokens write items.
+-- From the answer of the verifier to whether a `$p` is proved; the labels with which its tokens write items.
 use Rattle.library.proofs.Words.{◌≡◌, ℕ, ◌⊎◌, ◌↔◌, refl, true, false, IsTrue, List, map, Option, Some, None, Result, Ok, Err, IfOk, MatchOption, sym, ◌∙◌, ap, subst, inl, inr, both_ways, Name, Stmt, Database, bare, bares, before, proof_of, stmt_at, is_provable, Item, Writes, WritesPacked, WritesPlain, IsMalformed, is_compressed, is_unfinished, label_or_none, mandatory_labels, Proves, IsProvable, IsRight, IsAnswerTo, provable-bare, StandsProved, HasItems, one_answer, malformed-none, ◌+◌, ◌<◌, [], ◌∷◌, ◌++◌, length, take, get_or, option_map, slice_get, slice_get-get_or, unwrap_or, map_more, Float, Ess, Prove, is_assertion, stmt_at-bares, hypotheses, is_hypothesis_kind, label_of-bare, CodeFault, Malformed, Answer, Proved, Wrong}
 use Rattle.proof_code.specs.declared.fault.CodeFault.TheVariants.{Unfinished}
 use Rattle.library.proofs.FrontLemmas.{hypotheses-bare, IsHypothesisAt, kind-bare, hypotheses-at, hypothesis-there}
 
 -- ---- items
 
--- the result for the items
+-- the items that the tokens write, or a proof that they write none
 abbrev pub Found : List Name → List Name → Option (List Item) → Type 0
 Found tokens mandatory found = MatchOption found ((other : List Item) → ¬ Writes tokens mandatory other) (λ items. Writes tokens mandatory items)
 
@@ -36,7 +36,7 @@ module _ (tokens mandatory : List Name) (r : Result (List Item) CodeFault) (foun
 pub same-statement : (S : Database) (at : ℕ) (s r : Stmt) → IsProvable S at s → IsProvable S at r → s ≡ r
 same-statement S at s r p q = let e : Some s ≡ Some r = sym p.stands ∙ q.stands in cc
 
--- the items of the `$p` s are those that its tokens write
+-- items that the tokens of the `$p` s write are its items
 module _ (S : Database) (at : ℕ) (s : Stmt) (tokens : List Name) (provable : IsProvable S at s) (e : proof_of s ≡ tokens) where
   pub has-items : (items : List Item) → Writes tokens (mandatory_labels (bares S) at s) items → HasItems S at items
   has-items items w = record { stmt = s; provable = provable; written = subst (λ t. Writes t (mandatory_labels (bares S) at s) items) (sym e) w }
@@ -47,7 +47,7 @@ module _ (S : Database) (at : ℕ) (s : Stmt) (tokens : List Name) (provable : I
       (subst (λ r. Writes (proof_of r) (mandatory_labels (bares S) at r) items) (same-statement S at h.stmt s h.provable provable) h.written)
 
 module _ (S F : Database) (at : ℕ) (s : Stmt) (same : F ≡ bares S) (provable : IsProvable S at s) where
-  -- a frame looks at no proof
+  -- the mandatory labels do not depend on the proof
   pub labels-bare : (t : Stmt) → t ≡ bare s → mandatory_labels F at t ≡ mandatory_labels (bares S) at s
   labels-bare t e =
       ap (mandatory_labels F at) e
@@ -78,14 +78,14 @@ module _ (S F : Database) (at : ℕ) (s : Stmt) (same : F ≡ bares S) (provable
         right = subst (λ U. IsRight U at p.items) (sym same) p.right;
       }
 
-  -- a result for the tokens is one for the `$p`
+  -- an answer for the tokens is an answer for the `$p`
   pub judged-stands : {E : Type 0} (tokens : List Name) → proof_of s ≡ tokens → (r : Result Answer E)
       → IfOk r (λ answer. IsAnswerTo answer (Proves F at tokens)) → IfOk r (λ answer. IsAnswerTo answer (StandsProved S at))
   judged-stands tokens e (Ok Proved) h = proves-stands tokens e h
   judged-stands tokens e (Ok Wrong) h = λ stands. h (stands-proves tokens e stands)
   judged-stands tokens e (Err x) h = h
 
--- where another statement stands no `$p` does
+-- there is no `$p` at the position of another statement
 pub not-there : (S : Database) (at : ℕ) (s : Stmt) → stmt_at S at ≡ Some s → (is_provable s ≡ true → ⊥) → (r : Stmt) → IsProvable S at r → ⊥
 not-there S at s here other r p = other (ap is_provable (let e : Some s ≡ Some r = sym here ∙ p.stands in let same : s ≡ r = cc in same) ∙ p.provable)
 
@@ -101,7 +101,7 @@ stands-bare S F at s same p = ap (λ U. stmt_at U at) same ∙ (stmt_at-bares S 
 pub has-assertion : (S F : Database) (at : ℕ) (s : Stmt) → F ≡ bares S → IsProvable S at s → (x : Stmt) × ((stmt_at F at ≡ Some x) × IsTrue (is_assertion x))
 has-assertion S F at s same p = (bare s, (stands-bare S F at s same p, bare-assertion s p.provable))
 
--- a statement without its proof is some statement's
+-- a statement of the list without proofs comes from a statement of the list
 pub unbare : (o : Option Stmt) (t : Stmt) → option_map bare o ≡ Some t → (s : Stmt) × (o ≡ Some s) × (bare s ≡ t)
 unbare None t h = absurd (let e = h in cc)
 unbare (Some s) t h = (s, refl, let e = h in cc)
@@ -114,7 +114,7 @@ hypothesis-of S F at s ps k p d same provable are less is =
     let u = unbare (stmt_at S p) h.stmt (sym (stmt_at-bares S p) ∙ (ap (λ U. stmt_at U p) (sym same) ∙ h.stands)) in
     record { stmt = u.0; stands = u.1; kind = sym (kind-bare u.0) ∙ (ap is_hypothesis_kind u.2 ∙ h.kind) }
 
--- the statement there is one
+-- the statement at the position of a hypothesis is a hypothesis
 pub kind-of : (S : Database) (p : ℕ) → IsHypothesisAt S p → (s : Stmt) → stmt_at S p ≡ Some s → is_hypothesis_kind s ≡ true
 kind-of S p h s stands = let e : Some h.stmt ≡ Some s = sym h.stands ∙ stands in ap is_hypothesis_kind (let same : h.stmt ≡ s = cc in sym same) ∙ h.kind
 
@@ -122,7 +122,7 @@ label-bare : (o : Option Stmt) → label_or_none (option_map bare o) ≡ label_o
 label-bare None = refl
 label-bare (Some s) = ap (λ l. unwrap_or l []) (label_of-bare s)
 
--- the labels so far, with that of one more hypothesis
+-- the labels of the first hypotheses, with that of the next one
 pub labels-more : (S : Database) (ps : List ℕ) (k p d : ℕ) (label : Name) (before after : List Name) → k < length ps → p ≡ get_or ps k d → label ≡ label_or_none (stmt_at S p)
     → before ≡ map (λ i. label_or_none (stmt_at (bares S) i)) (take k ps) → after ≡ before ++ label ∷ [] → after ≡ map (λ i. label_or_none (stmt_at (bares S) i)) (take (k + 1) ps)
 labels-more S ps k p d label before after less is labelled so_far added =

@@ -1,8 +1,8 @@
--- Verdicts, worked out.
+-- Verdicts on small texts.
 use Rattle.library.proofs.Words.{◌≡◌, ℕ, zero, suc, ◌+◌, ◌<◌, true, false, List, [], ◌∷◌, ◌++◌, codes, refl, length, Some, None, list_all, true≢false, sym, ◌∙◌, ap, arith, inl, inr, lit≤, append-nil, Name, is_allowed, runs, word, Stmt, Const, Var, Axiom, Prove, Database, AreShaped, tokens_of, Reads, proof_of, stmt_at, is_provable, G4, Writes, is_unfinished, IsProvable, Submission, Text, Charter, Rule, Unfinished, NotChartered, Added, Nothing, Repeat, Refused, is_rising, first_forbidden, IsProved, IsCause, Replica, empty, Applies, is_plain, words, w, some-same}
 use Rattle.library.proofs.LibraryLemmas.{good-empty}
 
--- a text without comments
+-- a text without comments reads as statements if its words are their tokens
 plain_reads : (text : List ℕ) (T : Database) → AreShaped T → list_all is_allowed text ≡ true → list_all (λ s. is_plain (word text s)) (runs text) ≡ true → words text (runs text) ≡ tokens_of T → Reads text T
 plain_reads text T shaped clean plain same = record {
   shaped = shaped;
@@ -12,16 +12,16 @@ plain_reads text T shaped clean plain same = record {
 abbrev by_author : ℕ → List ℕ → Submission
 by_author author text = record { author = author; serial = 1; text = text }
 
--- ---- the rows of causes
+-- ---- causes
 
 abbrev taken_twice : Database
 taken_twice = Const (w (codes "|-")) ∷ Axiom (codes "p") (w (codes "|-")) ∷ Axiom (codes "p") (w (codes "|-")) ∷ []
 
--- a label that is used twice breaks G4 at its second statement
+-- a label that is used twice breaks G4 at the second statement that has it
 label_taken : IsCause [] None (by_author 7 (codes "$c |- $. p $a |- $. p $a |- $.")) (Rule 3 G4)
 label_taken = (taken_twice, record { readable = record { short = lit≤ tt; read = plain_reads _ taken_twice refl refl refl refl }; allowed = refl }, refl)
 
--- under a charter the same text of an author that it does not name is refused for its first `$c`
+-- under a charter, the same text by an author that it does not name is refused for its first `$c`
 not_chartered : IsCause [] (Some (7 ∷ [])) (by_author 8 (codes "$c |- $. p $a |- $. p $a |- $.")) (NotChartered 1)
 not_chartered = (taken_twice, record { short = lit≤ tt; read = plain_reads _ taken_twice refl refl refl refl }, refl)
 
@@ -36,7 +36,7 @@ writes_finished tokens mandatory items h = elim h [ inl p ↦ p.1.0 | inr p ↦ 
 not_proved : IsProved doubted 2 → ⊥
 not_proved p = true≢false (ap (λ s. is_unfinished (proof_of s)) (some-same {o = stmt_at doubted 2} refl p.provable.stands) ∙ writes_finished _ _ _ p.written)
 
--- it is refused as unfinished, by its number in the text
+-- a text with such a `$p` is refused as unfinished, with the number of the `$p` in the text
 unfinished : IsCause [] None (by_author 7 (codes "$c |- o $. th $p |- o $= ? $.")) (Unfinished 2)
 unfinished = (
   doubted,
@@ -49,7 +49,7 @@ unfinished = (
     earlier (suc zero) r below p = absurd (true≢false (sym p.provable ∙ ap is_provable (some-same {o = stmt_at doubted 1} p.stands refl)))
     earlier (suc (suc m)) r below p = absurd (omega (arith, below))
 
--- ---- the rows of verdicts
+-- ---- verdicts
 
 abbrev one_charter : Replica
 one_charter = record { statements = []; decided = record { author = 7; serial = 2; verdict = Added } ∷ []; charter = Some (7 ∷ 9 ∷ []) }
@@ -58,16 +58,16 @@ one_charter = record { statements = []; decided = record { author = 7; serial = 
 empty_text_added : Applies empty (Some (Text (by_author 7 []))) Added (record { statements = []; decided = record { author = 7; serial = 1; verdict = Added } ∷ []; charter = None })
 empty_text_added = ([], record { readable = record { short = lit≤ tt; read = plain_reads [] [] refl refl refl refl }; allowed = refl }, good-empty, refl)
 
--- the first charter counts whoever makes it
+-- the first charter is accepted from any author
 first_charter : Applies empty (Some (Charter 7 2 (7 ∷ 9 ∷ []))) Added one_charter
 first_charter = (refl, refl)
 
--- and then those whom it names alone may put another in its place
+-- after that, a charter by an author that it does not name is refused
 other_charter_refused : Applies one_charter (Some (Charter 8 1 (8 ∷ []))) (Refused (NotChartered 0))
     (record one_charter { decided = one_charter.decided ++ record { author = 8; serial = 1; verdict = Refused (NotChartered 0) } ∷ [] })
 other_charter_refused = (refl, refl, refl)
 
--- so a charter of an author that the one before names is added
+-- a charter by an author that it names is accepted
 named_charter_added : Applies one_charter (Some (Charter 9 1 (8 ∷ []))) Added
     (record { statements = []; decided = one_charter.decided ++ record { author = 9; serial = 1; verdict = Added } ∷ []; charter = Some (8 ∷ []) })
 named_charter_added = (refl, refl)
@@ -76,7 +76,7 @@ named_charter_added = (refl, refl)
 repeated_number : Applies one_charter (Some (Charter 7 2 (8 ∷ []))) Repeat one_charter
 repeated_number = (refl, refl)
 
--- a text under the number of its author's charter is a repeat
+-- a text with the number of a charter by the same author is a repeat
 repeated_text : Applies one_charter (Some (Text (record { author = 7; serial = 2; text = codes "$c a $." }))) Repeat one_charter
 repeated_text = (refl, refl)
 
@@ -90,11 +90,11 @@ no_operation = (refl, refl)
 rising : is_rising (1 ∷ 5 ∷ 6 ∷ []) ≡ true
 rising = refl
 
--- an author that stands twice is not in rising order
+-- authors are not in rising order if one occurs twice
 twice_the_same : is_rising (1 ∷ 5 ∷ 5 ∷ []) ≡ false
 twice_the_same = refl
 
--- to an author whom the charter names nothing is forbidden
+-- nothing is forbidden to an author whom the charter names
 named_author : first_forbidden (Some (7 ∷ 9 ∷ [])) 9 taken_twice ≡ None
 named_author = refl
 
@@ -102,10 +102,10 @@ named_author = refl
 no_charter : first_forbidden None 8 taken_twice ≡ None
 no_charter = refl
 
--- variables, hypotheses and proofs are anyone's
+-- variables and theorems are forbidden to no author
 variables_and_proofs : first_forbidden (Some (7 ∷ [])) 8 (Var (w (codes "x")) ∷ Prove (codes "th") (w (codes "|- o")) (w (codes "?")) ∷ []) ≡ None
 variables_and_proofs = refl
 
--- a forbidden `$a` is told by its number in the text
+-- a forbidden `$a` is reported by its number in the text
 second_statement : first_forbidden (Some (7 ∷ [])) 8 (Var (w (codes "x")) ∷ Axiom (codes "p") (w (codes "|-")) ∷ []) ≡ Some 2
 second_statement = refl

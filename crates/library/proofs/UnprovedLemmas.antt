@@ -1,11 +1,11 @@
--- The positions of the `$p` after the first statements, and the consequences of their least that is not right for all statements.
+-- The positions of the `$p` after the first statements, and the first of these that is not proved.
 use Rattle.library.proofs.Words.{◌≡◌, ℕ, zero, suc, ◌+◌, ◌-◌, ◌<◌, ◌≤◌, List, [], ◌∷◌, ◌++◌, length, get_or, Option, Some, None, slice_get, slice_get-get_or, get_or_default, ◌∙◌, ap, sym, subst, arith, inl, inr, cases_eq, cases_order, Stmt, Database, stmt_at, IsProvable, AreProofs, AreProvablesAfter, StandsProved, IsKnown, IsLeastUnproved, true, AreShaped, is_shaped, and_parts, list_all, take, drop, cases_lt, take-append-drop, IsProved, AreProvedTo, list_all-append, IsLeast}
 use Rattle.library.proofs.FrontLemmas.{stands_index}
 use Rattle.library.proofs.GoodLemmas.{provable-where, proved-later}
 
 -- ---- one more statement
 
--- no `$p` stands above the one position, up to the other
+-- there is no `$p` after position `front` up to position `end`
 abbrev pub NoneBetween : Database → ℕ → ℕ → Type 0
 NoneBetween S front end = (at : ℕ) (s : Stmt) → front < at → at ≤ end → IsProvable S at s → ⊥
 
@@ -44,21 +44,21 @@ are-proofs S F front ps same are = record {
   placed = λ k at e. let w = placed-after S front (length S) ps are k at e in let low = w.0 in (omega (arith, low), w.1);
 }
 
--- the position of an index, and what stands there
+-- the position at an index of the list, and its statement
 module _ (S F : Database) (ps : List ℕ) (are : AreProofs S F ps) (k at : ℕ) (s : Stmt) (less : k < length ps) (is : at ≡ get_or ps k at) (here : s ≡ get_or S (at - 1) s) where
   pub proof-stands : stmt_at S at ≡ Some s
   proof-stands = let p = are.placed k at (slice_get-get_or ps k at less ∙ ap Some (sym is)) in stands_index S at s p.0 p.1 here
 
-  -- a property of that position is one of the index
+  -- a property of that position holds of the element at the index
   pub proof-at : (P : ℕ → Type 0) → P at → P (get_or ps k 0)
   proof-at P = subst P (is ∙ get_or_default ps k at 0 less)
 
 module _ (S : Database) where
-  -- the first so many are proved
+  -- the first `count` of them are proved
   abbrev pub FrontProved : ℕ → List ℕ → Type 0
   FrontProved count ps = (k : ℕ) → k < count → StandsProved S (get_or ps k 0)
 
-  -- the `$p` at a position is not proved, and those before it are
+  -- the `$p` at the position is not proved, and those before it are proved
   abbrev pub IsFirst : ℕ → ℕ → ℕ → Type 0
   IsFirst front end at = (front < at) × (at ≤ end) × (StandsProved S at → ⊥) × ((m : ℕ) → front < m → m < at → StandsProved S m)
 
@@ -107,12 +107,12 @@ module _ (S : Database) where
 
 -- ---- first statements that were judged before
 
--- where none is unproved, each is proved up to the last
+-- if no `$p` is unproved, each is proved up to the last statement
 pub all-to : (S : Database) → IsLeastUnproved S 0 None → AreProvedTo S (length S)
 all-to S h zero below = λ s p. absurd (let e = p.stands in cc)
 all-to S h (suc n) below = h (suc n) (omega arith) below
 
--- a `$p` that is proved among first statements is proved when others are appended
+-- a `$p` that is proved among the first statements stays proved when others are appended
 pub to-later : (S : Database) (count end : ℕ) → end ≤ length (take count S) → AreProvedTo (take count S) end → AreProvedTo S end
 to-later S count end within are at below s p =
     elim (provable-where (take count S) (drop count S) at s (subst (λ U. IsProvable U at s) (sym (take-append-drop count S)) p)) [
@@ -124,7 +124,7 @@ to-later S count end within are at below s p =
     none zero e q = absurd (let f = q.stands in cc)
     none (suc n) e q = absurd (omega (arith, e, below, within))
 
--- the least after those that are known to be proved is the least
+-- the first unproved `$p` after those that are known to be proved is the first of all
 pub known-least : (S : Database) (front known : ℕ) (found : Option ℕ) → IsKnown S front known → IsLeastUnproved S known found → IsLeastUnproved S front found
 known-least S front known None h least = λ at above within. elim (cases_lt known at) [ inl more ↦ least at more within | inr less ↦ h.proved at above less ]
 known-least S front known (Some at) h least = (
@@ -134,12 +134,12 @@ known-least S front known (Some at) h least = (
   (λ m above below. elim (cases_lt known m) [ inl more ↦ least.3 m more below | inr less ↦ h.proved m above less ]),
 )
 
--- the facts on a text that stands alone
+-- the facts on a text before which there are no statements
 pub known-alone : (T : Database) (known : ℕ) → known ≤ length T → AreProvedTo T known → (L : Database) → length L ≡ 0 → IsKnown (L ++ T) (length L) known
 known-alone T known within are [] alone = record { low = omega arith; within = within; proved = λ at above below. are at below }
 known-alone T known within are (s ∷ L) alone = absurd (omega (arith, alone))
 
--- the first of shaped statements are shaped
+-- the first of well-shaped statements are well shaped
 pub shaped-front : (S : Database) (count : ℕ) → AreShaped S → AreShaped (take count S)
 shaped-front S count h =
     let both : (list_all is_shaped (take count S) ≡ true) × (list_all is_shaped (drop count S) ≡ true) = and_parts _ _ (sym (list_all-append is_shaped (take count S) (drop count S)) ∙ (ap (list_all is_shaped) (take-append-drop count S) ∙ h)) in

@@ -1,4 +1,4 @@
--- The positions of labels, and the marks of what items cite.
+-- The positions of labels, and the marks of the statements that items cite.
 use Rattle.library.proofs.Words.{◌≡◌, ◌↔◌, ◌⊎◌, ℕ, zero, suc, ◌-◌, ◌<◌, ◌≤◌, Bool, true, false, List, [], ◌∷◌, ◌++◌, length, replicate, get_or, slice_set, Option, Some, None, option_map, slice_get, refl, list_any, sym, ◌∙◌, ap, subst, arith, inl, inr, cases_eq, cases_lt, any_passes_from_place, slice_get-map, slice_get_read, length-set, length-replicate, get_or-set_same, get_or-set_other, get_or_past, Name, Stmt, Database, Carries, IsPosition, ArePositions, HasLabelsOnce, Item, Cite, Recall, item_of, items_of, IsMarked, is_marked, mark, place_of, mark_items, ItemsCiteMarked, Marks, ItemsCite, stands-within, no-mark, map-back, item-cite, item-recall, Any-from_list_any}
 
 -- ---- one mark
@@ -31,7 +31,7 @@ pub mark-whole : (ms : List Bool) (a : ℕ) → 1 ≤ a → a ≤ length ms → 
 mark-whole ms zero h w = absurd (omega (arith, h))
 mark-whole ms (suc k) h w = get_or-set_same ms k true false (omega (arith, w))
 
--- where one place alone was marked
+-- a list with a mark at one position only
 pub one-marked : (n a : ℕ) (ms : List Bool) → 1 ≤ a → a ≤ n → ms ≡ slice_set (replicate n false) (a - 1) true → (length ms ≡ n) × ((b : ℕ) → IsMarked ms b ↔ (b ≡ a))
 one-marked n zero ms h w is = absurd (omega (arith, h))
 one-marked n (suc k) ms h w is = (ap length same ∙ (mark-count (Some (suc k)) none ∙ length-replicate n false), λ b. (to b, from b))
@@ -57,7 +57,7 @@ one-marked n (suc k) ms h w is = (ap length same ∙ (mark-count (Some (suc k)) 
 
 -- ---- the items of numbers
 
--- a place of two lists is one of the first or of the second
+-- an element of two joined lists is one of the first or of the second
 pub get-either : {A : Type 0} (xs ys : List A) (k : ℕ) (x : A) → slice_get (xs ++ ys) k ≡ Some x → ((i : ℕ) × (slice_get xs i ≡ Some x)) ⊎ ((i : ℕ) × (slice_get ys i ≡ Some x))
 get-either [] ys k x e = inr (k, e)
 get-either (y ∷ xs) ys zero x e = inl (0, e)
@@ -102,7 +102,7 @@ module _ (S : Database) (labels : List Name) (places : List (Option ℕ)) (are :
   items-kept [] old a h = h
   items-kept (n ∷ ns) old a h = items-kept ns (mark (place_of places n) old) a (mark-kept (place_of places n) old a h)
 
-  -- one of the numbers cites what stands at the position
+  -- one of the numbers cites the statement at the position
   abbrev HasNumber : List ℕ → ℕ → Type 0
   HasNumber numbers a = (k : ℕ) × (n : ℕ) × (slice_get numbers k ≡ Some n) × (place_of places n ≡ Some a)
 
@@ -141,7 +141,7 @@ module _ (S : Database) (labels : List Name) (places : List (Option ℕ)) (are :
         whole = λ a w c. let n = cites-number numbers a c in items-whole numbers old a n.0 n.1 (stands-within S a c.cited c.carries.stands).0 w n.2 n.3;
       }))
 
-  -- ---- whether they cite what is marked
+  -- ---- whether the items cite a marked statement
 
   marked-some : (marks : List Bool) (o : Option ℕ) → is_marked marks o ≡ true → (a : ℕ) × (o ≡ Some a) × IsMarked marks a
   marked-some marks None h = absurd (let e = h in cc)

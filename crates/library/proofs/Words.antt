@@ -1,4 +1,4 @@
--- The words in which this crate is proved, and the lemmas of std and of the layers below, passed on from one place.
+-- Re-exports of the definitions and lemmas with which this crate is proved.
 pub use Rattle.frame.proofs.AssertionLemmas.{hypothesis-kinds}
 pub use Rattle.frame.proofs.EnterLemmas.{label_of-bare}
 pub use Rattle.frame.proofs.FoundByNumber.{map-back, some-same}

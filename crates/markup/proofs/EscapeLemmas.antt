@@ -1,4 +1,4 @@
--- The escaped form of bytes reads as these bytes.
+-- Escaped bytes are read as the original bytes.
 use Rattle.std.specs.Prelude.{◌≡◌, ℕ, Bool, true, false, if◌then◌else◌, List, [], ◌∷◌, ◌++◌}
 use Rattle.std.proofs.Common.{sym, subst, refl}
 use Rattle.markup.specs.Escapes.{is_markup, reference, html_byte, html_text, ReadsAs, reads_none, reads_plain, reads_reference}

@@ -1,4 +1,4 @@
--- The words in which this crate is proved, passed on from one place.
+-- Re-exports of the definitions and lemmas with which this crate is proved.
 pub use Rattle.library.proofs.AddingLemmas.{left-at, left-more, none-at-end, rule-at-end, rule-is}
 pub use Rattle.mm_lex.specs.Alphabet.{Name, is_visible}
 pub use Rattle.mm_lex.specs.Words.{is_word}

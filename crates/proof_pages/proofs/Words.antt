@@ -1,4 +1,4 @@
--- The words in which this crate is proved, passed on from one place.
+-- Re-exports of the definitions and lemmas with which this crate is proved.
 pub use Rattle.file_names.specs.FileNames.{file_name}
 pub use Rattle.markup.specs.Escapes.{html_text}
 pub use Rattle.mm_read.specs.declared.stmt.Stmt.TheVariants.{Open}

@@ -1,8 +1,8 @@
--- Stumps packet by packet.
+-- The stumps of packets, one packet after another.
 use Rattle.run_pictures.proofs.Words.{◌≡◌, ℕ, zero, suc, ◌+◌, ◌-◌, ◌<◌, ◌≤◌, List, [], ◌∷◌, ◌++◌, refl, sym, ◌∙◌, ap, arith, append_assoc, append-nil, Step, Mark, Packets, stump, stumps_from}
 
 module _ (packets : Packets) (shown : List Step) (row : ℕ) (s : Step) where
-  -- the stumps of the packets from a number on, and before another
+  -- the stumps of the packets from n up to `end` are that of packet n and those of the packets after it
   stumps_from-step : (n end count : ℕ) → end - n ≡ count → n < end
       → stumps_from packets shown row s n count ≡ stump packets shown row s n ++ stumps_from packets shown row s (n + 1) (end - (n + 1))
   stumps_from-step n end zero is within = absurd (omega (arith, is, within))
@@ -10,7 +10,7 @@ module _ (packets : Packets) (shown : List Step) (row : ℕ) (s : Step) where
       let fewer : count ≡ end - (n + 1) = omega (arith, is, within) in
       ap (λ m. stump packets shown row s n ++ stumps_from packets shown row s (n + 1) m) fewer
 
-  -- the stump of one packet is written
+  -- the stump of one packet is written, and those after it are left
   pub one_packet : (n end : ℕ) (done more whole : List Mark)
       → n < end
       → done ++ stumps_from packets shown row s n (end - n) ≡ whole
@@ -22,7 +22,7 @@ module _ (packets : Packets) (shown : List Step) (row : ℕ) (s : Step) where
       ∙ (ap (λ rest. done ++ rest) (sym (stumps_from-step n end (end - n) refl within))
       ∙ is))
 
-  -- no packet is left
+  -- no packet is left, so all stumps are written
   pub no_packet_left : (n end : ℕ) (done whole : List Mark)
       → end ≤ n → done ++ stumps_from packets shown row s n (end - n) ≡ whole → done ≡ whole
   no_packet_left n end done whole past is =

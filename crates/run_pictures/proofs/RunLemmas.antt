@@ -1,16 +1,16 @@
--- A run whose world takes a step.
+-- The recorded steps of a world when it takes a step.
 use Rattle.run_pictures.proofs.Words.{◌≡◌, ℕ, false, List, [], ◌∷◌, ◌++◌, Option, Some, None, Result, Ok, Err, IfOk, IfSome, IsSomeAnd, OnErr, length, filter, sym, ◌∙◌, ap, Event, StepFault, History, with_event, world_of, packets_after, Entry, Verdict, Carried, carried_size, WorldView, new_world, next_entry, IsApplied, Step, StepStart, ended_of, Reached, step_start_of, is_event, learned_in, node_in, step_of, steps_of, IsRecorded, packets_of}
 use Rattle.world.specs.WorldView.{after_event}
 use Rattle.run_pictures.proofs.StepsLemmas.{next_is, with_event_step, with_application_step}
 
--- new nodes have no step
+-- a new world has no steps
 pub new_recorded : (world : WorldView) (weights : List ℕ) → world ≡ new_world weights → IsRecorded world [] 0
 new_recorded world weights is = record {
   events = ap (λ (r : WorldView). steps_of r.history) (sym is);
   count = ap (λ (r : WorldView). length (packets_of r)) (sym is);
 }
 
--- the step that an event makes, by its parts
+-- the step of an event from its parts
 pub step_is : (old new : WorldView) (e : Event Carried) (start : StepStart) (posted learned : ℕ) (step : Step)
     → step ≡ ended_of start posted learned
     → start ≡ step_start_of (length old.history.events) (world_of carried_size old.history) e
@@ -39,14 +39,14 @@ event_recorded old new steps more posted count e step recorded taken added is co
   count = counted;
 }
 
--- the history stays, and no step is added
+-- the history is unchanged, and no step is added
 pub same_recorded : (old new : WorldView) (steps : List Step) (posted : ℕ) → IsRecorded old steps posted → new.history ≡ old.history → IsRecorded new steps posted
 same_recorded old new steps posted recorded taken = record {
   events = recorded.events ∙ ap steps_of (sym taken);
   count = recorded.count ∙ ap (λ (t : History Carried). length (packets_of (record { history = t; libraries = new.libraries }))) (sym taken);
 }
 
--- the history stays, and the application of an entry is recorded
+-- the history is unchanged, and the application of an entry is recorded
 pub application_recorded : (old new : WorldView) (steps more : List Step) (posted : ℕ) (step : Step)
     → IsRecorded old steps posted → new.history ≡ old.history → more ≡ steps ++ step ∷ [] → is_event step ≡ false → IsRecorded new more posted
 application_recorded old new steps more posted step recorded taken added is = record {
@@ -54,7 +54,7 @@ application_recorded old new steps more posted step recorded taken added is = re
   count = recorded.count ∙ ap (λ (t : History Carried). length (packets_of (record { history = t; libraries = new.libraries }))) (sym taken);
 }
 
--- an application changes no history
+-- an application does not change the history
 pub taken_stays : (old new : WorldView) (k : ℕ) (o : Option (Option Entry)) (r : Result (Option Verdict) StepFault)
     → next_entry old k ≡ o → IfSome o (λ entry. IfOk r (λ (answer : Option Verdict). IsSomeAnd answer (λ verdict. IsApplied old k entry verdict new)))
     → (next_entry old k ≡ None → new ≡ old) → OnErr r (new ≡ old) → new.history ≡ old.history

@@ -1,7 +1,7 @@
--- Files that are written one after another.
+-- The files of a site, written one after another.
 use Rattle.sites.proofs.Words.{◌≡◌, ℕ, suc, ◌+◌, ◌<◌, ◌≤◌, List, [], ◌∷◌, ◌++◌, length, take, get_or, slice_get, Some, option_map, Result, Ok, Err, OnOk, sym, ◌∙◌, ap, subst, refl, arith, append_assoc, append-nil, take_more, length-take-le, HasAssertion, Database, Stmt, Axiom, Open, Name, bare, bares, stmt_at, stmt_at-bares, WritesNamed, page_file, page_files}
 
--- ---- one after another
+-- ---- files, one after another
 
 pub writes-then : {F : Type 0} (writes : F → List ℕ → List ℕ → F → Type 0) (old mid new : F) (names more : List (List ℕ))
     → WritesNamed writes old names mid → WritesNamed writes mid more new → WritesNamed writes old (names ++ more) new
@@ -11,7 +11,7 @@ writes-then writes old mid new (name ∷ names) more w v = (w.0, w.1, w.2, write
 pub writes-one : {F : Type 0} (writes : F → List ℕ → List ℕ → F → Type 0) (old new : F) (name bytes : List ℕ) → writes old name bytes new → WritesNamed writes old (name ∷ []) new
 writes-one writes old new name bytes g = (bytes, new, g, refl)
 
--- the style sheet, pages, and the list
+-- the style sheet, the pages, and the index
 pub site-written : {F E : Type 0} (writes : F → List ℕ → List ℕ → F → Type 0) (opened first last new : F) (style index : List ℕ) (pages : List (List ℕ)) (r : Result (Unit {0}) E)
     → WritesNamed writes opened (style ∷ []) first → WritesNamed writes first pages last → OnOk r (WritesNamed writes last (index ∷ []) new)
     → OnOk r ((x : F) × WritesNamed writes x (style ∷ (pages ++ index ∷ [])) new)
@@ -28,7 +28,7 @@ names-last at (t ∷ S) s =
     ∙ (sym (append_assoc (page_file at t) (page_files (suc at) S) (page_file (suc at + length S) s))
     ∙ ap (λ n. (page_file at t ++ page_files (suc at) S) ++ page_file n s) (let e : suc at + length S ≡ at + suc (length S) = omega arith in e))
 
--- the page of one statement more
+-- the page of one more statement
 pub pages-next : {F : Type 0} (writes : F → List ℕ → List ℕ → F → Type 0) (first mid new : F) (S : Database) (i : ℕ) → i < length S
     → WritesNamed writes first (page_files 1 (take i S)) mid → WritesNamed writes mid (page_file (i + 1) (get_or S i Open)) new → WritesNamed writes first (page_files 1 (take (i + 1) S)) new
 pages-next writes first mid new S i h w v =

@@ -1,7 +1,7 @@
--- The frame of an assertion by its statement without its proof.
+-- The frame of an assertion is that of the assertion without its proof.
 use Rattle.statement_blocks.proofs.Words.{◌≡◌, ℕ, zero, suc, ◌+◌, ◌≤◌, List, [], ◌∷◌, ◌++◌, length, take, map, codes, refl, ap, sym, ◌∙◌, append_assoc, arith, Option, Some, None, slice_get, true, flat_map, option_map, Result, Ok, Err, OnOk, append-nil, take_all, Name, Stmt, Prove, Database, decode, bare, bares, before, stmt_at, is_assertion, stmt_at-bares, hypotheses, mandatory_groups, HasAssertion, line_at, after_space, group_line, symbol_text, group_line_of_numbers, frame_lines}
 
--- a frame looks at no proof
+-- a frame does not depend on the proof
 pub hypotheses-bare : (S : Database) (s : Stmt) → hypotheses S (bare s) ≡ hypotheses S s
 hypotheses-bare S (Prove label expr proof) = refl
 hypotheses-bare S s = refl
@@ -14,7 +14,7 @@ pub assertion-bare : (s : Stmt) → is_assertion (bare s) ≡ is_assertion s
 assertion-bare (Prove label expr proof) = refl
 assertion-bare s = refl
 
--- what an answer gives gives what follows from it
+-- a consequence of an answer's property holds of the answer
 pub on_ok : {T E P Q : Type 0} (r : Result T E) → (P → Q) → OnOk r P → OnOk r Q
 on_ok (Ok v) f p = f p
 on_ok (Err e) f p = tt
@@ -40,7 +40,7 @@ module _ {A : Type 0} (f : A → List ℕ) where
   pub all_items : (xs : List A) (i : ℕ) (old new : List ℕ) → length xs ≤ i → new ≡ old ++ flat_map f (take i xs) → new ≡ old ++ flat_map f xs
   all_items xs i old new past is = is ∙ ap (λ l. old ++ flat_map f l) (take_all i xs past)
 
--- ---- groups by their numbers
+-- ---- groups by number
 
 variables_by : (names : List Name) (group : List ℕ) → flat_map (symbol_text names) group ≡ flat_map after_space (decode names group)
 variables_by names [] = refl
@@ -55,14 +55,14 @@ lines_by names (g ∷ groups) =
     ap (λ l. l ++ flat_map (group_line_of_numbers names) groups) (line_by names g) ∙ ap (λ l. group_line (decode names g) ++ l) (lines_by names groups)
 
 module _ (S F : Database) (at : ℕ) (s : Stmt) (same : F ≡ bares S) (stands : stmt_at S at ≡ Some s) where
-  -- the statement that the frames have there
+  -- the statement without its proof is at the same position among the frames
   pub stands_bare : stmt_at F at ≡ Some (bare s)
   stands_bare = ap (λ T. stmt_at T at) same ∙ (stmt_at-bares S at ∙ ap (option_map bare) stands)
 
   pub has_assertion : is_assertion s ≡ true → HasAssertion F at (bare s)
   has_assertion is = (stands_bare, assertion-bare s ∙ is)
 
-  -- its hypotheses and groups are those of the frame
+  -- the lines of its hypotheses and groups are those of the frame
   pub frame_is : (positions : List ℕ) (mid end old : List ℕ) → positions ≡ hypotheses (before F at) (bare s)
       → mid ≡ old ++ flat_map (line_at S) positions → end ≡ mid ++ flat_map group_line (mandatory_groups (before (bares S) at) s) → end ≡ old ++ frame_lines S at s
   frame_is positions mid end old are first last =

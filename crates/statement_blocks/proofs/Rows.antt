@@ -1,4 +1,4 @@
--- Blocks of small statements.
+-- The blocks of small statements.
 use Rattle.statement_blocks.proofs.Words.{◌≡◌, List, [], ◌∷◌, codes, refl, arith, Some, None, decimal, decimal_digit, Const, Var, Disj, Float, Ess, Axiom, Prove, Open, Close, Database, wrapped, block_text}
 
 -- the digits of small numbers
@@ -11,7 +11,7 @@ three = decimal_digit 3 (omega arith)
 five : decimal 5 ≡ codes "5"
 five = decimal_digit 5 (omega arith)
 
--- a hypothesis shows itself alone
+-- the block of a hypothesis shows only the hypothesis
 alone : block_text (Float (codes "wph") (codes "wff") (codes "ph") ∷ []) 1 (Float (codes "wph") (codes "wff") (codes "ph")) (record { line = 3; column = 5 }) None
     ≡ codes "3:5: 1\nwph $f wff ph\n"
 alone = rw (one, three, five) refl

@@ -1,4 +1,4 @@
--- The words in which this crate is proved, passed on from one place.
+-- Re-exports of the definitions and lemmas with which this crate is proved.
 pub use Rattle.frame.specs.FrameOf.{HasAssertion, hypotheses, mandatory_groups}
 pub use Rattle.mm_lex.specs.Alphabet.{Name, runs, word}
 pub use Rattle.mm_lex.specs.Comments.{runs_after}

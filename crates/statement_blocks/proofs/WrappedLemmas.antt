@@ -1,11 +1,11 @@
 -- Words wrapped into lines, one after another.
 use Rattle.statement_blocks.proofs.Words.{◌≡◌, ℕ, List, [], ◌∷◌, ◌++◌, map, sym, ◌∙◌, ap, append_assoc, append-nil, Span, Name, runs, word, runs_after, separator, column_after, wrapped_from, wrapped}
 
--- what is written, and what the rest would add, is the whole
+-- the text written so far followed by the rest of the words, wrapped, is the whole
 abbrev pub IsWrapped : List ℕ → ℕ → ℕ → List ℕ → List ℕ → Type 0
 IsWrapped text at column old lines = lines ++ wrapped_from column (map (word text) (runs_after text at)) ≡ old ++ wrapped (map (word text) (runs text))
 
--- one word more
+-- one more word is written
 pub wrapped_on : (text : List ℕ) (at column next : ℕ) (run : Span) (w : Name) (old lines spaced new : List ℕ) → IsWrapped text at column old lines
     → runs_after text at ≡ run ∷ runs_after text run.end → w ≡ word text run → spaced ≡ lines ++ separator column w → new ≡ spaced ++ w → next ≡ column_after column w
     → IsWrapped text run.end next old new

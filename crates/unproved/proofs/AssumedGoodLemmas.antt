@@ -1,10 +1,10 @@
--- Legal statements with exactly their unproved `$p` taken as `$a` are good.
+-- Legal statements are good if exactly their unproved `$p` are replaced with `$a`.
 use Rattle.unproved.proofs.Words.{◌≡◌, ℕ, zero, suc, ◌+◌, ◌-◌, ◌<◌, ◌≤◌, IsTrue, List, [], ◌∷◌, ◌++◌, length, get_or, slice_get, slice_set, Some, refl, ◌∙◌, ap, sym, subst, arith, inl, inr, cases_lt, map-append, stands-within, Good, IsProved, StandsProved, AllLegal, Database, IsProvable, Stmt, Writes, bares, is_provable, mandatory_labels, proof_of, Open, Close, Const, Var, Disj, Float, Ess, Axiom, Prove, bare, broken_rule, numbered, or_later, some-same, AreUnproved, as_axiom, assumed}
 use Rattle.library.specs.Words.{first_broken}
 use Rattle.unproved.proofs.PlainLemmas.{broken_rule-plains, end_rule-plains, plains}
 use Rattle.unproved.proofs.PlainRightLemmas.{labels-same, right-same}
 
--- ---- the same statements but for their kinds
+-- ---- statements that differ only in their kinds
 
 plain-plain : (s : Stmt) → as_axiom (as_axiom s) ≡ as_axiom s
 plain-plain (Prove label expr proof) = refl
@@ -51,7 +51,7 @@ legal-assumed : (S : Database) (list : List ℕ) → AllLegal S → AllLegal (as
 legal-assumed S list legal =
     sym (first-plains 1 [] (assumed S list)) ∙ (ap (first_broken 1 []) (plains-assumed S list) ∙ (first-plains 1 [] S ∙ legal))
 
--- ---- which `$p` are left
+-- ---- the `$p` that are left
 
 no-proof : (s : Stmt) → IsTrue (is_provable (as_axiom s)) → ⊥
 no-proof (Prove label expr proof) h = cc
@@ -74,7 +74,7 @@ left-in (t ∷ S) zero (suc n) s e p = (e, λ q. omega (arith, q))
 left-in (t ∷ S) (suc i) zero s e p = (e, λ q. omega (arith, q))
 left-in (t ∷ S) (suc i) (suc n) s e p = let w = left-in S i n s e p in (w.0, λ q. w.1 (omega (arith, q)))
 
--- a `$p` after one position was assumed stood there before, elsewhere
+-- a `$p` that is left when the statement at x is assumed was there before, and is not at x
 left-one : (S : Database) (x at : ℕ) (s : Stmt) → IsProvable (slice_set S (x - 1) (as_axiom (get_or S (x - 1) Open))) at s → IsProvable S at s × (x ≡ at → ⊥)
 left-one S x zero s p = absurd (let e = p.stands in cc)
 left-one S x (suc n) s p =
@@ -92,7 +92,7 @@ left S (x ∷ list) at s p =
     let v = left-one S x at s w.0 in
     (v.0, (v.1, w.1))
 
--- a position that is none of the list is that of a proved `$p`, if one stands there
+-- a position that is not in the list is that of a proved `$p`, if there is a `$p`
 proved-else : (S : Database) (start end : ℕ) (list : List ℕ) (at : ℕ) → AreUnproved S start end list → start < at → at ≤ end → Avoids at list → StandsProved S at
 proved-else S start end [] at are above below avoids = are at above below
 proved-else S start end (x ∷ list) at are above below avoids = elim (cases_lt x at) [
@@ -126,6 +126,6 @@ module _ (S : Database) (list : List ℕ) (legal : AllLegal S) (are : AreUnprove
         proved-still at s p w.0 (proved-else S 0 (length S) list at are (omega (arith, within.0)) within.1 w.1 s w.0);
   }
 
--- for the code: the statements of a database, with exactly its unproved `$p` assumed
+-- for the code: legal statements are good if exactly the unproved `$p` are assumed
 pub good_assumed : (S : Database) (list : List ℕ) → AllLegal S → AreUnproved S 0 (length S) list → Good (assumed S list)
 good_assumed S list legal are = assumed-good S list legal are

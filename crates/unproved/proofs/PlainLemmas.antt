@@ -1,13 +1,13 @@
--- No rule and no frame asks whether an assertion is a `$a` or a `$p`.
+-- No rule and no frame depends on whether an assertion is a `$a` or a `$p`.
 use Rattle.unproved.proofs.Words.{◌≡◌, ℕ, zero, suc, ◌+◌, ◌-◌, ◌==◌, Bool, true, false, not, cond, ◌||◌, ◌&&◌, nat_le, nat_lt, List, [], ◌∷◌, map, filter, take, drop, Some, None, option_map, refl, list_any, list_all, drop-map, take-map, ◌∙◌, ap, slice_get-map, Name, has_name, name_eq, Open, Close, Const, Var, Disj, Float, Ess, Axiom, Prove, Expr, active, active_from, before, count, expr_of, has_float, has_label, is_active, is_close, is_constant, is_essential, is_float_of, is_open, is_variable, label_of, constants, separated, stays_open, stmt_at, variables, was_label, was_symbol, all_different, broken_rule, end_rule, G1, G2, G3, G4, G5, G6, G7, G8, G9, G10, groups, hypotheses, is_hypothesis, is_mandatory, is_pair, is_used, mandatory_groups, has_two_or_more, together, Images, image, are_groups_disjoint, as_axiom}
 use Rattle.mm_read.specs.declared.stmt.Stmt.{Stmt}
 use Rattle.mm_read.specs.Statements.{Database}
 
--- the statements, each `$p` taken as a `$a`
+-- the statements with a `$a` in place of each `$p`
 abbrev pub plains : Database → Database
 plains S = map as_axiom S
 
--- a property that a `$p` shares with the `$a` of its label and expression
+-- a function that is the same for a `$p` and the `$a` with its label and expression ignores `as_axiom`
 pub plain-same : {A : Type 0} (f : Stmt → A) → ((label : Name) (expr : Expr) (proof : List Name) → f (Axiom label expr) ≡ f (Prove label expr proof)) → (s : Stmt) → f (as_axiom s) ≡ f s
 plain-same f h (Prove label expr proof) = h label expr proof
 plain-same f h Open = refl
@@ -40,7 +40,7 @@ stays_open-plains d (Ess label expr ∷ S) = stays_open-plains d S
 stays_open-plains d (Axiom label expr ∷ S) = stays_open-plains d S
 stays_open-plains d (Prove label expr proof ∷ S) = stays_open-plains d S
 
--- ---- what is active
+-- ---- active statements
 
 abbrev plain_at : ℕ × Stmt → ℕ × Stmt
 plain_at p = (p.0, as_axiom p.1)
@@ -132,7 +132,7 @@ module _ (S : Database) where
   rule-plains (Axiom label expr) = labelled label expr
   rule-plains (Prove label expr proof) = labelled label expr
 
-  -- the statement, taken as a `$a` where it is a `$p`, breaks the same rule after the statements taken so
+  -- a statement breaks the same rule if each `$p` is replaced with a `$a`, in it and before it
   pub broken_rule-plains : (s : Stmt) → broken_rule (plains S) (as_axiom s) ≡ broken_rule S s
   broken_rule-plains s = rule-plains (as_axiom s) ∙ plain-same (broken_rule S) (λ l e p. refl) s
 

@@ -1,4 +1,4 @@
--- A derivation among statements is one among those that differ only in which assertions are `$a` and which `$p`.
+-- A derivation is also one among statements that differ only in which assertions are `$a` and which are `$p`.
 use Rattle.unproved.proofs.Words.{◌≡◌, ℕ, IsTrue, List, [], ◌∷◌, map, Option, Some, None, option_map, unwrap_or, refl, list_all, ◌∙◌, ap, sym, subst, Name, Expr, before, expr_of, is_active, is_assertion, is_variable, label_of, stmt_at, Carries, IsHypothesis, IsInstance, expr_at, is_hypothesis_kind, option_expr, premises, are_groups_disjoint, hypotheses, mandatory_groups, Item, Concludes, ConcludeAll, Derivation, Derivations, hyp, apply, more, label_or_none, IsRight, Spells, SpellsAll, cites_hypothesis, cites_assertion, recalls, marks, spells_none, spells_more, some-same, as_axiom}
 use Rattle.mm_read.specs.declared.stmt.Stmt.{Stmt}
 use Rattle.mm_read.specs.Statements.{Database}
@@ -6,7 +6,7 @@ use Rattle.frame.specs.Substitution.{Images, apply as applied}
 use Rattle.verify.specs.Proves.{mandatory_labels}
 use Rattle.unproved.proofs.PlainLemmas.{active_at-plains, are_variables, before-plains, disjoint-plains, hypotheses-plains, mandatory-plains, plain-same, plains, stmt_at-plains}
 
--- a statement that is there, and the same but for its kind
+-- a statement that is the same but for its kind
 abbrev IsThere : Option Stmt → Stmt → Type 0
 IsThere o s = (t : Stmt) × (o ≡ Some t) × (as_axiom t ≡ as_axiom s)
 
@@ -14,7 +14,7 @@ there : (o : Option Stmt) (s : Stmt) → option_map as_axiom o ≡ Some (as_axio
 there None s e = cc
 there (Some t) s e = let here : Some (as_axiom t) ≡ Some (as_axiom t) = refl in (t, refl, some-same here e)
 
--- a property that does not ask for the kind
+-- a function that does not depend on the kind is the same for both statements
 alike : {A : Type 0} (f : Stmt → A) → ((s : Stmt) → f (as_axiom s) ≡ f s) → (t s : Stmt) → as_axiom t ≡ as_axiom s → f s ≡ f t
 alike f h t s e = sym (h s) ∙ (ap f (sym e) ∙ h t)
 
@@ -33,7 +33,7 @@ option_label-plain None = refl
 option_label-plain (Some s) = ap (λ l. unwrap_or l []) (label-plain s)
 
 module _ (S T : Database) (same : plains S ≡ plains T) where
-  -- a property of the statements taken as `$a` holds for both
+  -- a function that does not depend on the kinds is the same for both lists of statements
   both : {A : Type 0} (f : Database → A) → ((U : Database) → f (plains U) ≡ f U) → f S ≡ f T
   both f h = sym (h S) ∙ (ap f same ∙ h T)
 
@@ -131,7 +131,7 @@ module _ (S T : Database) (same : plains S ≡ plains T) where
       spells-all-same (spells_more first rest between first_weight rest_weight one all whole weighs) =
           spells_more first rest between first_weight rest_weight (spells-same one) (spells-all-same all) whole weighs
 
-    -- a right proof is right among both
+    -- a right proof among the first statements is right among the others
     pub right-same : (items : List Item) → IsRight S at items → IsRight T at items
     right-same items (t, d) =
         let w = stands-same S T same at d.stmt d.stands in (

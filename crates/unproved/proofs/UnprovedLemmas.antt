@@ -1,19 +1,19 @@
--- Lists of positions of unproved `$p`, with one more position or more statements.
+-- Lists of positions of unproved `$p`, with one more position or with more statements.
 use Rattle.unproved.proofs.Words.{Result, Ok, Err, IfOk, Vec, All, Global, All-nil, All-cons, ◌≡◌, ℕ, ◌+◌, ◌-◌, ◌<◌, ◌≤◌, List, [], ◌∷◌, ◌++◌, Option, Some, None, inl, inr, refl, subst, arith, cases_lt, Database, StandsProved, IsLeastIn, AreUnproved, IsPositionOf}
 
 module _ (S : Database) where
-  -- each `$p` above the one position, up to the other, is proved
+  -- each `$p` after position `start` up to `end` is proved
   abbrev pub AreProved : ℕ → ℕ → Type 0
   AreProved start end = (m : ℕ) → start < m → m ≤ end → StandsProved S m
 
-  -- the list is that of more statements if all of these are proved
+  -- the list stays the same for further statements whose `$p` are all proved
   pub none-more : (start end later : ℕ) (list : List ℕ) → end ≤ later → AreUnproved S start end list → AreProved end later → AreUnproved S start later list
   none-more start end later [] order are proved = λ at above below. elim (cases_lt end at) [ inl more ↦ proved at more below | inr less ↦ are at above less ]
   none-more start end later (at ∷ list) order are proved =
       let low = are.1 in
       (are.0, omega (arith, low, order), are.2, are.3, none-more at end later list order are.4 proved)
 
-  -- the list with the next position of an unproved `$p`
+  -- the list with the position of the next unproved `$p` appended
   pub one-more : (start end at : ℕ) (list : List ℕ) → start ≤ end → AreUnproved S start end list → end < at → (StandsProved S at → ⊥)
       → ((m : ℕ) → end < m → m < at → StandsProved S m) → AreUnproved S start at (list ++ at ∷ [])
   one-more start end at [] order are above wrong between = (
@@ -28,13 +28,13 @@ module _ (S : Database) where
       (are.0, omega (arith, low, above), are.2, are.3, one-more first end at list low are.4 above wrong between)
 
   module _ (start end : ℕ) where
-    -- where no `$p` of a range is wrong, each is proved
+    -- if no `$p` of a range is unproved, each is proved
     pub least-none : IsLeastIn S start end None → AreProved start end
     least-none least m above below =
         let e : start + (m - start - 1) + 1 ≡ m = omega (arith, above) in
         subst (StandsProved S) e (least.before (m - start - 1) (omega (arith, above, below)) tt)
 
-    -- the first that is wrong
+    -- the first `$p` of a range that is unproved
     module _ (i : ℕ) (least : IsLeastIn S start end (Some i)) where
       pub least-within : start + i + 1 ≤ end
       least-within = let w = least.wrong.0 in omega (arith, w)
@@ -48,7 +48,7 @@ module _ (S : Database) where
       pub least-more : (list : List ℕ) → AreUnproved S 0 start list → AreUnproved S 0 (start + i + 1) (list ++ (start + i + 1) ∷ [])
       least-more list are = one-more 0 start (start + i + 1) list (omega arith) are (omega arith) least.wrong.1 least-between
 
-  -- each position of the list is one of so many statements
+  -- each position in the list is that of a statement
   pub all_within : (start end : ℕ) (list : List ℕ) → AreUnproved S start end list → All (IsPositionOf end) list
   all_within start end [] are = All-nil (IsPositionOf end)
   all_within start end (at ∷ list) are =
@@ -59,7 +59,7 @@ module _ (S : Database) where
   found_within end (Ok list) are = all_within 0 end list.items are
   found_within end (Err error) are = are
 
-  -- where no `$p` of a range is wrong any more, the list is that of the range too
+  -- if the range after the first statements has no unproved `$p`, the list is complete up to its end
   pub all-found : (start end : ℕ) (list : List ℕ) (found : Option ℕ) → ((i : ℕ) → found ≡ Some i → ⊥) → start ≤ end → AreUnproved S 0 start list → IsLeastIn S start end found → AreUnproved S 0 end list
   all-found start end list None other order are least = none-more 0 start end list order are (least-none start end least)
   all-found start end list (Some i) other order are least = absurd (other i refl)

@@ -1,4 +1,4 @@
--- The words in which this crate is proved, passed on from one place.
+-- Re-exports of the definitions and lemmas with which this crate is proved.
 pub use Rattle.frame.specs.Citations.{Carries, IsHypothesis, IsInstance, expr_at, is_hypothesis_kind, option_expr, premises}
 pub use Rattle.frame.specs.Disjoint.{are_groups_disjoint}
 pub use Rattle.frame.specs.FrameOf.{groups, hypotheses, is_hypothesis, is_mandatory, is_pair, is_used, mandatory_groups, has_two_or_more, together}

@@ -1,6 +1,6 @@
 -- The `$p` that are not proved.
 -- Source: Metamath, 4.2.6 and appendix B; that each is judged by itself is this project's choice.
--- The code judges a range of statements in parallel, and goes on after each `$p` that is not proved.
+-- The code judges a range of statements in parallel, and continues after each `$p` that is not proved.
 use Rattle.std.specs.Prelude.{◌≡◌, ℕ, ◌-◌, ◌<◌, ◌≤◌, List, [], ◌∷◌, get_or, slice_set, IsTrue, IsFalse, Some}
 use Rattle.library.specs.Words.{AllLegal, AreShaped, Stmt, Database, Prove, Axiom, bares, proof_of, stmt_at, is_unfinished}
 use Rattle.mm_read.specs.declared.stmt.Stmt.TheVariants.{Open}

@@ -1,4 +1,4 @@
--- The citation of an assertion, by results of numbers.
+-- The citation of an assertion when the results are lists of numbers.
 use Rattle.verify.proofs.Words.{◌≡◌, ℕ, ◌-◌, ◌<◌, ◌≤◌, Bool, true, false, List, [], ◌++◌, length, map, get_or, slice_get, Some, sym, ◌∙◌, ap, subst, arith, length-append, length-map, map-append, Name, Stmt, Expr, Database, stmt_at, before, expr_of, is_assertion, is_variable, name_at, decode, HasAssertion, mandatory_groups, Images, applied, CodeImages, code_apply, images_of_names, are_groups_disjoint, Carries, IsInstance, premises, AreLegal, Cite, substitution_over_names, Float, IsBound, IsTyped, AreRead, DoMatch, named, AreNamed, StepsByNumber, Results, Cites, of_hypothesis, of_assertion, below, top, Adds, some-same, true≢false, AreOver, MayCite, HasCited, Assertion, Claim, Numbered, IsCitedBy, AssertionView}
 use Rattle.verify.proofs.LabelTableLemmas.{has_with}
 use Rattle.verify.proofs.RequiredHypotheses.{required-lengths}
@@ -7,7 +7,7 @@ use Rattle.verify.proofs.Decide.{append_cut, length-premises, not_both}
 use Rattle.verify.proofs.ImageLemmas.{only, apply-below, are-codes}
 use Rattle.verify.proofs.Named.{saved-same, named-result, result-named, all-take, all-drop, halves, length-top}
 
--- what the code finds wherever the citation can give f
+-- the conditions on the stack that hold if a citation of the assertion can give the result f
 pub record Meets (S : Database) (names : List Name) (at a : ℕ) (c : AssertionView) (stack : List (List ℕ)) (f : Expr) : Type 0 where
   pub many : length c.hypotheses ≤ length stack
   pub typed : (k x : ℕ) → slice_get c.hypotheses k ≡ Some (Float x) → IsTyped (get_or c.typecodes.now k 0) (get_or (top (length c.hypotheses) stack) k [])
@@ -19,11 +19,11 @@ module _ (S : Database) (names : List Name) (at a : ℕ) (s : Stmt) (c : Asserti
   abbrev n : ℕ
   n = length c.hypotheses
 
-  -- the conclusion under the images that were read, by names
+  -- the conclusion with images by number, decoded, is the assertion's expression with the images of the names
   conclusion-named : (ρ : CodeImages) → decode names (code_apply ρ c.conclusion.now) ≡ applied (images_of_names names ρ) (expr_of s)
   conclusion-named ρ = substitution_over_names names ρ c.conclusion.now legal.distinct (are-codes names c.conclusion.now is.conclusion_below) ∙ ap (applied (images_of_names names ρ)) is.conclusion
 
-  -- whatever the citation can give, the code finds
+  -- if a citation can give f, the conditions of `Meets` hold
   meets : (old : Results ℕ) (σ : Images) (b : List Expr) (f : Expr) → AreNamed names old
       → IsInstance S at a s σ → map (decode names) old.stack ≡ b ++ premises S a s σ → f ≡ applied σ (expr_of s) → Meets S names at a c old.stack f
   meets old σ b f an fits whole gives =
@@ -46,7 +46,7 @@ module _ (S : Database) (names : List Name) (at a : ℕ) (s : Stmt) (c : Asserti
         gives = λ ρ read. gives ∙ (conclusion-agrees S names a s legal.distinct bound c.typecodes.now c.hypotheses is.required es count low σ fits.of_variables (sym cut) ρ read ∙ sym (conclusion-named ρ));
       }
 
-  -- every step by the label is one by this assertion
+  -- each step by the label cites this assertion, so the conditions hold
   pub meets-step : (old : Results ℕ) (label : Name) (b : List Expr) (f : Expr) → AreNamed names old → Carries S a s label → HasAssertion S a s
       → Cites S at label (map (decode names) old.stack) b f → Meets S names at a c old.stack f
   meets-step old label b f an carries has (of_hypothesis i t carries' active same whole) =
@@ -95,7 +95,7 @@ module _ (S : Database) (names : List Name) (at a : ℕ) (s : Stmt) (c : Asserti
       → ((f : Expr) → Meets S names at a c old.stack f → ⊥) → StepsByNumber false S at names (Cite label) old new
   goes-not old new label an carries has none = λ next p. absurd (none p.1 (meets-step old label p.0 p.1 an carries has p.2))
 
--- the same by what a citation rests on
+-- the lemmas above, from the conditions under which the code cites (`MayCite`)
 module _ (t : Claim) (a : ℕ) (about : Numbered) (old : Results ℕ) (may : MayCite t a about old) (c : AssertionView) (cited : (s : Stmt) → stmt_at t.frames.now.statements a ≡ Some s → IsCitedBy t.frames.now.statements t.frames.now.names a s c) where
   abbrev count : ℕ
   count = length c.hypotheses

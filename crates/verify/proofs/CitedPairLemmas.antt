@@ -1,4 +1,4 @@
--- An assertion may be cited by lists that have its mandatory pairs.
+-- An assertion may be cited with any lists of variables that have exactly its mandatory pairs.
 use Rattle.verify.proofs.Words.{◌≡◌, ℕ, suc, ◌<◌, Bool, true, false, not, ◌&&◌, ◌==◌, List, [], ◌∷◌, length, map, slice_get, Some, refl, sym, ◌∙◌, ap, subst, true≢false, inl, inr, arith, list_any, and_from, and_parts, or_cases, or_left, or_right, not-true, false_from_ne_true, eqb-true, both_ways, slice_get_within, some-same, Name, name_eq, has_name, name_same, same_name, name_at, decode, Stmt, Database, stmt_at, before, hypotheses, mandatory_groups, together, is_mandatory_pair, groups-pairs, disjoint_condition_law, Images, are_groups_disjoint, AllBelow, AreBelow, has_both, Hypothesis, IsBound, HasFloat, HasAssertion, AreRequired, AreLegal, AssertionView, IsCited, IsCitedBy}
 use Rattle.verify.proofs.RequiredHypotheses.{required-at, float-number}
 
@@ -15,7 +15,7 @@ say-same D σ gs hs same = both_ways _ _ (same-pairs D σ gs hs same) (same-pair
 abbrev both : Name → Name → List Name → Bool
 both x y g = has_name x g && has_name y g
 
--- a number of the name x
+-- a number whose name is x
 abbrev HasNumber : List Name → Name → Type 0
 HasNumber names x = (n : ℕ) × (n < length names) × (name_at names n ≡ x)
 
@@ -23,7 +23,7 @@ own-number : (n : ℕ) → (n == n) ≡ true
 own-number n = grind arith
 
 module _ (names : List Name) where
-  -- the name stands in the list by a number
+  -- a number in the list whose name is x
   record StandsBy (x : Name) (g : List ℕ) : Type 0 where
     pub number : ℕ
     pub in_list : list_any (λ c. c == number) g ≡ true
@@ -48,7 +48,7 @@ module _ (names : List Name) where
     | inr rest ↦ or_right (name_eq (name_at names n) (name_at names c)) (has_name (name_at names n) (decode names g)) (name-stands n g rest)
   ]
 
-  -- two names stand in one of the lists by numbers
+  -- numbers whose names are x and y, both in one of the lists
   record StandBy (x y : Name) (gs : List (List ℕ)) : Type 0 where
     pub first : ℕ
     pub second : ℕ
@@ -97,14 +97,14 @@ module _ (names : List Name) where
     | inr rest ↦ or_right (both (name_at names m) (name_at names n) (decode names g)) (list_any (both (name_at names m) (name_at names n)) (map (decode names) gs)) (names-stand m n gs rest)
   ]
 
-  -- numbers of two names differ
+  -- the numbers of two different names differ
   numbers-differ : (m n : ℕ) (x y : Name) → name_at names m ≡ x → name_at names n ≡ y → not (name_eq x y) ≡ true → (m == n) ≡ false
   numbers-differ m n x y is_x is_y apart =
       false_from_ne_true (m == n) (λ same. true≢false (sym (ap (name_eq x) (sym (sym is_x ∙ (ap (name_at names) (eqb-true m n same) ∙ is_y))) ∙ name_same x) ∙ not-true (name_eq x y) apart))
 
 -- ---- the lists of the frame
 
--- a list of those that pass stands at an index
+-- an index at which a list passes the test
 record PassesAt (p : List Name → Bool) (gs : List (List Name)) : Type 0 where
   pub index : ℕ
   pub group : List Name
@@ -165,6 +165,6 @@ cited_pairs S names a s c bound is = record {
   groups_below = is.groups_below;
 }
 
--- what legal statements say of the assertion at a position
+-- an assertion among legal statements is bound (`IsBound`)
 pub bound_at : (S : Database) (names : List Name) (a : ℕ) (s t : Stmt) → AreLegal S names → HasAssertion S a t → stmt_at S a ≡ Some s → IsBound S a s
 bound_at S names a s t legal has stands = legal.bound a s (subst (HasAssertion S a) (some-same has.0 stands) has)

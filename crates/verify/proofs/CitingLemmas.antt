@@ -1,5 +1,5 @@
--- The results that an assertion takes are what some images make of its hypotheses, exactly where the first symbols agree
--- and each `$e` is its result under the images that are read off the others.
+-- The results are the hypotheses of an assertion under some images if and only if each result for a `$f` begins with its
+-- typecode, and each result for a `$e` is its expression under the images that are read from the results for the `$f`.
 use Rattle.verify.proofs.Words.{◌≡◌, ℕ, zero, suc, ◌<◌, Bool, true, false, cond, List, [], ◌∷◌, ◌++◌, length, map, drop, get_or, slice_get, Option, Some, None, option_map, ◌⊎◌, refl, sym, ◌∙◌, ap, subst, arith, inl, inr, true≢false, append-nil, lt-ltb, length-map, ext_get_or, get_or_from_slice_get, slice_get_within, slice_get-map, Name, Stmt, Expr, Database, stmt_at, before, expr_of, is_variable, name_at, decode, code_of, AreDistinct, code-name, hypotheses, mandatory_groups, Images, image, applied, CodeImages, code_image, images_of_names, OfVariables, premises, expr_at, option_expr, are_groups_disjoint, AreBelow, AllBelow, AreOver, image-named, image-unnamed, image-decode, Hypothesis, Float, Essential, IsBound, HasFloat, IsFirstFixed, typecode_of, IsTypecode, IsRequired, AreRequired, IsTyped, AreRead, HypothesisMatches, DoMatch, some-same, name_at-injective}
 use Rattle.mm_read.specs.declared.stmt.Stmt.TheVariants as stmt
 use Rattle.verify.proofs.Named.{all-at}
@@ -20,7 +20,7 @@ drop-decode : (names : List Name) (e : List ℕ) → drop 1 (decode names e) ≡
 drop-decode names [] = refl
 drop-decode names (x ∷ e) = refl
 
--- a list with symbols, and its first one
+-- a result that is not empty, decoded, begins with the name of its typecode
 pub typecodes_counted : (names : List Name) (e : List ℕ) → 0 < length e → decode names e ≡ name_at names (typecode_of e) ∷ decode names (drop 1 e)
 typecodes_counted names [] h = absurd (omega (arith, h))
 typecodes_counted names (x ∷ e) h = refl
@@ -33,19 +33,19 @@ module _ (S : Database) (names : List Name) (a : ℕ) (s : Stmt) (distinct : Are
   abbrev ps : List ℕ
   ps = hypotheses (before S a) s
 
-  -- the first symbols, and what is required of the results, are as many as the positions
+  -- there are as many typecodes, and as many hypotheses, as positions
   lens : (length typecodes ≡ length ps) × (length hs ≡ length ps)
   lens = required-lengths S names ps typecodes hs required
 
-  -- what is required of the hypothesis at an index
+  -- the hypothesis at an index, with its position and its typecode
   at : (k : ℕ) → k < length rs → At S names ps typecodes hs k
   at k h = required-at S names ps typecodes hs k required (let l = lens.1 in omega (arith, h, l, count))
 
-  -- a hypothesis of the assertion has a result
+  -- each hypothesis of the assertion has a result
   within : (k : ℕ) (h : Hypothesis) → slice_get hs k ≡ Some h → k < length rs
   within k h e = let r = slice_get_within hs k h e in omega (arith, r, count)
 
-  -- the expression at a position where a statement stands
+  -- the expression at a position is that of the statement there
   expr-stands : (p : ℕ) (r : Stmt) → stmt_at S p ≡ Some r → expr_at S p ≡ expr_of r
   expr-stands p r e = ap option_expr e
 
@@ -55,12 +55,12 @@ module _ (S : Database) (names : List Name) (a : ℕ) (s : Stmt) (distinct : Are
     abbrev N : Images
     N = images_of_names names ρ
 
-    -- the image of a `$f`'s variable
+    -- the image of the variable of a `$f` is its result without the typecode
     pub image-float : (k x : ℕ) (v : Name) → slice_get hs k ≡ Some (Float x) → x < length names → name_at names x ≡ v → image N v ≡ decode names (drop 1 (get_or rs k []))
     image-float k x v at_k low named =
         ap (image N) (sym named) ∙ (sym (image-decode names ρ x distinct (lt-ltb x (length names) low)) ∙ ap (decode names) (read.image k x at_k))
 
-    -- a symbol that is no variable
+    -- a symbol that is no variable is its own image
     pub image-constant : (y : Name) → V y ≡ false → image N y ≡ y ∷ []
     image-constant y none = by (code_of names y) refl
       where
@@ -76,7 +76,7 @@ module _ (S : Database) (names : List Name) (a : ℕ) (s : Stmt) (distinct : Are
             true≢false (sym v ∙ (ap V (sym f.named ∙ c.1) ∙ none)))))
             ∙ ap (λ z. z ∷ []) c.1)
 
-    -- each number has an image of numbers with names
+    -- if all numbers of the results have names, so have those of the images
     pub read-over : AllBelow (length names) rs → AreOver names ρ
     read-over low n less = by (float-find hs n)
       where
@@ -88,7 +88,7 @@ module _ (S : Database) (names : List Name) (a : ℕ) (s : Stmt) (distinct : Are
         by (inl f) = subst (AreBelow (length names)) (sym (read.image f.0 n f.1)) (tail-low (get_or rs f.0 []) (all-at (length names) f.0 rs low))
         by (inr none) = subst (AreBelow (length names)) (sym (read.own n none)) (less, tt)
 
-    -- ---- they are images of variables
+    -- ---- these images, of variables only
 
     abbrev τ : Images
     τ = only V N
@@ -100,7 +100,7 @@ module _ (S : Database) (names : List Name) (a : ℕ) (s : Stmt) (distinct : Are
         by true e = refl
         by false e = sym (image-constant y e)
 
-    -- the images that were read are of the assertion's variables alone
+    -- these are images of the assertion's variables only
     pub of_variables : OfVariables S a τ
     of_variables = only-all V N
 
@@ -110,7 +110,7 @@ module _ (S : Database) (names : List Name) (a : ℕ) (s : Stmt) (distinct : Are
     pub disjoint-τ : (D : Database) (gs : List (List Name)) → are_groups_disjoint D τ gs ≡ are_groups_disjoint D N gs
     disjoint-τ D gs = groups-members D τ N gs (λ k g x e f. image-τ x)
 
-    -- what they make of the hypotheses are the results
+    -- if each `$e` matches its result, the results are the hypotheses under these images
     module _ (fits : DoMatch S N hs (map (decode names) rs)) where
       one-premise : (k : ℕ) → k < length rs → (d : At S names ps typecodes hs k) → applied τ (expr_at S d.position) ≡ decode names (get_or rs k [])
       one-premise k less d = by d.hypothesis d.kind d.required
@@ -138,17 +138,17 @@ module _ (S : Database) (names : List Name) (a : ℕ) (s : Stmt) (distinct : Are
           let d = at k less' in
           get-map-of (λ i. applied τ (expr_at S i)) ps k d.position [] d.listed ∙ (one-premise k less' d ∙ sym (get-decode names rs k))))
 
-  -- ---- results that come from images of variables
+  -- ---- results that are the hypotheses under images of variables
 
   module _ (low : AllBelow (length names) rs) (σ : Images) (of_vars : OfVariables S a σ) (whole : premises S a s σ ≡ map (decode names) rs) where
     premise-at : (k p : ℕ) → slice_get ps k ≡ Some p → decode names (get_or rs k []) ≡ applied σ (expr_at S p)
     premise-at k p listed = sym (get-decode names rs k) ∙ (ap (λ v. get_or v k []) (sym whole) ∙ get-map-of (λ i. applied σ (expr_at S i)) ps k p [] listed)
 
-    -- a symbol that is no variable of the assertion stays as it is
+    -- a symbol that is no variable of the assertion is its own image
     fixed : (y : Name) → V y ≡ false → image σ y ≡ y ∷ []
     fixed y none = image-fixed V σ y of_vars none
 
-    -- the result of a `$f`
+    -- the result for a `$f` is its typecode followed by the image of its variable
     float-premise : (k : ℕ) (d : At S names ps typecodes hs k) (x : ℕ) → (required : IsRequired S names d.position d.typecode (Float x)) → let f = float-at S names d.position d.typecode x required in decode names (get_or rs k []) ≡ f.constant ∷ image σ f.variable
     float-premise k d x required =
         let f = float-at S names d.position d.typecode x required in
@@ -157,7 +157,7 @@ module _ (S : Database) (names : List Name) (a : ℕ) (s : Stmt) (distinct : Are
         ∙ (ap (applied σ) (expr-stands d.position (stmt.Float f.label f.constant f.variable) f.stands)
         ∙ (ap (λ e. e ++ (image σ f.variable ++ [])) (fixed f.constant fix) ∙ ap (λ e. f.constant ∷ e) (append-nil (image σ f.variable))))
 
-    -- has symbols
+    -- the result for a `$f` is not empty
     premise-some : (k x : ℕ) → slice_get hs k ≡ Some (Float x) → get_or rs k [] ≡ [] → ⊥
     premise-some k x kind none =
         let d = at k (within k (Float x) kind) in
@@ -179,7 +179,7 @@ module _ (S : Database) (names : List Name) (a : ℕ) (s : Stmt) (distinct : Are
             let one : name_at names n ≡ x = cc in
             name_at-injective names n d.typecode distinct b.0 first.0 (one ∙ sym first.1)
 
-    -- begins as the `$f` asks
+    -- the result for a `$f` begins with its typecode
     pub premise-typed : (k x : ℕ) → slice_get hs k ≡ Some (Float x) → IsTyped (get_or typecodes k 0) (get_or rs k [])
     premise-typed k x kind =
         let d = at k (within k (Float x) kind) in
@@ -198,7 +198,7 @@ module _ (S : Database) (names : List Name) (a : ℕ) (s : Stmt) (distinct : Are
           image-float ρ read k x v kind lows named
           ∙ (sym (drop-decode names (get_or rs k [])) ∙ (ap (drop 1) (float-premise k d x required') ∙ ap (image σ) (sym f.named ∙ named)))
 
-      -- a symbol that is no variable, or the variable of some `$f`
+      -- a symbol has the same image under both if it is no variable or is the variable of some `$f`
       agrees : (y : Name) → (V y ≡ true → HasFloat S ps y) → image (images_of_names names ρ) y ≡ image σ y
       agrees y has = by (V y) refl
         where

@@ -1,9 +1,9 @@
--- Where items spell a derivation, the machine runs over them and leaves its conclusion on top, whatever lies below.
+-- If items spell a derivation, the machine runs over them and leaves its conclusion on top, whatever lies below.
 use Rattle.verify.proofs.Words.{◌≡◌, ℕ, zero, suc, ◌+◌, List, [], ◌∷◌, ◌++◌, length, Some, slice_get, refl, sym, ◌∙◌, ap, subst, append_assoc, append-nil, add_assoc, add-zero, Stmt, Expr, Database, expr_of, Images, applied, Item, Cite, Mark, Derivation, Derivations, hyp, apply, none, more, Concludes, ConcludeAll, IsInstance, premises, Carries, Spells, SpellsAll, cites_hypothesis, cites_assertion, recalls, marks, spells_none, spells_more, State, of_hypothesis, of_assertion, Runs, IsSingle, some-same}
 use Rattle.verify.proofs.Sound.{AllConclude, conclude_snoc}
 
 module _ (S : Database) (at : ℕ) (single : IsSingle S at) where
-  -- two instances of one assertion that take the same results conclude the same
+  -- two instances of an assertion that take the same results have the same conclusion
   pub conclude_instance : (a : ℕ) (s r : Stmt) (σ τ : Images) → s ≡ r → IsInstance S at a s σ → IsInstance S at a r τ → premises S a s σ ≡ premises S a r τ
       → applied σ (expr_of s) ≡ applied τ (expr_of r)
   conclude_instance a s r σ τ same p q e =
@@ -11,7 +11,7 @@ module _ (S : Database) (at : ℕ) (single : IsSingle S at) where
       ∙ ap (λ v. applied τ (expr_of v)) same
 
   mutual
-    -- a derivation concludes one expression
+    -- a derivation concludes at most one expression
     pub conclude_same : (t : Derivation) (e f : Expr) → Concludes S at t e → Concludes S at t f → e ≡ f
     conclude_same (hyp i) e f p q = p.2 ∙ (ap expr_of (some-same p.1.stands q.1.stands) ∙ sym q.2)
     conclude_same (apply a children) e f p q =
@@ -26,7 +26,7 @@ module _ (S : Database) (at : ℕ) (single : IsSingle S at) where
 
   -- ---- runs
 
-  -- a run over the first items and a run over the rest make one run
+  -- a run over the first items and a run over the rest make one run over all items
   pub runs_append : (front rest : List Item) (st mid end : State) → Runs S at st front mid → Runs S at mid rest end → Runs S at st (front ++ rest) end
   runs_append [] rest st mid end p q = subst (λ r. Runs S at r rest end) (sym p) q
   runs_append (item ∷ front) rest st mid end p q = (p.0, p.1, runs_append front rest p.0 mid end p.2 q)
@@ -34,11 +34,11 @@ module _ (S : Database) (at : ℕ) (single : IsSingle S at) where
   abbrev pub state : List Expr → List Expr → ℕ → State
   state stack saved weight = record { stack = stack; saved = saved; weight = weight }
 
-  -- items after others, up to the same end
+  -- the same, for items and an end state that are equal to these
   runs_behind : (front rest items : List Item) (st mid end end' : State) → items ≡ front ++ rest → Runs S at st front mid → Runs S at mid rest end → end ≡ end' → Runs S at st items end'
   runs_behind front rest items st mid end end' whole p q same = subst (λ is. Runs S at st is end') (sym whole) (subst (Runs S at st (front ++ rest)) same (runs_append front rest st mid end p q))
 
-  -- from any stack and weight, the items lead to what the derivation concludes, above the stack
+  -- from any stack and any weight, the items push the expression that the derivation concludes
   pub record Result (items : List Item) (t : Derivation) (after : List Derivation) (weight : ℕ) (saved : List Expr) : Type 0 where
     pub result : Expr
     pub saved' : List Expr
@@ -53,7 +53,7 @@ module _ (S : Database) (at : ℕ) (single : IsSingle S at) where
     pub kept : AllConclude S at after saved'
     pub runs : (below : List Expr) (w : ℕ) → Runs S at (state below saved w) items (state (below ++ results) saved' (w + weight))
 
-  -- what was saved for a derivation
+  -- if a derivation was saved, its conclusion was saved at the same index
   saved_result : (ts : List Derivation) (es : List Expr) (k : ℕ) (t : Derivation) → AllConclude S at ts es → slice_get ts k ≡ Some t
       → (e : Expr) × (slice_get es k ≡ Some e) × Concludes S at t e
   saved_result [] es k t p h = cc
@@ -62,7 +62,7 @@ module _ (S : Database) (at : ℕ) (single : IsSingle S at) where
   saved_result (u ∷ ts) (e ∷ es) (suc k) t p h = saved_result ts es k t p.1 h
 
   mutual
-    -- COMPLETE: where items spell a derivation, the machine leads to its conclusion, above any stack
+    -- COMPLETE: if items spell a derivation, the machine runs over them and pushes its conclusion on any stack
     pub complete : {marked after : List Derivation} {items : List Item} {t : Derivation} {weight : ℕ} → Spells S at marked items t after weight
         → (saved : List Expr) → AllConclude S at marked saved → Result items t after weight saved
     complete (cites_hypothesis {i = i} s e carries active ends) saved kept =

@@ -1,9 +1,9 @@
--- Proofs found by computation: the machine runs over their items, and each step has its proof.
+-- Proofs found by computation: a function runs over the items and returns a proof for each step.
 use Rattle.verify.proofs.Words.{◌≡◌, ℕ, zero, suc, ◌-◌, ◌<◌, ◌≤◌, Bool, true, false, nat_lt, nat_le, List, [], ◌∷◌, ◌++◌, length, Option, Some, None, slice_get, refl, is_some, list_all, sym, ◌∙◌, ap, true≢false, bytes_eq-Decides, ltb-true, leb-true, Name, name_eq, Stmt, Expr, Database, stmt_at, before, is_active, is_variable, is_assertion, label_of, expr_of, hypotheses, mandatory_groups, Images, applied, are_groups_disjoint, Item, Cite, Recall, Mark, is_hypothesis_kind, IsInstance, premises, Carries, State, start, of_hypothesis, of_assertion, with_result, with_mark, Steps, Runs, below, top, IsRight, weight_limit}
 use Rattle.mm_read.specs.declared.stmt.Stmt.TheVariants.{Float}
 use Rattle.verify.proofs.Sound.{sound}
 
--- ---- tests with their proofs
+-- ---- tests that return proofs
 
 abbrev pub bind : {A B : Type 0} → Option A → (A → Option B) → Option B
 bind None f = None
@@ -26,7 +26,7 @@ at_most m n = bind (test (nat_le m n)) (λ h. Some (leb-true m n h))
 abbrev pub same_name : (x y : Name) → Option (x ≡ y)
 same_name x y = bind (test (name_eq x y)) (λ h. Some ((bytes_eq-Decides x y).0 h))
 
--- lists with the same first and the same rest
+-- lists with equal first elements and equal rests are equal
 pub cons_same : {A : Type 0} {x y : A} {xs ys : List A} → x ≡ y → xs ≡ ys → x ∷ xs ≡ y ∷ ys
 cons_same {x = x} {ys = ys} p q = ap (λ r. x ∷ r) q ∙ ap (λ r. r ∷ ys) p
 
@@ -41,7 +41,7 @@ same_exprs = same_list (same_list same_name)
 
 -- ---- runs
 
--- the images that the results for the hypotheses give
+-- the image that the result for a `$f` gives its variable
 abbrev pub matched : Option Stmt → Expr → Images
 matched (Some (Float label constant variable)) (c ∷ image) = (variable, image) ∷ []
 matched o e = []
@@ -106,7 +106,7 @@ module _ (S : Database) (at : ℕ) where
   run [] st = Some (st, refl)
   run (item ∷ items) st = bind (step st item) (λ next. bind (run items next.0) (λ end. Some (end.0, (next.0, next.1, end.1))))
 
-  -- a proof that the items are right, found by going through them
+  -- a proof that the items are right, if the run over them finds one
   abbrev pub prove : (items : List Item) → Option (IsRight S at items)
   prove items =
       bind (look (stmt_at S at)) (λ found.
@@ -116,7 +116,7 @@ module _ (S : Database) (at : ℕ) where
       let p = sound S at items end.0 (expr_of found.0) end.1 one in
       Some (p.tree, record { stmt = found.0; after = p.after; weight = end.0.weight; stands = found.1; spelled = p.spelled; concludes = p.concludes; light = light })))))
 
--- what was found
+-- the value of an option that is not `None`
 pub found : {A : Type 0} (o : Option A) → is_some o ≡ true → A
 found None h = absurd (true≢false (sym h))
 found (Some x) h = x

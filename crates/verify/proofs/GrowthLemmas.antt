@@ -1,4 +1,4 @@
--- The machine over derivations: items spell one at most, and what the code knows at each exit of an item.
+-- The machine over derivations: items spell at most one derivation; the exits of an item in the code.
 use Rattle.verify.proofs.Words.{◌≡◌, ℕ, zero, suc, List, [], ◌∷◌, ◌++◌, length, refl, ◌-◌, ◌<◌, ◌≤◌, Bool, true, false, map, get_or, Result, IfOk, sym, ◌∙◌, ap, subst, append_assoc, append-nil, arith, length-append, same_from_push, Name, Stmt, Expr, Database, stmt_at, before, is_assertion, hypotheses, Item, Cite, Recall, Mark, Derivation, Derivations, hyp, apply, none, more, from_list, ConcludeAll, IsHypothesis, premises, Carries, IsCitable, Spells, SpellsAll, cites_hypothesis, cites_assertion, recalls, marks, spells_none, spells_more, HasLabelsOnce, Trees, trees, Builds, a_hypothesis, an_assertion, IsKept, Grows, GrowsBy, with_tree, Grew, some-same, item_of, item-cite, item-recall, below, top, IsRight, Derives}
 use Rattle.verify.proofs.Decide.{append_cut, length-premises, not_both}
 use Rattle.verify.proofs.Named.{halves, length-top}
@@ -12,16 +12,16 @@ from-to none = refl
 from-to (more t children) = ap (λ r. more t r) (from-to children)
 
 module _ (S : Database) (at : ℕ) where
-  -- what grows over the first items and then over the rest grows over all
+  -- growth over the first items and growth over the rest make growth over all items
   pub grows_append : (front rest : List Item) (st mid end : Trees) → GrowsBy S at st front mid → GrowsBy S at mid rest end → GrowsBy S at st (front ++ rest) end
   grows_append [] rest st mid end p q = subst (λ r. GrowsBy S at r rest end) (sym p) q
   grows_append (item ∷ front) rest st mid end p q = (p.0, p.1, grows_append front rest p.0 mid end p.2 q)
 
-  -- items after others, up to the same end
+  -- the same, for items and an end state that are equal to these
   grows_behind : (front rest items : List Item) (st mid end end' : Trees) → items ≡ front ++ rest → GrowsBy S at st front mid → GrowsBy S at mid rest end → end ≡ end' → GrowsBy S at st items end'
   grows_behind front rest items st mid end end' whole p q same = subst (λ is. GrowsBy S at st is end') (sym whole) (subst (GrowsBy S at st (front ++ rest)) same (grows_append front rest st mid end p q))
 
-  -- from any stack
+  -- the items push these derivations on any stack
   abbrev pub Yields : List Derivation → List Item → List Derivation → List Derivation → Type 0
   Yields marked items ts after = (below : List Derivation) → GrowsBy S at (trees below marked) items (trees (below ++ ts) after)
 
@@ -51,11 +51,11 @@ module _ (S : Database) (at : ℕ) where
         (yields one below) (yields_all all (below ++ t ∷ [])) (ap (λ v. trees v after) (append_assoc below (t ∷ []) (to_list children)))
 
   module _ (once : HasLabelsOnce S) where
-    -- a label of an active hypothesis is not that of an assertion which can be cited
+    -- the label of an active hypothesis is not the label of an assertion that can be cited
     pub apart_kinds : (i a : ℕ) (s r : Stmt) (label : Name) → Carries S i s label → IsHypothesis S at i s → Carries S a r label → IsCitable S at a r → ⊥
     apart_kinds i a s r label p h q f = not_both s h.kind (ap is_assertion (some-same p.stands (ap (stmt_at S) (once i a s r label p q) ∙ q.stands)) ∙ f.assertion)
 
-    -- a citation builds one derivation
+    -- the citation of a label builds at most one derivation
     builds_same : (label : Name) (stack b c : List Derivation) (t u : Derivation) → Builds S at label stack b t → Builds S at label stack c u → (b ≡ c) × (t ≡ u)
     builds_same label stack b c t u (a_hypothesis i s p active same whole) (a_hypothesis j r q active' same' whole') = (sym whole ∙ whole', same ∙ (ap (λ n. hyp n) (once i j s r label p q) ∙ sym same'))
     builds_same label stack b c t u (a_hypothesis i s p active same whole) (an_assertion a r children q citable many whole' same') = absurd (apart_kinds i a s r label p active q citable)
@@ -66,12 +66,12 @@ module _ (S : Database) (at : ℕ) where
         let cut = append_cut b c children children' (sym whole ∙ whole') (many ∙ (ap (λ k. length (hypotheses (before S k) s)) n ∙ (ap (λ w. length (hypotheses (before S d) w)) v ∙ sym many'))) in
         (cut.0, same ∙ (ap (λ k. apply k (from_list children)) n ∙ (ap (λ ks. apply d (from_list ks)) cut.1 ∙ sym same')))
 
-    -- one saved derivation by its number
+    -- a number recalls at most one saved derivation
     kept_same : (saved : List Derivation) (k : ℕ) (t u : Derivation) → IsKept saved k t → IsKept saved k u → t ≡ u
     kept_same saved zero t u p q = absurd p
     kept_same saved (suc k) t u p q = some-same p q
 
-    -- an item makes a stack of derivations grow in one way
+    -- an item has at most one effect on a stack of derivations
     pub grows_same : (st x y : Trees) (item : Item) → Grows S at st item x → Grows S at st item y → x ≡ y
     grows_same st x y (Cite label) p q =
         let r = builds_same label st.stack p.0 q.0 p.1 q.1 p.2 q.2 in
@@ -79,19 +79,19 @@ module _ (S : Database) (at : ℕ) where
     grows_same st x y (Recall k) p q = p.2 ∙ (ap (λ t. trees (st.stack ++ t ∷ []) st.saved) (kept_same st.saved k p.0 q.0 p.1 q.1) ∙ sym q.2)
     grows_same st x y Mark p q = p.3 ∙ (ap (λ t. trees st.stack (st.saved ++ t ∷ [])) (same_from_push p.0 q.0 p.1 q.1 (sym p.2 ∙ q.2)).1 ∙ sym q.3)
 
-    -- so do items one after another
+    -- items one after another have at most one effect
     pub grows_by_same : (items : List Item) (st x y : Trees) → GrowsBy S at st items x → GrowsBy S at st items y → x ≡ y
     grows_by_same [] st x y p q = sym p ∙ q
     grows_by_same (item ∷ items) st x y p q = grows_by_same items p.0 x y p.2 (subst (λ r. GrowsBy S at r items y) (sym (grows_same st p.0 q.0 item p.1 q.1)) q.2)
 
-    -- UNIQUE: the items spell one derivation
+    -- UNIQUE: items spell at most one derivation
     pub spelled_once : (marked after after' : List Derivation) (items : List Item) (t u : Derivation) (w v : ℕ) → Spells S at marked items t after w → Spells S at marked items u after' v → t ≡ u
     spelled_once marked after after' items t u w v p q =
         let e = grows_by_same items (trees [] marked) (trees (t ∷ []) after) (trees (u ∷ []) after') (yields p []) (yields q []) in
         let f : t ∷ [] ≡ u ∷ [] = ap (λ s. s.stack) e in cc
 
 module _ (S : Database) (at : ℕ) (label : Name) where
-  -- an assertion takes as many derivations as it has hypotheses
+  -- an assertion can be cited only if there are as many derivations as it has hypotheses
   pub builds-takes : HasLabelsOnce S → (a : ℕ) (s : Stmt) → Carries S a s label → IsCitable S at a s → (stack b : List Derivation) (t : Derivation) → Builds S at label stack b t
       → length (hypotheses (before S a) s) ≤ length stack
   builds-takes once a s carries citable stack b t (a_hypothesis i r p active same whole) = absurd (apart_kinds S at once i a r s label p active carries citable)
@@ -116,7 +116,7 @@ module _ (S : Database) (at : ℕ) (label : Name) where
   pub hypothesis-grows : (i : ℕ) (s : Stmt) → Carries S i s label → IsHypothesis S at i s → (old new : Trees) → new ≡ with_tree old old.stack (hyp i) → Grew true S at old (Cite label) new
   hypothesis-grows i s carries active old new grown = (old.stack, hyp i, a_hypothesis i s carries active refl refl, grown)
 
--- an item by its number
+-- a number greater than the count of the labels is a recall
 pub recall-grows : (S : Database) (at : ℕ) (labels : List Name) (n k : ℕ) (old new : Trees) (ok : Bool) → n ≡ suc k → length labels ≤ k → Grew ok S at old (Recall (suc (k - length labels))) new → Grew ok S at old (item_of labels n) new
 recall-grows S at labels n k old new ok p h g = subst (λ i. Grew ok S at old i new) (sym (item-recall labels n k p h)) g
 
@@ -126,13 +126,13 @@ cite-grows S at labels n k old new r p h g = subst (λ i. IfOk r (λ ok. Grew ok
 
 -- ---- a right proof
 
--- a run over the first items, cut off a longer one
+-- growth over all items continues from the end of growth over the first ones
 grows-rest : (S : Database) (at : ℕ) → HasLabelsOnce S → (front rest : List Item) (st mid end : Trees) → GrowsBy S at st (front ++ rest) end → GrowsBy S at st front mid → GrowsBy S at mid rest end
 grows-rest S at once [] rest st mid end p q = subst (λ r. GrowsBy S at r rest end) q p
 grows-rest S at once (item ∷ front) rest st mid end p q =
     grows-rest S at once front rest q.0 mid end (subst (λ r. GrowsBy S at r (front ++ rest) end) (grows_same S at once st p.0 q.0 item p.1 q.1) p.2) q.2
 
--- no item of a right proof cannot be done
+-- each item of a right proof can be done
 pub never-stuck : (S : Database) (at : ℕ) → HasLabelsOnce S → (front rest : List Item) (item : Item) (st new : Trees) → GrowsBy S at (trees [] []) front st → Grew false S at st item new → IsRight S at (front ++ item ∷ rest) → ⊥
 never-stuck S at once front rest item st new p stuck (t, d) =
     let q = grows-rest S at once front (item ∷ rest) (trees [] []) st (trees (t ∷ []) d.after) (yields S at d.spelled []) p in
@@ -141,12 +141,12 @@ never-stuck S at once front rest item st new p stuck (t, d) =
 pub grows-on : (S : Database) (at : ℕ) (items : List Item) (item : Item) (st new : Trees) → GrowsBy S at (trees [] []) items st → Grew true S at st item new → GrowsBy S at (trees [] []) (items ++ item ∷ []) new
 grows-on S at items item st new p g = grows_append S at items (item ∷ []) (trees [] []) st new p (new, g, refl)
 
--- the items of a right proof leave its derivation alone
+-- after the items of a right proof its derivation is alone on the stack
 pub leaves : (S : Database) (at : ℕ) → HasLabelsOnce S → (items : List Item) (end : Trees) → IsRight S at items → GrowsBy S at (trees [] []) items end → (t : Derivation) × Derives S at items t × (end.stack ≡ t ∷ [])
 leaves S at once items end (t, d) p =
     (t, d, ap (λ r. r.stack) (grows_by_same S at once items (trees [] []) end (trees (t ∷ []) d.after) p (yields S at d.spelled [])))
 
--- one number stands for it
+-- if a list of numbers stands for one derivation alone, its first number stands for that
 pub only-number : (f : ℕ → Derivation) (numbers : List ℕ) (t : Derivation) → map f numbers ≡ t ∷ [] → (0 < length numbers) × ((d : ℕ) → f (get_or numbers 0 d) ≡ t)
 only-number f [] t h = cc
 only-number f (n ∷ []) t h = let e : f n ≡ t = cc in (omega arith, λ d. e)

@@ -1,4 +1,4 @@
--- Images of names: where two agree, and those of variables alone.
+-- Images of names: images that agree on an expression, and images of variables only.
 use Rattle.verify.proofs.Words.{◌≡◌, ℕ, zero, suc, Bool, true, false, cond, ◌||◌, ◌&&◌, List, [], ◌∷◌, ◌++◌, length, slice_get, Some, refl, list_all, sym, ◌∙◌, ap, true≢false, Name, name_eq, has_name, Expr, Database, and_from, lt-ltb, or_left, or_right, AreCodes, name_same, same_name, Images, image, applied, CodeImages, code_image, code_apply, are_disjoint, is_group_disjoint, are_groups_disjoint, AreBelow, below-append, AreOver}
 
 all-member : (p q : Name → Bool) (xs : List Name) → ((x : Name) → has_name x xs ≡ true → p x ≡ q x) → list_all p xs ≡ list_all q xs
@@ -7,7 +7,7 @@ all-member p q (y ∷ xs) h =
     ap (λ b. b && list_all p xs) (h y (or_left (name_eq y y) (has_name y xs) (name_same y)))
     ∙ ap (λ b. q y && b) (all-member p q xs (λ x k. h x (or_right (name_eq x y) (has_name x xs) k)))
 
--- an expression whose symbols have the same images
+-- if the images of each symbol of an expression are the same, the substituted expressions are the same
 pub apply-members : (σ τ : Images) (e : Expr) → ((x : Name) → has_name x e ≡ true → image σ x ≡ image τ x) → applied σ e ≡ applied τ e
 apply-members σ τ [] h = refl
 apply-members σ τ (y ∷ e) h =
@@ -28,7 +28,7 @@ module _ (D : Database) (σ τ : Images) where
       ap (λ b. b && are_groups_disjoint D σ gs) (group-members g (λ x k. h zero g x refl k))
       ∙ ap (λ b. is_group_disjoint D τ g && b) (groups-members gs (λ k f x at k'. h (suc k) f x at k'))
 
--- ---- images of variables alone
+-- ---- images of variables only
 
 abbrev pub only : (Name → Bool) → Images → Images
 only V [] = []
@@ -60,7 +60,7 @@ image-only V (p ∷ σ) y = by (V p.0) (name_eq y p.0) refl refl (image-only V �
         rest ∙ (ap (λ t. cond t (image σ y) (y ∷ [])) none ∙ ap (λ t. cond t p.1 (y ∷ [])) (sym none))
     by false false e f rest = rest
 
--- a symbol that is no variable has no image among those of variables
+-- among images of variables, a symbol that is no variable is its own image
 pub image-fixed : (V : Name → Bool) (σ : Images) (y : Name) → list_all (λ p. V p.0) σ ≡ true → V y ≡ false → image σ y ≡ y ∷ []
 image-fixed V [] y all none = refl
 image-fixed V (p ∷ σ) y all none = by (V p.0) (name_eq y p.0) refl refl all (λ h. image-fixed V σ y h none)

@@ -1,4 +1,4 @@
--- The lists that a proof keeps say what the assertions' own do.
+-- The lists that a checker keeps are right for citations of their assertions.
 use Rattle.verify.proofs.Words.{◌≡◌, ℕ, zero, suc, ◌+◌, ◌<◌, ◌≤◌, Bool, true, false, ◌&&◌, ◌||◌, ◌==◌, List, [], ◌∷◌, ◌++◌, length, length-append, map, take, take_all, take_more, map-append, Hypothesis, get_or, slice_get, Some, refl, sym, ap, subst, ◌∙◌, arith, and_from, list_all, list_any, same_Some, get_or_from_slice_get, slice_get_within, inl, inr, Name, Stmt, Database, stmt_at, before, expr_of, name_at, decode, name_eq, name_same, mandatory_groups, Images, image, AllBelow, AreBelow, IsViewOf, are_disjoint, is_group_disjoint, are_groups_disjoint, list_all-append, list_all-map, list_all_more, list_any_at, and_parts, eqb-true, or_cases, slice_range, cut-more, cut-push, extends-refl, range-behind, spans-push, told, AreSpansIn, cut, BufferPart, AssertionView, has_both, is_paired, are_covered, AreSameCondition, IsCitedBy, Lists, AreMadeOf, AreListsOf, AreKeptLists, AreKeptFor, Kept, AreFacts, IsAt}
 
 -- ---- the pairs of lists
@@ -12,7 +12,7 @@ all-member p (y ∷ ys) x h m =
       | inr rest ↦ all-member p ys x parts.1 rest
     ]
 
--- each two of the list
+-- the test holds of each two elements of the list
 abbrev pairs : (ℕ → ℕ → Bool) → List ℕ → Bool
 pairs q g = list_all (λ x. list_all (q x) g) g
 
@@ -69,7 +69,7 @@ module _ (names : List Name) (D : Database) (σ : Images) where
   group-covered : (gs : List (List ℕ)) (g : List ℕ) → are_covered gs g ≡ true → list_all group gs ≡ true → group g ≡ true
   group-covered gs g covered all = group-each g g ∙ covered-each by_number own-pair gs (sym (all-groups gs) ∙ all) g g covered
 
--- ---- the lists, one more
+-- ---- one more list
 
 and-true : (a : Bool) → (a && true) ≡ a
 and-true true = refl
@@ -96,7 +96,7 @@ same-left gs hs i g here less covered same = λ names D σ.
     list_all-map (is_group_disjoint D σ) (decode names) gs ∙ (and-implied (list_all p gs) (p g) (group-covered names D σ gs g covered) ∙ (ap (λ b. b && p g) front
     ∙ (ap (λ (z : List ℕ). list_all p (take i hs) && p z) (sym (get_or_from_slice_get hs i g [] here)) ∙ (sym (list_all_more p hs i [] less) ∙ sym (list_all-map (is_group_disjoint D σ) (decode names) (take (i + 1) hs))))))
 
--- ---- a list more in a buffer
+-- ---- one more list in a buffer
 
 pub group-appended : (places new : List ℕ) (a b : List BufferPart) (s : BufferPart) (group : List ℕ) → new ≡ places ++ group → s.from ≡ length places → s.to ≡ length new → AreSpansIn (length places) a → b ≡ a ++ s ∷ []
     → (cut new b ≡ cut places a ++ group ∷ []) × AreSpansIn (length new) b
@@ -109,14 +109,14 @@ group-appended places new a b s group e from to h k =
       subst (AreSpansIn (length new)) (sym k) (spans-push (length places) (length new) a s (omega arith) h (omega arith) (omega arith)),
     )
 
--- ---- a hypothesis more, as a number
+-- ---- one more hypothesis, as a number
 
 pub told-more : (required new : List ℕ) (hs : List Hypothesis) (i n : ℕ) (h : Hypothesis) → map told required ≡ take i hs → new ≡ required ++ n ∷ [] → slice_get hs i ≡ Some h → told n ≡ h → map told new ≡ take (i + 1) hs
 told-more required new hs i n h front k here same =
     ap (map told) k ∙ (map-append told required (n ∷ []) ∙ (ap (λ l. l ++ told n ∷ []) front
     ∙ (ap (λ (x : Hypothesis). take i hs ++ x ∷ []) (same ∙ sym (get_or_from_slice_get hs i h h here)) ∙ sym (take_more hs i h (slice_get_within hs i h here)))))
 
--- ---- one element more passes
+-- ---- one more element
 
 pub all-more : (p : ℕ → Bool) (xs : List ℕ) (i : ℕ) → i < length xs → list_all p (take i xs) ≡ true → p (get_or xs i 0) ≡ true → list_all p (take (i + 1) xs) ≡ true
 all-more p xs i less front next = list_all_more p xs i 0 less ∙ and_from _ _ front next
@@ -128,12 +128,12 @@ pub below-added : (n : ℕ) (gs : List (List ℕ)) (g : List ℕ) → AllBelow n
 below-added n [] g h b = (b, tt)
 below-added n (f ∷ gs) g h b = (h.0, below-added n gs g h.1 b)
 
--- both numbers stand in the list at an index
+-- if the list at an index has both numbers, some list has both
 pub both-at : (gs : List (List ℕ)) (i x y : ℕ) (g : List ℕ) → slice_get gs i ≡ Some g → list_any (λ c. c == x) g ≡ true → list_any (λ c. c == y) g ≡ true → list_any (has_both x y) gs ≡ true
 both-at gs i x y g here a b =
     list_any_at (has_both x y) gs i [] (slice_get_within gs i g here) (ap (has_both x y) (get_or_from_slice_get gs i g [] here) ∙ and_from _ _ a b)
 
--- ---- what is kept
+-- ---- the lists and facts that are kept
 
 pub kept_none : (S : Database) (names : List Name) (kept : Kept) → kept.lists ≡ [] → kept.facts ≡ [] → AreKeptFor S names kept
 kept_none S names kept no_lists no_facts = record {
@@ -145,7 +145,7 @@ pub kept-push : (S : Database) (names : List Name) (ls : List Lists) (l : Lists)
 kept-push S names [] l h k = (k, tt)
 kept-push S names (m ∷ ls) l h k = (h.0, kept-push S names ls l h.1 k)
 
--- the lists of one more assertion
+-- the lists and facts that are kept stay right when right lists of an assertion are added
 pub kept-more : (S : Database) (names : List Name) (old new : Kept) (l : Lists) → AreKeptFor S names old → ((s : Stmt) → stmt_at S l.position ≡ Some s → AreListsOf S names l s) → new.lists ≡ old.lists ++ l ∷ [] → new.facts ≡ old.facts → AreKeptFor S names new
 kept-more S names old new l h k lists facts = record {
   are_lists = subst (AreKeptLists S names) (sym lists) (kept-push S names old.lists l h.are_lists k);
@@ -157,7 +157,7 @@ kept-at S names [] i l h e = absurd (cc)
 kept-at S names (m ∷ ls) zero l h e = subst (λ (v : Lists). (s : Stmt) → stmt_at S v.position ≡ Some s → AreListsOf S names v s) (same_Some m l e) h.0
 kept-at S names (m ∷ ls) (suc i) l h e = kept-at S names ls i l h.1 e
 
--- the lists that stand there are the assertion's
+-- the lists at the index of a position are right for the assertion at that position
 pub kept-lists : (S : Database) (names : List Name) (ls : List Lists) (i position : ℕ) (l : Lists) → AreKeptLists S names ls → IsAt ls i position → slice_get ls i ≡ Some l → (s : Stmt) → stmt_at S position ≡ Some s → AreListsOf S names l s
 kept-lists S names ls i position l kept at here s is = kept-at S names ls i l kept here s (ap (stmt_at S) (at.there l here) ∙ is)
 

@@ -1,10 +1,10 @@
--- What a label names, found once; a listed label is not that of a mandatory hypothesis, whose positions rise.
+-- The table of the meanings of labels, and the search for a listed label among the mandatory hypotheses, whose positions rise.
 use Rattle.verify.proofs.Words.{◌≡◌, ℕ, suc, ◌+◌, ◌-◌, ◌<◌, Bool, true, false, nat_lt, List, [], ◌∷◌, ◌++◌, length, take, get_or, Option, Some, None, refl, zero, ◌≤◌, cond, ◌==◌, ◌||◌, filter, map, slice_index_or, MatchResult, Result, Ok, Err, drop, sym, ◌∙◌, ap, subst, arith, length-append, true≢false, append_assoc, get_or_default, take_more, length-drop, drop_more, list_any, IsNonDecreasing, nat_tests, bytes_eq-Decides, or_right, Name, name_eq, has_name, Stmt, Database, stmt_at, is_assertion, active_from, before, label_of, stays_open, Carries, IsHypothesis, is_hypothesis_kind, HasAssertion, hypotheses, is_hypothesis, HasLabelsOnce, IsPosition, ArePositions, IsCitable, LabelEntry, Nothing, Assertion, IsEntry, AreEntries, is_hypothesis_among, some-same, get-front, get-last, share_label, label_or_none, mandatory_labels, IsProvable, or-false, get_or-append_right, get_or-map, length-map, get_or_from_slice_get, slice_get_within, slice_get, list_any-append, both_ways}
 use Rattle.verify.specs.declared.label_table.LabelEntry.TheVariants.{Hypothesis}
 use Rattle.verify.proofs.MandatoryEntries.{IsMandatory, AreMandatory, labels_at, mandatory-of}
 use Rattle.verify.proofs.Decide.{not_both}
 
--- the one statement with the label may not be cited
+-- if the one statement with a label may not be cited, the label means nothing
 pub nothing : (S : Database) (at i : ℕ) (s : Stmt) (label : Name) → HasLabelsOnce S → Carries S i s label
     → ((t : Stmt) → stmt_at S i ≡ Some t → (IsHypothesis S at i t → ⊥) × (i < at → is_assertion t ≡ true → ⊥))
     → (j : ℕ) (t : Stmt) → Carries S j t label → (IsHypothesis S at j t → ⊥) × (IsCitable S at j t → ⊥)
@@ -13,11 +13,11 @@ nothing S at i s label once carries none j t carries' =
     let n = none t (ap (stmt_at S) (sym e) ∙ carries'.stands) in
     (λ h. n.0 (subst (λ k. IsHypothesis S at k t) e h), λ h. n.1 (subst (λ k. k < at) e h.earlier) h.assertion)
 
--- the assertion that carries the label
+-- a statement at the position of an assertion is that assertion
 pub has_with : (S : Database) (a : ℕ) (s t : Stmt) (label : Name) → Carries S a s label → HasAssertion S a t → HasAssertion S a s
 has_with S a s t label carries has = (carries.stands, ap is_assertion (some-same carries.stands has.0) ∙ has.1)
 
--- one more label
+-- a table with one more label and its meaning
 pub entries-more : (S : Database) (at : ℕ) (ls : List Name) (label : Name) (es : List LabelEntry) (entry : LabelEntry) → AreEntries S at ls es → IsEntry S at label entry → AreEntries S at (ls ++ label ∷ []) (es ++ entry ∷ [])
 entries-more S at ls label es entry a is = record { count = counted; each = λ k h. each k h (nat_lt k (length ls)) refl }
   where
@@ -37,7 +37,7 @@ entries-more S at ls label es entry a is = record { count = counted; each = λ k
         subst (λ l. IsEntry S at l (get_or (es ++ entry ∷ []) k Nothing)) (sym (get-last ls label k [] same))
         (subst (IsEntry S at label) (sym (get-last es entry k Nothing (same ∙ sym c))) is)
 
--- the labels of two tables, one after the other
+-- two tables of labels, one after the other
 pub entries-join : (S : Database) (at : ℕ) (ls ms : List Name) (es fs : List LabelEntry) → AreEntries S at ls es → AreEntries S at ms fs → AreEntries S at (ls ++ ms) (es ++ fs)
 entries-join S at ls ms es fs a b = record { count = counted; each = λ k h. each k h (nat_lt k (length ls)) refl }
   where
@@ -57,7 +57,7 @@ entries-join S at ls ms es fs a b = record { count = counted; each = λ k h. eac
         subst (λ l. IsEntry S at l (get_or (es ++ fs) k Nothing)) (sym (get_or-append_right ls ms (length ls) k [] refl over))
         (subst (IsEntry S at (get_or ms (k - length ls) [])) (sym (get_or-append_right es fs (length ls) k Nothing c over)) (b.each (k - length ls) (omega (arith, all, h))))
 
--- one more entry, by the position of the next label
+-- a table of the first labels with the meaning of the next label, which is found by its position
 pub table-more : (S : Database) (at : ℕ) (labels : List Name) (positions : List (Option ℕ)) (i : ℕ) (d : Option ℕ) (table table' : List LabelEntry) (entry : LabelEntry) → ArePositions S labels positions → i < length positions
     → AreEntries S at (take i labels) table → table' ≡ table ++ entry ∷ [] → ((label : Name) → IsPosition S label (get_or positions i d) → IsEntry S at label entry) → AreEntries S at (take (i + 1) labels) table'
 table-more S at labels positions i d table table' entry are less front grown is =
@@ -67,13 +67,13 @@ table-more S at labels positions i d table table' entry are less front grown is 
     subst (λ ls. AreEntries S at ls table') (sym (take_more labels i [] within))
     (subst (AreEntries S at (take i labels ++ get_or labels i [] ∷ [])) (sym grown) (entries-more S at (take i labels) (get_or labels i []) table entry front (is (get_or labels i []) here)))
 
--- what a place of the table names
+-- the entry at an index of the table is the meaning of the label at that index
 pub entry_at : (S : Database) (at : ℕ) (labels : List Name) (table : List LabelEntry) (k : ℕ) (d : LabelEntry) → AreEntries S at labels table → k < length table → IsEntry S at (get_or labels k []) (get_or table k d)
 entry_at S at labels table k d are h =
     let c = are.count in
     subst (IsEntry S at (get_or labels k [])) (get_or_default table k Nothing d h) (are.each k (omega (arith, h, c)))
 
--- what a label names that is that of a hypothesis before those of the table
+-- a label whose index is that of a viewed hypothesis means this hypothesis
 pub viewed_entries-entry : (S : Database) (at : ℕ) (labels : List Name) (positions : List ℕ) (table : List LabelEntry) (k p : ℕ) → AreEntries S at labels (map Hypothesis positions ++ table) → slice_get positions k ≡ Some p
     → IsEntry S at (get_or labels k []) (Hypothesis p)
 viewed_entries-entry S at labels positions table k p are there =
@@ -84,7 +84,7 @@ viewed_entries-entry S at labels positions table k p are there =
     get-front (map Hypothesis positions) table k Nothing (omega arith) ∙ (get_or-map Hypothesis positions k 0 Nothing within ∙ ap Hypothesis (get_or_from_slice_get positions k p 0 there)) in
     subst (IsEntry S at (get_or labels k [])) same (entry_at S at labels (map Hypothesis positions ++ table) k Nothing are (omega arith))
 
--- a number that is not zero is that after the one before it
+-- a number that is not 0 is the successor of the one before it
 pub suc_back : (n : ℕ) → (n ≡ 0 → ⊥) → n ≡ suc (n - 1)
 suc_back n h = omega (arith, h)
 
@@ -132,7 +132,7 @@ none-at : (ps : List ℕ) → list_any (λ p. false) ps ≡ false
 none-at [] = refl
 none-at (p ∷ ps) = none-at ps
 
--- the code looks for a position where the entry is a hypothesis, and nowhere else
+-- an entry is at one of the positions if and only if it is a hypothesis at one of them
 among : (ps : List ℕ) (e : LabelEntry) → list_any (λ p. is_at p e) ps ≡ is_hypothesis_among ps e
 among ps (Hypothesis i) = refl
 among ps (Assertion a) = none-at ps
@@ -143,20 +143,20 @@ pub label-among : (S : Database) (at : ℕ) (s : Stmt) (label : Name) (e : Label
 label-among S at s label e once p is =
     among-some S at label e (hypotheses (before S at) s) once is (mandatory-of S at s p) ∙ among (hypotheses (before S at) s) e
 
--- one more listed label
+-- with one more listed label, a mandatory label is listed if one was before or the new label means a mandatory hypothesis
 pub shared-more : (S : Database) (at : ℕ) (s : Stmt) (listed : List Name) (label : Name) (e : LabelEntry) → HasLabelsOnce S → IsProvable S at s → IsEntry S at label e
     → share_label (mandatory_labels S at s) (listed ++ label ∷ []) ≡ (share_label (mandatory_labels S at s) listed || is_hypothesis_among (hypotheses (before S at) s) e)
 shared-more S at s listed label e once p is =
     list_any-append (λ l. has_name l (mandatory_labels S at s)) listed (label ∷ [])
     ∙ ap (λ b. share_label (mandatory_labels S at s) listed || b) (or-false (has_name label (mandatory_labels S at s)) ∙ label-among S at s label e once p is)
 
--- ---- their positions rise
+-- ---- the positions of the hypotheses rise
 
 abbrev Rises : ℕ → List ℕ → Type 0
 Rises n [] = Unit {0}
 Rises n (p ∷ ps) = (n ≤ p) × Rises p ps
 
--- numbers that rise from a bound rise from a lower one
+-- numbers that rise from a bound rise from a smaller bound
 pub rises-less : (m n : ℕ) (ps : List ℕ) → m ≤ n → Rises n ps → Rises m ps
 rises-less m n [] h r = tt
 rises-less m n (p ∷ ps) h r = let a = r.0 in (omega (arith, h, a), r.1)
@@ -188,7 +188,7 @@ non-decreasing n (p ∷ ps) r (suc i) (suc j) d h less = non-decreasing p ps r.1
 pub hypotheses-rise : (S : Database) (s : Stmt) → IsNonDecreasing (hypotheses S s)
 hypotheses-rise S s = non-decreasing 1 (hypotheses S s) (rises-active (λ p. is_hypothesis S s p.1) 1 S)
 
--- what the search among them found
+-- a position that the search finds is in the list
 some-at : (ps : List ℕ) (x k : ℕ) → k < length ps → get_or ps k 0 ≡ x → list_any (λ p. p == x) ps ≡ true
 some-at [] x k h e = absurd (omega (arith, h))
 some-at (p ∷ ps) x zero h e = let t : (p == x) ≡ true = grind (arith, nat_tests) in ap (λ b. b || list_any (λ p. p == x) ps) t
@@ -238,11 +238,11 @@ module _ (S : Database) (at : ℕ) (words left : List Name) (n : ℕ) (old table
   word-left none = let l = length-drop n words in let e = ap length (added.rest ∙ none) in omega (arith, within, l, e)
 
   module _ (label : Name) (rest : List Name) (first : left ≡ label ∷ rest) where
-    -- the word at the index is the label that comes next
+    -- the word at the index is the next label, and the others follow it
     at_drop : slice_index_or words n [] ∷ drop (n + 1) words ≡ label ∷ rest
     at_drop = sym (drop_more words n [] within) ∙ (added.rest ∙ first)
 
-    -- one more word is taken, and it is that label
+    -- the first n + 1 words are the first n words and that label
     taken : take (n + 1) words ≡ take n words ++ label ∷ []
     taken = take_more words n [] within ∙ ap (λ l. take n words ++ l ∷ []) (let e = at_drop in let same : slice_index_or words n [] ≡ label = cc in same)
 

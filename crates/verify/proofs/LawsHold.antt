@@ -10,7 +10,7 @@ runs_spell S at items end e runs one =
     let p : Spelled S at items e end.weight = sound S at items end e runs one in
     record { tree = p.tree; after = p.after; spelled = p.spelled; concludes = p.concludes }
 
--- what is spelled runs from the empty stack to the one result that the derivation concludes
+-- items that spell a derivation run from the empty stack to its conclusion alone
 pub spellings_run : SpellingsRun
 spellings_run S at single items t after weight spelled =
     let r : Result S at single items t after weight [] = complete S at single spelled [] tt in
@@ -23,7 +23,7 @@ spellings_run S at single items t after weight spelled =
       weighs = omega arith;
     }
 
--- on legal statements two derivations with one spelling are equal
+-- among legal statements, two derivations that the same items spell are equal
 pub once : SpelledOnce
 once S at legal items t u after after' weight weight' p q =
     spelled_once S at (legal-labels S legal) [] after after' items t u weight weight' p q

@@ -19,7 +19,7 @@ between-middle front t rest more n e =
     ap (λ u. take n (drop (suc (length front)) u)) (append_assoc front (t ∷ rest) more ∙ sym (append_assoc front (t ∷ []) (rest ++ more)))
     ∙ (ap (take n) (drop_at (front ++ t ∷ []) (rest ++ more) (suc (length front)) (omega (arith, length_push front t))) ∙ take_at rest more n (sym e))
 
--- a mandatory hypothesis is an active one, and carries its label
+-- a mandatory hypothesis is active, and carries its label
 pub record IsMandatory (S : Database) (at p : ℕ) : Type 0 where
   pub stmt : Stmt
   pub carries : Carries S p stmt (label_or_none (stmt_at S p))

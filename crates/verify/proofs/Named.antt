@@ -1,4 +1,4 @@
--- Steps over codes are steps over the names that they stand for.
+-- Steps over numbers are steps over the names that they stand for.
 use Rattle.verify.proofs.Words.{◌≡◌, ℕ, zero, suc, ◌+◌, ◌-◌, ◌≤◌, Bool, true, false, IsTrue, List, [], ◌∷◌, ◌++◌, length, drop, get_or, replicate, slice_get, slice_set, refl, map, take, Some, option_map, sym, ◌∙◌, ap, arith, true≢false, subst, length-append, length-drop, length-map, take-append-drop, map_push, slice_get-map, AreBelow, AllBelow, Results, IsSaved, with_result, with_mark, Adds, below, top, Marks, Recalls, below-group, Name, Expr, Database, name_at, decode, Recall, Mark, named, AreNamed, StepsByNumber}
 use Rattle.verify.proofs.ResultPlaceLemmas.{results-same}
 
@@ -23,7 +23,7 @@ get-drop (suc n) k [] h = refl
 get-drop (suc n) zero (x ∷ xs) h = absurd (omega (arith, h))
 get-drop (suc n) (suc k) (x ∷ xs) h = ap (slice_get (drop n xs)) (let e : suc k - suc n ≡ k - n = omega arith in e) ∙ get-drop n k xs (omega (arith, h))
 
--- it is added, and nothing else changes
+-- pushing a result leaves the saved results unchanged
 pub saved-same : (old new : Results ℕ) (stack : List (List ℕ)) (e : List ℕ) (ok : Bool) → Adds ok old new stack e → IsTrue ok → new.saved ≡ old.saved
 saved-same old new stack e true adds t = ap (λ (st : Results ℕ). st.saved) adds
 saved-same old new stack e false adds t = absurd (true≢false (sym t))
@@ -100,7 +100,7 @@ module _ (names : List Name) where
         let e : [] ≡ p.0 ++ p.1 ∷ [] = ap (map (decode names)) (sym m) ∙ p.2 in
         absurd (omega (arith, ap length e, length-append p.0 (p.1 ∷ [])))
 
--- ---- codes with names are distinct if these are
+-- ---- an element of a list of lists of numbers with names
 
 pub all-at : (n k : ℕ) (es : List (List ℕ)) → AllBelow n es → AreBelow n (get_or es k [])
 all-at n k [] p = tt
@@ -109,7 +109,7 @@ all-at n (suc k) (e ∷ es) p = all-at n k es p.1
 
 -- ---- the citation of an assertion
 
--- the last r elements and those below them
+-- a list is the elements below its last r elements, followed by these
 pub halves : {A : Type 0} (r : ℕ) (xs : List A) → xs ≡ below r xs ++ top r xs
 halves r xs = sym (take-append-drop (length xs - r) xs)
 

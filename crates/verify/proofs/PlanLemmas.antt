@@ -1,4 +1,4 @@
--- Plans grow as trees do; how large their derivations are, and what a node stands for.
+-- A plan grows as a stack of derivations does; the extents of its derivations, and the derivation of a node.
 use Rattle.verify.proofs.Words.{◌≡◌, ℕ, zero, suc, ◌+◌, ◌-◌, ◌<◌, ◌≤◌, true, false, List, [], ◌∷◌, ◌++◌, length, map, take, drop, get_or, slice_get, Some, refl, min, max, Vec, sym, ◌∙◌, ap, subst, arith, length-append, append_assoc, length-map, take-map, map_push, take_more, take_all, take-append-drop, length-take-le, slice_get_within, Global, Database, AreBelow, Recall, Node, TreePlan, Derivation, hyp, from_list, node_count, nodes_in, depth, depth_in, apply, Trees, trees, with_tree, Grew, below, top, pick, derive, built_from, built, IsAfter, AreOrdered, trees_of, IsPlan, get-front, get-last, below-more, below-push, below-at, Extent, extent_of, Hyp, Apply}
 use Rattle.verify.proofs.ResultPlaceLemmas.{map-drop, get-map-some}
 
@@ -22,7 +22,7 @@ pub ordered-snoc : (k : ℕ) (ns : List Node) (n : Node) → AreOrdered k ns →
 ordered-snoc k [] n o h = (let e : k + 0 ≡ k = omega arith in subst (λ m. IsAfter m n) e h, tt)
 ordered-snoc k (m ∷ ns) n o h = (o.0, ordered-snoc (k + 1) ns n o.1 (let e : k + suc (length ns) ≡ k + 1 + length ns = omega arith in subst (λ j. IsAfter j n) e h))
 
--- ---- a node was added
+-- ---- a node is added
 
 pub added-plan : (old new : TreePlan) (n : Node) → IsPlan old → IsAfter (length old.nodes.items) n
     → new.nodes.items ≡ old.nodes.items ++ n ∷ [] → new.stack.items ≡ old.stack.items ++ length old.nodes.items ∷ [] → new.saved.items ≡ old.saved.items → IsPlan new
@@ -36,7 +36,7 @@ added-plan old new n is behind_kids nodes stack saved =
       saved_below = subst (AreBelow (length new.nodes.items)) (sym saved) (below-more _ _ old.saved.items longer is.saved_below);
     }
 
--- trees whose parts are the same
+-- states with equal stacks and equal saved derivations are equal
 pub trees-same : (a b c d : List Derivation) → a ≡ b → c ≡ d → trees a c ≡ trees b d
 trees-same a b c d p q = ap (λ v. trees v c) p ∙ ap (trees b) q
 
@@ -90,7 +90,7 @@ recalled-grew S at old new i k d lt at_i nodes stack saved =
           (ap (λ ns. map (pick (built ns)) new.saved.items) nodes ∙ ap (map (pick ts)) saved),
     )
 
--- nothing is saved there
+-- an index that is not below the count of saved nodes cannot be recalled
 pub not-saved : (S : Database) (at : ℕ) (old : TreePlan) (new : Trees) (i : ℕ) → length old.saved.items ≤ i → Grew false S at (trees_of old) (Recall (suc i)) new
 not-saved S at old new i h = λ next p.
     let ts = (trees_of old).saved in
@@ -117,7 +117,7 @@ depth_in-snoc : (ts : List Derivation) (t : Derivation) → depth_in (from_list 
 depth_in-snoc [] t = omega arith
 depth_in-snoc (u ∷ ts) t = let r = depth_in-snoc ts t in omega (arith, r)
 
--- what is known of a child
+-- the extent at the index of a child is that of its derivation
 pub child-extent : (extents : List Extent) (ts : List Derivation) (k : ℕ) (e : Extent) → extents ≡ map extent_of ts → slice_get extents k ≡ Some e → e ≡ extent_of (pick ts k)
 child-extent extents ts k e is h = at_place ts k (ap (λ v. slice_get v k) (sym is) ∙ h)
   where
@@ -156,7 +156,7 @@ pub so-far-end : (ts : List Derivation) (ks : List ℕ) (i nodes deep a : ℕ) (
     → (let e : Extent = record { nodes = nodes; depth = deep } in e) ≡ extent_of (derive ts n)
 so-far-end ts ks i nodes deep a children n far over same is = rw (is, far.counted, far.reached, take_all i ks over, same) refl
 
--- a node over those before it
+-- a node takes only nodes before it
 take-ordered : (k : ℕ) (ns : List Node) (i : ℕ) (d : Node) → AreOrdered k ns → i < length ns → IsAfter (k + i) (get_or ns i d)
 take-ordered k [] i d o h = absurd (omega (arith, h))
 take-ordered k (n ∷ ns) zero d o h = let e : k + 0 ≡ k = omega arith in subst (λ j. IsAfter j n) (sym e) o.0
@@ -178,7 +178,7 @@ pub measured-length : (ns : List Node) (i : ℕ) (extents : List Extent) → i �
 measured-length ns i extents h so =
     omega (arith, ap length so, length-map (built (take i ns)) extent_of, length-built' (take i ns), Rattle.std.proofs.lemmas.List.length-take-le i ns h)
 
--- nodes after others change nothing of them
+-- further nodes only append derivations
 built-grows : (ts : List Derivation) (ns : List Node) → (us : List Derivation) × (built_from ts ns ≡ ts ++ us)
 built-grows ts [] = ([], sym (Rattle.std.proofs.Common.append-nil ts))
 built-grows ts (n ∷ ns) = let r = built-grows (ts ++ derive ts n ∷ []) ns in (derive ts n ∷ r.0, r.1 ∙ append_assoc ts (derive ts n ∷ []) r.0)
@@ -192,7 +192,7 @@ built-front ns i =
     let r = built-grows (built (take i ns)) (drop i ns) in
     (r.0, ap built (sym (take-append-drop i ns)) ∙ (built-append [] (take i ns) (drop i ns) ∙ r.1))
 
--- a node stands for what it makes of the nodes before it
+-- the derivation at an index is the one that its node makes of the derivations before it
 pub picked : (ns : List Node) (i : ℕ) (d : Node) → i < length ns → pick (built ns) i ≡ derive (built (take i ns)) (get_or ns i d)
 picked ns i d h =
     let f = built-front ns (i + 1) in

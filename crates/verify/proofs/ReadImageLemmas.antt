@@ -1,4 +1,4 @@
--- Images read off results, one hypothesis after another, and results held against `$e`, by numbers and by names.
+-- Images are read from results, one hypothesis after another, and each `$e` is compared with its result.
 use Rattle.verify.proofs.Words.{◌≡◌, ℕ, zero, suc, ◌+◌, ◌-◌, ◌<◌, ◌≤◌, min, nat_eq, nat_lt, Bool, true, false, cond, List, [], ◌∷◌, length, map, take, drop, get_or, slice_get, Some, None, refl, ◌↔◌, IsTrue, sym, ◌∙◌, ap, subst, arith, true≢false, nat_tests, slice_get_within, slice_get-get_or, same_Some, drop_more, drop-take, drop-drop, typecode_of, code_image, applied, CodeImages, code_apply, images_of_names, SymbolRange, symbols_in, images_at, AreWithin, image-some, image-none, within-get, length-seen, Hypothesis, Float, Essential, AreDifferent, AreFloats, AreLeadingFloats, IsTyped, Reads, IsPresent, ArePresent, HypothesisMatches, tail_of, BeginsWith, IsMistyped, ReadTo, ReadsAll, some-same, decode-injective, Name, Stmt, Database, stmt_at, expr_of, decode, AreDistinct, AreBelow, AllBelow, expr_at, option_expr, AreOver, substitution_over_names, ◌^◌, lookup}
 use Rattle.verify.proofs.CitingLemmas.{get-decode, get-map-of}
 use Rattle.verify.proofs.Named.{all-at}
@@ -7,7 +7,7 @@ use Rattle.verify.proofs.ImageLemmas.{apply-below, are-codes}
 module _ (symbols typecodes : List ℕ) (hs : List Hypothesis) (places : List SymbolRange) (i : ℕ) where
   module _ (different : AreDifferent hs) (p : SymbolRange) (at_place : slice_get places i ≡ Some p) (x : ℕ) (kind : slice_get hs i ≡ Some (Float x)) (old new : List (ℕ × SymbolRange)) (r : ReadTo i symbols typecodes hs places old)
       (low : BeginsWith symbols (get_or typecodes i 0) p) (set : (y : ℕ) → lookup (nat_eq y) new ≡ cond (nat_eq y x) (Some (tail_of p)) (lookup (nat_eq y) old)) where
-    -- the variable that the test takes for x is x
+    -- a number that the test finds equal to x is x
     same_number : (y : ℕ) → nat_eq y x ≡ true → y ≡ x
     same_number y e = grind (arith, nat_tests, e)
 
@@ -33,14 +33,14 @@ module _ (symbols typecodes : List ℕ) (hs : List Hypothesis) (places : List Sy
     pub float-next : ReadTo (i + 1) symbols typecodes hs places new
     float-next = record { each = float-each; own = float-own }
 
-  -- a hypothesis that is no `$f`, or none
+  -- if the next hypothesis is no `$f`, or there is none, it adds no image
   pub other-next : ((x : ℕ) → slice_get hs i ≡ Some (Float x) → ⊥) → (images : List (ℕ × SymbolRange)) → ReadTo i symbols typecodes hs places images → ReadTo (i + 1) symbols typecodes hs places images
   other-next none images r = record {
     each = λ k x p h kind at. r.each k x p (let other : k ≡ i → ⊥ = λ one. none x (ap (slice_get hs) (sym one) ∙ kind) in omega (arith, h, other)) kind at;
     own = λ x free. r.own x (λ k h. free k (omega (arith, h)));
   }
 
-  -- after the `$f` that stand first
+  -- if the first i hypotheses are `$f` and the next is not, the next one adds no image
   pub front-next : (n : ℕ) → i < 2 ^ 64 → AreLeadingFloats hs i → n ≡ min (i + 1) (2 ^ 64 - 1) → (images : List (ℕ × SymbolRange)) → ReadTo i symbols typecodes hs places images → ReadTo n symbols typecodes hs places images
   front-next n low front is images r = split (nat_lt i n) refl
     where
@@ -75,7 +75,7 @@ floats-next hs k x at before j less = split (nat_lt j k) refl
 
 -- ---- places as lists of symbols
 
--- what stands after the first symbol, as a range of its own
+-- the range without its first symbol has the symbols without the first one
 tail-range : (xs : List ℕ) (p : SymbolRange) → p.start < p.end → symbols_in xs (tail_of p) ≡ drop 1 (symbols_in xs p)
 tail-range xs p low =
     let m = p.end - (p.start + 1) in
@@ -86,7 +86,7 @@ typecode-drop : (xs : List ℕ) (a n : ℕ) → a < length xs → 0 < n → type
 typecode-drop xs a zero h m = absurd (omega (arith, m))
 typecode-drop xs a (suc n) h m = ap (λ l. typecode_of (take (suc n) l)) (drop_more xs a 0 h)
 
--- the symbols at a place, and the list of them
+-- if the symbols at a place begin with a typecode, so does their list
 begun-typed : (symbols : List ℕ) (typecode : ℕ) (p : SymbolRange) → p.end ≤ length symbols → BeginsWith symbols typecode p → IsTyped typecode (symbols_in symbols p)
 begun-typed symbols typecode p high b =
     let low = b.0 in
@@ -137,7 +137,7 @@ standing-at S [] k h a e = absurd (cc)
 standing-at S (x ∷ hs) zero h a e = subst (IsPresent S) (same_Some x h e) a.0
 standing-at S (x ∷ hs) (suc k) h a e = standing-at S hs k h a.1 e
 
--- the comparison that is made for a `$e`
+-- the comparison of numbers for a `$e` decides whether its result matches by name
 pub fits-essential : (S : Database) (names : List Name) (hs : List Hypothesis) (rs : List (List ℕ)) (ρ ρ' : CodeImages) (k q : ℕ) (r e : List ℕ) (b : Bool) → AreDistinct names → ArePresent S hs → slice_get hs k ≡ Some (Essential q)
     → ((s : Stmt) → stmt_at S q ≡ Some s → decode names e ≡ expr_of s) → AreBelow (length names) e → AreOver names ρ → AllBelow (length names) rs → ρ' ≡ ρ → r ≡ get_or rs k [] → IsTrue b ↔ (r ≡ code_apply ρ' e)
     → IsTrue b ↔ HypothesisMatches S (images_of_names names ρ) (Essential q) (get_or (map (decode names) rs) k [])
@@ -147,7 +147,7 @@ fits-essential S names hs rs ρ ρ' k q r e b distinct standing at same below ov
     (essential-iff S names ρ q s.0 r e b distinct s.1 (same s.0 s.1) below over (subst (AreBelow (length names)) (sym here) (all-at (length names) k rs low))
     (subst (λ σ. IsTrue b ↔ (r ≡ code_apply σ e)) images h))
 
--- what holds of the first k hypotheses, and of one more
+-- a property of the first k hypotheses and of the next one holds of the first k + 1
 pub one-more : (P : ℕ → Hypothesis → Type 0) (hs : List Hypothesis) (k : ℕ) (here : Hypothesis) → slice_get hs k ≡ Some here → ((j : ℕ) (h : Hypothesis) → j < k → slice_get hs j ≡ Some h → P j h) → P k here
     → (j : ℕ) (h : Hypothesis) → j < k + 1 → slice_get hs j ≡ Some h → P j h
 one-more P hs k here there before holds j h less at = split (nat_lt j k) refl

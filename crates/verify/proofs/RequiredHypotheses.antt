@@ -1,8 +1,8 @@
--- The mandatory hypotheses of an assertion, one place at a time.
+-- The mandatory hypotheses of an assertion, one at a time.
 use Rattle.verify.proofs.Words.{◌≡◌, ℕ, zero, suc, ◌<◌, Bool, true, false, nat_eq, List, [], ◌∷◌, length, slice_get, Some, ◌⊎◌, refl, sym, ◌∙◌, ap, subst, arith, inl, inr, nat_tests, slice_get_within, Name, Stmt, Expr, Database, stmt_at, before, expr_of, name_at, hypotheses, Hypothesis, Float, Essential, IsBound, IsTypecode, IsOf, IsRequired, AreRequired, AreDifferent, IsPresent, ArePresent, some-same}
 use Rattle.mm_read.specs.declared.stmt.Stmt.TheVariants as stmt
 
--- ---- one place
+-- ---- one hypothesis
 
 pub record At (S : Database) (names : List Name) (ps typecodes : List ℕ) (hs : List Hypothesis) (k : ℕ) : Type 0 where
   pub position : ℕ
@@ -27,7 +27,7 @@ module _ (S : Database) (names : List Name) where
       record { position = r.position; typecode = r.typecode; hypothesis = r.hypothesis; listed = r.listed; first = r.first; kind = r.kind; required = r.required }
   required-at ps typecodes hs k a h = absurd a
 
-  -- what stands at a `$f`, and at a `$e`
+  -- the statement at the position of a `$f`, and that at the position of a `$e`
   pub record FloatAt (p typecode x : ℕ) : Type 0 where
     pub label : Name
     pub constant : Name
@@ -58,7 +58,7 @@ module _ (S : Database) (names : List Name) where
       by (stmt.Ess l e) stands first is = record { label = l; expr = e; stands = stands; same = is; first = first }
       by r stands first is = absurd is
 
-  -- the number of the variable of a `$f`
+  -- a `$f` is required as a `Float` with the number of its variable
   pub float-number : (p typecode : ℕ) (h : Hypothesis) (l c v : Name) → IsRequired S names p typecode h → stmt_at S p ≡ Some (stmt.Float l c v)
       → (x : ℕ) × (h ≡ Float x) × (x < length names) × (name_at names x ≡ v)
   float-number p typecode (Float x) l c v a stands =
@@ -79,7 +79,7 @@ module _ (S : Database) (names : List Name) where
       one (Essential q) a = let f = essential-at p c q a in (stmt.Ess f.label f.expr, ap (stmt_at S) f.same ∙ f.stands)
   required-standing ps typecodes hs a = absurd a
 
-  -- the `$f` are of different variables
+  -- the mandatory `$f` are of different variables
   pub required-different : (a : ℕ) (s : Stmt) (typecodes : List ℕ) (hs : List Hypothesis) → IsBound S a s → AreRequired S names (hypotheses (before S a) s) typecodes hs → AreDifferent hs
   required-different a s typecodes hs bound required = record { each = λ j k x p q. one j k x p q }
     where
@@ -95,7 +95,7 @@ module _ (S : Database) (names : List Name) where
           bound.once j k ja.position ka.position f.label f.constant g.label g.constant f.variable ja.listed ka.listed f.stands
           (g.stands ∙ ap (λ v. Some (stmt.Float g.label g.constant v)) (sym g.named ∙ f.named))
 
--- a number is the variable of some `$f`, or of none
+-- a number is the variable of some `$f`, or of no `$f`
 pub float-find : (hs : List Hypothesis) (x : ℕ) → ((k : ℕ) × (slice_get hs k ≡ Some (Float x))) ⊎ ((k : ℕ) → slice_get hs k ≡ Some (Float x) → ⊥)
 float-find [] x = inr (λ k h. cc)
 float-find (Essential q ∷ hs) x = on (float-find hs x)

@@ -1,4 +1,4 @@
--- Results in a buffer that grows.
+-- Results as ranges of a buffer that grows.
 use Rattle.verify.proofs.Words.{◌≡◌, ℕ, zero, suc, ◌+◌, ◌-◌, ◌<◌, ◌≤◌, List, [], ◌∷◌, ◌++◌, length, map, take, drop, get_or, replicate, slice_get, slice_set, Some, refl, option_map, sym, ◌∙◌, ap, subst, append_assoc, arith, length-append, length-drop, length-map, map-set, take-map, drop-map, map_push, take_rest, slice_get-map, slice_get-get_or, get_or_from_slice_get, SymbolRange, symbols_in, AreWithin, AreInside, map-seen-more, within-weaken, within-snoc, within-take, within-drop, within-get, within-at, seen-get, length-seen, seen-last, inside-more, inside-none, Results, with_result, IsSaved, seen, AreKept, Keeps, below, top, weight_limit, get-last}
 
 pub map-drop : {A B : Type 0} (f : A → B) (k : ℕ) (xs : List A) → map f (drop k xs) ≡ drop k (map f xs)
@@ -9,7 +9,7 @@ results-same {A} a b c d w v p q r =
     let f : List (List A) → List (List A) → ℕ → Results A = λ s t n. record { stack = s; saved = t; weight = n } in
     ap (λ s. f s c w) p ∙ (ap (λ t. f b t w) q ∙ ap (λ n. f b d n) r)
 
--- the buffer grew, and the weight with it
+-- the ranges stay within the buffer and the limit when the buffer and the weight grow by the same symbols
 pub grown-kept : (xs ys zs : List ℕ) (images : List (ℕ × SymbolRange)) (stack saved : List SymbolRange) (w v : ℕ) → AreKept xs images stack saved w → zs ≡ xs ++ ys → v ≡ w + length ys → v ≤ weight_limit → AreKept zs images stack saved v
 grown-kept xs ys zs images stack saved w v k e weighs light =
     let longer : length xs ≤ length zs = omega (arith, ap length e, length-append xs ys) in
@@ -22,18 +22,18 @@ grown-kept xs ys zs images stack saved w v k e weighs light =
       light = light;
     }
 
--- after the symbols over which a cache was filled
+-- the buffer still begins with the symbols that it had when the cache was filled
 pub recorded-more : (over xs ys zs : List ℕ) → (more : List ℕ) × (xs ≡ over ++ more) → zs ≡ xs ++ ys → (more : List ℕ) × (zs ≡ over ++ more)
 recorded-more over xs ys zs recorded e = (recorded.0 ++ ys, e ∙ (ap (λ v. v ++ ys) recorded.1 ∙ append_assoc over recorded.0 ys))
 
 pub recorded-none : (over xs : List ℕ) → over ≡ [] → (more : List ℕ) × (xs ≡ over ++ more)
 recorded-none over xs e = (xs, ap (λ v. v ++ xs) (sym e))
 
--- the place of what was written at its end
+-- the range of the appended symbols lies within the buffer
 pub new-place : (xs ys zs : List ℕ) (p : SymbolRange) → zs ≡ xs ++ ys → p.start ≡ length xs → p.end ≡ length zs → (p.start ≤ p.end) × (p.end ≤ length zs)
 new-place xs ys zs p e low high = (omega (arith, ap length e, length-append xs ys, low, high), omega (arith, high))
 
--- a place on top
+-- a range within the buffer is pushed on the stack
 pub pushed-kept : (xs : List ℕ) (images : List (ℕ × SymbolRange)) (stack saved stack' : List SymbolRange) (w : ℕ) (p : SymbolRange) → AreKept xs images stack saved w → (p.start ≤ p.end) × (p.end ≤ length xs) → stack' ≡ stack ++ p ∷ []
     → AreKept xs images stack' saved w
 pushed-kept xs images stack saved stack' w p k b whole =
@@ -50,7 +50,7 @@ added-seen xs ys zs stack rest saved stack' w v p k r e low high whole weighs =
     (ap (λ s. map (symbols_in s) saved) e ∙ map-seen-more xs ys saved k)
     weighs
 
--- ---- a place that is changed
+-- ---- a range is replaced
 
 within-set : (n k : ℕ) (ps : List SymbolRange) (p : SymbolRange) → AreWithin n ps → p.start ≤ p.end → p.end ≤ n → AreWithin n (slice_set ps k p)
 within-set n k [] p w low high = tt
@@ -72,7 +72,7 @@ keep-seen xs stack saved saved' w label p last set = λ rest e split.
     results-same (map (symbols_in xs) stack) (map (symbols_in xs) stack) (map (symbols_in xs) saved') (slice_set (map (symbols_in xs) saved) label e) w w refl
     (ap (map (symbols_in xs)) set ∙ (map-set (symbols_in xs) saved label p ∙ ap (slice_set (map (symbols_in xs) saved) label) same)) refl
 
--- ---- marked and recalled
+-- ---- marks and recalls
 
 pub kept-mark : (xs : List ℕ) (images : List (ℕ × SymbolRange)) (stack saved saved' : List SymbolRange) (w : ℕ) (p : SymbolRange) (k : ℕ) → AreKept xs images stack saved w → slice_get stack k ≡ Some p → saved' ≡ saved ++ p ∷ []
     → AreKept xs images stack saved' w
@@ -80,7 +80,7 @@ kept-mark xs images stack saved saved' w p k a h e =
     let b = within-get (length xs) k stack p a.stack_within h in
     record { images_inside = a.images_inside; stack_within = a.stack_within; saved_within = subst (AreWithin (length xs)) (sym e) (within-snoc (length xs) saved p a.saved_within b.0 b.1); few = a.few; light = a.light }
 
--- a saved place lies among the symbols
+-- a saved range lies within the symbols
 pub saved-at : (n k : ℕ) (ps : List SymbolRange) (p d : SymbolRange) → AreWithin n ps → k < length ps → p ≡ get_or ps k d → (p.start ≤ p.end) × (p.end ≤ n)
 saved-at n k ps p d w less at = subst (λ q. (q.start ≤ q.end) × (q.end ≤ n)) (sym at) (within-at n k ps d w less)
 
@@ -98,7 +98,7 @@ get-map f (x ∷ xs) (suc k) y h d = get-map f xs k y h d
 pub get-map-some : {A B : Type 0} (f : A → B) (xs : List A) (k : ℕ) (d : A) → k < length xs → slice_get (map f xs) k ≡ Some (f (get_or xs k d))
 get-map-some f xs k d h = slice_get-map f xs k ∙ ap (option_map f) (slice_get-get_or xs k d h)
 
--- a saved result by its index
+-- pushing the saved range at an index recalls the saved result
 pub recall-seen : (xs : List ℕ) (stack stack' saved : List SymbolRange) (w v k : ℕ) (d p : SymbolRange) → AreWithin (length xs) saved → k < length saved → p ≡ get_or saved k d
     → stack' ≡ stack ++ p ∷ [] → v ≡ w + (p.end - p.start) → (e : List ℕ) × IsSaved (map (symbols_in xs) saved) (suc k) e × (seen xs stack' saved v ≡ with_result (seen xs stack saved w) (map (symbols_in xs) stack) e)
 recall-seen xs stack stack' saved w v k d p a less at whole weighs =
@@ -110,7 +110,7 @@ recall-seen xs stack stack' saved w v k d p a less at whole weighs =
           (ap (map (symbols_in xs)) whole ∙ map_push (symbols_in xs) stack p) refl (weighs ∙ ap (λ n. w + n) (sym len)),
     )
 
--- a saved result that is too heavy
+-- if a saved range is longer than the rest of the limit, its result is too heavy to be recalled
 pub recall-heavy : (xs : List ℕ) (saved : List SymbolRange) (w k : ℕ) (d p : SymbolRange) → AreWithin (length xs) saved → w ≤ weight_limit → k < length saved → p ≡ get_or saved k d
     → weight_limit - w < p.end - p.start → (e : List ℕ) → IsSaved (map (symbols_in xs) saved) (suc k) e → weight_limit < w + length e
 recall-heavy xs saved w k d p a light less at heavy e h =
@@ -119,14 +119,14 @@ recall-heavy xs saved w k d p a light less at heavy e h =
     let same : e ≡ symbols_in xs p = get-map (symbols_in xs) saved k e h d ∙ ap (symbols_in xs) (sym at) in
     omega (arith, ap length same, len, heavy, light)
 
--- what is saved at an index has symbols where its place has
+-- if the saved range at an index is not empty, the saved result has symbols
 pub some-saved : (xs : List ℕ) (saved : List SymbolRange) (k : ℕ) (p d : SymbolRange) → AreWithin (length xs) saved → k < length saved → p ≡ get_or saved k d → p.start < p.end → 0 < length (get_or (map (symbols_in xs) saved) k [])
 some-saved xs saved k p d a within at less =
     let b = within-at (length xs) k saved d a within in
     let more : (get_or saved k d).start < (get_or saved k d).end = subst (λ r. r.start < r.end) at less in
     omega (arith, length-seen xs (get_or saved k d) b.0 b.1, more, ap length (seen-get xs k saved d within))
 
--- places of no symbols
+-- empty ranges lie within any buffer
 pub within-none : (n m : ℕ) → AreWithin m (replicate n (let p : SymbolRange = record { start = 0; end = 0 } in p))
 within-none zero m = tt
 within-none (suc n) m = (omega arith, omega arith, within-none n m)
@@ -162,7 +162,7 @@ started-seen xs n stack saved e f g =
 
 -- ---- the last results
 
--- the places of the last r results
+-- there are r places of the last r results
 pub last-count : {A : Type 0} (k r : ℕ) (s : List A) → r ≤ length s → k ≡ length s - r → length (take (length s - k) (drop k s)) ≡ r
 last-count k r s h e = let a = ap length (take_rest s k) in let b = length-drop k s in omega (arith, a, b, h, e)
 
@@ -171,14 +171,14 @@ last-seen xs k r s e =
     ap (map (symbols_in xs)) (take_rest s k) ∙ (map-drop (symbols_in xs) k s
     ∙ ap (λ n. drop n (map (symbols_in xs) s)) (e ∙ ap (λ n. n - r) (sym (length-map s (symbols_in xs)))))
 
--- the same, for a copy of the places
+-- the same for a copy of the places
 pub seen_eq : (xs : List ℕ) (s e : List SymbolRange) (all : List (List ℕ)) (k r : ℕ) → e ≡ s → map (symbols_in xs) s ≡ all → k ≡ length s - r → map (symbols_in xs) (take (length e - k) (drop k e)) ≡ top r all
 seen_eq xs s e all k r q v l = ap (λ w. map (symbols_in xs) (take (length w - k) (drop k w))) q ∙ (last-seen xs k r s l ∙ ap (top r) v)
 
 pub last-within : (n k : ℕ) (s : List SymbolRange) → AreWithin n s → AreWithin n (take (length s - k) (drop k s))
 last-within n k s w = within-take n (length s - k) (drop k s) (within-drop n k s w)
 
--- one of the last r places, in a copy of the places
+-- each of the last r places, in a copy of the places, lies within the buffer and has the symbols of its result
 pub seen_place : (xs : List ℕ) (s e : List SymbolRange) (all : List (List ℕ)) (k r i : ℕ) (d : SymbolRange) → e ≡ s → map (symbols_in xs) s ≡ all → k ≡ length s - r → r ≤ length all → i < r → AreWithin (length xs) s
     → (let p : SymbolRange = get_or (take (length e - k) (drop k e)) i d in ((p.start ≤ p.end) × (p.end ≤ length xs)) × (symbols_in xs p ≡ get_or (top r all) i []))
 seen_place xs s e all k r i d q v l h less w =
@@ -206,6 +206,6 @@ apply-seen xs ys zs images stack saved stack' w v k r p a at e low high whole we
     added-seen xs ys zs stack (take k stack) saved stack' w v p a.saved_within (within-take (length xs) k stack a.stack_within) e low high whole weighs
     ∙ ap (λ b. with_result (seen xs stack saved w) b ys) (sym (take-map (symbols_in xs) k stack) ∙ ap (λ n. take n (map (symbols_in xs) stack)) (at ∙ ap (λ n. n - r) (sym (length-map stack (symbols_in xs)))))
 
--- other images
+-- other images within the buffer
 pub kept-read : (xs : List ℕ) (images images' : List (ℕ × SymbolRange)) (stack saved : List SymbolRange) (w : ℕ) → AreKept xs images stack saved w → AreInside (length xs) images' → AreKept xs images' stack saved w
 kept-read xs images images' stack saved w a inside = record { images_inside = inside; stack_within = a.stack_within; saved_within = a.saved_within; few = a.few; light = a.light }

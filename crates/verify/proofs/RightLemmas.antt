@@ -1,14 +1,14 @@
--- What is answered of a right proof, and of a compressed proof that was read.
+-- The answers for a right proof, and for a compressed proof that was read.
 use Rattle.verify.proofs.Words.{◌≡◌, ℕ, ◌≤◌, ◌<◌, ◌↔◌, min, List, [], length, map, get_or, Some, Result, Ok, Err, IfOk, refl, option_map, Bool, true, false, not, ◌∷◌, ◌++◌, take, sym, ◌∙◌, ap, subst, arith, inl, inr, true≢false, length-map, take_at, slice_get-get_or, not-false, not-true, Database, Stmt, HasLabelsOnce, Item, Extent, Node, TreePlan, Derivation, node_count, depth, IsRight, Derives, IsSmall, IsProvable, IsAnswerTo, trees, GrowsBy, pick, built, trees_of, IsPlan, extent_of, below-at, bare, bares, stmt_at, is_provable, before, stmt_at-bares, Name, hypotheses, items_of, share_label, IsHeading, label_or_none, mandatory_labels, Proves, some-same, bare-same, is_compressed, finish, Writes, WritesCompressed, compressed_finished, one_list, Answer, Proved, Wrong}
 use Rattle.verify.specs.declared.answer.TreeFault.TheVariants.{Wrong}
 use Rattle.verify.proofs.GrowthLemmas.{spelled_once, leaves, only-number}
 use Rattle.verify.proofs.PlanLemmas.{length-built', child-extent}
 
--- the items spell one derivation
+-- items derive at most one derivation
 pub derives-same : (S : Database) (at : ℕ) → HasLabelsOnce S → (items : List Item) (t u : Derivation) → Derives S at items t → Derives S at items u → t ≡ u
 derives-same S at once items t u p q = spelled_once S at once [] p.after q.after items t u p.weight q.weight p.spelled q.spelled
 
--- the number of the derivation that is left
+-- the number of the derivation that is left on the stack
 pub record IsRoot (S : Database) (at : ℕ) (items : List Item) (p : TreePlan) (root : ℕ) : Type 0 where
   pub tree : Derivation
   pub derives : Derives S at items tree
@@ -20,7 +20,7 @@ some-number S at once items p right grown =
     let l = leaves S at once items (trees_of p) right grown in
     (only-number (pick (built p.nodes.items)) p.stack.items l.0 l.2).0
 
--- the one number on the stack is that of the derivation spelled
+-- the first number on the stack is that of the derivation that right items spell
 pub root : (S : Database) (at : ℕ) → HasLabelsOnce S → (items : List Item) (p : TreePlan) (k d : ℕ) → IsRight S at items → IsPlan p → GrowsBy S at (trees [] []) items (trees_of p) → k ≡ get_or p.stack.items 0 d → IsRoot S at items p k
 root S at once items p k d right is grown at_root =
     let l = leaves S at once items (trees_of p) right grown in
@@ -35,7 +35,7 @@ root S at once items p k d right is grown at_root =
 pub extents-length : (ns : List Node) (extents : List Extent) → extents ≡ map extent_of (built ns) → length extents ≡ length ns
 extents-length ns extents e = let a = ap length e in let b = length-map (built ns) extent_of in let c = length-built' ns in omega (arith, a, b, c)
 
--- what its extent says of the derivation that is left
+-- the derivation that is left is small if and only if its extent is within the limits
 pub root-small : (S : Database) (at : ℕ) (items : List Item) (p : TreePlan) (ns : List Node) (extents : List Extent) (k : ℕ) (e : Extent) (r : IsRoot S at items p k) → ns ≡ p.nodes.items → extents ≡ map extent_of (built ns)
     → e ≡ get_or extents k e → IsSmall r.tree ↔ ((e.nodes ≤ 65536) × (e.depth ≤ 1024))
 root-small S at items p ns extents k e r same are at_root =
@@ -45,7 +45,7 @@ root-small S at items p ns extents k e r same are at_root =
     let d : e.depth ≡ min (depth r.tree) 1025 = ap (λ v. v.depth) is in
     (λ h. (omega (arith, n, h.0), omega (arith, d, h.1)), λ h. (omega (arith, n, h.0), omega (arith, d, h.1)))
 
--- a `$p` stands among the statements without their proofs
+-- a `$p` is still a `$p` among the statements without their proofs
 pub provable-bare : (S F : Database) (at : ℕ) (s : Stmt) → F ≡ bares S → IsProvable S at s → IsProvable F at (bare s)
 provable-bare S F at s same p = record {
   stands = ap (λ U. stmt_at U at) same ∙ (stmt_at-bares S at ∙ ap (option_map bare) p.stands);
@@ -59,11 +59,11 @@ module _ (S : Database) (at : ℕ) (s : Stmt) (tokens : List Name) (provable : I
   written-of : (p : Proves S at tokens) → Writes tokens (mandatory_labels S at s) p.items
   written-of p = subst (λ t. Writes tokens (mandatory_labels S at t) p.items) (some-same p.provable.stands provable.stands) p.written
 
-  -- as many mandatory labels as mandatory hypotheses
+  -- there are as many mandatory labels as mandatory hypotheses
   pub many : (hs : List ℕ) → hs ≡ hypotheses (before S at) s → length (mandatory_labels S at s) ≡ length hs
   many hs are = length-map (hypotheses (before S at) s) (λ i. label_or_none (stmt_at S i)) ∙ ap length (sym are)
 
-  -- tokens that write nothing under so many mandatory labels
+  -- tokens that write no items under any list of so many labels do not prove the statement
   pub unwritten : (hs : List ℕ) → hs ≡ hypotheses (before S at) s → ((labels : List Name) → length labels ≡ length hs → (items : List Item) → WritesCompressed tokens labels items → ⊥) → Proves S at tokens → ⊥
   unwritten hs are none p = none (mandatory_labels S at s) (many hs are) p.items (written-by p.items (written-of p))
 
@@ -71,12 +71,12 @@ module _ (S : Database) (at : ℕ) (s : Stmt) (tokens : List Name) (provable : I
     listed-is : take count words ≡ heading.listed
     listed-is = ap (take count) heading.whole ∙ take_at heading.listed (finish ∷ heading.rest) count heading.many
 
-    -- a mandatory label is listed
+    -- if a mandatory label is listed, the tokens do not prove the statement
     pub one-listed : (b : Bool) → b ≡ false → b ≡ not (share_label (mandatory_labels S at s) (take count words)) → Proves S at tokens → ⊥
     one-listed b e is p =
         heading.shared (mandatory_labels S at s) (ap (share_label (mandatory_labels S at s)) (sym listed-is) ∙ not-false (share_label (mandatory_labels S at s) (take count words)) (sym is ∙ e)) p.items (written-by p.items (written-of p))
 
-    -- none is: the items of the numbers decide
+    -- if no mandatory label is listed, the items of the numbers decide
     pub read-proves : {E : Type 0} (b : Bool) → b ≡ true → b ≡ not (share_label (mandatory_labels S at s) (take count words)) → length (mandatory_labels S at s) ≡ m
         → (r : Result Answer E) → IfOk r (λ answer. IsAnswerTo answer (IsRight S at (items_of (mandatory_labels S at s ++ take count words) numbers)))
         → IfOk r (λ answer. IsAnswerTo answer (Proves S at tokens))

@@ -1,4 +1,4 @@
--- The worked proofs, found by computation.
+-- The worked proofs, checked by computation.
 use Rattle.verify.proofs.Words.{◌≡◌, ℕ, List, [], ◌∷◌, ◌++◌, codes, refl, true, map, is_some, is_none, Option, Some, None, Open, Const, Var, Disj, Axiom, Prove, Database, bares, before, Item, Cite, Recall, Mark, IsRight, String, w, demo, row_seven, row_th}
 use Rattle.mm_read.specs.declared.stmt.Stmt.TheVariants.{Float}
 use Rattle.verify.proofs.Computed.{prove, found}
@@ -6,7 +6,7 @@ use Rattle.verify.proofs.Computed.{prove, found}
 abbrev cites : String → List Item
 cites text = map (λ l. Cite l) (w (codes text))
 
--- row 4: both images are put in at once
+-- row 4: both images are substituted at once
 abbrev swapped : Database
 swapped =
     Const (w (codes "|- R wff"))
@@ -25,11 +25,11 @@ row_five : IsRight (Const (w (codes "wff |- ( )")) ∷ Var (w (codes "x")) ∷ F
     ∷ Axiom (codes "ax") (w (codes "|- ( x )")) ∷ Prove (codes "th") (w (codes "|- ( )")) [] ∷ []) 6 (cites "we ax")
 row_five = found (prove _ 6 (cites "we ax")) refl
 
--- row 7: z is a dummy
+-- row 7: z is a dummy variable
 row_seven_right : IsRight (row_seven ++ row_th ∷ []) 16 (cites "wx wz wx wz ax r")
 row_seven_right = found (prove _ 16 (cites "wx wz wx wz ax r")) refl
 
--- the first wrong body: two results left over are no proof
+-- a proof that leaves two results is wrong
 two_left : is_none (prove (Const (w (codes "|- o")) ∷ Axiom (codes "a") (w (codes "|- o")) ∷ Prove (codes "th") (w (codes "|- o")) [] ∷ []) 3 (cites "a a")) ≡ true
 two_left = refl
 
@@ -46,27 +46,27 @@ demo_normal_weight = refl
 abbrev demo_packed : List Item
 demo_packed = cites "tt tze tpl" ++ Mark ∷ (cites "tt weq" ++ Mark ∷ (cites "tt tt weq" ++ Mark ∷ (cites "tt a2" ++ Mark ∷ Recall 2 ∷ Recall 2 ∷ Recall 3 ∷ (cites "wim" ++ Recall 4 ∷ Recall 1 ∷ cites "tt tt a1 mp mp"))))
 
--- with marks the same derivation weighs 132
+-- with marks a proof of the same theorem weighs 132
 demo_packed_weight : weighed (prove (bares demo) 19 demo_packed) ≡ 132
 demo_packed_weight = refl
 
--- row 6: nothing makes x and z disjoint at the theorem, and then a `$d` does
+-- row 6: without a `$d` of x and z at the theorem the proof is wrong
 row_six_open : is_none (prove (before row_seven 10 ++ Prove (codes "th") (w (codes "|- x R z")) [] ∷ []) 10 (cites "wx wz ax")) ≡ true
 row_six_open = refl
 
--- with a `$d` of x and z in a block at the theorem
+-- with a `$d` of x and z in a block at the theorem the proof is right
 row_six_kept : is_some (prove (before row_seven 10 ++ Open ∷ Disj (w (codes "x z")) ∷ Prove (codes "th") (w (codes "|- x R z")) [] ∷ []) 12 (cites "wx wz ax")) ≡ true
 row_six_kept = refl
 
--- which is no use where both images have x
+-- the `$d` does not help if both images have x
 row_six_same : is_none (prove (before row_seven 10 ++ Open ∷ Disj (w (codes "x z")) ∷ Prove (codes "th") (w (codes "|- x R x")) [] ∷ []) 12 (cites "wx wx ax")) ≡ true
 row_six_same = refl
 
--- row 7 with `th` alone: the closed block's `$d` is no use
+-- row 7 with `th` alone: the `$d` of the closed block does not help
 row_seven_alone : is_none (prove (before row_seven 14 ++ Prove (codes "th") (w (codes "|- R x")) [] ∷ []) 14 (cites "wx wz wx wz ax r")) ≡ true
 row_seven_alone = refl
 
--- row 4 with the other theorem, and a proof that cites itself
+-- row 4 with `|- x R x` as the theorem: the proof is wrong
 row_four_wrong : is_none (prove (before swapped 6 ++ Prove (codes "th") (w (codes "|- x R x")) [] ∷ []) 6 (cites "wy wx ax")) ≡ true
 row_four_wrong = refl
 

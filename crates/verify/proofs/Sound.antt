@@ -9,13 +9,13 @@ module _ (S : Database) (at : ℕ) where
 
   -- ---- derivations one after the other
 
-  -- after the marked derivations, the items spell derivations of these expressions
+  -- with the first derivations marked, the items spell derivations of these expressions
   pub record Stacked (marked : List Derivation) (items : List Item) (es : List Expr) (after : List Derivation) (weight : ℕ) : Type 0 where
     pub children : Derivations
     pub spelled : SpellsAll S at marked items children after weight
     pub concluded : ConcludeAll S at children es
 
-  -- one more derivation, appended
+  -- one more derivation is appended
   pushed : {marked between after : List Derivation} {front more_items : List Item} {t : Derivation} {front_weight more_weight : ℕ} (children : Derivations) (below : List Expr) (e : Expr) (items : List Item) (weight : ℕ)
       → SpellsAll S at marked front children between front_weight → ConcludeAll S at children below → Spells S at between more_items t after more_weight → Concludes S at t e
       → items ≡ front ++ more_items → weight ≡ front_weight + more_weight → Stacked marked items (below ++ e ∷ []) after weight
@@ -47,7 +47,7 @@ module _ (S : Database) (at : ℕ) where
     pub whole : items ≡ front ++ rest
     pub weighs : weight ≡ front_weight + rest_weight
 
-  -- the items can be cut before the derivations of the last expressions
+  -- the items can be split before those that spell the derivations of the last expressions
   cut : {marked after : List Derivation} {items : List Item} {weight : ℕ} (children : Derivations) (below tops : List Expr)
       → SpellsAll S at marked items children after weight → ConcludeAll S at children (below ++ tops) → Cut marked items below tops after weight
   cut {marked} {items = items} {weight = weight} children [] tops all p =
@@ -77,7 +77,7 @@ module _ (S : Database) (at : ℕ) where
         weighs = r ∙ (ap (λ w. first_weight + w) c.weighs ∙ sym (add_assoc first_weight c.front_weight c.rest_weight));
       }
 
-  -- the one derivation of one expression
+  -- derivations of a list of one expression are one derivation
   one_of : {marked after : List Derivation} {items : List Item} {weight : ℕ} (children : Derivations) (e : Expr) → SpellsAll S at marked items children after weight → ConcludeAll S at children (e ∷ [])
       → (t : Derivation) × Spells S at marked items t after weight × Concludes S at t e
   one_of none e all p = absurd p
@@ -88,13 +88,13 @@ module _ (S : Database) (at : ℕ) where
     p.0,
   )
 
-  -- one more derivation that was saved, with its conclusion
+  -- a derivation is saved, and its conclusion at the same index
   pub conclude_snoc : (ts : List Derivation) (t : Derivation) (es : List Expr) (e : Expr) → AllConclude ts es → Concludes S at t e → AllConclude (ts ++ t ∷ []) (es ++ e ∷ [])
   conclude_snoc [] t [] e p q = (q, tt)
   conclude_snoc (y ∷ ts) t (x ∷ es) e p q = (p.0, conclude_snoc ts t es e p.1 q)
   conclude_snoc ts t es e p q = absurd p
 
-  -- the derivation that a saved result has
+  -- if a result was saved, its derivation was saved at the same index
   pub saved_derivation : (ts : List Derivation) (es : List Expr) (k : ℕ) (e : Expr) → AllConclude ts es → slice_get es k ≡ Some e
       → (t : Derivation) × (slice_get ts k ≡ Some t) × Concludes S at t e
   saved_derivation [] [] k e p h = cc
@@ -109,18 +109,18 @@ module _ (S : Database) (at : ℕ) where
     pub stacked : Stacked [] items st.stack marked st.weight
     pub kept : AllConclude marked st.saved
 
-  -- the items before the last results
+  -- the items can be split before those that spell the last results
   backed_cut : (items : List Item) (st : State) (b : Backed items st) (below tops : List Expr) → st.stack ≡ below ++ tops → Cut [] items below tops b.marked st.weight
   backed_cut items st b below tops whole = cut b.stacked.children below tops b.stacked.spelled (subst (ConcludeAll S at b.stacked.children) whole b.stacked.concluded)
 
-  -- a result that items of their own spell
+  -- further items that spell one derivation push its conclusion
   backed_new : (items more_items : List Item) (st : State) (b : Backed items st) (t : Derivation) (below : List Expr) (e : Expr)
       → Spells S at b.marked more_items t b.marked (length e) → st.stack ≡ below → Concludes S at t e → Backed (items ++ more_items) (with_result st below e)
   backed_new items more_items st b t below e one same last =
       let s = b.stacked in
       record { marked = b.marked; stacked = pushed s.children below e (items ++ more_items) (st.weight + length e) s.spelled (subst (ConcludeAll S at s.children) same s.concluded) one last refl refl; kept = b.kept }
 
-  -- a citation leaves a result with a derivation: the hypothesis, or the assertion over the results that it took
+  -- a citation pushes a result with a derivation: the hypothesis, or the assertion over the derivations of the results it takes
   backed_cite : (items : List Item) (st : State) (label : Name) (below : List Expr) (e : Expr) → Backed items st → Cites S at label st.stack below e
       → Backed (items ++ Cite label ∷ []) (with_result st below e)
   backed_cite items st label below e b (of_hypothesis i s carries active same whole) =
@@ -156,13 +156,13 @@ module _ (S : Database) (at : ℕ) where
         kept = conclude_snoc b.marked o.0 st.saved e b.kept o.2;
       }
 
-  -- a step leaves each result with a derivation
+  -- after a step each result has a derivation
   pub backed_step : (items : List Item) (st st' : State) (item : Item) → Backed items st → Steps S at st item st' → Backed (items ++ item ∷ []) st'
   backed_step items st st' (Cite label) b p = subst (Backed (items ++ Cite label ∷ [])) (sym p.3) (backed_cite items st label p.0 p.1 b p.2)
   backed_step items st st' (Recall k) b p = subst (Backed (items ++ Recall k ∷ [])) (sym p.2) (backed_recall items st k p.0 b p.1)
   backed_step items st st' Mark b p = subst (Backed (items ++ Mark ∷ [])) (sym p.3) (backed_mark items st p.0 p.1 b p.2)
 
-  -- so does a run
+  -- after a run each result has a derivation
   pub backed_run : (items more_items : List Item) (st st' : State) → Backed items st → Runs S at st more_items st' → Backed (items ++ more_items) st'
   backed_run items [] st st' b p = subst (λ is. Backed is st') (sym (append-nil items)) (subst (Backed items) p b)
   backed_run items (item ∷ more_items) st st' b p =
@@ -173,7 +173,7 @@ module _ (S : Database) (at : ℕ) where
   pub backed_start : Backed [] start
   backed_start = record { marked = []; stacked = record { children = none; spelled = spells_none; concluded = tt }; kept = tt }
 
-  -- one result at the end
+  -- the items spell a derivation of the expression, with this weight
   pub record Spelled (items : List Item) (e : Expr) (weight : ℕ) : Type 0 where
     pub tree : Derivation
     pub after : List Derivation

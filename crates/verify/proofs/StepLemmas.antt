@@ -1,4 +1,4 @@
--- What the code knows at each exit of a step, as a fact of the machine.
+-- The exits of a step in the code are steps of the machine.
 use Rattle.verify.proofs.Words.{◌≡◌, ℕ, suc, ◌+◌, ◌-◌, ◌<◌, ◌≤◌, Bool, true, false, List, [], ◌∷◌, ◌++◌, length, map, take, drop, get_or, Some, refl, IsTrue, nat_lt, nat_eq, replicate, slice_get, slice_set, sym, ◌∙◌, ap, subst, arith, true≢false, length-append, nat_tests, length-map, map-append, take-append-drop, take_all, take_more, same_from_push, map_push, append-nil, nil_from_length, drop_all, drop_more, map_more, drop-append-le, drop-set-lt, length-set, length-replicate, get_or-set_same, get_or-set_other, get_or-replicate, get_or_from_slice_get, get_or_default, slice_get-get_or, item-cite, item-recall, Name, Stmt, Database, stmt_at, expr_of, name_at, decode, Item, Cite, Recall, Results, State, start, Cites, of_hypothesis, of_assertion, premises, Expr, Runs, with_result, Adds, Marks, Recalls, Keeps, AreBelow, AllBelow, named, AreNamed, StepsByNumber, without_cached, HasCited, IsCached, AreCached, AreKnown, StepsWithTable, AreLegal, item_of, IsRight, weight_limit, decode-injective, below-group, LabelEntry, Nothing, IsEntry, AreEntries, get-front, length-drop, get_or-append_right, get_or-drop}
 use Rattle.verify.proofs.Named.{goes-recall, goes-mark, named-result, result-named, all-drop, all-set, all-snoc, all-none, all-at, get-drop}
 use Rattle.verify.proofs.Decide.{cites_same, refuted_at_end, refuted_at_step, accepts_right}
@@ -6,7 +6,7 @@ use Rattle.verify.proofs.Complete.{runs_append}
 use Rattle.verify.proofs.LabelTableLemmas.{entry_at}
 use Rattle.verify.proofs.ResultPlaceLemmas.{map-drop, results-same}
 
--- a citation that takes no results gives the same over any others
+-- a citation that takes no results gives the same result on any other stack
 cites-alone : (S : Database) (at : ℕ) (label : Name) (stack below : List Expr) (e : Expr) → Cites S at label stack below e → length stack ≤ length below → (other : List Expr) → Cites S at label other other e
 cites-alone S at label stack below e (of_hypothesis i s carries is same all) less other = of_hypothesis i s carries is same refl
 cites-alone S at label stack below e (of_assertion a s σ carries is all same) less other =
@@ -76,7 +76,7 @@ items-rest labels numbers i h =
 pub all-taken : {A B : Type 0} (f : A → B) (xs : List A) (n : ℕ) → length xs ≤ n → map f (take n xs) ≡ map f xs
 all-taken f xs n h = ap (map f) (take_all n xs h)
 
--- ---- results after those of the labels
+-- ---- the results without those that are cached for labels
 
 module _ (S : Database) (names : List Name) (at : ℕ) where
   named-behind : (n : ℕ) (st : Results ℕ) → named names (without_cached n st) ≡ (let r : State = record { stack = map (decode names) st.stack; saved = drop n (map (decode names) st.saved); weight = st.weight } in r)
@@ -102,16 +102,16 @@ module _ (S : Database) (names : List Name) (at : ℕ) where
       omega (arith, heavy, w)
 
   module _ (legal : AreLegal S names) (table : List LabelEntry) (old new : Results ℕ) (known : AreKnown S at names table old) where
-    -- after the results of the labels, codes stand for names
+    -- the numbers in the results without the cached ones have names
     below_named : AreNamed names (without_cached (length table) old)
     below_named = without_cached-named (length table) old known.are_named
 
-    -- what is known after an item that was done
+    -- the new results are known if the item was done
     known-if : (P : Bool → Type 0) → (P true → AreKnown S at names table new) → (ok : Bool) → P ok → IsTrue ok → AreKnown S at names table new
     known-if P f true p t = f p
     known-if P f false p t = absurd (true≢false (sym t))
 
-    -- ---- a label that is cited, by what it names
+    -- ---- the citation of a label of the table
 
     module _ (labels : List Name) (number k : ℕ) (d : LabelEntry) (by_number : number ≡ suc k) (are : AreEntries S at labels table) (within : k < length table) where
       pub cited-on : (ok : Bool) → HasCited S at names (get_or table k d) old new ok → StepsWithTable ok S at names table (item_of labels number) old new
@@ -121,7 +121,7 @@ module _ (S : Database) (names : List Name) (at : ℕ) where
             λ t. known-if (λ b. StepsByNumber b S at names (Cite (get_or labels k [])) old new) (λ g. record { are_named = g.1; given = subst (AreCached S at names table) (sym (cited.1 t)) known.given }) ok goes t,
           )
 
-      -- where no results were taken, what is given is kept for the label
+      -- if the citation took no results, its result is cached for the label
       module _ (last : Results ℕ) (more : length old.stack < length new.stack) (keeps : Keeps new last k) (cited : HasCited S at names (get_or table k d) old new true) where
         abbrev e : List ℕ
         e = get_or new.stack (length new.stack - 1) []
@@ -163,7 +163,7 @@ module _ (S : Database) (names : List Name) (at : ℕ) where
             sym (ap (without_cached (length table)) kept ∙ results-same new.stack new.stack (drop (length table) (slice_set new.saved k e)) (drop (length table) new.saved) new.weight new.weight refl (drop-set-lt (length table) new.saved k e within) refl) in
             (subst (StepsByNumber true S at names (item_of labels number) (without_cached (length table) old)) same on.0, λ t. kept-known (on.1 refl))
 
-    -- ---- a label before those of the table
+    -- ---- the citation of a label before those of the table
 
     module _ (labels : List Name) (number k : ℕ) (front : List LabelEntry) (d : LabelEntry) (by_number : number ≡ suc k) (are : AreEntries S at labels (front ++ table)) (within : k < length front) where
       pub viewed_entries-on : (ok : Bool) → HasCited S at names (get_or front k d) old new ok → StepsWithTable ok S at names table (item_of labels number) old new
@@ -175,7 +175,7 @@ module _ (S : Database) (names : List Name) (at : ℕ) where
             λ t. known-if (λ b. StepsByNumber b S at names (Cite (get_or labels k [])) old new) (λ g. record { are_named = g.1; given = subst (AreCached S at names table) (sym (cited.1 t)) known.given }) ok goes t,
           )
 
-    -- ---- a result that is saved
+    -- ---- the recall of a saved result
 
     recall-known : (k : ℕ) → Recalls true old new (suc k) → AreKnown S at names table new
     recall-known k r = subst (AreKnown S at names table) (sym r.2) (record {
@@ -183,7 +183,7 @@ module _ (S : Database) (names : List Name) (at : ℕ) where
       given = known.given;
     })
 
-    -- one of those that were marked
+    -- a recall of a marked result
     recall-on : (labels : List Name) (k number : ℕ) (ok : Bool) → number ≡ suc k → length table ≡ length labels → length table ≤ k → Recalls ok old new (suc k) → StepsWithTable ok S at names table (item_of labels number) old new
     recall-on labels k number ok is count high recalls = (
       recall-number S names at legal (without_cached (length table) old) (without_cached (length table) new) below_named ok labels number k (suc (k - length table)) is (omega (arith, count, high)) (ap (λ n. suc (k - n)) count) (cut-recalls ok recalls),
@@ -194,7 +194,7 @@ module _ (S : Database) (names : List Name) (at : ℕ) where
         cut-recalls true h = (h.0, get-drop (length table) k old.saved high ∙ h.1, ap (without_cached (length table)) h.2)
         cut-recalls false h = λ e saved. h e (sym (get-drop (length table) k old.saved high) ∙ saved)
 
-    -- the one that is kept for a label
+    -- a recall of the result that is cached for a label cites this label
     known-on : (labels : List Name) (k number : ℕ) (ok : Bool) → number ≡ suc k → AreEntries S at labels table → k < length table → 0 < length (get_or old.saved k []) → Recalls ok old new (suc k)
         → StepsWithTable ok S at names table (item_of labels number) old new
     known-on labels k number ok is are within some recalls = (
@@ -269,7 +269,7 @@ module _ (S : Database) (names : List Name) (at : ℕ) where
 pub start-behind : (n : ℕ) (st : Results ℕ) → st ≡ (let r : Results ℕ = record { stack = []; saved = replicate n []; weight = 0 } in r) → without_cached n st ≡ (let r : Results ℕ = record { stack = []; saved = []; weight = 0 } in r)
 start-behind n st is = ap (without_cached n) is ∙ results-same [] [] (drop n (replicate n [])) [] 0 0 refl (drop_all n (replicate n []) (omega (arith, length-replicate n (let r : List ℕ = [] in r)))) refl
 
--- ---- the labels after some
+-- ---- the labels after the first ones
 
 pub rest-entries : (S : Database) (at : ℕ) (labels : List Name) (front table : List LabelEntry) (n : ℕ) → n ≡ length front → AreEntries S at labels (front ++ table) → AreEntries S at (drop n labels) table
 rest-entries S at labels front table n is are =

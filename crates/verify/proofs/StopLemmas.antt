@@ -3,13 +3,13 @@ use Rattle.verify.proofs.Words.{◌≡◌, ℕ, ◌+◌, ◌<◌, ◌≤◌, fal
 use Rattle.verify.proofs.Decide.{refuted_at_step, accepts_right}
 use Rattle.verify.proofs.StepLemmas.{Reached, right-end, wrong-end}
 
--- the item at an index
+-- the item at an index is that of the number at this index
 item-at : (labels : List Name) (numbers : List ℕ) (k : ℕ) (item : Item) → k < length numbers → slice_get (items_of labels numbers) k ≡ Some item → item_of labels (get_or numbers k 0) ≡ item
 item-at labels numbers k item less is =
     some-same (slice_get-map (item_of labels) numbers k ∙ ap (option_map (item_of labels)) (slice_get-get_or numbers k 0 less)) is
 
 module _ (S : Database) (names : List Name) (at : ℕ) (legal : AreLegal S names) where
-  -- at an item that was not done
+  -- the run stops at an item that was not done
   pub stops-at : (labels : List Name) (numbers : List ℕ) (k : ℕ) (old st new : Results ℕ) → k < length numbers → Reached S names at legal (map (item_of labels) (take k numbers)) old
       → StepsByNumber false S at names (item_of labels (get_or numbers k 0)) old new → st ≡ old → StopsAt S at names (items_of labels numbers) k st
   stops-at labels numbers k old st new less r goes same = subst (StopsAt S at names (items_of labels numbers) k) (sym same) (record {
@@ -19,7 +19,7 @@ module _ (S : Database) (names : List Name) (at : ℕ) (legal : AreLegal S names
     stuck = λ item is next steps. goes next (subst (λ i. Steps S at (named names old) i next) (sym (item-at labels numbers k item less is)) steps);
   })
 
-  -- at the end
+  -- the run stops at the end
   pub stops-end : (labels : List Name) (numbers : List ℕ) (k n : ℕ) (st : Results ℕ) → length numbers ≤ k → n ≡ length numbers → Reached S names at legal (map (item_of labels) (take k numbers)) st
       → StopsAt S at names (items_of labels numbers) n st
   stops-end labels numbers k n st all is r =
@@ -44,7 +44,7 @@ module _ (S : Database) (names : List Name) (at : ℕ) (legal : AreLegal S names
         (stops.stuck item (slice_get-get_or items done Mark less))
         (subst (IsRight S at) (sym (take-append-drop done items) ∙ ap (λ r. take done items ++ r) (drop_more items done Mark less)) right)
 
-    -- where all are done, the one result decides
+    -- if all items are done, the items are right if and only if the result is the statement's expression alone
     pub stops-right : (e : List ℕ) → length items ≤ done → decode names e ≡ expr_of s → st.stack ≡ e ∷ [] → st.weight ≤ weight_limit → IsRight S at items
     stops-right e all same one light = subst (IsRight S at) (take_all done items all) (right-end S names at legal (take done items) st s e stands reached same one light)
 
@@ -52,17 +52,17 @@ module _ (S : Database) (names : List Name) (at : ℕ) (legal : AreLegal S names
     stops-other e all same codes other right =
         wrong-end S names at legal (take done items) st s e stands reached same codes other (subst (IsRight S at) (sym (take_all done items all)) right)
 
-    -- by names
+    -- the same for a result given by names
     pub stops-named : length items ≤ done → st.weight ≤ weight_limit → map (decode names) st.stack ≡ expr_of s ∷ [] → IsRight S at items
     stops-named all light one =
         subst (IsRight S at) (take_all done items all)
         (accepts_right S at (legal.single at) legal.once (take done items) s stands (record { end = named names st; runs = stops.runs; one = one; light = light }))
 
--- as many items as numbers
+-- there are as many items as numbers
 pub count-items : (labels : List Name) (numbers : List ℕ) (items : List Item) → items_of labels numbers ≡ items → length items ≡ length numbers
 count-items labels numbers items is = sym (ap length is) ∙ length-map numbers (item_of labels)
 
--- where it stops, over the items and the table
+-- the run over the items stops where the run over the numbers does
 pub stopped : (S : Database) (names : List Name) (at : ℕ) (labels : List Name) (numbers : List ℕ) (items : List Item) (table copy : List LabelEntry) (n done : ℕ) (st : Results ℕ)
     → items_of labels numbers ≡ items → copy ≡ table → n ≡ length table → AreEntries S at labels table
     → ((labels : List Name) → AreEntries S at labels copy → StopsAt S at names (items_of labels numbers) done (without_cached (length copy) st)) → StopsAt S at names items done (without_cached n st)

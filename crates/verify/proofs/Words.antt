@@ -1,4 +1,4 @@
--- The words in which this crate is proved, and the lemmas of std and of the layers below, passed on from one place.
+-- Re-exports of the definitions and lemmas with which this crate is proved.
 pub use Prim.Native.String.{String}
 pub use Rattle.entries.proofs.SpanLemmas.{cut-more, cut-push, extends-refl, range-behind, spans-push}
 pub use Rattle.entries.specs.Hypotheses.{told}

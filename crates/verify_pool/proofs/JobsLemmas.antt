@@ -5,7 +5,7 @@ use Rattle.mm_read.specs.declared.stmt.Stmt.{Stmt}
 use Rattle.scope.specs.Active.{stmt_at, is_provable}
 pub use Rattle.entries.proofs.StatementRecordLemmas.{get-more, get-last}
 
--- an element of the longer list is one of the old ones or the new one
+-- an element of a list with one element appended is an old element or the new one
 get_added : {X : Type 0} (xs : List X) (x y : X) (k : ℕ) → slice_get (xs ++ x ∷ []) k ≡ Some y → (slice_get xs k ≡ Some y) ⊎ (x ≡ y)
 get_added [] x y zero e = inr (same_Some x y e)
 get_added [] x y (suc k) e = absurd (none-some y e)
@@ -17,7 +17,7 @@ pub stmt_stays : (S more : Database) (at : ℕ) (s : Stmt) → stmt_at S at ≡ 
 stmt_stays S more zero s e = absurd (none-some s e)
 stmt_stays S more (suc n) s e = get-more S more n s e
 
--- jobs are jobs of the longer database too
+-- jobs are still jobs when statements are appended
 jobs_stay : (S more : Database) (jobs : List Job) → AreJobs S jobs → AreJobs (S ++ more) jobs
 jobs_stay S more jobs are k job stands =
     let old = are k job stands in
@@ -29,7 +29,7 @@ last_is_job S s job provable last =
     let at : suc (length S) ≡ job.at = omega (arith, length-append S (s ∷ []), last) in
     (s, record { stands = subst (λ n. stmt_at (S ++ s ∷ []) n ≡ Some s) at (get-last S s); provable = provable })
 
--- jobs with one more are jobs
+-- a list of jobs with one more job is a list of jobs
 job_added : (S : Database) (jobs : List Job) (job : Job) → AreJobs S jobs → IsJob S job → AreJobs S (jobs ++ job ∷ [])
 job_added S jobs job are is k other stands =
     elim (get_added jobs job other k stands) as (λ _. IsJob S other) [
@@ -37,11 +37,11 @@ job_added S jobs job are is k other stands =
       | inr same ↦ subst (IsJob S) same is
     ]
 
--- one statement more
+-- jobs are still jobs when one statement is appended
 pub same_jobs : (S T : Database) (s : Stmt) (jobs : List Job) → T ≡ S ++ s ∷ [] → AreJobs S jobs → AreJobs T jobs
 same_jobs S T s jobs more are = subst (λ U. AreJobs U jobs) (sym more) (jobs_stay S (s ∷ []) jobs are)
 
--- one `$p` more, with its job
+-- when a `$p` is appended, its job may be appended to the jobs
 pub next_job : (S T : Database) (s : Stmt) (jobs : List Job) (job : Job) → T ≡ S ++ s ∷ [] → AreJobs S jobs
     → IsTrue (is_provable s) → job.at ≡ length T → AreJobs T (jobs ++ job ∷ [])
 next_job S T s jobs job more are provable last =

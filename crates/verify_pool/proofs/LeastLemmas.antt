@@ -1,4 +1,4 @@
--- The least job that is not right, by index and by job; it is one.
+-- The least job that is not right, by index and by job; there is at most one answer.
 use Rattle.verify_pool.proofs.Words.{◌≡◌, ℕ, zero, suc, ◌<◌, List, [], ◌∷◌, length, slice_get, Option, Some, None, Result, Ok, Err, IfOk, IfSome, arith, sym, subst, refl, ◌∙◌, same_Some, slice_get_within, Database, IsAnswerTo, Job, IsWrongAt, IsLeast, IsRightJob, IsRightAt, IsBadAt, LeastBad, inl, inr, ap, cases_order}
 use Rattle.verify.specs.declared.answer.Answer.{Answer}
 use Rattle.verify.specs.declared.answer.Answer.TheVariants.{Proved, Wrong}
@@ -11,11 +11,11 @@ get_there (x ∷ xs) zero less = (x, refl)
 get_there (x ∷ xs) (suc k) less = get_there xs k (omega (arith, less))
 
 module _ (S : Database) (jobs : List Job) where
-  -- an index is right where the job that stands there is
+  -- the index of a right job is right
   there_right : (k : ℕ) (job : Job) → slice_get jobs k ≡ Some job → IsRightJob S job → IsRightAt S jobs k
   there_right k job stands right other e = subst (IsRightJob S) (same_Some job other (sym stands ∙ e)) right
 
-  -- a property of the job is one of its index
+  -- an answer on a job is an answer on its index
   pub job_judged : {E : Type 0} (k : ℕ) (job : Job) (r : Result Answer E) → slice_get jobs k ≡ Some job
       → IfOk r (λ answer. IsAnswerTo answer (IsRightJob S job)) → IfOk r (λ answer. IsAnswerTo answer (IsRightAt S jobs k))
   job_judged k job (Ok Proved) stands h = there_right k job stands h
@@ -28,12 +28,12 @@ module _ (S : Database) (jobs : List Job) where
       let job = get_there jobs i wrong.0 in
       record { job = job.0; stands = job.1; bad = λ right. wrong.1 (there_right i job.0 job.1 right) }
 
-  -- so has the answer, where there is one
+  -- if the answer is an index that is not right, its job is not right
   some_bad : (answer : Option ℕ) → IfSome answer (IsWrongAt (IsRightAt S jobs) (length jobs)) → IfSome answer (IsBadAt S jobs)
   some_bad None wrong = wrong
   some_bad (Some i) wrong = bad_at i wrong
 
-  -- the least index that is not right is that of the least job that is not right
+  -- the least index that is not right is that of the first job that is not right
   pub least_bad : {E : Type 0} (r : Result (Option ℕ) E) → IfOk r (IsLeast (IsRightAt S jobs) (length jobs)) → IfOk r (λ least. LeastBad S jobs least)
   least_bad (Ok answer) least = record {
     before = λ k job before stands. least.before k (slice_get_within jobs k job stands) before job stands;
@@ -41,7 +41,7 @@ module _ (S : Database) (jobs : List Job) where
   }
   least_bad (Err e) h = h
 
--- two answers for one list of jobs are equal, as neither can be before the other
+-- two answers for one list of jobs are equal, since neither can be before the other
 pub one_answer : OneAnswer
 one_answer S jobs None None p q = refl
 one_answer S jobs None (Some j) p q = absurd (q.bad.bad (p.before j q.bad.job tt q.bad.stands))

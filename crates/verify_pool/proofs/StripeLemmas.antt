@@ -1,8 +1,8 @@
--- The consequences of the answers of the stripes for all jobs.
+-- From the answers for the stripes to the answer for all jobs.
 use Rattle.verify_pool.proofs.Words.{◌≡◌, ℕ, zero, suc, refl, List, [], ◌∷◌, same_Some, none-some, IsIn, IsFoundInStripe, IsSettled, ◌+◌, ◌*◌, ◌/◌, ◌%◌, ◌<◌, ◌≤◌, ◌⊎◌, inl, inr, Option, Some, None, IfSome, arith, sym, subst, below_more, mod-lt, add-one, suc-mul, cases_lt, IsBefore, IsWrongAt, IsStripeRightBefore, IsLeastInStripe, IsNoLater}
 use Rattle.std.proofs.lemmas.Nat.{mul-le, div-add-mod'}
 
--- a turn before the next one is this one or before it
+-- a turn before the next turn is this one or an earlier one
 turn_not_after : (first step turn other i : ℕ) → i ≡ first + turn * step → first + other * step < i + step → first + other * step ≤ i
 turn_not_after first step turn other i place below =
     elim (cases_lt turn other) as (λ _. first + other * step ≤ i) [
@@ -10,12 +10,12 @@ turn_not_after first step turn other i place below =
       | inr earlier ↦ omega (arith, mul-le other step turn step earlier (omega arith))
     ]
 
--- one step on is the next turn
+-- one step further is the next turn
 pub next_turn : (first step turn i : ℕ) → i ≡ first + turn * step → i + step ≡ first + (turn + 1) * step
 next_turn first step turn i place = rw (add-one, suc-mul) (omega arith)
 
 module _ (right : ℕ → Type 0) (count step : ℕ) where
-  -- where a job is right, its stripe is right up to the next turn
+  -- if a job is right, and its stripe is right before it, the stripe is right before the next turn
   pub stripe_goes_on : (first turn i : ℕ) → i ≡ first + turn * step → right i
       → IsStripeRightBefore right count first step (Some i) → IsStripeRightBefore right count first step (Some (i + step))
   stripe_goes_on first turn i place here before other within below =
@@ -26,12 +26,12 @@ module _ (right : ℕ → Type 0) (count step : ℕ) where
             subst right same here
       ]
 
-  -- past the last job the whole stripe is right
+  -- a stripe that is right before an index past the last job is right as a whole
   pub stripe_ends : (first i : ℕ) → count ≤ i
       → IsStripeRightBefore right count first step (Some i) → IsStripeRightBefore right count first step None
   stripe_ends first i end before turn within below = before turn within (omega arith)
 
-  -- the answer of one stripe more
+  -- a stripe with its own answer is added to the stripes before it
   pub one_stripe_more : (stripe : ℕ) (least answer both : Option ℕ) → IsNoLater both least → IsNoLater both answer
       → IsLeastInStripe right count stripe step answer → ((q : ℕ) → q < stripe → IsStripeRightBefore right count q step least)
       → (q : ℕ) → q < stripe + 1 → IsStripeRightBefore right count q step both
@@ -40,7 +40,7 @@ module _ (right : ℕ → Type 0) (count step : ℕ) where
       (λ q lower turn within is_before. before q lower turn within (first (q + turn * step) is_before))
       (λ turn within is_before. here.before turn within (second (stripe + turn * step) is_before))
 
-  -- an answer that is one of the two has a job that is not right, where each of them has
+  -- if two answers have jobs that are not right, an answer that is equal to one of them has such a job
   pub one_of_two : (least answer both : Option ℕ) → (both ≡ least) ⊎ (both ≡ answer)
       → IfSome least (IsWrongAt right count) → IfSome answer (IsWrongAt right count) → IfSome both (IsWrongAt right count)
   one_of_two least answer both one p q =
@@ -49,16 +49,16 @@ module _ (right : ℕ → Type 0) (count step : ℕ) where
         | inr e ↦ subst (λ o. IfSome o (IsWrongAt right count)) (sym e) q
       ]
 
-  -- job k is of the stripe k % step
+  -- job k belongs to the stripe k % step
   pub stripes_are_all : 0 < step → (answer : Option ℕ) → ((q : ℕ) → q < step → IsStripeRightBefore right count q step answer)
       → (k : ℕ) → k < count → IsBefore k answer → right k
   stripes_are_all positive answer each k within below =
       let place : k ≡ k % step + k / step * step = omega (arith, div-add-mod' k step) in
       subst right (sym place) (each (k % step) (mod-lt k positive) (k / step) (omega (arith, place, within)) (subst (λ n. IsBefore n answer) place below))
 
--- ---- jobs that are put off
+-- ---- jobs that are deferred
 
--- a number of a list is the first one, or one of the others
+-- a number of a list is the first number or one of the rest
 in_cons : (k x : ℕ) (rest : List ℕ) → IsIn k (x ∷ rest) → (x ≡ k) ⊎ IsIn k rest
 in_cons k x rest (zero, e) = inl (same_Some x k e)
 in_cons k x rest (suc i, e) = inr (i, e)
@@ -68,7 +68,7 @@ before_less k x None less before = tt
 before_less k x (Some y) less before = omega (arith, less, before)
 
 module _ (right : ℕ → Type 0) (count first step : ℕ) where
-  -- one job more, which is right or put off
+  -- one more job, which is right or deferred
   pub deferred_goes_on : (turn i : ℕ) (old new : List ℕ) → i ≡ first + turn * step → ((k : ℕ) → IsIn k old → IsIn k new) → right i ⊎ IsIn i new
       → IsStripeRightBefore (λ k. right k ⊎ IsIn k old) count first step (Some i) → IsStripeRightBefore (λ k. right k ⊎ IsIn k new) count first step (Some (i + step))
   deferred_goes_on turn i old new place kept here before =
@@ -79,13 +79,13 @@ module _ (right : ℕ → Type 0) (count first step : ℕ) where
       deferred_more answer old new kept before other within below =
           elim (before other within below) [ inl r ↦ inl r | inr i ↦ inr (kept (first + other * step) i) ]
 
-  -- up to a job that is not right
+  -- the stripe up to a job that is not right, with more jobs deferred
   pub deferred_stops : (i : ℕ) (old new : List ℕ) → ((k : ℕ) → IsIn k old → IsIn k new)
       → IsStripeRightBefore (λ k. right k ⊎ IsIn k old) count first step (Some i) → IsStripeRightBefore (λ k. right k ⊎ IsIn k new) count first step (Some i)
   deferred_stops i old new kept before other within below =
       elim (before other within below) [ inl r ↦ inl r | inr i ↦ inr (kept (first + other * step) i) ]
 
-  -- where the first job that was put off is right if it is before the answer, the others are left
+  -- if the first deferred job is right or not before the answer, it can be dropped
   settle-skip : (x : ℕ) (rest : List ℕ) (least : Option ℕ) → (IsBefore x least → right x) → IsFoundInStripe right count first step least (x ∷ rest) → IsFoundInStripe right count first step least rest
   settle-skip x rest least here found = record {
     before = λ turn within below.
@@ -100,7 +100,7 @@ module _ (right : ℕ → Type 0) (count first step : ℕ) where
     wrong = found.wrong;
   }
 
-  -- where it is before the answer and not right, it is the answer
+  -- if the first deferred job is before the answer and not right, it is the new answer
   settle-take : (x : ℕ) (rest : List ℕ) (least : Option ℕ) → IsBefore x least → (right x → ⊥) → IsFoundInStripe right count first step least (x ∷ rest) → IsFoundInStripe right count first step (Some x) rest
   settle-take x rest least before wrong found = record {
     before = λ turn within below.
@@ -122,7 +122,7 @@ module _ (right : ℕ → Type 0) (count first step : ℕ) where
         | inr taken ↦ subst (λ o. IsFoundInStripe right count first step o rest) (sym taken.0) (settle-take x rest old taken.1 taken.2 found)
       ]
 
-  -- where none is left, each job before the answer is right
+  -- if no deferred jobs are left, each job before the answer is right
   pub settled-all : (least : Option ℕ) → IsFoundInStripe right count first step least [] → IsLeastInStripe right count first step least
   settled-all least found = record {
     before = λ turn within below. elim (found.before turn within below) [ inl r ↦ r | inr i ↦ absurd (none (first + turn * step) i) ];

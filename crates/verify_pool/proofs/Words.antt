@@ -1,4 +1,4 @@
--- The words in which this crate is proved, and the lemmas of std and of the layers below, passed on from one place.
+-- Re-exports of the definitions and lemmas with which this crate is proved.
 pub use Rattle.mm_read.specs.Statements.{Database}
 pub use Rattle.std.proofs.Common.{Err, IfOk, IfSome, IsTrue, List, None, Ok, Option, Result, Some, [], add-one, ap, arith, below_more, get_or, inl, inr, length, mod-lt, refl, slice_get, slice_index_or, subst, suc, suc-mul, sym, zero, ℕ, ◌%◌, ◌*◌, ◌++◌, ◌+◌, ◌-◌, ◌/◌, ◌<◌, ◌∙◌, ◌∷◌, ◌≡◌, ◌≤◌, ◌⊎◌}
 pub use Rattle.std.proofs.lemmas.Bool.{cases_lt, cases_order}

@@ -3,7 +3,7 @@ use Rattle.verify.proofs.RequiredHypotheses.{required-lengths, required-differen
 use Rattle.verify.proofs.CitationLemmas.{over-read, has-cited, not-cited}
 use Rattle.verify.proofs.citation.cite_parts.Goals as goal
 
--- which of the two it was
+-- a fact about one flag holds of a flag that is equal to it
 reads-as : (ok b : Bool) (typecodes : List ℕ) (hs : List Hypothesis) (rs : List (List ℕ)) (σ : CodeImages) → ok ≡ b → Reads ok typecodes hs rs σ → Reads b typecodes hs rs σ
 reads-as ok b typecodes hs rs σ e r = subst (λ v. Reads v typecodes hs rs σ) e r
 

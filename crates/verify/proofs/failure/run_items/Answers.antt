@@ -12,7 +12,7 @@ loop-done-init c = (
   c.requires.kept,
 )
 
--- what the step did
+-- a property of the answer of a step holds of the flag that it returned
 went : {E : Type 0} (r : Result Bool E) (ok b : Bool) (P : Bool → Type 0) → IfOk r P → r ≡ Ok ok → ok ≡ b → P b
 went r ok b P h was is = subst P is (IfOk-at_ok P was h)
 

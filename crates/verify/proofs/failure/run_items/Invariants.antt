@@ -2,7 +2,7 @@ use Rattle.verify.proofs.Words.{◌≡◌, List, length, map, take, Name, AreLeg
 use Rattle.verify.proofs.StepLemmas.{Reached}
 use Rattle.verify.proofs.failure.run_items.Given as goal
 
--- after the items so far
+-- the results are those of a run over the items before the next one
 abbrev pub invariant-loop-done : goal.invariant-loop-done
 invariant-loop-done l =
     (legal : AreLegal l.claim.frames.now.statements l.claim.frames.now.names)

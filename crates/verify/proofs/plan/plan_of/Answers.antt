@@ -3,7 +3,7 @@ use Rattle.verify.proofs.StepLemmas.{items-more, items-rest}
 use Rattle.verify.proofs.GrowthLemmas.{never-stuck, grows-on}
 use Rattle.verify.proofs.plan.plan_of.Goals as goal
 
--- what the item did
+-- the flag that was returned says whether the item was done
 went : (S : Database) (at : ℕ) (labels : List Name) (n : ℕ) (old new : Trees) (table table' : List LabelEntry) (E : Type 0) (r : Result Bool E) (ok b : Bool) → HasLabelsOnce S → table' ≡ table → AreEntries S at labels table
     → ((a : ℕ) (ls : List Name) → HasLabelsOnce S → AreEntries S a ls table' → IfOk r (λ v. Grew v S a old (item_of ls n) new)) → r ≡ Ok ok → ok ≡ b → Grew b S at old (item_of labels n) new
 went S at labels n old new table table' E r ok b once same are grew was is =

@@ -1,7 +1,7 @@
 use Rattle.verify.proofs.Words.{◌≡◌, [], List, map, take, Name, AreLegal, item_of, items_of, trees, GrowsBy, trees_of, IsPlan, AreEntries}
 use Rattle.verify.proofs.plan.plan_of.Given as goal
 
--- after the items so far
+-- the plan is that of the items before the next one
 abbrev pub invariant-loop-number : goal.invariant-loop-number
 invariant-loop-number l =
     AreLegal l.frames.statements l.frames.names

@@ -4,7 +4,7 @@ use Rattle.library.proofs.DecidedLemmas.{opened, settled as settled-table}
 use Rattle.library.proofs.library.Library.apply_by.Goals as goal
 use Rattle.library.proofs.library.Library.apply_by.Goals.{in-Text+in_ok-statements-in-Text+in-Ok+in_ok-cause-in-Ok, in-Text+in_ok-statements-in-Text+in-Err, in-Charter+then-not-may_declare, in-Charter+else-not-may_declare+in_ok-copy-in-Charter}
 
--- why its statements may not stand is why it is refused
+-- the fault of the statements of an allowed text is the cause for which it is refused
 fault-cause : (L T : Database) (charter : Option (List ℕ)) (submission : Submission) (cause : Cause) → IsAllowed charter submission T → IsFault L T cause → IsCause L charter submission cause
 fault-cause L T charter submission TooLong allowed fault = absurd fault
 fault-cause L T charter submission BadText allowed fault = absurd fault
@@ -12,7 +12,7 @@ fault-cause L T charter submission Shape allowed fault = absurd fault
 fault-cause L T charter submission (NotChartered n) allowed fault = absurd fault
 fault-cause L T charter submission cause allowed fault = (T, allowed, fault)
 
--- a text that was not decided before is decided as it was judged
+-- an allowed text is decided as its statements were judged
 text-decided : (old : Replica) (L T : Database) (submission : Submission) (found : Option Cause) → IsAllowed old.charter submission T → Extends old.statements T found L
     → Decides old (Text submission) (verdict_of found) (record old { statements = L; decided = decided_with old (Text submission) (verdict_of found) })
 text-decided old L T submission None allowed e = (T, allowed, e.0, ap (λ S. record old { statements = S; decided = decided_with old (Text submission) (verdict_of None) }) e.1)
@@ -29,7 +29,7 @@ returns-in_err-cause-in-Ok-clause-counted g c =
     rw (c.in-Some.is, new, c.in-Text.is, ← c.self.view_is) (within-read c.self.inside.charter c.in-Text.submission c.in-Ok.statements.items _ _
     (subst (IsReading c.self.inside.charter c.in-Text.submission) c.in-Ok.is c.in_ok-statements-in-Text.ensures) c.extend.ensures.counted)
 
--- the outcome for the entry, whichever it was
+-- if a call fails, the table has the entry as undecided, which fits the decided entries
 pub invariant_of-self-in_err-statements-in-Text : goal.invariant_of-self-in_err-statements-in-Text
 invariant_of-self-in_err-statements-in-Text g c =
     let new : status c.args.self.now.replica.decided (author_of c.in-Some.entry.now) (serial_of c.in-Some.entry.now) ≡ None = sym (rw (c.author.ensures, c.serial.ensures) at c.in-None.ensures.first) in
@@ -45,7 +45,7 @@ invariant_of-self-in_err-copy-in-Charter g c =
     let new : status c.args.self.now.replica.decided (author_of c.in-Some.entry.now) (serial_of c.in-Some.entry.now) ≡ None = sym (rw (c.author.ensures, c.serial.ensures) at c.in-None.ensures.first) in
     opened c.self.inside.decided.entries c.self.inside.standings c.insert.new.self _ _ c.self.invariant (rw (← c.self.view_is) at new) (rw (c.author-2.ensures, c.serial-2.ensures) at c.in_ok-insert.ensures.updates)
 
--- the outcome of the entry, whichever it was, and the table with room for its verdict
+-- for each kind of entry: its verdict is decided, and the table has the entry as undecided
 settled : (g : Rattle.library.proofs.library.Library.apply_by.Given.Over) (c : goal.After-verdict_of g) → let V = c.self.inside in
     let old : Replica = record { statements = V.database; decided = V.decided.entries; charter = V.charter } in let entry = c.in-Some.entry.now in let verdict = verdict_of c.match-entry.cause in
     Decides old entry verdict (record { statements = c.match-entry.self-inside.database; decided = decided_with old entry verdict; charter = c.match-entry.self-inside.charter })

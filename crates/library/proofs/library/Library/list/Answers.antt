@@ -2,7 +2,7 @@ use Rattle.library.proofs.Words.{◌≡◌, ℕ, ◌+◌, ◌<◌, [], ◌∷◌
 use Rattle.library.proofs.library.Library.list.Goals as goal
 use Rattle.library.proofs.library.Library.list.Goals.{in-Axiom+in_ok-copy-in-Axiom, in-Prove+in_ok-copy-in-Prove}
 
--- the assertions of the statements so far, with those of one more
+-- the assertions of the first i statements, with that of the next one
 more : (S : Database) (i : ℕ) (s : Stmt) (old new : List Listed) → i < length S → s ≡ get_or S i s → old ≡ listed (take i S) → new ≡ old ++ listed (s ∷ []) → new ≡ listed (take (i + 1) S)
 more S i s old new less is before after =
     after ∙ (ap (λ list. list ++ listed (s ∷ [])) before ∙ sym (ap listed (take_more S i s less ∙ ap (λ r. take i S ++ r ∷ []) (sym is)) ∙ filter_map-append listed_of (take i S) (s ∷ [])))

@@ -6,15 +6,15 @@ appended : (ok : Bool) (room : ℕ) (old new e : List ℕ) → ok ≡ true → A
 appended true room old new e q a = a
 appended false room old new e q a = cc
 
--- as much longer as what was added
+-- the range of the appended symbols is as long as they are
 grown : (xs ys zs : List ℕ) (start end : ℕ) → zs ≡ xs ++ ys → start ≡ length xs → end ≡ length zs → end - start ≡ length ys
 grown xs ys zs start end e low high = omega (arith, low, high, ap length e, length-append xs ys)
 
--- within the limit, after what was added
+-- the weight stays within the limit if the range is no longer than the room
 end_light : (w room start end n : ℕ) → room ≤ weight_limit - w → w ≤ weight_limit → end - start ≡ n → n ≤ room → w + (end - start) ≤ weight_limit
 end_light w room start end n a b e h = omega (arith, a, b, e, h)
 
--- the images over more symbols
+-- the images give the same symbols after others were appended to the buffer
 applied-more : (xs ys zs : List ℕ) (ps : List (ℕ × SymbolRange)) (e : List ℕ) → AreInside (length xs) ps → zs ≡ xs ++ ys → code_apply (images_at zs ps) e ≡ code_apply (images_at xs ps) e
 applied-more xs ys zs ps e inside same = ap (λ s. code_apply (images_at s ps) e) same ∙ by e
   where

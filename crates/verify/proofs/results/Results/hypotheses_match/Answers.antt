@@ -5,7 +5,7 @@ use Rattle.verify.proofs.ReadImageLemmas.{standing-at, fits-essential, one-more}
 use Rattle.verify.proofs.results.Results.hypotheses_match.Goals.{in-Essential+else-not-matches, in_default}
 use Rattle.verify.proofs.results.Results.hypotheses_match.Goals as goal
 
--- what is left of an expression is held against the result in its place
+-- a result may be compared with a shortened expression that has the same image
 short-iff : (b : Bool) (r short whole : List ℕ) (σ ρ : CodeImages) → σ ≡ ρ → code_apply ρ short ≡ code_apply ρ whole → IsTrue b ↔ (r ≡ code_apply σ short) → IsTrue b ↔ (r ≡ code_apply ρ whole)
 short-iff b r short whole σ ρ images same h = subst (λ v. IsTrue b ↔ (r ≡ v)) same (subst (λ τ. IsTrue b ↔ (r ≡ code_apply τ short)) images h)
 

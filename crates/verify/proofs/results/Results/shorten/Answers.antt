@@ -1,12 +1,12 @@
 use Rattle.verify.proofs.Words.{◌≡◌, ℕ, Bool, List, [], ◌∷◌, length, filter, sym, ◌∙◌, subst, Name, Expr, decode, decode-injective, expr_of, stands-within, AreBelow, AreDistinct, ArePlacesOf, SymbolGroups, AreExprPlaces, has_nonempty_image, inl, inr, cases_Bool}
 use Rattle.verify.proofs.results.Results.shorten.Goals as goal
 
--- the numbers of the expression are those whose places are kept
+-- the places are those of the numbers of the expression
 places-of : (names : List Name) (e : List ℕ) (x : Expr) (groups : SymbolGroups) → AreDistinct names → AreBelow (length names) e → decode names e ≡ x → AreExprPlaces names x groups → ArePlacesOf e groups
 places-of names e x groups distinct below same p =
     subst (λ c. ArePlacesOf c groups) (decode-injective names p.codes e distinct p.below below (p.named ∙ sym same)) p.places
 
--- some of the numbers
+-- a filtered list of numbers with names has only numbers with names
 some-below : (n : ℕ) (keep : ℕ → Bool) (e : List ℕ) → AreBelow n e → AreBelow n (filter keep e)
 some-below n keep [] b = tt
 some-below n keep (x ∷ e) b = elim (cases_Bool (keep x)) [ inl h ↦ rw h (b.0, some-below n keep e b.1) | inr h ↦ rw h (some-below n keep e b.1) ]
