@@ -28,10 +28,10 @@ same-lists [] [] a b f g = refl
 same-lists [] (y ∷ ys) a b f g = absurd (g y (inl refl))
 same-lists (x ∷ xs) [] a b f g = absurd (f x (inl refl))
 same-lists (x ∷ xs) (y ∷ ys) a b f g =
-    ap (λ v. v ∷ xs) typecodes ∙ ap (λ r. y ∷ r) (same-lists xs ys a.1 b.1 (λ p i. there p i (f p (inr i))) (λ p i. back p i (g p (inr i))))
+    ap (λ v. v ∷ xs) same_head ∙ ap (λ r. y ∷ r) (same-lists xs ys a.1 b.1 (λ p i. there p i (f p (inr i))) (λ p i. back p i (g p (inr i))))
   where
-    typecodes : x ≡ y
-    typecodes = by (f x (inl refl)) (g y (inl refl))
+    same_head : x ≡ y
+    same_head = by (f x (inl refl)) (g y (inl refl))
       where
         by : In x (y ∷ ys) → In y (x ∷ xs) → x ≡ y
         by (inl e) j = e
@@ -40,11 +40,11 @@ same-lists (x ∷ xs) (y ∷ ys) a b f g =
 
     there : (p : ℕ) → In p xs → In p (y ∷ ys) → In p ys
     there p i (inr j) = j
-    there p i (inl e) = let l = above-in x p xs a.0 i in let h = typecodes in absurd (omega (arith, l, e, h))
+    there p i (inl e) = let l = above-in x p xs a.0 i in let h = same_head in absurd (omega (arith, l, e, h))
 
     back : (p : ℕ) → In p ys → In p (x ∷ xs) → In p xs
     back p i (inr j) = j
-    back p i (inl e) = let l = above-in y p ys b.0 i in let h = typecodes in absurd (omega (arith, l, e, h))
+    back p i (inl e) = let l = above-in y p ys b.0 i in let h = same_head in absurd (omega (arith, l, e, h))
 
 -- an ascending list has each position at most once
 pub once-each : (ps : List ℕ) (k j p : ℕ) → Ascends ps → slice_get ps k ≡ Some p → slice_get ps j ≡ Some p → k ≡ j
