@@ -1,4 +1,4 @@
--- A line without a text on the lines that follow, and one that offers a text.
+-- A line that needs no text from the lines that follow, and a line that offers a text.
 use Rattle.commands.proofs.Words.{◌≡◌, ℕ, ◌+◌, Bool, true, false, List, drop, Option, Some, None, option_map, option_and_then, Result, Ok, Err, IsSome, IsErrAnd, ◌∷◌, refl, ◌∙◌, ap, sym, subst, arith, false≢true, Text, NodeEntryId, OfferedEntry, LineFault, ServeLine, SessionLine, Serve, Help, TextForm, split_at, SPACE, Words, by_first_word, line_by_first_word, entry_at, text_at, text_offer, RemainingLines, IsAdvanced, Parses, ParsesLine, without_text, text_line_or_else, help_or_line}
 use Rattle.commands.specs.declared.script.LineFault.TheVariants.{Bad, Memory as NoMemory}
 
@@ -6,7 +6,7 @@ use Rattle.commands.specs.declared.script.LineFault.TheVariants.{Bad, Memory as 
 pub advanced_none : (lines : RemainingLines) → IsAdvanced 0 lines lines
 advanced_none lines = record { number = omega arith; lines = refl }
 
--- an allocation failed for a line without a text
+-- an allocation fails for a line without a text
 without_text_unparsed : {L : Type 0} (expected : Option L) (lines : RemainingLines) → IsSome expected → ParsesLine (without_text expected) lines lines (Err NoMemory)
 without_text_unparsed None lines h = absurd (false≢true h)
 without_text_unparsed (Some x) lines h = ((x, 0), refl, advanced_none lines)
@@ -17,7 +17,7 @@ without_text_parsed expected lines (Ok x) h = (0, ap without_text h, advanced_no
 without_text_parsed expected lines (Err Bad) h = ap without_text h
 without_text_parsed expected lines (Err NoMemory) h = without_text_unparsed expected lines h
 
--- a line in place of the offer that it gives
+-- the line that is made from an offer, in place of the offer
 abbrev pub text_line : {L : Type 0} → (OfferedEntry → L) → Option (OfferedEntry × ℕ) → Option (L × ℕ)
 text_line line offered = option_map (λ o. (line o.0, o.1)) offered
 
@@ -30,7 +30,7 @@ text_unparsed : {L : Type 0} (line : OfferedEntry → L) (offered : Option (Offe
 text_unparsed line offered old new Bad h = ap (text_line line) h
 text_unparsed line offered old new NoMemory h = ((line (h.0).0, (h.0).1), ap (text_line line) h.1, h.2)
 
--- a text at a place
+-- the offer of a text at a node, by its author and its number
 abbrev pub offered_text : NodeEntryId → List ℕ → OfferedEntry
 offered_text at text = record { node = at.node; entry = Text (record { author = at.author; serial = at.serial; text = text }) }
 
@@ -46,18 +46,18 @@ offered_missing form ws rest lines at is none =
     ap (λ o. option_and_then (λ e. option_and_then (λ t. Some (offered_text e.0 t.0, t.1)) (text_at form e.1 lines)) o) (sym is)
     ∙ ap (λ o. option_and_then (λ t. Some (offered_text at t.0, t.1)) o) none
 
--- an error that is handed on
+-- an error that is passed on
 handed_on : {L : Type 0} (r : Result L LineFault) (fault : LineFault) → IsErrAnd r (λ f. f ≡ fault) → Err fault ≡ r
 handed_on (Err f) fault h = ap Err (sym h)
 handed_on (Ok x) fault h = elim h [ ]
 
--- a line by its verb
+-- a line, by its verb
 pub parsed_by : {L : Type 0} (by : List ℕ → Words → Option (L × ℕ)) (old new : RemainingLines) (bytes verb : List ℕ) (ws : Words) (r : Result L LineFault)
     → split_at SPACE bytes ≡ verb ∷ ws → ParsesLine (by verb ws) old new r → ParsesLine (line_by_first_word by bytes) old new r
 parsed_by by old new bytes verb ws r words parses = subst (λ s. ParsesLine s old new r) (ap (by_first_word by) (sym words)) parses
 
 module _ {L : Type 0} (line : OfferedEntry → L) (expected : Option (L × ℕ)) (ws : Words) (old new : RemainingLines) where
-  -- a verb that gives no text
+  -- a verb that offers no text
   pub parsed_other : (form : Option TextForm) (r : Result L LineFault) → None ≡ form → ParsesLine expected old new r
       → ParsesLine (text_line_or_else line form expected ws old.lines) old new r
   parsed_other form r none parses = subst (λ f. ParsesLine (text_line_or_else line f expected ws old.lines) old new r) none parses
@@ -77,7 +77,7 @@ module _ {L : Type 0} (line : OfferedEntry → L) (expected : Option (L × ℕ))
       (subst (ParsesLine (text_line line (text_offer f ws old.lines)) old new) (handed_on r fault handed)
       (text_unparsed line (text_offer f ws old.lines) old new fault parses))
 
--- a line of a script as one of a session
+-- a line of a script, as a line of a session
 abbrev serve_line : Option (ServeLine × ℕ) → Option (SessionLine × ℕ)
 serve_line expected = option_map (λ l. (Serve l.0, l.1)) expected
 

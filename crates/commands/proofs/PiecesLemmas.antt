@@ -1,8 +1,8 @@
--- The first piece, and those after it.
+-- The first piece of some bytes, and the pieces after it.
 use Rattle.commands.proofs.Words.{◌≡◌, ℕ, ◌+◌, ◌-◌, ◌==◌, ◌≤◌, Bool, true, false, not, List, [], ◌∷◌, Some, None, cond, nat_lt, position, refl, slice_split, position_or_len, onto_first, sym, ◌∙◌, ap, arith, length, take, drop, length-drop, take_all, slice_split_first, slice_split-cons_no, ltb-true, ltb-false, split_at}
 
 module _ (p : ℕ → Bool) (x : ℕ) (xs : List ℕ) where
-  -- one more byte, which does not pass either
+  -- one more byte in front, which does not pass either
   whole_more : (b : Bool) → p x ≡ b → length (x ∷ xs) ≤ cond (not b) (1 + position_or_len p xs) 0 → (length xs ≤ position_or_len p xs → slice_split p xs ≡ xs ∷ [])
       → slice_split p (x ∷ xs) ≡ (x ∷ xs) ∷ []
   whole_more true e far rest = absurd (omega arith)
@@ -33,7 +33,7 @@ split_found separator bytes end found = by (nat_lt at (length bytes)) refl found
         ∙ (ap (λ n. take n bytes ∷ split_at separator (drop (n + 1) bytes)) same ∙ ap (λ r. take end bytes ∷ split_at separator r) (sym rest))
     by false outside e = absurd (cc)
 
--- without a separator all is one piece
+-- if there is no separator, all is one piece
 pub split_whole : (separator : ℕ) (bytes : List ℕ) → position (λ b. b == separator) bytes ≡ None → split_at separator bytes ≡ bytes ∷ []
 split_whole separator bytes none = by (nat_lt at (length bytes)) refl none
   where

@@ -6,29 +6,29 @@ use Rattle.commands.specs.declared.serve_line.ServeLine.TheVariants.{Node as Ser
 abbrev offers : List ℕ → NodeLine
 offers text = Offer (record { node = 1; entry = Text (record { author = 7; serial = 3; text = text }) })
 
--- the lines up to the word, with empty ones, and the line after it
+-- the text is the lines up to the word, with empty ones, and the next line follows the word
 lines : script_of play_line_of (codes "offer-lines 1 7 3 END\n$( a\n\nEND\nbegin 0\n") ≡ Ok (Node (offers (codes "$( a\n\n")) ∷ Node (Begin 0) ∷ [])
 lines = refl
 
--- the word at once, at the end of the script
+-- the word comes at once, and the script ends with it
 no_lines : script_of serve_line_of (codes "submit-lines 1 7 3 END\nEND") ≡ Ok (ServeNode (offers []) ∷ [])
 no_lines = refl
 
--- so many bytes, among them a line feed
+-- the text is a number of bytes, with line feeds among them
 bytes : script_of play_line_of (codes "offer-bytes 1 7 3 3\na\nb\nbegin 0") ≡ Ok (Node (offers (codes "a\nb")) ∷ Node (Begin 0) ∷ [])
 bytes = refl
 
 no_bytes : script_of serve_line_of (codes "submit-bytes 1 7 3 0\n\n") ≡ Ok (ServeNode (offers []) ∷ [])
 no_bytes = refl
 
--- a missing end is a bad line where the text is offered
+-- if the end of the text is missing, the line that offers the text is a bad line
 no_end : script_of play_line_of (codes "begin 0\noffer-lines 1 7 3 END\na\n") ≡ Err 2
 no_end = refl
 
 no_word : script_of play_line_of (codes "offer-lines 1 7 3\n\n") ≡ Err 1
 no_word = refl
 
--- so are a number of bytes that are not there, or that no line feed follows
+-- .. and so it is if there are too few bytes, or no line feed follows them
 too_many : script_of serve_line_of (codes "\nsubmit-bytes 1 7 3 9\na\n") ≡ Err 2
 too_many = refl
 

@@ -1,24 +1,24 @@
--- A script, a line at a time.
+-- A script, read line by line.
 use Rattle.commands.proofs.Words.{◌≡◌, ℕ, zero, suc, ◌+◌, ◌<◌, Bool, false, List, [], ◌∷◌, ◌++◌, drop, Option, Some, None, Result, Ok, Err, IsTrue, ◌||◌, not, true, refl, sym, ◌∙◌, ap, subst, arith, length, append_assoc, append-nil, length-drop, ◌-◌, LineFault, LINE_FEED, split_at, RemainingLines, IsAdvanced, ParsesLine, script_of, script_from, with_line, prepended}
 use Rattle.commands.specs.declared.script.LineFault.TheVariants.{Memory as NoMemory}
 
--- the result of parsing lines, after these
+-- the result of parsing lines, with these lines in front
 abbrev pub preceded_by : {L : Type 0} → List L → Result (List L) ℕ → Result (List L) ℕ
 preceded_by front (Ok lines) = Ok (front ++ lines)
 preceded_by front (Err bad) = Err bad
 
--- lines that follow none
+-- with no lines in front the result is the same
 preceded_by-none : {L : Type 0} (r : Result (List L) ℕ) → r ≡ preceded_by [] r
 preceded_by-none (Ok lines) = refl
 preceded_by-none (Err bad) = refl
 
--- no allocation failed now, nor before
+-- no allocation fails now, and none failed before
 pushed_each_time : (no_memory added : Bool) (P : Type 0) → (IsTrue added → P) → (no_memory || not added) ≡ false → (no_memory ≡ false) × P
 pushed_each_time true added P h none = absurd (cc)
 pushed_each_time false true P h none = (refl, h refl)
 pushed_each_time false false P h none = absurd (cc)
 
--- lines that are a text are passed
+-- lines that belong to a text are passed over
 pub text_passed : {L : Type 0} (expected : List ℕ → List (List ℕ) → Option (L × ℕ)) (number count : ℕ) (lines : List (List ℕ))
     → script_from expected number count lines ≡ script_from expected (number + count) 0 (drop count lines)
 text_passed expected number zero lines = ap (λ n. script_from expected n 0 lines) (let e : number ≡ number + 0 = omega arith in e)
@@ -34,7 +34,7 @@ pub record IsRead {L : Type 0} (expected : List ℕ → List (List ℕ) → Opti
   pub says : script_of expected script ≡ preceded_by front (script_from expected (rest.number + 1) 0 rest.lines)
   pub whole : no_memory ≡ false → kept ≡ front
 
--- none is read
+-- no line is read yet
 pub is_read_none : {L : Type 0} (expected : List ℕ → List (List ℕ) → Option (L × ℕ)) (script : List ℕ) (kept : List L) (rest : RemainingLines)
     → kept ≡ [] → rest ≡ record { number = 0; lines = split_at LINE_FEED script } → IsRead expected script kept false rest
 is_read_none expected script kept rest none all = record {
@@ -43,7 +43,7 @@ is_read_none expected script kept rest none all = record {
   whole = λ _. none;
 }
 
--- one more line read is one line less to be read
+-- a line in front of the rest is the last of those in front
 preceded_by-line : {L : Type 0} (front : List L) (x : L) (r : Result (List L) ℕ)
     → preceded_by front (prepended x r) ≡ preceded_by (front ++ x ∷ []) r
 preceded_by-line front x (Ok lines) = ap Ok (sym (append_assoc front (x ∷ []) lines))
@@ -73,7 +73,7 @@ module _ {L : Type 0} {expected : List ℕ → List (List ℕ) → Option (L × 
       by [] e = absurd (omega arith)
       by (c ∷ cs) e = refl
 
-  -- the result for the script, if the line is parsed as this
+  -- the result for the script, if the next line is parsed as this
   says_line : (found : Option (L × ℕ)) → 0 < length line → expected line next.lines ≡ found
       → script_of expected script ≡ preceded_by so.front (with_line next.number found (λ count. script_from expected (next.number + 1) count next.lines))
   says_line found some says = says_so ∙ ap (preceded_by so.front)
@@ -92,7 +92,7 @@ module _ {L : Type 0} {expected : List ℕ → List (List ℕ) → Option (L × 
   is_bad some says = says_line None some says
 
   module _ (found : L × ℕ) (after : RemainingLines) (some : 0 < length line) (says : expected line next.lines ≡ Some found) (past : IsAdvanced found.1 next after) where
-    -- the lines of the text are left out
+    -- the lines of the text are left out of the rest
     rest_says : script_from expected (next.number + 1) found.1 next.lines ≡ script_from expected (after.number + 1) 0 after.lines
     rest_says =
         let number : next.number + 1 + found.1 ≡ after.number + 1 = let p = past.number in omega arith in
@@ -111,7 +111,7 @@ module _ {L : Type 0} {expected : List ℕ → List (List ℕ) → Option (L × 
       whole = λ e. let k = keeps e in k.1 ∙ ap (λ f. f ++ found.0 ∷ []) (so.whole k.0);
     }
 
-    -- a line that is parsed, and is appended if allocation succeeds
+    -- a line that is parsed, and kept if its allocation succeeds
     pub is_read_added : (now : List L) (added : Bool) → (IsTrue added → now ≡ kept ++ found.0 ∷ [])
         → IsRead expected script now (no_memory || not added) after
     is_read_added now added h = is_read_more now (no_memory || not added) (pushed_each_time no_memory added (now ≡ kept ++ found.0 ∷ []) h)

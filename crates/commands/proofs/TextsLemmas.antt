@@ -1,12 +1,12 @@
--- Texts of several lines: the lines before a word, and so many bytes.
+-- Texts of several lines: the lines before a word, or a number of bytes.
 use Rattle.commands.proofs.Words.{◌≡◌, ℕ, ◌+◌, ◌-◌, ◌<◌, ◌≤◌, ◌==◌, Bool, true, false, cond, List, [], ◌∷◌, ◌++◌, Option, Some, None, option_map, slice_index, count_by, if◌then◌else◌, refl, slice_split, onto_first, join_with_byte, bytes_eq, sym, ◌∙◌, ap, arith, length, take, drop, get_or, append_assoc, append-nil, length-append, length-drop, suc, take_at, drop_at, take-append-drop, drop_more, take_all, length-take-le, count_by-le-length, join_with_byte-slice_split, slice_split-cons_yes, slice_split-cons_no, length-slice_split, eqb-true, LINE_FEED, split_at, RemainingLines, IsAdvanced, lines_before, first_bytes, bytes_before}
 
--- lines, each with its line feed
+-- lines, each followed by a line feed
 abbrev pub with_feeds : List (List ℕ) → List ℕ
 with_feeds [] = []
 with_feeds (line ∷ lines) = line ++ LINE_FEED ∷ with_feeds lines
 
--- the text found after lines that are passed
+-- the text that is found after these lines, with them in front
 abbrev pub passed_by : List (List ℕ) → Option (List ℕ × ℕ) → Option (List ℕ × ℕ)
 passed_by front found = option_map (λ t. (with_feeds front ++ t.0, t.1 + length front)) found
 
@@ -32,7 +32,7 @@ passed_by-more front line (Some t) =
     let counts : t.1 + 1 + length front ≡ t.1 + length (front ++ line ∷ []) = omega (arith, length-more front line) in
     ap (λ text. Some (text, t.1 + 1 + length front)) texts ∙ ap (λ k. Some (with_feeds (front ++ line ∷ []) ++ t.0, k)) counts
 
--- the bytes of lines, of which some are passed
+-- the bytes of lines: those of the first lines with their line feeds, and those of the others
 join-passed : (front : List (List ℕ)) (line : List ℕ) (left : List (List ℕ))
     → join_with_byte LINE_FEED (front ++ line ∷ left) ≡ with_feeds front ++ join_with_byte LINE_FEED (line ∷ left)
 join-passed [] line left = refl
@@ -45,7 +45,7 @@ length-join-le : (line : List ℕ) (left : List (List ℕ)) → length line ≤ 
 length-join-le line [] = omega arith
 length-join-le line (x ∷ left) = omega (arith, length-append line (LINE_FEED ∷ join_with_byte LINE_FEED (x ∷ left)))
 
--- the lines passed, none of which is the word, and those that are left
+-- the lines that were passed, none of which is the word, and those that are left
 pub record IsPassed (word bytes : List ℕ) (rest : List (List ℕ)) (len count : ℕ) : Type 0 where
   pub front : List (List ℕ)
   pub whole : split_at LINE_FEED bytes ≡ front ++ rest
@@ -130,15 +130,15 @@ module _ {word bytes : List ℕ} {rest : List (List ℕ)} {len count : ℕ} (so 
       let own : length (line ∷ left) ≡ suc (length left) = refl in
       omega arith
 
--- no line is the word
+-- if no line is left, no line is the word
 pub found_none : {word bytes : List ℕ} {rest : List (List ℕ)} {len count : ℕ} → IsPassed word bytes rest len count → rest ≡ [] → lines_before word (split_at LINE_FEED bytes) ≡ None
 found_none {word = word} so none = so.says ∙ ap (λ r. passed_by so.front (lines_before word r)) none
 
--- fewer are left
+-- at most as many lines are left as there are
 pub passed_fewer : {word bytes : List ℕ} {rest : List (List ℕ)} {len count : ℕ} → IsPassed word bytes rest len count → length rest ≤ length (split_at LINE_FEED bytes)
 passed_fewer {rest = rest} so = let total = ap length so.whole ∙ length-append so.front rest in omega arith
 
--- So many bytes.
+-- a text of a number of bytes
 
 split_nonempty : (bytes : List ℕ) → 0 < length (split_at LINE_FEED bytes)
 split_nonempty bytes = omega (arith, length-slice_split (λ b. b == LINE_FEED) bytes)
@@ -199,7 +199,7 @@ module _ (n : ℕ) (bytes : List ℕ) where
     pub bytes_few : count_by (λ b. b == LINE_FEED) (take n bytes) + 1 ≤ length (split_at LINE_FEED bytes)
     bytes_few = let total = ap length lines_at ∙ length-append (split_at LINE_FEED (take n bytes)) (split_at LINE_FEED (drop (n + 1) bytes)) in let counts = count_at in omega arith
 
--- the bytes taken, and what follows them
+-- the bytes that are taken, and the lines that follow them
 pub text_and_rest : (n : ℕ) (bytes : List ℕ) (lines : List (List ℕ)) (feeds : ℕ) → lines ≡ split_at LINE_FEED bytes
     → n < length bytes → (get_or bytes n 0 == LINE_FEED) ≡ true → feeds ≡ count_by (λ b. b == LINE_FEED) (take n bytes)
     → (feeds + 1 ≤ length lines) × (split_at LINE_FEED (take (length bytes - (n + 1)) (drop (n + 1) bytes)) ≡ drop (feeds + 1) lines)
@@ -215,7 +215,7 @@ text_and_rest n bytes lines feeds all inside is counted =
           ∙ ap (drop (feeds + 1)) (sym all))),
     )
 
--- a text that is taken, by the number of its lines
+-- a text that is taken, with the number of its lines
 pub past_taken : (find : List (List ℕ) → Option (List ℕ × ℕ)) (old : RemainingLines) (number : ℕ) (lines rest : List (List ℕ)) (text : List ℕ) (count : ℕ)
     → old ≡ record { number = number; lines = lines } → find lines ≡ Some (text, count) → rest ≡ drop count lines
     → (x : ℕ) × (find old.lines ≡ Some (text, x)) × IsAdvanced x old (record { number = number + count; lines = rest })

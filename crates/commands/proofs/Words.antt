@@ -1,4 +1,4 @@
--- The words in which this crate is proved, passed on from one place.
+-- The names that the proofs of this crate use, exported again from one place.
 pub use Rattle.commands.specs.LineWords.{Words, by_first_word, entry_at, line_by_first_word}
 pub use Rattle.commands.specs.NodeLines.{without_text, text_line_or_else}
 pub use Rattle.commands.specs.OfferedEntry.{names_of, numbers_of, text_offer}

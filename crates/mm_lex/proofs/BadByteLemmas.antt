@@ -22,11 +22,11 @@ IsClean-none text none =
     let all = found_none is_bad text none in
     ap (list_all is_allowed) (sym (take-length text) ∙ ap (λ n. take n text) (sym all)) ∙ allowed_before text
 
--- the offset of a text fault is the first place that is bad
+-- an allowed byte in front moves the first bad byte by one place
 first_step : (b : ℕ) (xs : List ℕ) (n : ℕ) → is_allowed b ≡ true → position_or_len is_bad xs ≡ n → position_or_len is_bad (b ∷ xs) ≡ suc n
 first_step b xs n e k = rw e (let more : 1 + position_or_len is_bad xs ≡ suc n = omega (arith, k) in more)
 
--- a bad byte after allowed ones is the first that is bad
+-- a bad byte with only allowed bytes before it is the first bad one
 first_is : (text : List ℕ) (offset : ℕ) → offset < length text → is_allowed (get_or text offset 0) ≡ false → list_all is_allowed (take offset text) ≡ true → position_or_len is_bad text ≡ offset
 first_is [] offset inside bad before = absurd (omega (arith, inside))
 first_is (b ∷ text) zero inside bad before = rw bad refl
@@ -36,7 +36,7 @@ first_is (b ∷ text) (suc offset) inside bad before =
 pub IsFirstBadByte-place : (text : List ℕ) (offset : ℕ) → IsFirstBadByte text offset → position_or_len is_bad text ≡ offset
 IsFirstBadByte-place text offset is = first_is text offset is.inside is.bad is.before
 
--- in a clean text the search for a bad byte goes to the end
+-- in a clean text the search for a bad byte reaches the end
 clean_is : (text : List ℕ) → list_all is_allowed text ≡ true → position_or_len is_bad text ≡ length text
 clean_is [] h = refl
 clean_is (b ∷ text) h = first_step b text (length text) (and_parts (is_allowed b) (list_all is_allowed text) h).0 (clean_is text (and_parts (is_allowed b) (list_all is_allowed text) h).1)

@@ -1,14 +1,14 @@
--- From place to place in a text: what stands between two places, and between a third one; and what then stands after them.
+-- The tokens between two places of a text, joined over a third place, and the tokens after a place.
 use Rattle.mm_lex.proofs.Prelude.{◌≡◌, ℕ, ◌≤◌, true, List, [], ◌∷◌, ◌++◌, length, flat_map, None, Ok, Err, refl, sym, ◌∙◌, ap, arith, subst, append_assoc, append-nil, map-append, drop-length, and_from, and_parts, Span, LexFault, Text, Comment, Memory, Name, word, runs_from, IsRunAt, opener, is_plain, AllPlain, Part, part_spans, AreParts, SplitsInto, words, IsCommentFaultOfRuns, runs_after, IsClosedAt, HasBetween, AreAfter, IsCommentFaultAfter, IsCommentFaultOrMemoryAfter}
 use Rattle.mm_lex.proofs.ScanRuns.{Outcome, prepend, scan, scan_split, scan-split, scan-stops}
 use Rattle.mm_lex.proofs.ScanResults.{with_plain, with_comment, splits_as, no_runs, split-scan, stops-scan}
 
--- the runs after comments
+-- the plain runs after each comment, in order
 abbrev outer : List Part → List Span
 outer ps = flat_map (λ (p : Part). p.after) ps
 
 module _ {text : List ℕ} where
-  -- ---- a split after another
+  -- ---- one split after another
 
   -- plain runs before a split are tokens before its tokens
   plain_split : (front spans tokens : List Span) → AllPlain text front → SplitsInto text spans tokens → SplitsInto text (front ++ spans) (front ++ tokens)
@@ -16,7 +16,7 @@ module _ {text : List ℕ} where
   plain_split (s ∷ front) spans tokens are split =
       with_plain text s (front ++ spans) (front ++ tokens) (and_parts (is_plain (word text s)) _ are).0 (plain_split front spans tokens (and_parts (is_plain (word text s)) _ are).1 split)
 
-  -- plain runs and whole comments before a split
+  -- plain runs and whole comments before a split: the runs outside the comments are tokens before its tokens
   parts_split : (first : List Span) (ps : List Part) (spans tokens : List Span) → AllPlain text first → AreParts text ps → SplitsInto text spans tokens
       → SplitsInto text (first ++ (flat_map part_spans ps ++ spans)) (first ++ (outer ps ++ tokens))
   parts_split first [] spans tokens plain are split = plain_split first spans tokens plain split
@@ -29,7 +29,7 @@ module _ {text : List ℕ} where
       = splits_as text _ _ _ whole (with_comment text p.begin p.end p.inside _ _ are.0.begins are.0.inside are.0.ends inner) in
       plain_split first _ _ plain (subst (λ ts. SplitsInto text (flat_map part_spans (p ∷ ps) ++ spans) ts) (sym (append_assoc p.after (outer ps) tokens)) these)
 
-  -- the splits of two lists of runs, one after the other, are one split
+  -- the splits of two lists of runs join into a split of the joined list
   pub splits_join : (a t b u : List Span) → SplitsInto text a t → SplitsInto text b u → SplitsInto text (a ++ b) (t ++ u)
   splits_join a t b u split more =
       let rest = flat_map part_spans split.parts in
@@ -39,11 +39,11 @@ module _ {text : List ℕ} where
 
   -- ---- between two places
 
-  -- nothing between a place and itself
+  -- there are no tokens between a place and itself
   pub between_none : (at : ℕ) → at ≤ length text → HasBetween text at at []
   between_none at within = record { later = omega arith; within = within; passed = []; tokens = []; whole = refl; split = no_runs text; are = refl }
 
-  -- and on from there
+  -- the tokens from one place to a second and then to a third are the tokens from the first to the third
   pub between_on : {from at end : ℕ} {ws vs : List Name} → HasBetween text from at ws → HasBetween text at end vs → HasBetween text from end (ws ++ vs)
   between_on {from} {at} {end} {ws} {vs} has more = record {
     later = omega (arith, has.later, more.later);
@@ -55,15 +55,15 @@ module _ {text : List ℕ} where
     are = map-append (word text) has.tokens more.tokens ∙ (ap (λ r. r ++ words text more.tokens) has.are ∙ ap (λ r. ws ++ r) more.are);
   }
 
-  -- the same words by another list
+  -- the same words, given as an equal list
   pub between_as : {from at : ℕ} {ws vs : List Name} → ws ≡ vs → HasBetween text from at ws → HasBetween text from at vs
   between_as {from} {at} e has = subst (λ ws. HasBetween text from at ws) e has
 
-  -- runs that are the same after two places
+  -- if the runs after two places are the same, there are no tokens between the places
   pub between_runs : (from at : ℕ) → from ≤ at → at ≤ length text → runs_after text from ≡ runs_after text at → HasBetween text from at []
   between_runs from at later within same = record { later = later; within = within; passed = []; tokens = []; whole = same; split = no_runs text; are = refl }
 
-  -- plain runs
+  -- plain runs between two places are the tokens there
   pub between_plain : (from at : ℕ) (front : List Span) → from ≤ at → at ≤ length text → runs_after text from ≡ front ++ runs_after text at → AllPlain text front
       → HasBetween text from at (words text front)
   between_plain from at front later within whole are = record {
@@ -77,11 +77,11 @@ module _ {text : List ℕ} where
   }
 
   module _ (from : ℕ) (s : Span) (run : runs_after text from ≡ s ∷ runs_after text s.end) (is : IsRunAt text s) (later : from ≤ s.start) where
-    -- one token
+    -- a plain run is one token
     pub between_token : is_plain (word text s) ≡ true → HasBetween text from s.end (word text s ∷ [])
     between_token plain = between_plain from s.end (s ∷ []) (omega (arith, later, is.some)) is.within run (and_from _ _ plain refl)
 
-    -- a comment
+    -- a comment that begins at this run and is closed has no tokens
     pub between_comment : word text s ≡ opener → (end : ℕ) → IsClosedAt text s.end end → HasBetween text from end []
     between_comment opens end closed = record {
       later = omega (arith, later, is.some, closed.later);
@@ -95,26 +95,26 @@ module _ {text : List ℕ} where
 
   -- ---- after a place
 
-  -- no token after a place where no run is left
+  -- if no run is left after a place, no token is left
   pub none_after : (at : ℕ) → runs_after text at ≡ [] → AreAfter text at []
   none_after at none = ([], splits_as text (runs_after text at) [] [] none (no_runs text), refl)
 
-  -- no token after the end of the text
+  -- no token is left after the end of the text
   pub none_after_end : (at : ℕ) → length text ≤ at → at ≤ length text → AreAfter text at []
   none_after_end at end within =
       let all : at ≡ length text = omega (arith, end, within) in
       none_after at (ap (runs_after text) all ∙ ap (λ r. runs_from (length text) r) (drop-length text))
 
-  -- the same tokens after a place, by another list of words
+  -- the tokens after a place, given as an equal list of words
   pub after_as : (at : ℕ) {ws vs : List Name} → ws ≡ vs → AreAfter text at ws → AreAfter text at vs
   after_as at e are = subst (λ ws. AreAfter text at ws) e are
 
   module _ {from at : ℕ} {ws : List Name} (has : HasBetween text from at ws) where
-    -- the scan goes on
+    -- the scan from the earlier place on gives the tokens between, and then the result of the scan from the later place on
     pub between_scan : scan text (runs_after text from) None ≡ prepend has.tokens (scan text (runs_after text at) None)
     between_scan = ap (λ r. scan text r None) has.whole ∙ scan_split text has.passed has.tokens (runs_after text at) has.split
 
-    -- the words after the later place
+    -- the words after the earlier place are those between the two places and then those after the later one
     pub after_on : {vs : List Name} → AreAfter text at vs → AreAfter text from (ws ++ vs)
     after_on {vs} are = (
       has.tokens ++ are.0,
@@ -122,23 +122,23 @@ module _ {text : List ℕ} where
       map-append (word text) has.tokens are.0 ∙ (ap (λ r. r ++ words text are.0) has.are ∙ ap (λ r. ws ++ r) are.2),
     )
 
-    -- where the comments stop after the later place, they stop after the earlier one
+    -- a comment fault of the runs after the later place is one of the runs after the earlier place
     pub stops_on : (offset : ℕ) → IsCommentFaultOfRuns text (runs_after text at) offset → IsCommentFaultOfRuns text (runs_after text from) offset
     stops_on offset is = stops-scan text (runs_after text from) offset (between_scan ∙ ap (prepend has.tokens) (scan-stops text (runs_after text at) offset is))
 
-    -- a fault after the later place is one after the earlier, where no allocation failed
+    -- a comment fault after the later place is one after the earlier place
     pub stops_after : (fault : LexFault) → IsCommentFaultAfter text at fault → IsCommentFaultAfter text from fault
     stops_after (Text offset) is = is
     stops_after (Comment offset) is = stops_on offset is
     stops_after Memory is = is
 
-    -- .. and where one may have been
+    -- .. also if an allocation may have failed
     pub fails_after : (fault : LexFault) → IsCommentFaultOrMemoryAfter text at fault → IsCommentFaultOrMemoryAfter text from fault
     fails_after (Text offset) is = is
     fails_after (Comment offset) is = stops_on offset is
     fails_after Memory is = tt
 
-    -- the words after the earlier place
+    -- the words after the earlier place are those between the two places and then words after the later one
     pub after_rest : {vs : List Name} → AreAfter text from vs → (us : List Name) × AreAfter text at us × (vs ≡ ws ++ us)
     after_rest {vs} are = by (scan text (runs_after text at) None) refl
       where
@@ -156,7 +156,7 @@ module _ {text : List ℕ} where
         by (Err offset) e =
             let other : ◌≡◌ {A = Outcome} (Ok are.0) (Err offset) = sym all ∙ (between_scan ∙ ap (prepend has.tokens) e) in cc
 
-  -- the words after a place are one list
+  -- the list of words after a place is unique
   pub after_unique : (at : ℕ) {ws vs : List Name} → AreAfter text at ws → AreAfter text at vs → ws ≡ vs
   after_unique at are also =
       let a = scan-split text (runs_after text at) are.0 are.1 in
@@ -164,13 +164,13 @@ module _ {text : List ℕ} where
       let same : are.0 ≡ also.0 = cc in
       sym are.2 ∙ (ap (words text) same ∙ also.2)
 
-  -- a place with tokens after it has no fault of comments after it
+  -- a place with a list of tokens after it has no comment fault after it
   pub after_no_stop : (at offset : ℕ) {ws : List Name} → AreAfter text at ws → IsCommentFaultOfRuns text (runs_after text at) offset → ⊥
   after_no_stop at offset are is =
       let a = scan-split text (runs_after text at) are.0 are.1 in
       let b = scan-stops text (runs_after text at) offset is in cc
 
--- a fault of the comments is one also where an allocation may have failed
+-- a comment fault is one also if an allocation may have failed
 pub stops_fail : (text : List ℕ) (at : ℕ) (fault : LexFault) → IsCommentFaultAfter text at fault → IsCommentFaultOrMemoryAfter text at fault
 stops_fail text at (Text offset) is = is
 stops_fail text at (Comment offset) is = is

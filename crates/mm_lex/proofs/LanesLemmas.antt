@@ -1,10 +1,10 @@
--- The first white byte, found among the bytes up to the space, many bytes at a time.
+-- The first white byte, found as the first byte up to the space, sixteen bytes at a time.
 use Rattle.mm_lex.proofs.Prelude.{◌≡◌, ℕ, ◌+◌, ◌<◌, ◌≤◌, Bool, true, false, not, cond, nat_le, nat_lt, List, [], ◌∷◌, length, take, drop, map, refl, list_all, position_or_len, prefix_len, sym, ◌∙◌, ap, arith, leb, ltb, eqb, replicate, w8, ◌%◌, ◌^◌, eqb-true, eqb-false, and_parts, zip2, mask_l, top, count_trailing_zeros, bitmask_splat, tops_compared, zip2_splat_left, mask_l-mod, trailing_mask_l, leading_from_mask_l, length-map, take-append-drop, length-drop, length-take-le, drop-drop, prefix_len-append, list_all-append, is_white, is_allowed, IsClean}
 
 abbrev pub is_low : ℕ → Bool
 is_low b = nat_le b 32
 
--- an allowed byte is white where it is not above the space
+-- an allowed byte is white exactly if it is at most the space
 pub is_low-white : (b : ℕ) → is_allowed b ≡ true → is_low b ≡ is_white b
 is_low-white b h = by (is_low b) (is_white b) refl refl
   where
@@ -24,7 +24,7 @@ pub clean-take : (n : ℕ) (text : List ℕ) → IsClean text → IsClean (take 
 clean-take n text clean =
     (and_parts (list_all is_allowed (take n text)) (list_all is_allowed (drop n text)) (sym (list_all-append is_allowed (take n text) (drop n text)) ∙ (ap (list_all is_allowed) (take-append-drop n text) ∙ clean))).0
 
--- in a clean text the first byte up to the space is the first white one
+-- in a clean text the first byte that is at most the space is the first white one
 pub low_is_white : (text : List ℕ) → IsClean text → position_or_len is_low text ≡ position_or_len is_white text
 low_is_white [] clean = refl
 low_is_white (b ∷ text) clean =
@@ -43,16 +43,16 @@ is_high-shown b h = by (is_high b) (is_white b) refl refl
     by false true e k = refl
     by false false e k = absurd (grind (arith, h, e, k))
 
--- .. and the first byte above the space the first that is not white
+-- .. and the first byte above the space is the first that is not white
 pub high_is_shown : (text : List ℕ) → IsClean text → position_or_len is_high text ≡ position_or_len (λ b. not (is_white b)) text
 high_is_shown [] clean = refl
 high_is_shown (b ∷ text) clean =
     ap (λ t. cond (not t) (1 + position_or_len is_high text) 0) (is_high-shown b (and_parts (is_allowed b) _ clean).0)
     ∙ ap (λ n. cond (not (not (is_white b))) (1 + n) 0) (high_is_shown text (and_parts (is_allowed b) _ clean).1)
 
--- ---- a mask
+-- ---- the mask of sixteen bytes
 
--- the mask of the bytes up to the space, and its lowest bit
+-- the mask has a bit for each byte, which is set if the byte is at most the space
 pub mask_of_low : (xs : List ℕ) → length xs ≡ 16
     → mask_l (map (top 7) (zip2 (λ a b. cond (leb a b) 255 0) xs (replicate 16 32))) % 2 ^ 64 ≡ mask_l (map is_low xs)
 mask_of_low xs long = bitmask_splat w8 leb xs 16 32 long (omega arith)
@@ -62,11 +62,11 @@ module _ (xs : List ℕ) (long : length xs ≡ 16) (m : ℕ) (of_low : m ≡ mas
   is_some : 0 < mask_l (map is_low xs)
   is_some = omega (arith, some, of_low)
 
-  -- the lowest bit of the mask is the place of the first byte up to the space
+  -- the lowest set bit of the mask is the place of the first byte that is at most the space
   pub lowest_low : count_trailing_zeros 64 m ≡ position_or_len is_low xs
   lowest_low = ap (count_trailing_zeros 64) of_low ∙ trailing_mask_l is_low 64 xs (omega (arith, long)) is_some
 
--- the mask of the bytes above the space, and its lowest bit
+-- the mask has a bit for each byte, which is set if the byte is above the space
 pub mask_of_high : (xs : List ℕ) → length xs ≡ 16
     → mask_l (map (top 7) (zip2 (λ a b. cond (ltb a b) 255 0) (replicate 16 32) xs)) % 2 ^ 64 ≡ mask_l (map is_high xs)
 mask_of_high xs long =
@@ -74,15 +74,15 @@ mask_of_high xs long =
     ∙ mask_l-mod (map is_high xs) 64 (omega (arith, length-map xs is_high, long))
 
 module _ (xs : List ℕ) (long : length xs ≡ 16) (m : ℕ) (of_high : m ≡ mask_l (map is_high xs)) where
-  -- the lowest bit of the mask is the place of the first byte above the space
+  -- the lowest set bit of the mask is the place of the first byte above the space
   pub lowest_high : (m ≡ 0 → ⊥) → count_trailing_zeros 64 m ≡ position_or_len is_high xs
   lowest_high some = ap (count_trailing_zeros 64) of_high ∙ trailing_mask_l is_high 64 xs (omega (arith, long)) (omega (arith, some, of_high))
 
-  -- where the mask is 0, none of the sixteen is above the space
+  -- if the mask is 0, none of the sixteen bytes is above the space
   pub none_high : m ≡ 0 → 16 ≡ position_or_len is_high xs
   none_high none = sym (leading_from_mask_l is_high xs (sym of_high ∙ none) ∙ long)
 
--- a byte that passes among the first bytes passes in the text
+-- if one of the first bytes of a text passes a test, the first byte of the text that passes is among them
 pub first_among : (p : ℕ → Bool) (n : ℕ) (text : List ℕ) → position_or_len p (take n text) < length (take n text) → position_or_len p text ≡ position_or_len p (take n text)
 first_among p n text few =
     ap (position_or_len p) (sym (take-append-drop n text))
@@ -93,7 +93,7 @@ first_among p n text few =
     by true e = absurd (omega (arith, eqb-true _ _ e, few))
     by false e = refl
 
--- ---- the bytes after those seen
+-- ---- the bytes after those read so far
 
 module _ (text : List ℕ) (at : ℕ) (clean : IsClean text) (room : at + 16 ≤ length text)
     (seen : position_or_len is_white text ≡ at + position_or_len is_white (drop at text))
@@ -101,20 +101,20 @@ module _ (text : List ℕ) (at : ℕ) (clean : IsClean text) (room : at + 16 ≤
   abbrev next : List ℕ
   next = take 16 (drop at text)
 
-  -- the next bytes are sixteen
+  -- there are sixteen next bytes
   next_len : length next ≡ 16
   next_len = length-take-le 16 (drop at text) (omega (arith, length-drop at text))
 
-  -- the count is how many of them come before the first white one
+  -- the count is the number of them before the first white one
   next_white : count ≡ prefix_len (λ b. not (is_white b)) next
   next_white = counted ∙ low_is_white next (clean-take 16 (drop at text) (clean-drop at text clean))
 
-  -- the bytes before a white one, counted in the next sixteen and, where none is white there, after them
+  -- the number of bytes before a white one, counted in the next sixteen and, if none of these is white, after them
   parts : prefix_len (λ b. not (is_white b)) (drop at text)
       ≡ cond (eqb (prefix_len (λ b. not (is_white b)) next) (length next)) (length next + prefix_len (λ b. not (is_white b)) (drop 16 (drop at text))) (prefix_len (λ b. not (is_white b)) next)
   parts = ap (prefix_len (λ b. not (is_white b))) (sym (take-append-drop 16 (drop at text))) ∙ prefix_len-append (λ b. not (is_white b)) next (drop 16 (drop at text))
 
-  -- where one of them is white, the first white byte is there
+  -- if one of the sixteen is white, the first white byte of the text is the first white one of them
   pub ends_here : count < 16 → position_or_len is_white text ≡ at + count
   ends_here few = by (eqb (prefix_len (λ b. not (is_white b)) next) (length next)) refl
     where
@@ -124,7 +124,7 @@ module _ (text : List ℕ) (at : ℕ) (clean : IsClean text) (room : at + 16 ≤
           absurd (omega (arith, same, few, next_white, next_len))
       by false e = seen ∙ ap (λ n. at + n) (parts ∙ (ap (λ t. cond t (length next + prefix_len (λ b. not (is_white b)) (drop 16 (drop at text))) (prefix_len (λ b. not (is_white b)) next)) e ∙ sym next_white))
 
-  -- where none is, it is after them
+  -- if none of them is white, the first white byte of the text comes after them
   pub goes_on : count ≡ 16 → position_or_len is_white text ≡ at + count + position_or_len is_white (drop (at + count) text)
   goes_on all = by (eqb (prefix_len (λ b. not (is_white b)) next) (length next)) refl
     where

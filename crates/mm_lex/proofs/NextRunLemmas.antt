@@ -1,11 +1,11 @@
--- At the next run: a token, or the place at which the comments are at fault.
+-- The next run is a token, or there is a comment fault at it or in the comment that begins with it.
 use Rattle.mm_lex.proofs.Prelude.{◌≡◌, ℕ, ◌≤◌, true, List, [], ◌∷◌, refl, ◌∙◌, ap, arith, inl, inr, Span, word, IsRunAt, opener, closer, is_plain, AllPlain, IsClean, IsCommentFaultOfRuns, runs_after, IsNestedAt, HasBetween, IsTokenAfter}
 use Rattle.mm_lex.proofs.ScanResults.{no_runs}
 use Rattle.mm_lex.proofs.Progress.{IsWordAt-run}
 use Rattle.mm_lex.proofs.BetweenLemmas.{between_on, between_token, stops_on}
 
 module _ {text : List ℕ} {at from : ℕ} (has : HasBetween text at from []) (s : Span) (run : runs_after text from ≡ s ∷ runs_after text s.end) where
-  -- a plain run is the next token
+  -- if the run is plain, it is the next token
   pub next_is : IsClean text → IsRunAt text s → from ≤ s.start → is_plain (word text s) ≡ true → IsTokenAfter text at s
   next_is clean is later plain = record {
     token = IsWordAt-run text s clean is;
@@ -13,13 +13,13 @@ module _ {text : List ℕ} {at from : ℕ} (has : HasBetween text at from []) (s
     between = between_on has (between_token from s run is later plain);
   }
 
-  -- a `$)` is where the comments stop
+  -- if the run is a `$)`, it is the comment fault
   pub stops_stray : word text s ≡ closer → IsCommentFaultOfRuns text (runs_after text at) s.start
   stops_stray closes =
       stops_on has s.start (inl (record { before = []; tokens = []; at = s; rest = runs_after text s.end; whole = run; split = no_runs text; closes = closes; place = refl }))
 
   module _ (opens : word text s ≡ opener) where
-    -- a `$(` inside of the comment that begins at this run is where they stop
+    -- if the run begins a comment, a `$(` inside that comment is the comment fault
     pub stops_nested : (offset : ℕ) → IsNestedAt text s.end offset → IsCommentFaultOfRuns text (runs_after text at) offset
     stops_nested offset is =
         stops_on has offset (inr (inl (record {
@@ -37,7 +37,7 @@ module _ {text : List ℕ} {at from : ℕ} (has : HasBetween text at from []) (s
           place = is.place;
         })))
 
-    -- they stop at this run, where the comment that begins with it is never closed
+    -- if the run begins a comment that is never closed, the run is the comment fault
     pub stops_unclosed : AllPlain text (runs_after text s.end) → IsCommentFaultOfRuns text (runs_after text at) s.start
     stops_unclosed plain =
         stops_on has s.start (inr (inr (record {

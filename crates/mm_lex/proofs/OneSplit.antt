@@ -1,8 +1,8 @@
--- The split at the comments is unique: a list of plain runs ends where the first run stands that is not plain.
+-- The split at the comments is unique: a list of plain runs ends at the first run that is not plain.
 use Rattle.mm_lex.proofs.Prelude.{◌≡◌, ℕ, true, false, List, [], ◌∷◌, ◌++◌, flat_map, refl, sym, ◌∙◌, ap, true≢false, append_assoc, and_parts, Span, word, opener, closer, is_plain, AllPlain, Part, part_spans, AreParts, SplitsInto}
 
 module _ (text : List ℕ) where
-  -- the runs are none, or begin with one that is not plain
+  -- the list is empty, or begins with a run that is not plain
   abbrev BeginsMarked : List Span → Type 0
   BeginsMarked [] = Unit {0}
   BeginsMarked (s ∷ spans) = is_plain (word text s) ≡ false
@@ -11,11 +11,11 @@ module _ (text : List ℕ) where
     front : xs ≡ ys
     back : rs ≡ ss
 
-  -- a plain run is not one that is not plain
+  -- a plain run is not equal to one that is not plain
   unmarked : (s t : Span) → s ≡ t → is_plain (word text s) ≡ true → is_plain (word text t) ≡ false → ⊥
   unmarked s t e h k = true≢false (sym h ∙ (ap (λ u. is_plain (word text u)) e ∙ k))
 
-  -- a list is split in one way into plain runs and what begins with a marked one
+  -- a list has only one split into plain runs and a rest that is empty or begins with a run that is not plain
   same_split : (xs ys rs ss : List Span) → AllPlain text xs → AllPlain text ys → BeginsMarked rs → BeginsMarked ss → xs ++ rs ≡ ys ++ ss → SameSplit xs ys rs ss
   same_split [] [] rs ss h k m n e = record { front = refl; back = e }
   same_split [] (y ∷ ys) [] ss h k m n e = cc
@@ -38,12 +38,12 @@ module _ (text : List ℕ) where
   marked_closer : (s : Span) → word text s ≡ closer → is_plain (word text s) ≡ false
   marked_closer s e = ap is_plain e
 
-  -- the list after the first runs begins with a `$(`, or is empty
+  -- the runs of some comments begin with a `$(`, or there are none
   marked_parts : (ps : List Part) → AreParts text ps → BeginsMarked (flat_map part_spans ps)
   marked_parts [] are = tt
   marked_parts (p ∷ ps) are = marked_opener p.begin are.0.begins
 
-  -- two comments with the runs after them are one where their four parts are
+  -- two comments, with the runs after them, are equal if their four parts are
   same_part : (p q : Part) → p.begin ≡ q.begin → p.inside ≡ q.inside → p.end ≡ q.end → p.after ≡ q.after → p ≡ q
   same_part p q b i e a =
       ap (λ x. record { begin = x; inside = p.inside; end = p.end; after = p.after }) b
@@ -51,7 +51,7 @@ module _ (text : List ℕ) where
       ∙ (ap (λ x. record { begin = q.begin; inside = q.inside; end = x; after = p.after }) e
       ∙ ap (λ x. record { begin = q.begin; inside = q.inside; end = q.end; after = x }) a))
 
-  -- one list of runs is one list of comments with what is after each
+  -- two lists of comments, with the runs after each, are equal if they have the same runs
   same_parts : (ps qs : List Part) → AreParts text ps → AreParts text qs → flat_map part_spans ps ≡ flat_map part_spans qs → ps ≡ qs
   same_parts [] [] are also e = refl
   same_parts [] (q ∷ qs) are also e = cc

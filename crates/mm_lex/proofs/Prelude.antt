@@ -1,4 +1,4 @@
--- The words in which this crate is proved, passed on from one place.
+-- The names that the proofs of this crate use, exported again from one place.
 pub use Rattle.memchr.specs.Find.{NoneBefore, Nowhere, Passes, is_byte}
 pub use Rattle.mm_lex.specs.Alphabet.{IsRunAt, Name, has_byte, is_allowed, is_empty, is_label, is_symbol, is_visible, is_white, name_eq, runs, runs_from, starts_white, with_byte, word}
 pub use Rattle.mm_lex.specs.Between.{AreAfter, IsCommentFaultOrMemoryAfter, HasBetween, IsNextToken, IsTokenAfter, IsCommentFaultAfter}

@@ -1,4 +1,4 @@
--- How far the code has read: what the scan of the whole text gives, by what is left of it.
+-- How far the code has read: the result of the scan of the whole text, by the text that is left.
 use Rattle.mm_lex.proofs.Prelude.{◌≡◌, ℕ, ◌-◌, ◌<◌, ◌≤◌, Bool, true, false, not, cond, ◌||◌, List, [], ◌∷◌, ◌++◌, length, drop, Some, None, Ok, Err, refl, list_all, All, sym, ◌∙◌, ap, arith, append_assoc, true≢false, min, append-nil, length-take, length-drop, All-push, list_all-append, bytes_eq-Decides, and_from, and_parts, Span, Name, is_white, is_visible, is_allowed, runs, word, IsRunAt, is_word, opener, closer, is_plain, AllPlain, IsClean, AreTokens, IsWordAt, IsCommentFault, runs_after, PassesPlain, IsClosedAt, IsNestedAt}
 use Rattle.mm_lex.proofs.LanesLemmas.{clean-take, clean-drop}
 use Rattle.mm_lex.proofs.ScanRuns.{prepend, prepend-append, scan, opens, closes, scan_opener, scan_closer, scan_plain, scan_nested, scan_closing, scan_all_inside, is_opener, is_closer, closer_no_opener, scan-stops}
@@ -34,9 +34,9 @@ IsWordAt-run text s clean is =
       word = some_word (word text s) some (all_visible (word text s) (clean-take (s.end - s.start) (drop s.start text) (clean-drop s.start text clean)) is.visible);
     }
 
--- ---- inside of a comment
+-- ---- inside a comment
 
--- and on from there
+-- plain runs from one place to a second and then to a third are plain runs from the first to the third
 pub passes_on : {text : List ℕ} {from at end : ℕ} → PassesPlain text from at → PassesPlain text at end → PassesPlain text from end
 passes_on {text} {from} {at} {end} so more = record {
   passed = so.passed ++ more.passed;
@@ -52,11 +52,11 @@ all_plain-push text (x ∷ xs) s h k = and_from (is_plain (word text x)) _ (and_
 
 module _ {text : List ℕ} {from at : ℕ} (so : PassesPlain text from at) where
   module _ (s : Span) (run : runs_after text at ≡ s ∷ runs_after text s.end) (is : IsRunAt text s) (later : at ≤ s.start) where
-    -- the runs from the start of the comment's inside: those passed, this one, and those after it
+    -- the runs from the inside of the comment on: those that were passed, this one, and those after it
     inside_whole : runs_after text from ≡ so.passed ++ s ∷ runs_after text s.end
     inside_whole = so.whole ∙ ap (λ r. so.passed ++ r) run
 
-    -- the comment ends with this run, a `$)`
+    -- if this run is a `$)`, the comment ends with it
     pub inside_closed : word text s ≡ closer → IsClosedAt text from s.end
     inside_closed closes = record {
       inside = so.passed;
@@ -68,7 +68,7 @@ module _ {text : List ℕ} {from at : ℕ} (so : PassesPlain text from at) where
       closes = closes;
     }
 
-    -- a comment opens again at this run, a `$(`
+    -- if this run is a `$(`, it is nested in the comment
     pub inside_nested : word text s ≡ opener → IsNestedAt text from s.start
     inside_nested opens = record {
       inside = so.passed;
@@ -80,7 +80,7 @@ module _ {text : List ℕ} {from at : ℕ} (so : PassesPlain text from at) where
       place = refl;
     }
 
-    -- a plain run is passed
+    -- if this run is plain, it is passed over
     pub inside_more : is_plain (word text s) ≡ true → PassesPlain text from s.end
     inside_more is_plain = record {
       passed = so.passed ++ s ∷ [];
@@ -90,11 +90,11 @@ module _ {text : List ℕ} {from at : ℕ} (so : PassesPlain text from at) where
       plain = all_plain-push text so.passed s so.plain is_plain;
     }
 
-  -- where no run is left, all runs inside are plain
+  -- if no run is left, all runs inside the comment are plain
   pub inside_unclosed : runs_after text at ≡ [] → AllPlain text (runs_after text from)
   inside_unclosed none = rw (so.whole ∙ (ap (λ r. so.passed ++ r) none ∙ append-nil so.passed)) so.plain
 
--- ---- outside of comments
+-- ---- outside comments
 
 pub record SplitUpTo (text : List ℕ) (spans : List Span) (allocation_failed : Bool) (at : ℕ) : Type 0 where
   pub tokens : List Span
@@ -103,24 +103,24 @@ pub record SplitUpTo (text : List ℕ) (spans : List Span) (allocation_failed : 
   pub kept : allocation_failed ≡ false → spans ≡ tokens
   pub words : All (IsWordAt text) spans
 
--- a token more is kept, where no allocation failed before or now
+-- if no allocation has failed, the spans that were kept are the tokens, also with one more of both
 kept_push : (allocation_failed r : Bool) (spans tokens : List Span) (s : Span) → (allocation_failed ≡ false → spans ≡ tokens) → (allocation_failed ≡ true → r ≡ true)
     → r ≡ false → cond r spans (spans ++ s ∷ []) ≡ tokens ++ s ∷ []
 kept_push true r spans tokens s kept stays e = absurd (true≢false (sym (stays refl) ∙ e))
 kept_push false r spans tokens s kept stays e = rw e (ap (λ t. t ++ s ∷ []) (kept refl))
 
--- a span more, pushed or allocation_failed, and all are places of words
+-- each span is the place of a word, also after one more was pushed or could not be pushed
 words_push : (text : List ℕ) (r : Bool) (spans : List Span) (s : Span) → All (IsWordAt text) spans → IsWordAt text s → All (IsWordAt text) (cond r spans (spans ++ s ∷ []))
 words_push text true spans s are is = are
 words_push text false spans s are is = All-push (IsWordAt text) spans s are is
 
 module _ {text : List ℕ} {spans : List Span} {allocation_failed : Bool} {at : ℕ} (so : SplitUpTo text spans allocation_failed at) where
   module _ (s : Span) (run : runs_after text at ≡ s ∷ runs_after text s.end) where
-    -- the scan of the text, as far as this run
+    -- the scan of the text gives the tokens so far, and then the result of the scan from this run on
     here : scan text (runs text) None ≡ prepend so.tokens (scan text (s ∷ runs_after text s.end) None)
     here = so.whole ∙ ap (λ r. prepend so.tokens (scan text r None)) run
 
-    -- a token more
+    -- a plain run is one more token
     pub split_more : IsClean text → IsRunAt text s → opens text s ≡ false → closes text s ≡ false
         → (new : List Span) (r : Bool) → new ≡ cond r spans (spans ++ s ∷ []) → (allocation_failed ≡ true → r ≡ true) → SplitUpTo text new r s.end
     split_more clean is unopened unclosed new r e stays = record {
@@ -131,18 +131,18 @@ module _ {text : List ℕ} {spans : List Span} {allocation_failed : Bool} {at : 
       words = rw e (words_push text r spans s so.words (IsWordAt-run text s clean is));
     }
 
-    -- a `$)` outside of comments: the scan of the text stops here
+    -- at a `$)` outside comments the scan of the text stops
     pub stops_closer : closes text s ≡ true → scan text (runs text) None ≡ Err s.start
     stops_closer closed =
         let unopened = closer_no_opener text s ((bytes_eq-Decides _ _).0 closed) in
         here ∙ ap (prepend so.tokens) (scan_closer text s (runs_after text s.end) unopened closed)
 
     module _ (yes : opens text s ≡ true) where
-      -- a `$(`: the scan goes on inside of a comment that began here
+      -- at a `$(` the scan continues inside a comment that begins there
       opened : scan text (runs text) None ≡ prepend so.tokens (scan text (runs_after text s.end) (Some s.start))
       opened = here ∙ ap (prepend so.tokens) (scan_opener text s (runs_after text s.end) yes)
 
-      -- a comment is passed over
+      -- a comment that is closed is passed over
       pub split_comment : (end : ℕ) → IsClosedAt text s.end end → SplitUpTo text spans allocation_failed end
       split_comment end is = record {
         tokens = so.tokens;
@@ -154,7 +154,7 @@ module _ {text : List ℕ} {spans : List Span} {allocation_failed : Bool} {at : 
         words = so.words;
       }
 
-      -- a `$(` inside of that comment: the scan of the text stops at it
+      -- at a `$(` inside that comment the scan of the text stops
       pub stops_nested : (offset : ℕ) → IsNestedAt text s.end offset → scan text (runs text) None ≡ Err offset
       stops_nested offset is =
           opened ∙ (ap (prepend so.tokens) (ap (λ r. scan text r (Some s.start)) is.whole
@@ -162,17 +162,17 @@ module _ {text : List ℕ} {spans : List Span} {allocation_failed : Bool} {at : 
           ∙ scan_nested text is.at is.rest s.start (is_opener text is.at is.opens_again)))
           ∙ ap Err is.place)
 
-      -- a comment that is never closed: the scan of the text stops at its begin
+      -- if the comment is never closed, the scan of the text stops at the `$(` that begins it
       pub stops_unclosed : AllPlain text (runs_after text s.end) → scan text (runs text) None ≡ Err s.start
       stops_unclosed plain =
           opened ∙ ap (prepend so.tokens) (ap (λ r. scan text r (Some s.start)) (sym (append-nil (runs_after text s.end)))
           ∙ scan_all_inside text (runs_after text s.end) [] s.start plain)
 
-  -- where no run is left, the scan of the text gives the tokens read
+  -- if no run is left, the scan of the text gives the tokens read
   pub split_end : runs_after text at ≡ [] → scan text (runs text) None ≡ Ok so.tokens
   split_end none = so.whole ∙ (ap (λ r. prepend so.tokens (scan text r None)) none ∙ ap Ok (append-nil so.tokens))
 
--- ---- the answer that the code may then give
+-- ---- the answer of the code at the end
 
 pub AreTokens-scan : (text : List ℕ) (tokens : List Span) → IsClean text → scan text (runs text) None ≡ Ok tokens → AreTokens text tokens
 AreTokens-scan text tokens clean e = (clean, split-scan text (runs text) tokens e)
@@ -180,10 +180,10 @@ AreTokens-scan text tokens clean e = (clean, split-scan text (runs text) tokens 
 pub IsCommentFault-scan : (text : List ℕ) (offset : ℕ) → IsClean text → scan text (runs text) None ≡ Err offset → IsCommentFault text offset
 IsCommentFault-scan text offset clean e = (clean, stops-scan text (runs text) offset e)
 
--- where the scan stops is the one comment fault
+-- the offset at which the scan stops is the only comment fault
 pub same_fault : (text : List ℕ) (a b : ℕ) → scan text (runs text) None ≡ Err a → IsCommentFault text b → a ≡ b
 same_fault text a b e is = let f = scan-stops text (runs text) b is.1 in cc
 
--- where the scan gives tokens, there is no comment fault
+-- if the scan gives tokens, there is no comment fault
 pub no_fault : (text : List ℕ) (tokens : List Span) (offset : ℕ) → scan text (runs text) None ≡ Ok tokens → IsCommentFault text offset → ⊥
 no_fault text tokens offset e is = let f = scan-stops text (runs text) offset is.1 in cc

@@ -1,7 +1,7 @@
--- The definitions on small texts.
+-- The definitions, worked out on small texts.
 use Rattle.mm_lex.proofs.Prelude.{◌≡◌, true, false, [], ◌∷◌, ◌++◌, codes, refl, inl, inr, arith, is_label, is_symbol, spaced, words_of, AreTokens, IsFirstBadByte, IsCommentFault, spaced_prefix_len}
 
--- `$. $( hi $) p`: a comment goes
+-- `$. $( hi $) p`: the comment is left out
 comment_goes : AreTokens (codes "$. $( hi $) p") (record { start = 0; end = 2 } ∷ record { start = 12; end = 13 } ∷ [])
 comment_goes = (
   refl,
@@ -15,7 +15,7 @@ comment_goes = (
   },
 )
 
--- a longer token with `$(` in it is plain
+-- a longer token that begins with `$(` is plain
 longer_is_plain : AreTokens (codes "$(x") (record { start = 0; end = 3 } ∷ [])
 longer_is_plain = (refl, record { first = record { start = 0; end = 3 } ∷ []; parts = []; whole = refl; plain = refl; comments = tt; outside = refl })
 
@@ -76,7 +76,7 @@ stray = (
   }),
 )
 
--- a longer token inside of a comment does not end it
+-- a longer token inside a comment does not end it
 longer_inside : AreTokens (codes "$( $)x $) b") (record { start = 10; end = 11 } ∷ [])
 longer_inside = (
   refl,
@@ -95,7 +95,7 @@ longer_inside = (
   },
 )
 
--- a byte that is not allowed is a fault inside of a comment too
+-- a byte that is not allowed is a fault inside a comment too
 bad_byte_inside : IsFirstBadByte (codes "$( " ++ 127 ∷ codes " $)") 3
 bad_byte_inside = record { inside = omega arith; bad = refl; before = refl }
 
@@ -113,11 +113,11 @@ symbols = (refl, refl, refl)
 words_in_a_buffer : (words_of (codes "wff P") ≡ codes "wff" ∷ codes "P" ∷ []) × (words_of [] ≡ [])
 words_in_a_buffer = (refl, refl)
 
--- two words have a space between them
+-- two words are written with a space between them
 words_with_a_space : spaced (codes "wff" ∷ codes "P" ∷ []) ≡ codes "wff P"
 words_with_a_space = refl
 
--- symbols with one space between two, up to a keyword, to two spaces, to a `$` in a token, and to the end
+-- symbols with one space between two: four bytes come before a keyword
 up_to_keyword : spaced_prefix_len (codes "ab c $.") ≡ 4
 up_to_keyword = refl
 
@@ -125,10 +125,10 @@ up_to_keyword = refl
 up_to_spaces : spaced_prefix_len (codes "a  b") ≡ 1
 up_to_spaces = refl
 
--- three before a `$`
+-- three bytes before a token with a `$` in it, up to the `$`
 up_to_dollar : spaced_prefix_len (codes "a b$c") ≡ 3
 up_to_dollar = refl
 
--- all three, where the text ends
+-- all three bytes, if the text ends
 up_to_end : spaced_prefix_len (codes "a b") ≡ 3
 up_to_end = refl

@@ -1,4 +1,4 @@
--- The runs of a text, found from the left: white bytes are passed over, and a run ends at the next white byte.
+-- The runs of a text, found from left to right: white bytes are passed over, and a run ends at the next white byte.
 use Rattle.mm_lex.proofs.Prelude.{◌≡◌, ℕ, ◌+◌, ◌-◌, ◌<◌, ◌≤◌, suc, Bool, true, false, not, cond, nat_lt, List, [], ◌∷◌, length, take, drop, Some, None, refl, list_all, position, position_or_len, unwrap_or, sym, ◌∙◌, ap, arith, ltb-true, ltb-false, add-zero, length-drop, drop-drop, drop-length, prefix_len-le-length, Span, is_white, starts_white, with_byte, runs_from, IsRunAt}
 
 -- ---- the first place that passes a test
@@ -6,7 +6,7 @@ use Rattle.mm_lex.proofs.Prelude.{◌≡◌, ℕ, ◌+◌, ◌-◌, ◌<◌, ◌
 pub position_or_len-le : (p : ℕ → Bool) (xs : List ℕ) → position_or_len p xs ≤ length xs
 position_or_len-le p xs = prefix_len-le-length (λ x. not (p x)) xs
 
--- where the search ends, or the length
+-- the result of the search, or the length if nothing is found, is the first place that passes
 pub unwrap_or-position : (p : ℕ → Bool) (xs : List ℕ) → unwrap_or (position p xs) (length xs) ≡ position_or_len p xs
 unwrap_or-position p xs = by (nat_lt (position_or_len p xs) (length xs)) refl
   where
@@ -14,7 +14,7 @@ unwrap_or-position p xs = by (nat_lt (position_or_len p xs) (length xs)) refl
     by true e = refl
     by false e = omega (arith, ltb-false _ _ e, position_or_len-le p xs)
 
--- a search finds the first place that passes, inside the list
+-- if the search finds a place, it is the first that passes, and lies inside the list
 pub found_at : (p : ℕ → Bool) (xs : List ℕ) (n : ℕ) → Some n ≡ position p xs → (n ≡ position_or_len p xs) × (n < length xs)
 found_at p xs n = by (nat_lt (position_or_len p xs) (length xs)) refl
   where
@@ -22,7 +22,7 @@ found_at p xs n = by (nat_lt (position_or_len p xs) (length xs)) refl
     by true e h = let same : n ≡ position_or_len p xs = cc in (same, omega (arith, same, ltb-true _ _ e))
     by false e h = cc
 
--- where it finds nothing, it has come to the end
+-- if the search finds nothing, no place before the end of the list passes
 pub found_none : (p : ℕ → Bool) (xs : List ℕ) → None ≡ position p xs → position_or_len p xs ≡ length xs
 found_none p xs = by (nat_lt (position_or_len p xs) (length xs)) refl
   where
@@ -30,17 +30,17 @@ found_none p xs = by (nat_lt (position_or_len p xs) (length xs)) refl
     by true e h = cc
     by false e h = omega (arith, ltb-false _ _ e, position_or_len-le p xs)
 
--- one and a number are its successor
+-- one plus a number is its successor
 one_more : (n : ℕ) → 1 + n ≡ suc n
 one_more n = omega arith
 
--- one element more before those that fail the test
+-- if each element before a place fails the test, so does each with one more in front
 before_step : (p q : ℕ → Bool) (b : ℕ) (xs : List ℕ) (n : ℕ) (t : Bool) → q b ≡ not t → list_all q (take n xs) ≡ true
     → list_all q (take (cond (not t) (1 + n) 0) (b ∷ xs)) ≡ true
 before_step p q b xs n true e k = refl
 before_step p q b xs n false e k = rw (one_more n) (rw e k)
 
--- each element before it fails the test
+-- each element before the first that passes fails the test
 pub all_before : (p q : ℕ → Bool) → ((b : ℕ) → q b ≡ not (p b)) → (xs : List ℕ) → list_all q (take (position_or_len p xs) xs) ≡ true
 all_before p q same [] = refl
 all_before p q same (b ∷ xs) = before_step p q b xs (position_or_len p xs) (p b) (same b) (all_before p q same xs)
@@ -50,7 +50,7 @@ all_before p q same (b ∷ xs) = before_step p q b xs (position_or_len p xs) (p 
 abbrev pub is_shown : ℕ → Bool
 is_shown b = not (is_white b)
 
--- one byte more before the white bytes that are passed over
+-- if the runs are the same without the white bytes at the front, so are they with one more byte in front
 white_step : (at b : ℕ) (bytes : List ℕ) (n : ℕ) (t : Bool) → is_white b ≡ t → runs_from (at + 1) bytes ≡ runs_from (at + 1 + n) (drop n bytes)
     → runs_from at (b ∷ bytes) ≡ runs_from (at + cond (not (not t)) (1 + n) 0) (drop (cond (not (not t)) (1 + n) 0) (b ∷ bytes))
 white_step at b bytes n true e k =
@@ -59,20 +59,20 @@ white_step at b bytes n true e k =
     rw (e, split) (k ∙ ap (λ m. runs_from m (drop n bytes)) same)
 white_step at b bytes n false e k = ap (λ m. runs_from m (b ∷ bytes)) (sym (add-zero at))
 
--- white bytes are passed over
+-- the runs are the same without the white bytes at the front
 pub runs_from-white : (at : ℕ) (bytes : List ℕ) → runs_from at bytes ≡ runs_from (at + position_or_len is_shown bytes) (drop (position_or_len is_shown bytes) bytes)
 runs_from-white at [] = refl
 runs_from-white at (b ∷ bytes) =
     white_step at b bytes (position_or_len is_shown bytes) (is_white b) refl (runs_from-white (at + 1) bytes)
 
--- the list after them is empty, or begins with a byte that is not white
+-- the list begins with a byte that is not white
 pub record BeginsShown (bytes : List ℕ) : Type 0 where
   pub first : ℕ
   pub rest : List ℕ
   pub whole : bytes ≡ first ∷ rest
   pub shown : is_white first ≡ false
 
--- one byte more before what begins with a byte that is not white
+-- if the list without its white bytes begins with one that is not white, so does the list with one more byte in front
 shown_step : (b : ℕ) (bytes : List ℕ) (n : ℕ) (t : Bool) → is_white b ≡ t → (n < length bytes → BeginsShown (drop n bytes))
     → cond (not (not t)) (1 + n) 0 < length (b ∷ bytes) → BeginsShown (drop (cond (not (not t)) (1 + n) 0) (b ∷ bytes))
 shown_step b bytes n true e k inside =
@@ -80,7 +80,7 @@ shown_step b bytes n true e k inside =
     rw split (k (omega (arith, inside)))
 shown_step b bytes n false e k inside = record { first = b; rest = bytes; whole = refl; shown = e }
 
--- after the white bytes of a list stands a byte that is not white, where the list goes on
+-- if a list has more than white bytes, it begins without them with a byte that is not white
 pub begins_shown : (bytes : List ℕ) → position_or_len is_shown bytes < length bytes → BeginsShown (drop (position_or_len is_shown bytes) bytes)
 begins_shown [] inside = absurd (omega (arith, inside))
 begins_shown (b ∷ bytes) inside =
@@ -91,7 +91,7 @@ begins_shown (b ∷ bytes) inside =
 abbrev span_of : ℕ → ℕ → Span
 span_of start end = record { start = start; end = end }
 
--- one byte more before a run: it begins the run, or is one alone before a white byte
+-- one more byte in front of a run begins it, and in front of a white byte is a run of its own
 run_step : (at b c : ℕ) (bytes : List ℕ) (n : ℕ) (t : Bool) → is_white c ≡ t
     → (t ≡ false → runs_from (at + 1) (c ∷ bytes) ≡ span_of (at + 1) (at + 1 + (1 + n)) ∷ runs_from (at + 1 + (1 + n)) (drop (1 + n) (c ∷ bytes)))
     → with_byte at t (runs_from (at + 1) (c ∷ bytes))
@@ -114,11 +114,11 @@ runs_from-run at b (c ∷ bytes) e =
 module _ (text : List ℕ) (at white visible : ℕ) (within : at ≤ length text)
     (blanks : white ≡ position_or_len is_shown (drop at text))
     (shown : visible ≡ position_or_len is_white (drop white (drop at text))) where
-  -- how many bytes are left
+  -- the bytes that are left are those of the text from the place on
   rest_len : length (drop at text) + at ≡ length text
   rest_len = omega (arith, length-drop at text)
 
-  -- where nothing but white bytes is left
+  -- if only white bytes are left, no run is left
   pub no_run : white ≡ length (drop at text) → runs_from at (drop at text) ≡ []
   no_run all =
       let here = runs_from-white at (drop at text) in
@@ -126,11 +126,11 @@ module _ (text : List ℕ) (at white visible : ℕ) (within : at ≤ length text
       here ∙ (ap (λ n. runs_from (at + n) (drop n (drop at text))) (sym blanks) ∙ ap (runs_from (at + white)) gone)
 
   module _ (inside : white < length (drop at text)) where
-    -- after the white bytes stands a byte that is not white
+    -- the byte after the white bytes is not white
     begins : BeginsShown (drop white (drop at text))
     begins = let k : position_or_len is_shown (drop at text) < length (drop at text) = omega (arith, blanks) in rw blanks (begins_shown (drop at text) k)
 
-    -- the run is this byte and those up to the next white one
+    -- the run is this byte and the bytes up to the next white one
     visible_is : visible ≡ 1 + position_or_len is_white begins.rest
     visible_is =
         let e : position_or_len is_white (begins.first ∷ begins.rest) ≡ 1 + position_or_len is_white begins.rest = rw begins.shown refl in
@@ -161,13 +161,13 @@ module _ (text : List ℕ) (at white visible : ℕ) (within : at ≤ length text
 -- ---- to the next byte that is not white
 
 module _ (text : List ℕ) (at white : ℕ) (within : at ≤ length text) (blanks : white ≡ position_or_len is_shown (drop at text)) where
-  -- the runs are the same after the white bytes
+  -- the runs are the same from after the white bytes on
   pub skip_white : runs_from at (drop at text) ≡ runs_from (at + white) (drop (at + white) text)
   skip_white =
       runs_from-white at (drop at text)
       ∙ (ap (λ n. runs_from (at + n) (drop n (drop at text))) (sym blanks) ∙ ap (runs_from (at + white)) (drop-drop white at text))
 
-  -- the rest does not start white, if there is one
+  -- the text after the white bytes does not start white, if any is left
   pub shown_after : at + white < length text → starts_white (drop (at + white) text) ≡ false
   shown_after inside =
       let k : position_or_len is_shown (drop at text) < length (drop at text) = omega (arith, blanks, inside, length-drop at text) in

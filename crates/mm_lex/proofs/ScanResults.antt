@@ -1,4 +1,4 @@
--- The result of the scan of a list of runs is justified: a split, or the fault at its offset.
+-- The result of the scan of a list of runs is right: it is the tokens of a split, or the offset of the comment fault.
 use Rattle.mm_lex.proofs.Prelude.{◌≡◌, ℕ, Bool, true, false, ◌⊎◌, List, [], ◌∷◌, ◌++◌, flat_map, Option, Some, None, Ok, Err, refl, sym, ◌∙◌, ap, inl, inr, append_assoc, bytes_eq-Decides, and_from, Span, name_eq, word, opener, closer, is_plain, AllPlain, Part, part_spans, SplitsInto, IsCommentFaultOfRuns}
 use Rattle.mm_lex.proofs.ScanRuns.{Outcome, prepend, outside, inside, scan}
 
@@ -15,11 +15,11 @@ module _ (text : List ℕ) where
 
   -- ---- splits
 
-  -- no runs are split into no tokens
+  -- the empty list of runs splits into no tokens
   pub no_runs : SplitsInto text [] []
   no_runs = record { first = []; parts = []; whole = refl; plain = refl; comments = tt; outside = refl }
 
-  -- a plain run before a split
+  -- a plain run before a split is one more token
   pub with_plain : (s : Span) (spans tokens : List Span) → is_plain (word text s) ≡ true → SplitsInto text spans tokens → SplitsInto text (s ∷ spans) (s ∷ tokens)
   with_plain s spans tokens is split = record {
     first = s ∷ split.first;
@@ -30,7 +30,7 @@ module _ (text : List ℕ) where
     outside = ap (λ r. s ∷ r) split.outside;
   }
 
-  -- a comment before a split
+  -- a comment before a split leaves the tokens as they are
   pub with_comment : (begin end : Span) (inner spans tokens : List Span) → word text begin ≡ opener → AllPlain text inner → word text end ≡ closer
       → SplitsInto text spans tokens → SplitsInto text (begin ∷ (inner ++ end ∷ spans)) tokens
   with_comment begin end inner spans tokens is_begin are is_end split =
@@ -44,7 +44,7 @@ module _ (text : List ℕ) where
         outside = split.outside;
       }
 
-  -- a split of the same runs by another list
+  -- a split of an equal list of runs
   pub splits_as : (spans same tokens : List Span) → spans ≡ same → SplitsInto text same tokens → SplitsInto text spans tokens
   splits_as spans same tokens e split = record {
     first = split.first;
@@ -55,13 +55,13 @@ module _ (text : List ℕ) where
     outside = split.outside;
   }
 
-  -- ---- a fault after what is split
+  -- ---- a comment fault after runs that can be split
 
-  -- runs that a split may stand after, and their tokens
+  -- runs that can come before any split, and their tokens
   abbrev IsFront : List Span → List Span → Type 0
   IsFront front out = (spans tokens : List Span) → SplitsInto text spans tokens → SplitsInto text (front ++ spans) (out ++ tokens)
 
-  -- a fault of the runs after such a front is one of the whole
+  -- a comment fault of the runs after such a front is a comment fault of all the runs
   later_stop : (front out : List Span) → IsFront front out → (spans : List Span) (offset : ℕ) → IsCommentFaultOfRuns text spans offset → IsCommentFaultOfRuns text (front ++ spans) offset
   later_stop front out is_front spans offset (inl is) = inl (record {
     before = front ++ is.before;
@@ -99,18 +99,18 @@ module _ (text : List ℕ) where
     place = is.place;
   }))
 
-  -- a plain run is a front, with itself as token
+  -- a plain run is such a front, with itself as its token
   plain_front : (s : Span) → is_plain (word text s) ≡ true → IsFront (s ∷ []) (s ∷ [])
   plain_front s is spans tokens split = with_plain s spans tokens is split
 
-  -- a whole comment is a front without tokens
+  -- a whole comment is such a front, without tokens
   comment_front : (begin end : Span) (inner : List Span) → word text begin ≡ opener → AllPlain text inner → word text end ≡ closer → IsFront (begin ∷ (inner ++ end ∷ [])) []
   comment_front begin end inner is_begin are is_end spans tokens split =
       splits_as _ _ tokens (ap (λ r. begin ∷ r) (append_assoc inner (end ∷ []) spans)) (with_comment begin end inner spans tokens is_begin are is_end split)
 
-  -- ---- inside of a comment
+  -- ---- inside a comment
 
-  -- these runs close the comment, and then are split
+  -- these runs close the comment, and the runs after it split into the tokens
   record Closes (spans tokens : List Span) : Type 0 where
     inner : List Span
     end : Span
@@ -120,7 +120,7 @@ module _ (text : List ℕ) where
     ends : word text end ≡ closer
     split : SplitsInto text rest tokens
 
-  -- these runs open another
+  -- these runs have another `$(` before they close the comment
   record Nests (spans : List Span) (offset : ℕ) : Type 0 where
     inner : List Span
     at : Span
@@ -130,7 +130,7 @@ module _ (text : List ℕ) where
     opens_again : word text at ≡ opener
     place : at.start ≡ offset
 
-  -- these runs close the comment, and then are not split
+  -- these runs close the comment, and the runs after it have a comment fault
   record StopsLater (spans : List Span) (offset : ℕ) : Type 0 where
     inner : List Span
     end : Span
@@ -149,10 +149,10 @@ module _ (text : List ℕ) where
   Meaning spans (Some from) (Ok tokens) = Closes spans tokens
   Meaning spans (Some from) (Err offset) = Fails spans from offset
 
-  -- ---- one run more
+  -- ---- one more run
 
   module _ (s : Span) (spans : List Span) where
-    -- a `$(` outside of comments: what the scan gives in the comment has its meaning for the whole
+    -- if the first run is a `$(`, a right result of the scan inside its comment is right for all the runs
     opened : word text s ≡ opener → (r : Outcome) → Meaning spans (Some s.start) r → Meaning (s ∷ spans) None r
     opened is (Ok tokens) m =
         splits_as _ _ tokens (ap (λ r. s ∷ r) m.whole) (with_comment s m.end m.inner m.rest tokens is m.plain m.ends m.split)
@@ -185,12 +185,12 @@ module _ (text : List ℕ) where
         let whole : s ∷ spans ≡ (s ∷ (m.inner ++ m.end ∷ [])) ++ m.rest = ap (λ r. s ∷ r) (m.whole ∙ sym (append_assoc m.inner (m.end ∷ []) m.rest)) in
         rw whole (later_stop (s ∷ (m.inner ++ m.end ∷ [])) [] (comment_front s m.end m.inner is m.plain m.ends) m.rest offset m.stops)
 
-    -- a plain run outside of comments is one token more
+    -- a plain run outside comments is one more token
     passed : is_plain (word text s) ≡ true → (r : Outcome) → Meaning spans None r → Meaning (s ∷ spans) None (prepend (s ∷ []) r)
     passed is (Ok tokens) m = with_plain s spans tokens is m
     passed is (Err offset) m = later_stop (s ∷ []) (s ∷ []) (plain_front s is) spans offset m
 
-    -- one run more outside of comments, by what it is
+    -- one more run outside comments, by whether it is a `$(`, a `$)` or plain
     out_step : (a b : Bool) → opens s ≡ a → closes s ≡ b → (r t : Outcome) → Meaning spans (Some s.start) r → Meaning spans None t
         → Meaning (s ∷ spans) None (outside a b s r t)
     out_step true b e f r t m k = opened ((bytes_eq-Decides _ _).0 e) r m
@@ -198,12 +198,12 @@ module _ (text : List ℕ) where
         inl (record { before = []; tokens = []; at = s; rest = spans; whole = refl; split = no_runs; closes = (bytes_eq-Decides _ _).0 f; place = refl })
     out_step false false e f r t m k = passed (plain s e f) t k
 
-    -- a `$)` inside of a comment: what the scan gives after it has its meaning for the whole
+    -- if the first run is a `$)` inside a comment, a right result of the scan after it is right for all the runs
     closed : word text s ≡ closer → (from : ℕ) (r : Outcome) → Meaning spans None r → Meaning (s ∷ spans) (Some from) r
     closed is from (Ok tokens) m = record { inner = []; end = s; rest = spans; whole = refl; plain = refl; ends = is; split = m }
     closed is from (Err offset) m = inr (inr (record { inner = []; end = s; rest = spans; whole = refl; plain = refl; ends = is; stops = m }))
 
-    -- a plain run inside of a comment changes nothing
+    -- a plain run inside a comment leaves the result right
     skipped : is_plain (word text s) ≡ true → (from : ℕ) (r : Outcome) → Meaning spans (Some from) r → Meaning (s ∷ spans) (Some from) r
     skipped is from (Ok tokens) m = record {
       inner = s ∷ m.inner;
@@ -234,7 +234,7 @@ module _ (text : List ℕ) where
       stops = m.stops;
     }))
 
-    -- one run more inside of a comment, by what it is
+    -- one more run inside a comment, by whether it is a `$(`, a `$)` or plain
     in_step : (from : ℕ) (a b : Bool) → opens s ≡ a → closes s ≡ b → (r t : Outcome) → Meaning spans None r → Meaning spans (Some from) t
         → Meaning (s ∷ spans) (Some from) (inside a b s r t)
     in_step from true b e f r t m k =
@@ -242,7 +242,7 @@ module _ (text : List ℕ) where
     in_step from false true e f r t m k = closed ((bytes_eq-Decides _ _).0 f) from r m
     in_step from false false e f r t m k = skipped (plain s e f) from t k
 
-  -- the result of the scan has its meaning, outside of a comment and inside of one
+  -- the result of the scan is right, outside comments and inside one
   means : (spans : List Span) (from : Option ℕ) → Meaning spans from (scan text spans from)
   means [] None = no_runs
   means [] (Some from) = inr (inl (refl, refl))

@@ -1,8 +1,8 @@
--- The split at the comments, read once from left to right: it gives tokens exactly where there is a split,
--- and else the offset of the comment fault.
+-- The split at the comments, read once from left to right: the scan gives tokens exactly if there is a split,
+-- and otherwise the offset of the comment fault.
 use Rattle.mm_lex.proofs.Prelude.{◌≡◌, ℕ, Bool, true, false, ◌||◌, List, [], ◌∷◌, ◌++◌, flat_map, Option, Some, None, Result, Ok, Err, refl, sym, ◌∙◌, ap, inl, inr, append_assoc, append-nil, and_parts, or_parts, not-true, Span, name_eq, word, opener, closer, is_plain, AllPlain, Part, part_spans, IsPart, AreParts, SplitsInto, IsStrayCloser, IsNestedOpener, IsUnclosed, IsCommentFaultOfRuns}
 
--- the tokens, or the offset at which the split stops
+-- the tokens, or the offset at which the scan stops
 abbrev pub Outcome : Type 0
 Outcome = Result (List Span) ℕ
 
@@ -10,19 +10,19 @@ abbrev pub prepend : List Span → Outcome → Outcome
 prepend ts (Ok rest) = Ok (ts ++ rest)
 prepend ts (Err offset) = Err offset
 
--- at a run outside of comments: does it open one, does it close one
+-- the result at a run outside comments, by whether the run is a `$(` and whether it is a `$)`
 abbrev pub outside : Bool → Bool → Span → Outcome → Outcome → Outcome
 outside true c s opened rest = opened
 outside false true s opened rest = Err s.start
 outside false false s opened rest = prepend (s ∷ []) rest
 
--- at a run inside of a comment
+-- the result at a run inside a comment, by the same two tests
 abbrev pub inside : Bool → Bool → Span → Outcome → Outcome → Outcome
 inside true c s closed rest = Err s.start
 inside false true s closed rest = closed
 inside false false s closed rest = rest
 
--- the runs in order, in a comment that began at an offset or in none
+-- the runs are read in order, inside a comment that begins at an offset, or outside comments
 abbrev pub scan : List ℕ → List Span → Option ℕ → Outcome
 scan text [] None = Ok []
 scan text [] (Some offset) = Err offset
@@ -52,7 +52,7 @@ module _ (text : List ℕ) where
 
   -- ---- one run
 
-  -- outside of a comment, at a `$(`: the comment begins
+  -- outside a comment, at a `$(`: the comment begins
   pub scan_opener : (s : Span) (spans : List Span) → opens s ≡ true → scan text (s ∷ spans) None ≡ scan text spans (Some s.start)
   scan_opener s spans e = rw e refl
 
@@ -64,7 +64,7 @@ module _ (text : List ℕ) where
   pub scan_plain : (s : Span) (spans : List Span) → opens s ≡ false → closes s ≡ false → scan text (s ∷ spans) None ≡ prepend (s ∷ []) (scan text spans None)
   scan_plain s spans e f = rw (e, f) refl
 
-  -- inside of a comment, at a `$(`: the scan stops there
+  -- inside a comment, at a `$(`: the scan stops there
   pub scan_nested : (s : Span) (spans : List Span) (offset : ℕ) → opens s ≡ true → scan text (s ∷ spans) (Some offset) ≡ Err s.start
   scan_nested s spans offset e = rw e refl
 
@@ -84,13 +84,13 @@ module _ (text : List ℕ) where
   pub is_closer : (s : Span) → word text s ≡ closer → closes s ≡ true
   is_closer s e = ap (λ w. name_eq w closer) e
 
-  -- a `$)` is no `$(`
+  -- a `$)` is not a `$(`
   pub closer_no_opener : (s : Span) → word text s ≡ closer → opens s ≡ false
   closer_no_opener s e = ap (λ w. name_eq w opener) e
 
   -- ---- many runs
 
-  -- plain runs outside of comments are all tokens
+  -- plain runs outside comments are all tokens
   pub scan_all_plain : (xs ys : List Span) → AllPlain text xs → scan text (xs ++ ys) None ≡ prepend xs (scan text ys None)
   scan_all_plain [] ys h = sym (prepend-nil (scan text ys None))
   scan_all_plain (s ∷ xs) ys h =
@@ -100,7 +100,7 @@ module _ (text : List ℕ) where
       scan_plain s (xs ++ ys) none.0 none.1
       ∙ (ap (prepend (s ∷ [])) (scan_all_plain xs ys rest) ∙ prepend-append (s ∷ []) xs (scan text ys None))
 
-  -- plain runs inside of a comment are passed over
+  -- plain runs inside a comment are passed over
   pub scan_all_inside : (xs ys : List Span) (offset : ℕ) → AllPlain text xs → scan text (xs ++ ys) (Some offset) ≡ scan text ys (Some offset)
   scan_all_inside [] ys offset h = refl
   scan_all_inside (s ∷ xs) ys offset h =
@@ -109,9 +109,9 @@ module _ (text : List ℕ) where
       scan_inside s (xs ++ ys) offset none.0 none.1
       ∙ scan_all_inside xs ys offset (and_parts (is_plain (word text s)) _ h).1
 
-  -- ---- a split, and then other runs
+  -- ---- runs that can be split, and then other runs
 
-  -- a comment with the plain runs after it leaves these runs
+  -- a comment with plain runs after it gives these runs as tokens
   scan_part : (p : Part) (ys : List Span) → IsPart text p → scan text (part_spans p ++ ys) None ≡ prepend p.after (scan text ys None)
   scan_part p ys is =
       scan_opener p.begin ((p.inside ++ (p.end ∷ p.after)) ++ ys) (is_opener p.begin is.begins)
@@ -120,7 +120,7 @@ module _ (text : List ℕ) where
       ∙ (scan_closing p.end (p.after ++ ys) p.begin.start (closer_no_opener p.end is.ends) (is_closer p.end is.ends)
       ∙ scan_all_plain p.after ys is.after)))
 
-  -- .. and a list of comments those after each
+  -- .. and a list of comments gives the runs after each
   scan_parts : (ps : List Part) (ys : List Span) → AreParts text ps → scan text (flat_map part_spans ps ++ ys) None ≡ prepend (flat_map (λ (p : Part). p.after) ps) (scan text ys None)
   scan_parts [] ys h = sym (prepend-nil (scan text ys None))
   scan_parts (p ∷ ps) ys h =
@@ -129,7 +129,7 @@ module _ (text : List ℕ) where
       ∙ (ap (prepend p.after) (scan_parts ps ys h.1)
       ∙ prepend-append p.after (flat_map (λ (p : Part). p.after) ps) (scan text ys None)))
 
-  -- runs that are split leave their tokens, and the scan goes on after them
+  -- runs that can be split give their tokens, and the scan continues after them
   pub scan_split : (spans tokens ys : List Span) → SplitsInto text spans tokens → scan text (spans ++ ys) None ≡ prepend tokens (scan text ys None)
   scan_split spans tokens ys split =
       let rest = flat_map part_spans split.parts in
@@ -140,13 +140,13 @@ module _ (text : List ℕ) where
       ∙ (prepend-append split.first outer (scan text ys None)
       ∙ ap (λ ts. prepend ts (scan text ys None)) (sym split.outside))))
 
-  -- ---- the result that the scan of a text must have
+  -- ---- the result of the scan is the only one
 
   pub scan-split : (spans tokens : List Span) → SplitsInto text spans tokens → scan text spans None ≡ Ok tokens
   scan-split spans tokens split =
       ap (λ r. scan text r None) (sym (append-nil spans)) ∙ (scan_split spans tokens [] split ∙ ap Ok (append-nil tokens))
 
-  -- a `$)` outside of comments is where the scan stops
+  -- the scan stops at a `$)` outside comments
   stray : (spans : List Span) (offset : ℕ) → IsStrayCloser text spans offset → scan text spans None ≡ Err offset
   stray spans offset is =
       ap (λ r. scan text r None) is.whole
@@ -154,7 +154,7 @@ module _ (text : List ℕ) where
       ∙ (ap (prepend is.tokens) (scan_closer is.at is.rest (closer_no_opener is.at is.closes) (is_closer is.at is.closes))
       ∙ ap Err is.place))
 
-  -- a `$(` inside of a comment is where it stops
+  -- the scan stops at a `$(` inside a comment
   nested : (spans : List Span) (offset : ℕ) → IsNestedOpener text spans offset → scan text spans None ≡ Err offset
   nested spans offset is =
       ap (λ r. scan text r None) is.whole
@@ -164,7 +164,7 @@ module _ (text : List ℕ) where
       ∙ scan_nested is.at is.rest is.outer.start (is_opener is.at is.opens_again)))
       ∙ ap Err is.place))
 
-  -- it stops at the `$(` of a comment that is never closed
+  -- the scan stops at the `$(` of a comment that is never closed
   unclosed : (spans : List Span) (offset : ℕ) → IsUnclosed text spans offset → scan text spans None ≡ Err offset
   unclosed spans offset is =
       ap (λ r. scan text r None) is.whole

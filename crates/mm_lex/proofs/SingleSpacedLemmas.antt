@@ -1,15 +1,15 @@
--- Symbols with one space between two: a spaced prefix of bytes is single-spaced, and the words of single-spaced bytes.
+-- Symbols with one space between two: a spaced prefix has this form, and the words of bytes of this form are symbols.
 use Rattle.mm_lex.proofs.Prelude.{◌≡◌, ℕ, ◌<◌, zero, suc, Bool, true, false, not, cond, ◌&&◌, ◌||◌, ◌==◌, List, [], ◌∷◌, take, refl, list_all, slice_split, onto_first, sym, ◌∙◌, ap, arith, and_from, and_parts, Name, is_white, is_visible, is_allowed, starts_white, is_symbol, has_byte, is_empty, IsClean, spaced_prefix_len, ends_here, ends_between}
 use Rattle.mm_lex.proofs.WordsLemmas.{first_part}
 
 abbrev pub is_space : ℕ → Bool
 is_space c = c == 32
 
--- a byte of a symbol
+-- whether a symbol can have the byte
 abbrev pub is_symbol_byte : ℕ → Bool
 is_symbol_byte b = is_visible b && not (b == 36)
 
--- the bytes are those of symbols with one space between two
+-- whether the bytes are symbols with one space between two
 abbrev pub is_single_spaced : List ℕ → Bool
 is_single_spaced [] = false
 is_single_spaced (b ∷ []) = is_symbol_byte b
@@ -17,43 +17,43 @@ is_single_spaced (b ∷ c ∷ bytes) = is_symbol_byte b && cond (is_space c) (is
 
 -- ---- a spaced prefix is single-spaced
 
--- a byte that is not white, where symbols do not end
+-- a byte that is not white, and at which the symbols do not end, is a byte of a symbol
 shown_byte : (b next : ℕ) → is_allowed b ≡ true → is_white b ≡ false → ends_between b next ≡ false → is_symbol_byte b ≡ true
 shown_byte b next h white goes = grind (arith, h, white, goes)
 
--- after a space, where symbols do not end, stands a byte above `$`
+-- if the symbols do not end at a space, the byte after it is above `$`
 space_byte : (c next : ℕ) → is_space c ≡ true → ends_between c next ≡ false → 36 < next
 space_byte c next e goes = grind (arith, e, goes)
 
--- at a byte above `$` symbols do not end, and it is not white
+-- the symbols do not end at a byte above `$`, and it is not white
 above_dollar : (d next : ℕ) → 36 < d → (ends_between d next ≡ false) × (is_white d ≡ false)
 above_dollar d next h = (grind (arith, h), grind (arith, h))
 
--- a byte other than a space, where symbols do not end, is not white
+-- a byte other than a space, at which the symbols do not end, is not white
 other_byte : (c next : ℕ) → is_allowed c ≡ true → is_space c ≡ false → ends_between c next ≡ false → is_white c ≡ false
 other_byte c next h e goes = grind (arith, h, e, goes)
 
--- a byte of a symbol before single-spaced bytes, with or without one space between
+-- a byte of a symbol before single-spaced bytes, with or without a space between, makes single-spaced bytes
 single_spaced_cons : (b c : ℕ) (bytes : List ℕ) (t : Bool) → is_space c ≡ t → is_symbol_byte b ≡ true → cond t (is_single_spaced bytes) (is_single_spaced (c ∷ bytes)) ≡ true → is_single_spaced (b ∷ c ∷ bytes) ≡ true
 single_spaced_cons b c bytes t e h k = and_from (is_symbol_byte b) _ h (ap (λ u. cond u (is_single_spaced bytes) (is_single_spaced (c ∷ bytes))) e ∙ k)
 
--- where symbols do not end at the first byte, it belongs to the spaced prefix
+-- if the symbols do not end at the first byte, it belongs to the spaced prefix
 prefix_on : (b : ℕ) (bytes : List ℕ) → ends_here (b ∷ bytes) ≡ false → spaced_prefix_len (b ∷ bytes) ≡ suc (spaced_prefix_len bytes)
 prefix_on b bytes e = rw e refl
 
--- where they end at the first byte, the spaced prefix is empty
+-- if the symbols end at the first byte, the spaced prefix is empty
 prefix_off : (b : ℕ) (bytes : List ℕ) → ends_here (b ∷ bytes) ≡ true → spaced_prefix_len (b ∷ bytes) ≡ zero
 prefix_off b bytes e = rw e refl
 
--- the bytes after the first one of a symbol
+-- the spaced prefix of the bytes
 abbrev rest_of : List ℕ → List ℕ
 rest_of bytes = take (spaced_prefix_len bytes) bytes
 
--- the claim for the bytes from one on that is not white
+-- a byte that is not white, and at which the symbols do not end, and the spaced prefix after it are single-spaced
 abbrev PrefixIsSingleSpaced : ℕ → List ℕ → Type 0
 PrefixIsSingleSpaced b bytes = is_white b ≡ false → ends_here (b ∷ bytes) ≡ false → is_single_spaced (b ∷ rest_of bytes) ≡ true
 
--- at the last two bytes, the first of a symbol: their spaced prefix is single-spaced
+-- the claim for two bytes, from the claim for the second one
 last_two : (b c : ℕ) → is_symbol_byte b ≡ true → is_allowed c ≡ true → PrefixIsSingleSpaced c [] → (t : Bool) → ends_here (c ∷ []) ≡ t → is_single_spaced (b ∷ rest_of (c ∷ [])) ≡ true
 last_two b c shown clean from true e = rw (prefix_off c [] e) shown
 last_two b c shown clean from false e = rw (prefix_on c [] e) (by (is_space c) refl)
@@ -62,12 +62,12 @@ last_two b c shown clean from false e = rw (prefix_on c [] e) (by (is_space c) r
     by true k = absurd (omega (arith, space_byte c 32 k e))
     by false k = single_spaced_cons b c [] false k shown (from (other_byte c 32 clean k e) e)
 
--- symbols do not end at a byte above `$`, whatever follows
+-- the symbols do not end at a byte above `$`, whatever follows
 goes_next : (d : ℕ) (bytes : List ℕ) → 36 < d → ends_here (d ∷ bytes) ≡ false
 goes_next d [] h = (above_dollar d 32 h).0
 goes_next d (e ∷ bytes) h = (above_dollar d e h).0
 
--- at three bytes or more: what holds from the next one and from the one after it, holds from here
+-- the claim for three bytes or more, from the claim without the first byte and the claim without the first two
 two_more : (b c d : ℕ) (bytes : List ℕ) → is_symbol_byte b ≡ true → is_allowed c ≡ true → PrefixIsSingleSpaced c (d ∷ bytes) → PrefixIsSingleSpaced d bytes
     → (t : Bool) → ends_here (c ∷ d ∷ bytes) ≡ t → is_single_spaced (b ∷ rest_of (c ∷ d ∷ bytes)) ≡ true
 two_more b c d bytes shown clean from goes_on true e = rw (prefix_off c (d ∷ bytes) e) shown
@@ -81,7 +81,7 @@ two_more b c d bytes shown clean from goes_on false e = rw (prefix_on c (d ∷ b
         (ap (λ n. is_single_spaced (take n (d ∷ bytes))) (prefix_on d bytes on) ∙ goes_on (above_dollar d 32 high).1 on)
     by false k = single_spaced_cons b c (rest_of (d ∷ bytes)) false k shown (from (other_byte c d clean k e) e)
 
--- the spaced prefix from a byte that is not white is single-spaced
+-- the claim holds for all allowed bytes
 single_spaced_from : (b : ℕ) (bytes : List ℕ) → list_all is_allowed (b ∷ bytes) ≡ true → PrefixIsSingleSpaced b bytes
 single_spaced_from b [] clean white goes = shown_byte b 32 (and_parts (is_allowed b) _ clean).0 white goes
 single_spaced_from b (c ∷ []) clean white goes =
@@ -103,7 +103,7 @@ prefix_spaced (b ∷ bytes) clean white some = by (ends_here (b ∷ bytes)) refl
 
 -- ---- the words of single-spaced bytes
 
--- the test for a space tells the byte
+-- a byte that passes the test for a space is a space
 pub space_is : (c : ℕ) → is_space c ≡ true → c ≡ 32
 space_is c e = grind (arith, e)
 
@@ -115,7 +115,7 @@ not_space b h = grind (arith, h)
 pub not_white : (b : ℕ) → is_symbol_byte b ≡ true → is_white b ≡ false
 not_white b h = grind (arith, h)
 
--- a byte before a word
+-- a byte of a symbol before a symbol makes a symbol
 symbol_cons : (b : ℕ) (w : Name) → is_symbol_byte b ≡ true → is_symbol w ≡ true → is_symbol (b ∷ w) ≡ true
 symbol_cons b w h k = by (is_visible b) (b == 36) (list_all is_visible w) (has_byte 36 w) (not (is_empty w)) h k
   where
@@ -127,7 +127,7 @@ symbol_cons b w h k = by (is_visible b) (b == 36) (list_all is_visible w) (has_b
     by true false false ds true h k = cc
     by true false true true true h k = cc
 
--- a byte of a symbol alone is a symbol
+-- a byte of a symbol is a symbol if it is alone
 symbol_one : (b : ℕ) → is_symbol_byte b ≡ true → is_symbol (b ∷ []) ≡ true
 symbol_one b h = by (is_visible b) (b == 36) h
   where
@@ -139,29 +139,29 @@ symbol_one b h = by (is_visible b) (b == 36) h
 abbrev pub split_of : List ℕ → List Name
 split_of bytes = slice_split is_space bytes
 
--- a byte of a symbol goes to the first word
+-- a byte of a symbol in front belongs to the first word
 pub split_byte : (b : ℕ) (bytes : List ℕ) → is_symbol_byte b ≡ true → split_of (b ∷ bytes) ≡ onto_first b (split_of bytes)
 split_byte b bytes h = rw (not_space b h) refl
 
--- a space begins another word
+-- a space in front ends an empty word
 pub split_gap : (c : ℕ) (bytes : List ℕ) → is_space c ≡ true → split_of (c ∷ bytes) ≡ [] ∷ split_of bytes
 split_gap c bytes h = rw h refl
 
--- the first byte, and what follows it
+-- single-spaced bytes: the first byte, and those after it
 module _ (b c : ℕ) (bytes : List ℕ) (single_spaced : is_single_spaced (b ∷ c ∷ bytes) ≡ true) where
   -- the first is a byte of a symbol
   pub first_byte : is_symbol_byte b ≡ true
   first_byte = (and_parts (is_symbol_byte b) _ single_spaced).0
 
-  -- after a space the bytes are single-spaced
+  -- if the second byte is a space, the bytes after it are single-spaced
   pub after_gap : is_space c ≡ true → is_single_spaced bytes ≡ true
   after_gap e = ap (λ u. cond u (is_single_spaced bytes) (is_single_spaced (c ∷ bytes))) (sym e) ∙ (and_parts (is_symbol_byte b) _ single_spaced).1
 
-  -- after another byte they are single-spaced with it
+  -- if the second byte is no space, the bytes from it on are single-spaced
   pub after_byte : is_space c ≡ false → is_single_spaced (c ∷ bytes) ≡ true
   after_byte e = ap (λ u. cond u (is_single_spaced bytes) (is_single_spaced (c ∷ bytes))) (sym e) ∙ (and_parts (is_symbol_byte b) _ single_spaced).1
 
--- a byte of a symbol put to the first of some symbols leaves symbols
+-- a byte of a symbol in front of the first of some symbols leaves symbols
 symbols_onto : (b : ℕ) (parts : List Name) (w : Name) (ws : List Name) → parts ≡ w ∷ ws → is_symbol_byte b ≡ true → list_all is_symbol parts ≡ true → list_all is_symbol (onto_first b parts) ≡ true
 symbols_onto b parts w ws e h k =
     let these = sym (ap (list_all is_symbol) e) ∙ k in
@@ -170,7 +170,7 @@ symbols_onto b parts w ws e h k =
 abbrev AreSymbols : List ℕ → Type 0
 AreSymbols bytes = list_all is_symbol (split_of bytes) ≡ true
 
--- .. and before bytes that are split into symbols, or before a space and such bytes
+-- .. also if the symbols are what bytes are split into, from the first byte on or after a space
 symbols_step : (b c : ℕ) (bytes : List ℕ) → is_symbol_byte b ≡ true → (t : Bool) → is_space c ≡ t → (t ≡ true → AreSymbols bytes) → (t ≡ false → AreSymbols (c ∷ bytes))
     → list_all is_symbol (onto_first b (split_of (c ∷ bytes))) ≡ true
 symbols_step b c bytes h true e gap on = ap (λ r. list_all is_symbol (onto_first b r)) (split_gap c bytes e) ∙ and_from _ _ (symbol_one b h) (gap refl)
@@ -178,7 +178,7 @@ symbols_step b c bytes h false e gap on =
     let p : (x : List ℕ) × (xs : List Name) × (split_of (c ∷ bytes) ≡ x ∷ xs) = first_part (c ∷ bytes) in
     symbols_onto b (split_of (c ∷ bytes)) p.0 p.1 p.2 h (on refl)
 
--- each is a symbol
+-- the words of single-spaced bytes are symbols
 pub single_spaced_symbols : (bytes : List ℕ) → is_single_spaced bytes ≡ true → AreSymbols bytes
 single_spaced_symbols [] h = cc
 single_spaced_symbols (b ∷ []) h = ap (list_all is_symbol) (split_byte b [] h) ∙ and_from _ _ (symbol_one b h) refl

@@ -1,19 +1,19 @@
--- No more tokens stand between two places than bytes.
+-- There are at most as many tokens between two places as bytes.
 use Rattle.mm_lex.proofs.Prelude.{◌≡◌, ℕ, ◌+◌, ◌-◌, ◌<◌, ◌≤◌, zero, suc, Bool, true, false, List, [], ◌∷◌, length, drop, flat_map, refl, sym, ◌∙◌, ap, arith, length-append, drop-cons, get_or, subst, length-map, drop-length, Span, Name, is_white, starts_white, with_byte, word, runs_from, Part, part_spans, SplitsInto, runs_after, HasBetween, AreAfter}
 
--- a visible byte before runs makes at most one run more
+-- a visible byte in front of runs adds at most one run
 with_few : (at : ℕ) (t : Bool) (spans : List Span) → length (with_byte at t spans) ≤ 1 + length spans
 with_few at true spans = omega arith
 with_few at false [] = omega arith
 with_few at false (s ∷ spans) = omega arith
 
--- a byte more, white or visible, makes at most one run more
+-- a byte in front, white or visible, adds at most one run
 byte_few : (at b : ℕ) (bytes : List ℕ) (t : Bool) → is_white b ≡ t → length (runs_from at (b ∷ bytes)) ≤ 1 + length (runs_from (at + 1) bytes)
 byte_few at b bytes true e = rw e (omega arith)
 byte_few at b bytes false e = rw e (with_few at (starts_white bytes) (runs_from (at + 1) bytes))
 
 module _ (text : List ℕ) where
-  -- .. so after a place at most one run more than after the next
+  -- so there is at most one more run after a place than after the next one
   one_few : (at : ℕ) → at < length text → length (runs_after text at) ≤ 1 + length (runs_after text (at + 1))
   one_few at inside =
       let b = get_or text at 0 in
@@ -22,7 +22,7 @@ module _ (text : List ℕ) where
       let here : drop at text ≡ b ∷ drop (at + 1) text = drop-cons text at 0 inside ∙ ap (λ r. b ∷ r) rest in
       subst (λ bytes. length (runs_from at bytes) ≤ 1 + length (runs_after text (at + 1))) (sym here) (byte_few at b (drop (at + 1) text) (is_white b) refl)
 
-  -- after a place stand at most as many runs more than after a later one as bytes between the two
+  -- the runs after a place are at most as many more than those after a later place as there are bytes between the two
   runs_few : (n at : ℕ) → at + n ≤ length text → length (runs_after text at) ≤ n + length (runs_after text (at + n))
   runs_few zero at within = let same : at + 0 ≡ at = omega arith in rw same (omega arith)
   runs_few (suc n) at within =
@@ -31,7 +31,7 @@ module _ (text : List ℕ) where
       let rest = runs_few n (at + 1) (omega (arith, within)) in
       subst (λ k. length (runs_after text at) ≤ suc n + length (runs_after text k)) same (omega (arith, first, rest))
 
-  -- the runs after comments are no more than all runs of these parts
+  -- the runs after comments are at most as many as all runs
   parts_few : (ps : List Part) → length (flat_map (λ (p : Part). p.after) ps) ≤ length (flat_map part_spans ps)
   parts_few [] = omega arith
   parts_few (p ∷ ps) =
@@ -43,7 +43,7 @@ module _ (text : List ℕ) where
         length-append p.inside (p.end ∷ p.after),
       )
 
-  -- a split leaves no more tokens than there are runs
+  -- a split has at most as many tokens as runs
   splits_few : (spans tokens : List Span) → SplitsInto text spans tokens → length tokens ≤ length spans
   splits_few spans tokens split =
       omega (
@@ -55,7 +55,7 @@ module _ (text : List ℕ) where
         length-append split.first (flat_map (λ (p : Part). p.after) split.parts),
       )
 
-  -- the tokens between two places are no more than the bytes there
+  -- there are at most as many tokens between two places as bytes
   pub between_few : (from at : ℕ) (ws : List Name) → HasBetween text from at ws → length ws + from ≤ at
   between_few from at ws has =
       let same : from + (at - from) ≡ at = omega (arith, has.later) in
@@ -72,7 +72,7 @@ module _ (text : List ℕ) where
         has.later,
       )
 
-  -- the tokens after a place are no more than the bytes left
+  -- there are at most as many tokens after a place as bytes left
   pub after_few : (at : ℕ) (ws : List Name) → at ≤ length text → AreAfter text at ws → length ws + at ≤ length text
   after_few at ws within are =
       let same : at + (length text - at) ≡ length text = omega (arith, within) in

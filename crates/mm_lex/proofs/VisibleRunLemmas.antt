@@ -13,7 +13,7 @@ record Runs (text : List ℕ) (at : ℕ) (bytes : List ℕ) : Type 0 where
   some : at < end
   are : words text (record { start = at; end = end } ∷ spans) ≡ split_of bytes
 
--- a white byte first begins no run
+-- a white byte in front changes no run
 pub white_run : (at c : ℕ) (bytes : List ℕ) → is_white c ≡ true → runs_from at (c ∷ bytes) ≡ runs_from (at + 1) bytes
 white_run at c bytes e = rw e refl
 
@@ -21,7 +21,7 @@ white_run at c bytes e = rw e refl
 shown_run : (at b : ℕ) (bytes : List ℕ) → is_white b ≡ false → runs_from at (b ∷ bytes) ≡ with_byte at (starts_white bytes) (runs_from (at + 1) bytes)
 shown_run at b bytes e = rw e refl
 
--- the byte at a place, and the bytes after it
+-- if a place is followed by a byte and other bytes, the next place is followed by these
 after_one : (text : List ℕ) (at b : ℕ) (bytes : List ℕ) → drop at text ≡ b ∷ bytes → drop (at + 1) text ≡ bytes
 after_one text at b bytes e = let next : drop (1 + at) text ≡ drop (at + 1) text = ap (λ n. drop n text) (omega arith) in sym next ∙ (sym (plus at) ∙ ap (drop 1) e)
   where
@@ -32,7 +32,7 @@ after_one text at b bytes e = let next : drop (1 + at) text ≡ drop (at + 1) te
 word_one : (text : List ℕ) (at b : ℕ) (bytes : List ℕ) → drop at text ≡ b ∷ bytes → word text (record { start = at; end = at + 1 }) ≡ b ∷ []
 word_one text at b bytes e = let one : at + 1 - at ≡ 1 = omega arith in ap (λ n. take n (drop at text)) one ∙ ap (take 1) e
 
--- the word of a longer span has its first byte before the word of the span one shorter
+-- the word of a longer span is its first byte and then the word of the span without it
 word_more : (text : List ℕ) (at end b : ℕ) (bytes : List ℕ) → drop at text ≡ b ∷ bytes → at + 1 < end
     → word text (record { start = at; end = end }) ≡ b ∷ word text (record { start = at + 1; end = end })
 word_more text at end b bytes e long =
@@ -45,7 +45,7 @@ head_byte c [] h = h
 head_byte c (d ∷ bytes) h = (and_parts (is_symbol_byte c) _ h).0
 
 module _ (text more : List ℕ) where
-  -- a byte before others: after it stands a gap and the next word, or the rest of its own word
+  -- one more byte in front: a space and the next word follow it, or the rest of its own word
   runs_step : (at b c : ℕ) (bytes : List ℕ) → drop at text ≡ b ∷ c ∷ (bytes ++ more) → is_single_spaced (b ∷ c ∷ bytes) ≡ true → (t : Bool) → is_space c ≡ t
       → (t ≡ true → Runs text (at + 1 + 1) bytes) → (t ≡ false → Runs text (at + 1) (c ∷ bytes)) → Runs text at (b ∷ c ∷ bytes)
   runs_step at b c bytes e h true k gap on =
@@ -72,7 +72,7 @@ module _ (text more : List ℕ) where
             ∙ (ap (onto_first b) rest.are ∙ sym (split_byte b (c ∷ bytes) shown));
       }
 
-  -- the runs of single-spaced bytes, wherever they stand in a text, have the words of these bytes
+  -- the runs of single-spaced bytes at any place of a text have the words of these bytes
   single_spaced_runs : (at : ℕ) (bytes : List ℕ) → drop at text ≡ bytes ++ more → is_single_spaced bytes ≡ true → Runs text at bytes
   single_spaced_runs at [] e h = cc
   single_spaced_runs at (b ∷ []) e h = record {
@@ -90,12 +90,12 @@ module _ (text more : List ℕ) where
 
 -- ---- runs before a white byte
 
--- one byte before what starts white: no run of it goes on there
+-- one byte before bytes that start white: its run ends there
 no_more_runs : (at b : ℕ) (more : List ℕ) (t : Bool) → is_white b ≡ t → starts_white more ≡ true → runs_from at (b ∷ more) ≡ runs_from at (b ∷ []) ++ runs_from (at + 1) more
 no_more_runs at b more true e white = rw e refl
 no_more_runs at b more false e white = rw (e, white) refl
 
--- the runs of bytes before what starts white, and then the runs of that
+-- the runs of bytes before others that start white are those of the first and then those of the others
 runs_before_white : (at : ℕ) (bytes more : List ℕ) → starts_white more ≡ true → runs_from at (bytes ++ more) ≡ runs_from at bytes ++ runs_from (at + length bytes) more
 runs_before_white at [] more white = let same : at ≡ at + 0 = omega arith in ap (λ n. runs_from n more) same
 runs_before_white at (b ∷ []) more white = no_more_runs at b more (is_white b) refl white
@@ -112,7 +112,7 @@ symbol_word : (w : Name) → is_symbol w ≡ true → is_word w ≡ true
 symbol_word [] h = cc
 symbol_word (b ∷ w) h = (and_parts (list_all is_visible (b ∷ w)) _ h).0
 
--- a symbol is plain, for it has no `$`
+-- a symbol is plain, because it has no `$`
 symbol_plain : (w : Name) → is_symbol w ≡ true → is_plain w ≡ true
 symbol_plain [] h = cc
 symbol_plain (b ∷ w) h = rw (no_dollar b (has_byte 36 w) (and_parts (list_all is_visible (b ∷ w)) _ h).1) refl
@@ -124,7 +124,7 @@ symbol_plain (b ∷ w) h = rw (no_dollar b (has_byte 36 w) (and_parts (list_all 
         by true h = cc
         by false h = refl
 
--- symbols are words
+-- each symbol in a list of symbols is a word
 pub symbols_words : (ws : List Name) → list_all is_symbol ws ≡ true → list_all is_word ws ≡ true
 symbols_words [] h = refl
 symbols_words (w ∷ ws) h = and_from _ _ (symbol_word w (and_parts (is_symbol w) _ h).0) (symbols_words ws (and_parts (is_symbol w) _ h).1)
@@ -135,7 +135,7 @@ symbols_plain text [] h = refl
 symbols_plain text (s ∷ spans) h =
     and_from _ _ (symbol_plain (word text s) (and_parts (is_symbol (word text s)) _ h).0) (symbols_plain text spans (and_parts (is_symbol (word text s)) _ h).1)
 
--- the runs at the front are these, and their words are symbols
+-- the text from a place on begins with these runs, whose words are symbols
 pub record IsFrontOf (text : List ℕ) (at n : ℕ) (bytes : List ℕ) : Type 0 where
   pub spans : List Span
   pub whole : runs_from at (drop at text) ≡ spans ++ runs_from (at + n) (drop (at + n) text)
@@ -143,7 +143,7 @@ pub record IsFrontOf (text : List ℕ) (at n : ℕ) (bytes : List ℕ) : Type 0 
   pub symbols : list_all is_symbol (words_of bytes) ≡ true
   pub plain : AllPlain text spans
 
--- the bytes of a spaced prefix that ends before white are a front of symbols
+-- the text begins with the runs of a spaced prefix, if a white byte or the end of the text follows it
 pub prefix_front : (text : List ℕ) (at n : ℕ) → IsClean (drop at text) → starts_white (drop at text) ≡ false → n ≡ spaced_prefix_len (drop at text) → 0 < n
     → at + n ≤ length text → starts_white (drop (at + n) text) ≡ true → IsFrontOf text at n (take n (drop at text))
 prefix_front text at n clean shown e some within white =

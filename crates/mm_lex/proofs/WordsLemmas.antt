@@ -1,4 +1,4 @@
--- Words at the end of a buffer.
+-- The words of a buffer, found by splitting it at the spaces.
 use Rattle.mm_lex.proofs.Prelude.{◌≡◌, ℕ, ◌+◌, Bool, true, false, not, cond, ◌==◌, List, [], ◌∷◌, ◌++◌, length, ◌<◌, take, drop, count_by, nat_lt, Some, None, refl, list_all, slice_split, onto_first, position, position_or_len, before_first, after_first, sym, ◌∙◌, ap, arith, true≢false, ltb-true, ltb-false, join_with_byte-slice_split, slice_split_first, length-slice_split, prefix_len-le-length, and_parts, Name, is_visible, spaced, words_of, is_word}
 
 abbrev is_space : ℕ → Bool
@@ -8,24 +8,24 @@ pub spaced-words_of : (text : List ℕ) → spaced (words_of text) ≡ text
 spaced-words_of [] = refl
 spaced-words_of (b ∷ text) = join_with_byte-slice_split 32 (b ∷ text)
 
--- a split has a first part
+-- a split has a first part, also with one more byte in front
 first_step : (t : Bool) (b : ℕ) (parts : List Name) → (x : List ℕ) × (xs : List Name) × (parts ≡ x ∷ xs)
     → (x : List ℕ) × (xs : List Name) × (cond t ([] ∷ parts) (onto_first b parts) ≡ x ∷ xs)
 first_step true b parts p = ([], parts, refl)
 first_step false b parts p = (b ∷ p.0, p.1, ap (onto_first b) p.2)
 
--- each text has a first part
+-- the split of each text has a first part
 pub first_part : (text : List ℕ) → (x : List ℕ) × (xs : List Name) × (slice_split is_space text ≡ x ∷ xs)
 first_part [] = ([], [], refl)
 first_part (b ∷ text) = first_step (is_space b) b (slice_split is_space text) (first_part text)
 
--- parts after stay, with one byte more before the first
+-- more parts after those of a split stay the same with one more byte in front
 split_step : (t : Bool) (b : ℕ) (parts more : List Name) (x : List ℕ) (xs : List Name) → parts ≡ x ∷ xs
     → cond t ([] ∷ (parts ++ more)) (onto_first b (parts ++ more)) ≡ cond t ([] ∷ parts) (onto_first b parts) ++ more
 split_step true b parts more x xs e = refl
 split_step false b parts more x xs e = rw e refl
 
--- the parts of two texts with a space between them
+-- the split of two texts with a space between them is the parts of the first and then those of the second
 pub slice_split-space : (text more : List ℕ) → slice_split is_space (text ++ 32 ∷ more) ≡ slice_split is_space text ++ slice_split is_space more
 slice_split-space [] more = refl
 slice_split-space (b ∷ text) more =
@@ -41,19 +41,19 @@ visible_no_space b h = by (is_space b) refl
     by true e = let is : b ≡ 32 = grind (arith, e) in absurd (true≢false (sym h ∙ ap is_visible is))
     by false e = refl
 
--- visible bytes alone are one part
+-- visible bytes are split into one part
 split_visible : (w : Name) → list_all is_visible w ≡ true → slice_split is_space w ≡ w ∷ []
 split_visible [] h = refl
 split_visible (b ∷ w) h =
     ap (λ t. cond t ([] ∷ slice_split is_space w) (onto_first b (slice_split is_space w))) (visible_no_space b (and_parts (is_visible b) (list_all is_visible w) h).0)
     ∙ ap (onto_first b) (split_visible w (and_parts (is_visible b) (list_all is_visible w) h).1)
 
--- each byte of a word can be seen
+-- each byte of a word is visible
 pub word-visible : (w : Name) → is_word w ≡ true → list_all is_visible w ≡ true
 word-visible [] h = cc
 word-visible (b ∷ w) h = h
 
--- one word alone
+-- a buffer with one word has this word alone
 pub words_of-one : (w : Name) → is_word w ≡ true → words_of w ≡ w ∷ []
 words_of-one [] h = cc
 words_of-one (b ∷ w) h = split_visible (b ∷ w) h
@@ -74,19 +74,19 @@ some_by_len (b ∷ text) len e h = omega arith
 
 -- ---- the words of a buffer, one after another
 
--- one byte more, where no space stands
+-- a text without a space is one part, also with one more byte in front
 whole_step : (t : Bool) (b : ℕ) (text : List ℕ) → cond (not t) (1 + position_or_len is_space text) 0 ≡ length (b ∷ text)
     → (position_or_len is_space text ≡ length text → slice_split is_space text ≡ text ∷ [])
     → cond t ([] ∷ slice_split is_space text) (onto_first b (slice_split is_space text)) ≡ (b ∷ text) ∷ []
 whole_step true b text k whole = absurd (omega (arith, k))
 whole_step false b text k whole = ap (onto_first b) (whole (omega (arith, k)))
 
--- no space in it: one part
+-- a text without a space is one part
 slice_split-whole : (text : List ℕ) → position_or_len is_space text ≡ length text → slice_split is_space text ≡ text ∷ []
 slice_split-whole [] h = refl
 slice_split-whole (b ∷ text) h = whole_step (is_space b) b text h (slice_split-whole text)
 
--- the text after a space has a word
+-- if each part is a word, the parts after a space are the words there
 words_of-after : (text rest : List ℕ) (w : Name) → slice_split is_space text ≡ w ∷ slice_split is_space rest → list_all is_word (slice_split is_space text) ≡ true → slice_split is_space rest ≡ words_of rest
 words_of-after text [] w e k = absurd (true≢false (sym (and_parts (is_word w) false (sym (ap (list_all is_word) e) ∙ k)).1))
 words_of-after text (b ∷ rest) w e k = refl
@@ -104,7 +104,7 @@ words_of-first (b ∷ text) inside k =
 
 -- where the search for a space ends
 module _ (text : List ℕ) where
-  -- a space there: the word before it, and the words after it
+  -- if there is a space, the words are the one before it and then those after it
   pub at_position : (n : ℕ) → Some n ≡ position is_space text → list_all is_word (words_of text) ≡ true → words_of text ≡ take n text ∷ words_of (drop (n + 1) text)
   at_position n = by (nat_lt (position_or_len is_space text) (length text)) refl
     where
@@ -112,7 +112,7 @@ module _ (text : List ℕ) where
       by true e h k = let same : n ≡ position_or_len is_space text = cc in rw same (words_of-first text (ltb-true _ _ e) k)
       by false e h k = cc
 
-  -- no space: one word
+  -- if there is no space, there is one word
   pub no_position : None ≡ position is_space text → 0 < length text → words_of text ≡ text ∷ []
   no_position = by (nat_lt (position_or_len is_space text) (length text)) refl
     where
@@ -128,7 +128,7 @@ pub length-words_of : (text : List ℕ) → 0 < length text → length (words_of
 length-words_of [] some = absurd (omega (arith, some))
 length-words_of (b ∷ text) some = length-slice_split is_space (b ∷ text)
 
--- a list of words is what its text is split into
+-- a word is split into itself
 split_word : (w : Name) → is_word w ≡ true → slice_split is_space w ≡ w ∷ []
 split_word [] h = cc
 split_word (b ∷ w) h = split_visible (b ∷ w) h
@@ -141,7 +141,7 @@ split_spaced w (v ∷ ws) h k =
     ∙ (ap (λ r. r ++ slice_split is_space (spaced (v ∷ ws))) (split_word w h)
     ∙ ap (λ r. w ∷ r) (split_spaced v ws (and_parts (is_word v) (list_all is_word ws) k).0 (and_parts (is_word v) (list_all is_word ws) k).1))
 
--- the words of a buffer that has a word are its parts
+-- the words of a buffer with at least one word are the parts of its split
 same_words : (w : Name) (ws : List Name) → is_word w ≡ true → slice_split is_space (spaced (w ∷ ws)) ≡ w ∷ ws → words_of (spaced (w ∷ ws)) ≡ w ∷ ws
 same_words [] ws h e = cc
 same_words (b ∷ w) [] h e = e

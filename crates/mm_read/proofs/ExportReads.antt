@@ -1,4 +1,4 @@
--- The export form of statements reads as these statements: it is their tokens, each with one white byte after it, and no
+-- The export form of statements reads as these statements: it is their tokens, each followed by one white byte, and no
 -- token of a statement begins or ends a comment.
 use Rattle.mm_read.proofs.Words.{◌≡◌, ℕ, ◌+◌, ◌-◌, Bool, true, false, not, ◌&&◌, ◌||◌, cond, List, [], ◌∷◌, ◌++◌, length, take, map, codes, list_all, sym, ◌∙◌, ap, arith, refl, true≢false, append_assoc, length-append, append-nil, take-append_seam, drop-append_seam, and_parts, and_from, nat_tests, list_all-map, list_all-append, word-visible, Span, Name, is_empty, is_white, is_visible, is_allowed, is_symbol, is_label, is_label_byte, has_byte, runs, runs_from, starts_white, with_byte, word, spaced, is_word, is_plain, words, Stmt, Open, Close, Const, Var, Disj, Float, Ess, Axiom, Prove, Database, is_shaped, are_symbols, has_two, stmt_tokens, tokens_of, export_of, white_run}
 use Rattle.mm_read.specs.Laws as laws
@@ -39,7 +39,7 @@ runs-word at (c ∷ d ∷ w) b text h k =
     along : (m n : ℕ) → m ≡ n → span_of at m ∷ runs_from (m + 1) text ≡ span_of at n ∷ runs_from (n + 1) text
     along m n e = ap (λ x. span_of at x ∷ runs_from (x + 1) text) e
 
--- words, each with the white byte after it
+-- words, each with the white byte that follows it
 abbrev Laid : Type 0
 Laid = List (Name × ℕ)
 
@@ -102,7 +102,7 @@ clean-laid (p ∷ laid) h =
     ∙ and_from (list_all is_allowed p.0) (is_allowed p.1 && list_all is_allowed (laid_text laid)) (visible_allowed p.0 (word-visible p.0 own.0))
     (and_from (is_allowed p.1) (list_all is_allowed (laid_text laid)) (white_allowed p.1 own.1) (clean-laid laid parts.1))
 
--- ---- the export form is so laid
+-- ---- the export form is of this kind
 
 -- words with a space after each, and a line feed after the last
 laid_line : List Name → Laid
@@ -143,7 +143,7 @@ is_token w = is_word w && is_plain w
 plain_plain : (w : Name) → has_byte 36 w ≡ false → is_plain w ≡ true
 plain_plain w h = rw (plain_is_no_key w (codes "$(") h refl, plain_is_no_key w (codes "$)") h refl) refl
 
--- visible bytes, at least one, are a word
+-- visible bytes are a word, if there is at least one
 visible_word : (w : Name) → not (is_empty w) ≡ true → list_all is_visible w ≡ true → is_word w ≡ true
 visible_word [] some h = some
 visible_word (b ∷ w) some h = h
@@ -175,7 +175,7 @@ symbol_tokens (w ∷ ws) h =
     let parts : (is_symbol w ≡ true) × (list_all is_symbol ws ≡ true) = and_parts (is_symbol w) (list_all is_symbol ws) h in
     and_from (is_token w) (list_all is_token ws) (symbol_token w parts.0) (symbol_tokens ws parts.1)
 
--- symbols, and such tokens after them
+-- symbols before such tokens are such tokens
 then_tokens : (ws rest : List Name) → list_all is_symbol ws ≡ true → list_all is_token rest ≡ true → list_all is_token (ws ++ rest) ≡ true
 then_tokens ws rest h k = list_all-append is_token ws rest ∙ and_from (list_all is_token ws) (list_all is_token rest) (symbol_tokens ws h) k
 
@@ -206,7 +206,7 @@ tokens_of-are_tokens (s ∷ S) h =
     let parts : (is_shaped s ≡ true) × (list_all is_shaped S ≡ true) = and_parts (is_shaped s) (list_all is_shaped S) h in
     list_all-append is_token (stmt_tokens s) (tokens_of S) ∙ and_from (list_all is_token (stmt_tokens s)) (list_all is_token (tokens_of S)) (stmt-tokens s parts.0) (tokens_of-are_tokens S parts.1)
 
--- one part of a test of each
+-- if each is such a token, each is a word and each is plain
 all_words : (ws : List Name) → list_all is_token ws ≡ true → (list_all is_word ws ≡ true) × (list_all is_plain ws ≡ true)
 all_words [] h = (refl, refl)
 all_words (w ∷ ws) h =
@@ -215,9 +215,9 @@ all_words (w ∷ ws) h =
     let rest : (list_all is_word ws ≡ true) × (list_all is_plain ws ≡ true) = all_words ws parts.1 in
     (and_from (is_word w) (list_all is_word ws) own.0 rest.0, and_from (is_plain w) (list_all is_plain ws) own.1 rest.1)
 
--- ---- together
+-- ---- the whole export form
 
--- a statement has a first token, and others after it
+-- a statement has a first token
 first_token : (s : Stmt) → (w : Name) × (ws : List Name) × (stmt_tokens s ≡ w ∷ ws)
 first_token Open = (codes "${", [], refl)
 first_token Close = (codes "$}", [], refl)
@@ -251,11 +251,11 @@ export-is_laid (s ∷ S) h =
     let parts : (is_shaped s ≡ true) × (list_all is_shaped S ≡ true) = and_parts (is_shaped s) (list_all is_shaped S) h in
     line-is_laid (stmt_tokens s) (laid_of S) (all_words (stmt_tokens s) (stmt-tokens s parts.0)).0 (export-is_laid S parts.1)
 
--- the runs of the export form have the words of the statements
+-- the words of the runs of the export form are the tokens of the statements
 export_words : (S : Database) → list_all is_shaped S ≡ true → words (export_of S) (runs (export_of S)) ≡ tokens_of S
 export_words S h = ap (λ text. words text (runs text)) (sym (export-laid S)) ∙ (words-laid (laid_of S) [] (export-is_laid S h) ∙ words-export S)
 
--- the law: what is exported reads as the statements
+-- the law: the export form of statements reads as these statements
 pub export_reads : laws.ExportReads
 export_reads S h = record {
   shaped = h;

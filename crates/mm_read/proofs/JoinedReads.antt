@@ -1,13 +1,13 @@
--- Two joined texts read as the statements of the first and then those of the second, if no word goes on from the first into the
--- other: the runs of both are those of the one and then those of the other, runs with the same words are split at the same
--- comments, and a split may stand after another.
+-- Two joined texts read as the statements of the first and then those of the second, if no word continues from the first into
+-- the second: the runs of the joined text are those of the first and then those of the second, runs with the same words are
+-- split at the same comments, and two splits join into one.
 use Rattle.mm_read.proofs.Words.{◌≡◌, ℕ, ◌+◌, ◌-◌, ◌<◌, suc, Bool, true, false, ◌||◌, if◌then◌else◌, List, [], ◌∷◌, ◌++◌, length, take, drop, Option, Some, None, Ok, Err, refl, list_all, sym, ◌∙◌, ap, arith, subst, true≢false, drop-append_seam, and_from, flat_map-append, drop-drop, map-append, list_all-append, Span, Name, name_eq, is_white, is_allowed, starts_white, with_byte, runs, runs_from, word, opener, closer, SplitsInto, words, append_step, Outcome, outside, inside, prepend, scan, scan-split, splits_as, split-scan, splits_join, is_shaped, stmt_tokens, tokens_of, HasTokens, joins_no_words}
 use Rattle.std.proofs.lemmas.List.{append-nil}
 use Rattle.mm_read.specs.Laws as laws
 
--- ---- the runs of both texts
+-- ---- the runs of the joined text
 
--- the last byte of the one text, where it is white or the other starts white
+-- the last byte of the first text, if it is white or the second text starts white
 last_byte : (at b : ℕ) (other : List ℕ) (t : Bool) → is_white b ≡ t → (t || starts_white other) ≡ true
     → runs_from at (b ∷ other) ≡ runs_from at (b ∷ []) ++ runs_from (at + 1) other
 last_byte at b other true e h = rw e refl
@@ -29,12 +29,12 @@ abbrev run_words : List ℕ → List Name
 run_words [] = []
 run_words (b ∷ bytes) = if is_white b then run_words bytes else with_first b (starts_white bytes) (run_words bytes)
 
--- the first of these spans stands there
+-- the first of these spans, if there is any, begins at the place
 abbrev StartsAt : ℕ → List Span → Type 0
 StartsAt at [] = Unit {0}
 StartsAt at (s ∷ spans) = (s.start ≡ at) × (at < s.end)
 
--- .. or ends after it
+-- the first of these spans, if there is any, ends after the place
 abbrev EndsAfter : ℕ → List Span → Type 0
 EndsAfter at [] = Unit {0}
 EndsAfter at (s ∷ spans) = at < s.end
@@ -44,17 +44,17 @@ with-starts at true spans later = (refl, omega arith)
 with-starts at false [] later = (refl, omega arith)
 with-starts at false (s ∷ spans) later = (refl, omega (arith, later))
 
--- a first span that stands there ends after it
+-- if the first span begins at a place, it ends after it
 ends_after : (at : ℕ) (spans : List Span) → StartsAt at spans → EndsAfter at spans
 ends_after at [] starts = tt
 ends_after at (s ∷ spans) starts = starts.1
 
--- a run that ends after a place ends after the one before
+-- if the first span ends after a place, it ends after the place before
 ends_earlier : (at : ℕ) (spans : List Span) → EndsAfter (at + 1) spans → EndsAfter at spans
 ends_earlier at [] later = tt
 ends_earlier at (s ∷ spans) later = omega (arith, later)
 
--- one byte more before runs: the first of them ends after it
+-- the first run ends after the place of the first byte, also with one more byte in front
 ends_step : (at b : ℕ) (bytes : List ℕ) (t : Bool) → is_white b ≡ t → EndsAfter (at + 1) (runs_from (at + 1) bytes) → EndsAfter at (runs_from at (b ∷ bytes))
 ends_step at b bytes true e later = rw e (ends_earlier at (runs_from (at + 1) bytes) later)
 ends_step at b bytes false e later =
@@ -72,7 +72,7 @@ abbrev span_of : ℕ → ℕ → Span
 span_of start end = record { start = start; end = end }
 
 module _ (text : List ℕ) (at b : ℕ) (bytes : List ℕ) (here : drop at text ≡ b ∷ bytes) where
-  -- the bytes after the first
+  -- the bytes after the first one
   bytes_after : drop (at + 1) text ≡ bytes
   bytes_after = sym (drop-drop 1 at text ∙ ap (λ n. drop n text) (omega arith)) ∙ ap (drop 1) here
 
@@ -105,7 +105,7 @@ words-runs text more at (b ∷ bytes) here =
 -- ---- runs with the same words
 
 module _ (text other : List ℕ) where
-  -- the same tokens, or faults
+  -- both results are tokens with the same words, or both are faults
   abbrev Alike : Outcome → Outcome → Type 0
   Alike (Ok ts) (Ok us) = words text ts ≡ words other us
   Alike (Ok ts) (Err m) = ⊥
@@ -113,33 +113,33 @@ module _ (text other : List ℕ) where
   Alike (Err m) (Err n) = Unit {0}
 
   module _ (s u : Span) (same : word text s ≡ word other u) where
-    -- a token more, the same word in both texts
+    -- one more token, with the same word in both texts
     alike_more : (r t : Outcome) → Alike r t → Alike (prepend (s ∷ []) r) (prepend (u ∷ []) t)
     alike_more (Ok ts) (Ok us) are = ap (λ w. w ∷ words text ts) same ∙ ap (λ ws. word other u ∷ ws) are
     alike_more (Ok ts) (Err m) are = are
     alike_more (Err m) (Ok us) are = are
     alike_more (Err m) (Err n) are = tt
 
-    -- outside of a comment both texts have the same answer, whatever the run is
+    -- outside a comment the results for both texts are alike, whatever the run is
     alike_outside : (a b : Bool) (r t r' t' : Outcome) → Alike r t → Alike r' t' → Alike (outside a b s r r') (outside a b u t t')
     alike_outside true b r t r' t' opened rest = opened
     alike_outside false true r t r' t' opened rest = tt
     alike_outside false false r t r' t' opened rest = alike_more r' t' rest
 
-    -- .. and inside of one
+    -- .. and so are they inside one
     alike_inside : (a b : Bool) (r t r' t' : Outcome) → Alike r t → Alike r' t' → Alike (inside a b s r r') (inside a b u t t')
     alike_inside true b r t r' t' closed rest = tt
     alike_inside false true r t r' t' closed rest = closed
     alike_inside false false r t r' t' closed rest = rest
 
-  -- a comment is open in both, or in none
+  -- both scans are inside a comment, or neither is
   abbrev BothOpen : Option ℕ → Option ℕ → Type 0
   BothOpen None None = Unit {0}
   BothOpen (Some m) (Some n) = Unit {0}
   BothOpen None (Some n) = ⊥
   BothOpen (Some m) None = ⊥
 
-  -- runs with the same words are scanned in the same way
+  -- the scans of runs with the same words have alike results
   scans_alike : (spans others : List Span) (from at : Option ℕ) → BothOpen from at → words text spans ≡ words other others
       → Alike (scan text spans from) (scan other others at)
   scans_alike [] [] None None state same = refl
@@ -163,11 +163,11 @@ module _ (text other : List ℕ) where
   scans_alike (s ∷ spans) (u ∷ others) None (Some n) state same = absurd state
   scans_alike (s ∷ spans) (u ∷ others) (Some m) None state same = absurd state
 
-  -- these spans are split, and the tokens that are left are these words
+  -- these spans split into tokens with these words
   abbrev IsSplitAs : List Span → List Name → Type 0
   IsSplitAs others ws = (us : List Span) × SplitsInto other others us × (words other us ≡ ws)
 
-  -- where the runs of the one text are split, those of the other are, into the same words
+  -- if the runs of one text split into tokens, runs of the other with the same words split into tokens with the same words
   same_split_words : (spans tokens others : List Span) → SplitsInto text spans tokens → words text spans ≡ words other others → IsSplitAs others (words text tokens)
   same_split_words spans tokens others split same =
       by (scan other others None) refl (subst (λ r. Alike r (scan other others None)) (scan-split text spans tokens split) (scans_alike spans others None None tt same))
@@ -176,7 +176,7 @@ module _ (text other : List ℕ) where
       by (Ok us) e are = (us, split-scan other others us e, sym are)
       by (Err n) e are = absurd are
 
--- ---- together
+-- ---- the joined text
 
 module _ (text other : List ℕ) (apart : joins_no_words text other ≡ true) where
   abbrev both : List ℕ
@@ -185,21 +185,21 @@ module _ (text other : List ℕ) (apart : joins_no_words text other ≡ true) wh
   abbrev later : List Span
   later = runs_from (length text) other
 
-  -- the words of the one text's runs are the same in both texts joined
+  -- the words of the runs of the first text are the same in the joined text
   front : words text (runs text) ≡ words both (runs text)
   front = words-runs text [] 0 text (sym (append-nil text)) ∙ sym (words-runs both other 0 text refl)
 
-  -- .. and those of the other's, moved after it
+  -- .. and so are those of the runs of the second text, moved to after the first
   back : words other (runs other) ≡ words both later
   back =
       words-runs other [] 0 other (sym (append-nil other))
       ∙ sym (words-runs both [] (length text) other (drop-append_seam text other ∙ sym (append-nil other)))
 
-  -- the runs of both texts are those of the one and those of the other after it
+  -- the runs of the joined text are those of the first text and then those of the second, moved to after the first
   whole : runs both ≡ runs text ++ later
   whole = let none : 0 + length text ≡ length text = omega arith in runs-joined 0 text other apart ∙ ap (λ n. runs text ++ runs_from n other) none
 
-  -- the tokens of both texts are those of the one and then those of the other
+  -- the tokens of the joined text are those of the first text and then those of the second
   joined_tokens : (ts us : List Name) → HasTokens text ts → HasTokens other us → HasTokens both (ts ++ us)
   joined_tokens ts us has also =
       let one : IsSplitAs text both (runs text) (words text has.0) = same_split_words text both (runs text) has.0 (runs text) has.1.1 front in
@@ -210,7 +210,7 @@ module _ (text other : List ℕ) (apart : joins_no_words text other ≡ true) wh
       let second : words both two.0 ≡ us = two.2 ∙ also.2 in
       (one.0 ++ two.0, (clean, split), map-append (word both) one.0 two.0 ∙ (ap (λ r. r ++ words both two.0) first ∙ ap (λ r. ts ++ r) second))
 
--- the law: two joined texts read as both read
+-- the law: two joined texts read as the statements of the first and then those of the second
 pub joined_reads : laws.JoinedReads
 joined_reads text other S T reads also apart = record {
   shaped = list_all-append is_shaped S T ∙ and_from (list_all is_shaped S) (list_all is_shaped T) reads.shaped also.shaped;

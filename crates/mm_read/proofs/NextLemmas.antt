@@ -1,15 +1,15 @@
--- Statement by statement from place to place: what stands between two places reads as a statement, and what stands before as the
+-- Statement by statement, from place to place: the tokens between two places read as a statement, and those before as the
 -- statements so far.
 use Rattle.mm_read.proofs.Words.{◌≡◌, ℕ, ◌+◌, ◌<◌, true, List, [], ◌∷◌, ◌++◌, length, codes, Result, Ok, Err, IfOk, IfErr, refl, list_all, sym, ◌∙◌, ap, arith, length-append, append-nil, and_from, Name, is_symbol, is_label, IsClean, HasBetween, AreAfter, CountAfter, between_on, between_as, after_on, after_as, after_unique, Stmt, Float, Ess, Axiom, Prove, Database, are_symbols, is_shaped, stmt_tokens, tokens_of, Reads, IsNext, IsOneMore, ReadsUpTo}
 use Rattle.mm_read.proofs.StatementsLemmas.{append_middle}
 use Rattle.mm_read.proofs.StatementByStatement.{tokens_of-append, shaped-append}
 
 module _ {text : List ℕ} where
-  -- tokens before a keyword that is this word
+  -- tokens and then a word, which is the keyword
   pub after_word : {from at end : ℕ} {before : List Name} {word key : Name} → HasBetween text from at before → word ≡ key → HasBetween text at end (word ∷ []) → HasBetween text from end (before ++ key ∷ [])
   after_word {before = before} has e next = between_as (ap (λ w. before ++ w ∷ []) e) (between_on has next)
 
-  -- a statement that ends with a list
+  -- tokens and then a list that are together the tokens of a statement
   pub listed_next : {from at next : ℕ} {before ws : List Name} (s : Stmt) → from < at → HasBetween text from at before → HasBetween text at next ws → stmt_tokens s ≡ before ++ ws → is_shaped s ≡ true → IsNext text from s next
   listed_next s later has list e shaped = record {
     shaped = shaped;
@@ -17,25 +17,25 @@ module _ {text : List ℕ} where
     between = between_as (sym e) (between_on has list);
   }
 
-  -- the first token, and then a list
+  -- a keyword and then a list that are together the tokens of a statement
   pub keyed_next : {from at next : ℕ} {word : Name} {list : List Name} (key : Name) → word ≡ key → from < at → HasBetween text from at (word ∷ []) → HasBetween text at next list
       → (s : Stmt) → stmt_tokens s ≡ key ∷ list → is_shaped s ≡ true → IsNext text from s next
   keyed_next key e later has list s is shaped = listed_next s later (between_as (ap (λ w. w ∷ []) e) has) list is shaped
 
   module _ {from at : ℕ} (label old : Name) (same : label ≡ old) (is : is_label old ≡ true) (later : from < at) where
-    -- `$e` ..
+    -- the tokens of a `$e`
     pub essential_next : {next : ℕ} {expr : List Name} → HasBetween text from at (old ∷ codes "$e" ∷ []) → HasBetween text at next (expr ++ codes "$." ∷ []) → are_symbols expr ≡ true
         → IsNext text from (Ess label expr) next
     essential_next {expr = expr} has list symbols =
         listed_next (Ess label expr) later has list (ap (λ l. l ∷ codes "$e" ∷ (expr ++ codes "$." ∷ [])) same) (and_from _ _ (ap is_label same ∙ is) symbols)
 
-    -- .. and `$a`
+    -- the tokens of a `$a`
     pub axiom_next : {next : ℕ} {expr : List Name} → HasBetween text from at (old ∷ codes "$a" ∷ []) → HasBetween text at next (expr ++ codes "$." ∷ []) → are_symbols expr ≡ true
         → IsNext text from (Axiom label expr) next
     axiom_next {expr = expr} has list symbols =
         listed_next (Axiom label expr) later has list (ap (λ l. l ∷ codes "$a" ∷ (expr ++ codes "$." ∷ [])) same) (and_from _ _ (ap is_label same ∙ is) symbols)
 
-    -- `$f`
+    -- the tokens of a `$f`
     pub floating_next : {after_constant after_variable next : ℕ} {constant variable : Name} → HasBetween text from at (old ∷ codes "$f" ∷ []) → HasBetween text at after_constant (constant ∷ [])
         → HasBetween text after_constant after_variable (variable ∷ []) → HasBetween text after_variable next (codes "$." ∷ []) → is_symbol constant ≡ true → is_symbol variable ≡ true
         → IsNext text from (Float label constant variable) next
@@ -44,7 +44,7 @@ module _ {text : List ℕ} where
         (ap (λ l. l ∷ codes "$f" ∷ constant ∷ variable ∷ codes "$." ∷ []) same)
         (and_from _ _ (and_from _ _ (ap is_label same ∙ is) c) v)
 
-    -- `$p`
+    -- the tokens of a `$p`
     pub provable_next : {after next : ℕ} {expr proof : List Name} → HasBetween text from at (old ∷ codes "$p" ∷ []) → HasBetween text at after (expr ++ codes "$=" ∷ [])
         → HasBetween text after next (proof ++ codes "$." ∷ []) → are_symbols expr ≡ true → list_all is_symbol proof ≡ true → IsNext text from (Prove label expr proof) next
     provable_next {expr = expr} {proof = proof} has first list symbols steps =
@@ -53,14 +53,14 @@ module _ {text : List ℕ} where
         ∙ ap (λ r. old ∷ codes "$p" ∷ r) (sym (append_middle expr (codes "$=") [] (proof ++ codes "$." ∷ []))))
         (and_from _ _ (and_from _ _ (ap is_label same ∙ is) symbols) steps)
 
-  -- `${` and `$}`
+  -- a `${` or a `$}`
   pub bare_next : {from at : ℕ} {word : Name} (s : Stmt) (key : Name) → word ≡ key → from < at → HasBetween text from at (word ∷ []) → stmt_tokens s ≡ key ∷ [] → is_shaped s ≡ true
       → IsNext text from s at
   bare_next s key e later has is shaped = record { shaped = shaped; later = later; between = between_as (ap (λ w. w ∷ []) e ∙ sym is) has }
 
   -- ---- the statements so far
 
-  -- a statement more stands before the later place
+  -- with one more statement, the tokens up to the later place read as the statements
   pub before_more : {at next : ℕ} {old new : Database} → ReadsUpTo text at old → IsOneMore text at next old new → ReadsUpTo text next new
   before_more {old = old} are more = record {
     shaped = ap (list_all is_shaped) more.whole ∙ shaped-append old (more.statement ∷ []) are.shaped (and_from _ _ more.next_is.shaped refl);
@@ -68,25 +68,25 @@ module _ {text : List ℕ} where
         (between_on are.between more.next_is.between);
   }
 
-  -- all of them
+  -- if no token is left, the text reads as the statements
   pub reads_all : (at : ℕ) (S : Database) → IsClean text → ReadsUpTo text at S → AreAfter text at [] → Reads text S
   reads_all at S clean are none =
       let all : AreAfter text 0 (tokens_of S) = after_as 0 (append-nil (tokens_of S)) (after_on are.between none) in
       record { shaped = are.shaped; tokens = (all.0, (clean, all.1), all.2) }
 
--- the tokens of the text are those of the statements and those after them
+-- the number of tokens of the text is that of the statements' tokens plus that of the tokens left
 pub count_before : (text : List ℕ) (at : ℕ) (S : Database) → ReadsUpTo text at S → (n m : ℕ) → CountAfter text at n → CountAfter text 0 m → m ≡ length (tokens_of S) + n
 count_before text at S are n m rest all =
     let whole : AreAfter text 0 (tokens_of S ++ rest.0) = after_on are.between rest.1 in
     let same : tokens_of S ++ rest.0 ≡ all.0 = after_unique 0 whole all.1 in
     omega (arith, ap length same, length-append (tokens_of S) rest.0, rest.2, all.2)
 
--- a property of a value that was returned gives the property that is to hold
+-- if one property of a value implies another, it does so for the value of a result
 pub on_ok : {A E : Type 0} {P Q : A → Type 0} (r : Result A E) → ((x : A) → P x → Q x) → IfOk r P → IfOk r Q
 on_ok (Ok x) f h = f x h
 on_ok (Err x) f h = tt
 
--- .. and of an error
+-- .. and for the error of a result
 pub on_err : {A E : Type 0} {P Q : E → Type 0} (r : Result A E) → ((x : E) → P x → Q x) → IfErr r P → IfErr r Q
 on_err (Ok x) f h = tt
 on_err (Err x) f h = f x h

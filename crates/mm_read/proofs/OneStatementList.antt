@@ -6,7 +6,7 @@ use Rattle.mm_read.proofs.StatementsLemmas.{symbol_plain, label_plain, symbols_o
 
 -- ---- the symbols at the front of a list of tokens
 
--- the tokens up to the first with a `$`, and the rest
+-- the tokens before the first that has a `$`, and the rest
 record Front : Type 0 where
   names : List Name
   rest : List Name
@@ -94,20 +94,20 @@ front-written (Prove label expr proof) rest h =
 
 -- ---- one list of statements
 
--- a statement has a token
+-- a list with at least one statement has a token
 pub no_tokens : (s : Stmt) (S : Database) → is_shaped s ≡ true → tokens_of (s ∷ S) ≡ [] → ⊥
 no_tokens s S h e = none (sym (front-written s (tokens_of S) h) ∙ ap front e)
   where
     none : ◌≡◌ {A = Option (Stmt × List Name)} (Some (s, tokens_of S)) None → ⊥
     none bad = cc
 
--- two statements at the front of the same tokens are one, and so are the rests
+-- if two statements are at the front of the same tokens, they are equal, and so are the rests
 pub same_front : (s t : Stmt) (rest more : List Name) → is_shaped s ≡ true → is_shaped t ≡ true → stmt_tokens s ++ rest ≡ stmt_tokens t ++ more → (s ≡ t) × (rest ≡ more)
 same_front s t rest more hs ht e =
     let both : ◌≡◌ {A = Option (Stmt × List Name)} (Some (s, rest)) (Some (t, more)) = sym (front-written s rest hs) ∙ (ap front e ∙ front-written t more ht) in
     some_pair_parts s t rest more both
 
--- the law: lists of statements that are written as the same tokens are one
+-- the law: two lists of statements with the same tokens are equal
 pub one_statement_list : laws.OneStatementList
 one_statement_list [] [] hs ht e = refl
 one_statement_list [] (t ∷ T) hs ht e = absurd (no_tokens t T (and_parts (is_shaped t) (list_all is_shaped T) ht).0 (sym e))

@@ -1,4 +1,4 @@
--- The machine of `ReaderStates` goes over each list of statements, back to where statements may begin.
+-- The machine of `ReaderStates` passes over each list of statements, and is then between statements again.
 use Rattle.mm_read.proofs.Words.{◌≡◌, ℕ, ◌≤◌, zero, suc, true, false, ◌&&◌, cond, List, [], ◌∷◌, ◌++◌, length, Some, None, codes, list_all, option_and_then, sym, ◌∙◌, ap, arith, refl, true≢false, append_assoc, and_parts, Name, name_eq, is_symbol, is_label, has_byte, Stmt, Open, Close, Const, Var, Disj, Float, Ess, Axiom, Prove, Database, is_shaped, are_symbols, has_two, stmt_tokens, tokens_of}
 use Rattle.mm_read.proofs.StatementsLemmas.{label_plain, symbols_of, append_middle, plain_is_no_key}
 use Rattle.mm_read.proofs.ReaderStates.{between, labelled, listing, floating, proving, step, go}
@@ -16,7 +16,7 @@ step-label label h =
 pub go-label : (label : Name) (tokens : List Name) → is_label label ≡ true → go between (label ∷ tokens) ≡ go labelled tokens
 go-label label tokens h = ap (option_and_then (λ p. go p tokens)) (step-label label h)
 
--- symbols alone
+-- a list in which no more symbols are required may have any number of them
 pub go-symbols : (ws tokens : List Name) → list_all is_symbol ws ≡ true → go (listing 0) (ws ++ tokens) ≡ go (listing 0) tokens
 go-symbols [] tokens h = refl
 go-symbols (w ∷ ws) tokens h =
@@ -43,12 +43,12 @@ go-proving (suc n) (w ∷ ws) tokens h many =
     let parts : (is_symbol w ≡ true) × (list_all is_symbol ws ≡ true) = and_parts (is_symbol w) (list_all is_symbol ws) h in
     ap (λ b. option_and_then (λ p. go p (ws ++ tokens)) (cond b (Some (proving n)) None)) parts.0 ∙ go-proving n ws tokens parts.1 (omega (arith, many))
 
--- one or more symbols are at least one
+-- a list of one or more symbols has length 1 or more
 many_of : (ws : List Name) → are_symbols ws ≡ true → 1 ≤ length ws
 many_of [] h = absurd (true≢false (sym h))
 many_of (w ∷ ws) h = omega arith
 
--- two or more are at least two
+-- a list of two or more symbols has length 2 or more
 two_of : (ws : List Name) → has_two ws ≡ true → 2 ≤ length ws
 two_of [] h = absurd (true≢false (sym h))
 two_of (w ∷ []) h = absurd (true≢false (sym h))
@@ -85,7 +85,7 @@ go-statement (Prove label ws proof) tokens h =
     ∙ (go-proving 1 ws (codes "$=" ∷ ((proof ++ codes "$." ∷ []) ++ tokens)) (symbols_of ws parts.1) (many_of ws parts.1)
     ∙ go-list 0 proof tokens both.1 (omega arith)))
 
--- statements bring it back to where statements may begin
+-- after the tokens of statements the machine is between statements again
 pub go-tokens_of : (S : Database) (tokens : List Name) → list_all is_shaped S ≡ true → go between (tokens_of S ++ tokens) ≡ go between tokens
 go-tokens_of [] tokens h = refl
 go-tokens_of (s ∷ S) tokens h =

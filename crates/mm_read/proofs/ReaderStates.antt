@@ -1,10 +1,10 @@
--- How far the tokens of a list of statements have come: a machine that goes over them one by one, and goes on exactly where
--- some list of statements does.
+-- A machine that reads the tokens of statements one by one, and continues exactly as long as some list of statements begins
+-- with the tokens read.
 use Rattle.mm_read.proofs.Words.{◌≡◌, ℕ, ◌≤◌, zero, suc, Bool, true, false, ◌&&◌, cond, List, [], ◌∷◌, ◌++◌, length, Option, Some, None, codes, list_all, option_and_then, sym, ◌∙◌, ap, arith, refl, subst, and_parts, option_and_then_some, same_Some, Name, name_eq, is_symbol, is_label, Stmt, Open, Close, Const, Var, Disj, Float, Ess, Axiom, Prove, Database, AreShaped, is_shaped, stmt_tokens, tokens_of, IsStatementsPrefix}
 pub use Rattle.mm_lex.proofs.NameLemmas.{same_name as same}
 use Rattle.mm_read.proofs.StatementsLemmas.{append_middle, are_symbols_of, has_two_of}
 
--- the next expected part: a statement, the keyword after a label, at least (or exactly) so many symbols and then `$.`,
+-- the part that is expected next: a statement, the keyword after a label, at least (or exactly) so many symbols and then `$.`,
 -- at least so many symbols and then `$=`
 pub data ReaderState : Type 0 where
   between : ReaderState
@@ -46,7 +46,7 @@ go-append q (t ∷ xs) ys = by (λ p. go-append p xs ys) (step q t)
     by rest None = refl
     by rest (Some p) = rest p
 
--- ---- the tokens that can follow at a place
+-- ---- the tokens that can follow in a state
 
 abbrev pub CanFollow : ReaderState → List Name → Type 0
 CanFollow between tokens = (S : Database) × AreShaped S × (tokens_of S ≡ tokens)
@@ -59,11 +59,11 @@ CanFollow (proving n) tokens =
     (ws : List Name) × (proof : List Name) × (S : Database) × (list_all is_symbol ws ≡ true) × (list_all is_symbol proof ≡ true) × (n ≤ length ws) × AreShaped S
     × (ws ++ codes "$=" ∷ (proof ++ codes "$." ∷ tokens_of S) ≡ tokens)
 
--- one more statement before the others
+-- one more statement in front of the others
 add : (s : Stmt) (S : Database) (tokens : List Name) → is_shaped s ≡ true → AreShaped S → stmt_tokens s ++ tokens_of S ≡ tokens → CanFollow between tokens
 add s S tokens hs hS e = (s ∷ S, rw hs hS, e)
 
--- a list of a keyword, symbols and `$.`
+-- after a keyword: a list of symbols and `$.`
 list_follows : (make : List Name → Stmt) (k : Name) (n : ℕ) (tokens : List Name)
     → ((ws : List Name) → list_all is_symbol ws ≡ true → n ≤ length ws → is_shaped (make ws) ≡ true)
     → ((ws : List Name) → stmt_tokens (make ws) ≡ k ∷ (ws ++ codes "$." ∷ []))
@@ -72,7 +72,7 @@ list_follows make k n tokens shaped whole_of (ws, S, all, many, hS, e) =
     add (make ws) S (k ∷ tokens) (shaped ws all many) hS
     (ap (λ r. r ++ tokens_of S) (whole_of ws) ∙ ap (λ r. k ∷ r) (append_middle ws (codes "$.") [] (tokens_of S) ∙ e))
 
--- the same after a label
+-- after a label and a keyword: a list of symbols and `$.`
 labelled_follows : (make : List Name → Stmt) (label k : Name) (tokens : List Name)
     → ((ws : List Name) → list_all is_symbol ws ≡ true → 1 ≤ length ws → is_shaped (make ws) ≡ true)
     → ((ws : List Name) → stmt_tokens (make ws) ≡ label ∷ k ∷ (ws ++ codes "$." ∷ []))
@@ -81,7 +81,7 @@ labelled_follows make label k tokens shaped whole_of (ws, S, all, many, hS, e) =
     add (make ws) S (label ∷ k ∷ tokens) (shaped ws all many) hS
     (ap (λ r. r ++ tokens_of S) (whole_of ws) ∙ ap (λ r. label ∷ k ∷ r) (append_middle ws (codes "$.") [] (tokens_of S) ∙ e))
 
--- `$f` after a label, with two symbols
+-- after a label and `$f`: two symbols and `$.`
 float_follows : (label : Name) (tokens : List Name) → is_label label ≡ true → CanFollow (floating 2) tokens → CanFollow between (label ∷ codes "$f" ∷ tokens)
 float_follows label tokens h ([], S, all, two, hS, e) = absurd (omega (arith, two))
 float_follows label tokens h (c ∷ [], S, all, two, hS, e) = absurd (omega (arith, two))
@@ -91,7 +91,7 @@ float_follows label tokens h (c ∷ v ∷ [], S, all, two, hS, e) =
     add (Float label c v) S (label ∷ codes "$f" ∷ tokens) (rw (h, c_parts.0) v_parts.0) hS (ap (λ r. label ∷ codes "$f" ∷ r) e)
 float_follows label tokens h (c ∷ v ∷ u ∷ ws, S, all, two, hS, e) = absurd (omega (arith, two))
 
--- `$p` after a label, with an expression and a proof
+-- after a label and `$p`: an expression, `$=`, a proof and `$.`
 prove_follows : (label : Name) (tokens : List Name) → is_label label ≡ true → CanFollow (proving 1) tokens → CanFollow between (label ∷ codes "$p" ∷ tokens)
 prove_follows label tokens h (ws, proof, S, all, all_proof, many, hS, e) =
     add (Prove label ws proof) S (label ∷ codes "$p" ∷ tokens) (rw (h, are_symbols_of ws all many) all_proof) hS
@@ -99,12 +99,12 @@ prove_follows label tokens h (ws, proof, S, all, all_proof, many, hS, e) =
 
 -- ---- a step back
 
--- a place that is one of two, by a test
+-- a state that is one of two, by a test
 chosen : {P : Type 0} (b : Bool) (q p : ReaderState) (o : Option ReaderState) → cond b (Some q) o ≡ Some p → (b ≡ true → q ≡ p → P) → (o ≡ Some p → P) → P
 chosen true q p o e then_so else_so = then_so refl cc
 chosen false q p o e then_so else_so = else_so e
 
--- a test that fails leads to no place
+-- a step that stops leads to no state
 no_place : {P : Type 0} (p : ReaderState) → ◌≡◌ {A = Option ReaderState} None (Some p) → P
 no_place p e = absurd (none e)
   where
@@ -112,35 +112,35 @@ no_place p e = absurd (none e)
     none e = cc
 
 module _ (t : Name) (p : ReaderState) (tokens : List Name) (after : CanFollow p tokens) where
-  -- the token is this keyword, or another
+  -- the token is this keyword, or the other case applies
   keyword : (r : ReaderState) (k : Name) (q : ReaderState) (o : Option ReaderState) → cond (name_eq t k) (Some q) o ≡ Some p
       → (CanFollow q tokens → CanFollow r (k ∷ tokens)) → (o ≡ Some p → CanFollow r (t ∷ tokens)) → CanFollow r (t ∷ tokens)
   keyword r k q o e written =
       chosen (name_eq t k) q p o e (λ is at. subst (λ w. CanFollow r (w ∷ tokens)) (sym (same t k is)) (written (subst (λ x. CanFollow x tokens) (sym at) after)))
 
-  -- the token is a symbol, or another
+  -- the token is a symbol, or the other case applies
   symbol : (r q : ReaderState) (o : Option ReaderState) → cond (is_symbol t) (Some q) o ≡ Some p
       → (is_symbol t ≡ true → CanFollow q tokens → CanFollow r (t ∷ tokens)) → (o ≡ Some p → CanFollow r (t ∷ tokens)) → CanFollow r (t ∷ tokens)
   symbol r q o e written = chosen (is_symbol t) q p o e (λ is at. written is (subst (λ x. CanFollow x tokens) (sym at) after))
 
 module _ (t : Name) (tokens : List Name) (is : is_symbol t ≡ true) where
-  -- one symbol more, of those that a list needs
+  -- one more symbol, of those that a list requires
   listing_more : (n : ℕ) → CanFollow (listing n) tokens → CanFollow (listing (suc n)) (t ∷ tokens)
   listing_more n (ws, S, all, many, hS, e) = (t ∷ ws, S, rw is all, omega (arith, many), hS, ap (λ r. t ∷ r) e)
 
-  -- one symbol more, of a list that needs none
+  -- one more symbol, of a list that requires no more
   listing_any : CanFollow (listing 0) tokens → CanFollow (listing 0) (t ∷ tokens)
   listing_any (ws, S, all, many, hS, e) = (t ∷ ws, S, rw is all, omega arith, hS, ap (λ r. t ∷ r) e)
 
-  -- one symbol more of a `$f`
+  -- one more symbol of a `$f`
   floating_more : (n : ℕ) → CanFollow (floating n) tokens → CanFollow (floating (suc n)) (t ∷ tokens)
   floating_more n (ws, S, all, many, hS, e) = (t ∷ ws, S, rw is all, omega (arith, many), hS, ap (λ r. t ∷ r) e)
 
-  -- one symbol more, of those that an expression needs
+  -- one more symbol, of those that an expression requires
   proving_more : (n : ℕ) → CanFollow (proving n) tokens → CanFollow (proving (suc n)) (t ∷ tokens)
   proving_more n (ws, proof, S, all, all_proof, many, hS, e) = (t ∷ ws, proof, S, rw is all, all_proof, omega (arith, many), hS, ap (λ r. t ∷ r) e)
 
-  -- one symbol more, of an expression that needs none
+  -- one more symbol, of an expression that requires no more
   proving_any : CanFollow (proving 0) tokens → CanFollow (proving 0) (t ∷ tokens)
   proving_any (ws, proof, S, all, all_proof, many, hS, e) = (t ∷ ws, proof, S, rw is all, all_proof, omega arith, hS, ap (λ r. t ∷ r) e)
 
@@ -156,7 +156,7 @@ float_ends tokens (S, hS, e) = ([], S, refl, refl, hS, ap (λ r. codes "$." ∷ 
 proof_begins : (tokens : List Name) → CanFollow (listing 0) tokens → CanFollow (proving 0) (codes "$=" ∷ tokens)
 proof_begins tokens (proof, S, all, many, hS, e) = ([], proof, S, refl, all, omega arith, hS, ap (λ r. codes "$=" ∷ r) e)
 
--- tokens that can follow after a token can follow before it, with the token in front
+-- tokens that can follow after a token can follow before it, with this token in front
 back : (q : ReaderState) (t : Name) (p : ReaderState) (tokens : List Name) → step q t ≡ Some p → CanFollow p tokens → CanFollow q (t ∷ tokens)
 back between t p tokens e after =
     keyword t p tokens after between (codes "${") between _ e (λ (S, hS, is). add Open S (codes "${" ∷ tokens) refl hS (ap (λ r. codes "${" ∷ r) is)) (λ e1.
@@ -184,15 +184,15 @@ back (proving zero) t p tokens e after =
     keyword t p tokens after (proving 0) (codes "$=") (listing 0) None e1 (proof_begins tokens) (no_place p))
 back (proving (suc n)) t p tokens e after = symbol t p tokens after (proving (suc n)) (proving n) None e (λ is. proving_more t tokens is n) (no_place p)
 
--- tokens that follow the last of these tokens follow the first place
+-- tokens that can follow after other tokens can follow before them, with these in front
 pub go_back : (q : ReaderState) (xs : List Name) (p : ReaderState) (tokens : List Name) → go q xs ≡ Some p → CanFollow p tokens → CanFollow q (xs ++ tokens)
 go_back q [] p tokens e after = subst (λ x. CanFollow x tokens) (sym (same_Some q p e)) after
 go_back q (t ∷ xs) p tokens e after =
     option_and_then_some (λ r. go r xs) (step q t) p e (λ r is rest. back q t r (xs ++ tokens) is (go_back r xs p tokens rest after))
 
--- ---- every place can be left
+-- ---- some tokens can follow in each state
 
--- as many symbols as required
+-- a list of as many symbols as required
 symbols : ℕ → List Name
 symbols zero = []
 symbols (suc n) = codes "a" ∷ symbols n
@@ -207,7 +207,7 @@ unfolding symbols
 length-symbols zero = refl
 length-symbols (suc n) = omega (arith, length-symbols n)
 
--- each place is left by some tokens
+-- in each state some tokens can follow
 leaves : (q : ReaderState) → (tokens : List Name) × CanFollow q tokens
 leaves between = ([], ([], refl, refl))
 leaves labelled = (codes "$a" ∷ codes "a" ∷ codes "$." ∷ [], λ label h. (Axiom label (codes "a" ∷ []) ∷ [], rw h refl, refl))
@@ -215,7 +215,7 @@ leaves (listing n) = (symbols n ++ codes "$." ∷ [], (symbols n, [], all-symbol
 leaves (floating n) = (symbols n ++ codes "$." ∷ [], (symbols n, [], all-symbols n, length-symbols n, refl, refl))
 leaves (proving n) = (symbols n ++ codes "$=" ∷ codes "$." ∷ [], (symbols n, [], [], all-symbols n, refl, omega (arith, length-symbols n), refl, refl))
 
--- where the machine goes, some list of statements goes on
+-- if the machine passes over some tokens, they begin some list of statements
 pub can_go_on : (xs : List Name) (p : ReaderState) → go between xs ≡ Some p → IsStatementsPrefix xs
 can_go_on xs p e =
     let way : (tokens : List Name) × CanFollow p tokens = leaves p in

@@ -1,27 +1,27 @@
--- Each list of tokens is statements, or has one misplaced token: it is the one at which the machine of `ReaderStates` stops.
+-- Each list of tokens reads as statements, or has one misplaced token: the one at which the machine of `ReaderStates` stops.
 use Rattle.mm_read.proofs.Words.{◌≡◌, ℕ, ◌+◌, ◌-◌, ◌<◌, ◌≤◌, zero, suc, Bool, true, false, ◌⊎◌, List, [], ◌∷◌, ◌++◌, length, take, Option, Some, None, list_all, option_and_then, sym, ◌∙◌, ap, arith, refl, subst, inl, inr, append_assoc, ltb-true, ltb-false, nat_lt, append-nil, take_all, take-append_seam, take-append-add, same_Some, Name, Database, AreShaped, is_shaped, tokens_of, IsStatementsPrefix, IsShapeFault}
 use Rattle.mm_read.specs.Laws as laws
 use Rattle.mm_read.proofs.ReaderStates.{ReaderState, between, labelled, listing, floating, proving, step, go, go-append, go_back, can_go_on}
 use Rattle.mm_read.proofs.ReaderRuns.{go-tokens_of}
 
--- the machine goes on over the beginning of a list of statements
+-- tokens with which a list of statements begins
 module _ (xs rest : List Name) (S : Database) (shaped : list_all is_shaped S ≡ true) (whole : tokens_of S ≡ xs ++ rest) where
-  -- after what it went over, the rest brings it to where statements may begin
+  -- after them, the rest of the tokens brings the machine back to between statements
   goes_over : option_and_then (λ p. go p rest) (go between xs) ≡ Some between
   goes_over = sym (go-append between xs rest) ∙ (ap (go between) (sym whole ∙ sym (append-nil (tokens_of S))) ∙ go-tokens_of S [] shaped)
 
-  -- so it does not stop there
+  -- so the machine does not stop at them
   no_stop : go between xs ≡ None → ⊥
   no_stop e = none (sym goes_over ∙ ap (option_and_then (λ p. go p rest)) e)
     where
       none : ◌≡◌ {A = Option ReaderState} (Some between) None → ⊥
       none bad = cc
 
--- a token after those that are done, or before the rest
+-- a token after those that are done is the first of what was left
 one_more : (done rest : List Name) (t : Name) → (done ++ t ∷ []) ++ rest ≡ done ++ t ∷ rest
 one_more done rest t = append_assoc done (t ∷ []) rest
 
--- a token at which the machine stops
+-- a token at which the machine stops is misplaced
 pub stops_at : (done rest : List Name) (t : Name) (p : ReaderState) → go between done ≡ Some p → step p t ≡ None → IsShapeFault (done ++ t ∷ rest) (length done + 1)
 stops_at done rest t p e stop = record {
   none = λ S hS is. no_stop (done ++ t ∷ []) rest S hS (is ∙ sym (one_more done rest t)) stopped;
@@ -38,7 +38,7 @@ stops_at done rest t p e stop = record {
     upto : take (length done + 1) (done ++ t ∷ rest) ≡ done ++ t ∷ []
     upto = take-append-add done (t ∷ rest) 1
 
--- the tokens end inside of a statement
+-- if the tokens end inside a statement, the token after the last one is missing
 pub ends_inside : (done : List Name) (p : ReaderState) → go between done ≡ Some p → (p ≡ between → ⊥) → IsShapeFault done (length done + 1)
 ends_inside done p e inside = record {
   none = λ S hS is. inside (same_Some p between (sym e ∙ (ap (go between) (sym is ∙ sym (append-nil (tokens_of S))) ∙ go-tokens_of S [] hS)));
@@ -54,7 +54,7 @@ ends_inside done p e inside = record {
 abbrev Answer : List Name → Type 0
 Answer tokens = ((S : Database) × AreShaped S × (tokens_of S ≡ tokens)) ⊎ ((token : ℕ) × IsShapeFault tokens token)
 
--- where the tokens end: statements, or a fault one after the last
+-- where the tokens end, they are statements, or the fault is one after the last
 at_end : (done : List Name) (p : ReaderState) → go between done ≡ Some p → Answer done
 at_end done between e = let back = go_back between done between [] e ([], refl, refl) in inl (back.0, back.1, back.2 ∙ append-nil done)
 at_end done labelled e = inr (length done + 1, ends_inside done labelled e (λ bad. cc))
@@ -62,7 +62,7 @@ at_end done (listing n) e = inr (length done + 1, ends_inside done (listing n) e
 at_end done (floating n) e = inr (length done + 1, ends_inside done (floating n) e (λ bad. cc))
 at_end done (proving n) e = inr (length done + 1, ends_inside done (proving n) e (λ bad. cc))
 
--- token by token: the machine ends, or stops at the fault
+-- token by token, the machine reaches the end, or stops at the fault
 walk : (rest done : List Name) (p : ReaderState) → go between done ≡ Some p → Answer (done ++ rest)
 walk [] done p e = subst Answer (sym (append-nil done)) (at_end done p e)
 walk (t ∷ rest) done p e = by (λ q is. walk rest (done ++ t ∷ []) q is) (step p t) refl
@@ -78,9 +78,9 @@ walk (t ∷ rest) done p e = by (λ q is. walk rest (done ++ t ∷ []) q is) (st
 pub statements_or_fault : laws.StatementsOrFault
 statements_or_fault tokens = walk tokens [] between refl
 
--- ---- one token
+-- ---- at most one misplaced token
 
--- fewer tokens can go on where more can
+-- if tokens begin a list of statements, so do fewer of them
 pub goes_on_before : (xs ys : List Name) → IsStatementsPrefix (xs ++ ys) → IsStatementsPrefix xs
 goes_on_before xs ys on = record { statements = on.statements; rest = ys ++ on.rest; shaped = on.shaped; whole = on.whole ∙ append_assoc xs ys on.rest }
 
@@ -93,7 +93,7 @@ take_split {A} (suc t) (suc u) (x ∷ xs) h =
     let rest : (ys : List A) × (take u xs ≡ take t xs ++ ys) = take_split t u xs (omega (arith, h)) in
     (rest.0, ap (λ r. x ∷ r) rest.1)
 
--- neither of two such tokens is the earlier one
+-- neither of two misplaced tokens comes before the other
 not_earlier : (tokens : List Name) (t u : ℕ) → IsShapeFault tokens t → IsShapeFault tokens u → t < u → ⊥
 not_earlier tokens t u a b earlier = by_here a.here
   where
@@ -109,7 +109,7 @@ not_earlier tokens t u a b earlier = by_here a.here
     by_here (inl stop) = stop on
     by_here (inr is) = past is b.here
 
--- the law: tokens have one shape fault
+-- the law: tokens have at most one shape fault
 pub one_shape_fault : laws.OneShapeFault
 one_shape_fault tokens t u a b = by (nat_lt t u) (nat_lt u t) refl refl
   where

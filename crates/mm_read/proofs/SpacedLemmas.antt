@@ -1,36 +1,36 @@
--- Words with one space between two, piece by piece.
+-- Words with one space between two, written piece by piece.
 use Rattle.mm_read.proofs.Words.{◌≡◌, ℕ, true, if◌then◌else◌, List, [], ◌∷◌, ◌++◌, codes, sym, ◌∙◌, ap, refl, append_assoc, Name, is_empty, spaced, words_of, spaced-words_of, are_symbols}
 
--- words before others
+-- the text of joined lists is that of the first, a space, and that of the second
 pub spaced-append : (w : Name) (ws : List Name) (v : Name) (vs : List Name) → spaced ((w ∷ ws) ++ v ∷ vs) ≡ spaced (w ∷ ws) ++ 32 ∷ spaced (v ∷ vs)
 spaced-append w [] v vs = refl
 spaced-append w (u ∷ ws) v vs =
     ap (λ r. w ++ 32 ∷ r) (spaced-append u ws v vs) ∙ sym (append_assoc w (32 ∷ spaced (u ∷ ws)) (32 ∷ spaced (v ∷ vs)))
 
--- a word before symbols and what follows them
+-- the text of a word, symbols and other words
 pub spaced-before : (k : Name) (ws : List Name) (v : Name) (vs : List Name) → are_symbols ws ≡ true → spaced (k ∷ (ws ++ v ∷ vs)) ≡ k ++ 32 ∷ (spaced ws ++ 32 ∷ spaced (v ∷ vs))
 spaced-before k [] v vs h = cc
 spaced-before k (w ∷ ws) v vs h = ap (λ r. k ++ 32 ∷ r) (spaced-append w ws v vs)
 
 -- ---- the pieces of a line
 
--- a word and a text, with the end of the line after them
+-- the end of the line, after a word and a text
 line_end : (k : Name) (text end : List ℕ) → (k ++ 32 ∷ (text ++ end)) ++ 10 ∷ [] ≡ k ++ 32 ∷ (text ++ (end ++ 10 ∷ []))
 line_end k text end = append_assoc k (32 ∷ (text ++ end)) (10 ∷ []) ∙ ap (λ r. k ++ 32 ∷ r) (append_assoc text end (10 ∷ []))
 
--- for `$c`, `$v`, `$d`
+-- the line of a `$c`, `$v` or `$d`
 pub line-list : (k : Name) (ws : List Name) (text : List ℕ) → are_symbols ws ≡ true → text ≡ spaced ws
     → k ++ 32 ∷ (text ++ (codes " $." ++ 10 ∷ [])) ≡ spaced (k ∷ (ws ++ codes "$." ∷ [])) ++ 10 ∷ []
 line-list k ws text h e =
     ap (λ t. k ++ 32 ∷ (t ++ (codes " $." ++ 10 ∷ []))) e ∙ sym (ap (λ r. r ++ 10 ∷ []) (spaced-before k ws (codes "$.") [] h) ∙ line_end k (spaced ws) (codes " $."))
 
--- for `$e`, `$a`
+-- the line of a `$e` or `$a`
 pub line-labelled : (label k : Name) (ws : List Name) (text : List ℕ) → are_symbols ws ≡ true → text ≡ spaced ws
     → label ++ 32 ∷ (k ++ 32 ∷ (text ++ (codes " $." ++ 10 ∷ []))) ≡ spaced (label ∷ k ∷ (ws ++ codes "$." ∷ [])) ++ 10 ∷ []
 line-labelled label k ws text h e =
     ap (λ r. label ++ 32 ∷ r) (line-list k ws text h e) ∙ sym (append_assoc label (32 ∷ spaced (k ∷ (ws ++ codes "$." ∷ []))) (10 ∷ []))
 
--- for `$p` with an empty proof
+-- the line of a `$p` with an empty proof
 pub line-unproved : (label : Name) (ws : List Name) (text : List ℕ) → are_symbols ws ≡ true → text ≡ spaced ws
     → label ++ (codes " $p " ++ (text ++ (codes " $= $." ++ 10 ∷ []))) ≡ spaced (label ∷ codes "$p" ∷ (ws ++ codes "$=" ∷ codes "$." ∷ [])) ++ 10 ∷ []
 line-unproved label ws text h e =
@@ -38,7 +38,7 @@ line-unproved label ws text h e =
     ∙ (ap (λ r. label ++ 32 ∷ r) (sym (ap (λ r. r ++ 10 ∷ []) (spaced-before (codes "$p") ws (codes "$=") (codes "$." ∷ []) h) ∙ line_end (codes "$p") (spaced ws) (codes " $= $.")))
     ∙ sym (append_assoc label (32 ∷ spaced (codes "$p" ∷ (ws ++ codes "$=" ∷ codes "$." ∷ []))) (10 ∷ [])))
 
--- for `$p` with a proof
+-- the line of a `$p` with a proof
 pub line-proved : (label : Name) (ws : List Name) (text : List ℕ) (w : Name) (proof : List Name) → are_symbols ws ≡ true → text ≡ spaced ws
     → label ++ (codes " $p " ++ (text ++ (codes " $= " ++ (spaced (w ∷ proof) ++ (codes " $." ++ 10 ∷ [])))))
     ≡ spaced (label ∷ codes "$p" ∷ (ws ++ codes "$=" ∷ (w ∷ proof ++ codes "$." ∷ []))) ++ 10 ∷ []
@@ -46,7 +46,7 @@ line-proved label ws text w proof h e =
     ap (λ t. label ++ (codes " $p " ++ (t ++ (codes " $= " ++ (spaced (w ∷ proof) ++ (codes " $." ++ 10 ∷ [])))))) e
     ∙ (ap (λ r. label ++ 32 ∷ r) (sym inner) ∙ sym (append_assoc label (32 ∷ spaced (codes "$p" ∷ (ws ++ codes "$=" ∷ (w ∷ proof ++ codes "$." ∷ [])))) (10 ∷ [])))
   where
-    -- `$=`, the proof and `$.`
+    -- the text of `$=`, the proof and `$.`
     tail : spaced (codes "$=" ∷ (w ∷ proof ++ codes "$." ∷ [])) ≡ codes "$= " ++ (spaced (w ∷ proof) ++ codes " $.")
     tail = ap (λ r. codes "$= " ++ r) (spaced-append w proof (codes "$.") [])
 
@@ -57,7 +57,7 @@ line-proved label ws text w proof h e =
         ∙ (line_end (codes "$p") (spaced ws) (codes " $= " ++ (spaced (w ∷ proof) ++ codes " $."))
         ∙ ap (λ r. codes "$p " ++ (spaced ws ++ (codes " $= " ++ r))) (append_assoc (spaced (w ∷ proof)) (codes " $.") (10 ∷ [])))
 
--- for `$p` with the proof's text, and a space before it where it is not empty
+-- the line of a `$p` by the text of its proof, with a space before it if it is not empty
 pub line-provable : (label : Name) (ws : List Name) (text gap proof : List ℕ) → are_symbols ws ≡ true → text ≡ spaced ws
     → gap ≡ (if is_empty proof then [] else codes " ")
     → label ++ (codes " $p " ++ (text ++ (codes " $=" ++ (gap ++ (proof ++ (codes " $." ++ 10 ∷ []))))))

@@ -1,5 +1,5 @@
--- A list of statements and what stands after it: what fits there fits the whole, and what does not fit there does not fit the
--- whole.
+-- A list of statements and the tokens after it: these fit after the statements exactly if they fit alone, and a fault of them
+-- is a fault of the whole.
 use Rattle.mm_read.proofs.Words.{◌≡◌, ℕ, ◌+◌, ◌-◌, ◌<◌, ◌⊎◌, suc, zero, true, List, [], ◌∷◌, ◌++◌, length, take, list_all, sym, ◌∙◌, ap, arith, refl, subst, inl, inr, append_assoc, length-append, take-append-add, and_parts, Name, Stmt, Open, Close, Const, Var, Disj, Float, Ess, Axiom, Prove, Database, is_shaped, stmt_tokens, tokens_of, IsStatementsPrefix, IsShapeFault}
 use Rattle.mm_read.proofs.OneStatementList.{same_front}
 
@@ -25,7 +25,7 @@ no_tokens (Ess label expr) rest e = absurd cc
 no_tokens (Axiom label expr) rest e = absurd cc
 no_tokens (Prove label expr proof) rest e = absurd cc
 
--- statements whose tokens begin with those of these statements begin with these statements
+-- if the tokens of statements begin with the tokens of others, the tokens left are those of some statements
 after_prefix : (S T : Database) (rest : List Name) → list_all is_shaped S ≡ true → list_all is_shaped T ≡ true → tokens_of T ≡ tokens_of S ++ rest
     → (U : Database) × (list_all is_shaped U ≡ true) × (tokens_of U ≡ rest)
 after_prefix [] T rest hS hT e = (T, hT, e)
@@ -36,7 +36,7 @@ after_prefix (s ∷ S) (t ∷ T) rest hS hT e =
     let same : (t ≡ s) × (tokens_of T ≡ tokens_of S ++ rest) = same_front t s (tokens_of T) (tokens_of S ++ rest) of_t.0 of_s.0 (e ∙ append_assoc (stmt_tokens s) (tokens_of S) rest) in
     after_prefix S T rest of_s.1 of_t.1 same.1
 
--- the token of a fault counts from 1
+-- the tokens of a fault are counted from 1
 fault_some : (tokens : List Name) (token : ℕ) → IsShapeFault tokens token → 0 < token
 fault_some tokens zero fault = absurd (by fault.here)
   where
@@ -46,7 +46,7 @@ fault_some tokens zero fault = absurd (by fault.here)
 fault_some tokens (suc token) fault = omega arith
 
 module _ (S : Database) (shaped : list_all is_shaped S ≡ true) (rest : List Name) where
-  -- tokens that can go on can go on after statements
+  -- if tokens begin a list of statements, they do so also after other statements
   forth : (ts : List Name) → IsStatementsPrefix ts → IsStatementsPrefix (tokens_of S ++ ts)
   forth ts on = record {
     statements = S ++ on.statements;
@@ -55,13 +55,13 @@ module _ (S : Database) (shaped : list_all is_shaped S ≡ true) (rest : List Na
     whole = tokens_of-append S on.statements ∙ (ap (λ r. tokens_of S ++ r) on.whole ∙ sym (append_assoc (tokens_of S) ts on.rest));
   }
 
-  -- tokens that can go on after statements can go on without them
+  -- if tokens begin a list of statements after others, they do so also without them
   back : (ts : List Name) → IsStatementsPrefix (tokens_of S ++ ts) → IsStatementsPrefix ts
   back ts on =
       let found : (U : Database) × (list_all is_shaped U ≡ true) × (tokens_of U ≡ ts ++ on.rest) = after_prefix S on.statements (ts ++ on.rest) shaped on.shaped (on.whole ∙ append_assoc (tokens_of S) ts on.rest) in
       record { statements = found.0; rest = on.rest; shaped = found.1; whole = found.2 }
 
-  -- a fault after statements is a fault of the whole
+  -- a fault of the tokens after statements is a fault of the whole
   pub fault_after : (token : ℕ) → IsShapeFault rest token → IsShapeFault (tokens_of S ++ rest) (length (tokens_of S) + token)
   fault_after token fault = record {
     none = λ T hT e. let found : (U : Database) × (list_all is_shaped U ≡ true) × (tokens_of U ≡ rest) = after_prefix S T rest shaped hT e in fault.none found.0 found.1 found.2;

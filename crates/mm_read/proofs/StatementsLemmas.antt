@@ -5,7 +5,7 @@ use Rattle.mm_read.proofs.Words.{◌≡◌, ℕ, ◌≤◌, Bool, true, false, n
 pub symbol_plain : (w : Name) → is_symbol w ≡ true → has_byte 36 w ≡ false
 symbol_plain w h = not-true (has_byte 36 w) (and_parts (not (is_empty w) && list_all is_visible w) (not (has_byte 36 w)) h).1
 
--- no byte of a label is a `$`
+-- a byte of a label is not a `$`
 label_byte : (c : ℕ) → is_label_byte c ≡ true → (c == 36) ≡ false
 label_byte c h = by (c == 36) refl
   where
@@ -33,18 +33,18 @@ pub append_middle : {A : Type 0} (xs : List A) (y : A) (ys zs : List A) → (xs 
 append_middle [] y ys zs = refl
 append_middle (x ∷ xs) y ys zs = ap (λ r. x ∷ r) (append_middle xs y ys zs)
 
--- one or more symbols, by their number
+-- a list of at least one symbol is one or more symbols
 pub are_symbols_of : (ws : List Name) → list_all is_symbol ws ≡ true → 1 ≤ length ws → are_symbols ws ≡ true
 are_symbols_of [] h n = absurd (omega (arith, n))
 are_symbols_of (w ∷ ws) h n = h
 
--- two or more symbols, by their number
+-- a list of length 2 or more has two
 pub has_two_of : (ws : List Name) → 2 ≤ length ws → has_two ws ≡ true
 has_two_of [] n = absurd (omega (arith, n))
 has_two_of (w ∷ []) n = absurd (omega (arith, n))
 has_two_of (w ∷ v ∷ ws) n = refl
 
--- a word without `$` is no keyword
+-- a word without `$` is not a keyword
 pub plain_is_no_key : (w k : Name) → has_byte 36 w ≡ false → has_byte 36 k ≡ true → name_eq w k ≡ false
 plain_is_no_key w k plain has = by (name_eq w k) refl
   where

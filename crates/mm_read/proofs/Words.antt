@@ -1,4 +1,4 @@
--- The words in which this crate is proved, passed on from one place.
+-- The names that the proofs of this crate use, exported again from one place.
 pub use Rattle.mm_lex.proofs.BadByteLemmas.{IsClean-no_fault, IsClean-none, IsFirstBadByte-found, IsFirstBadByte-unique}
 pub use Rattle.mm_lex.proofs.BetweenLemmas.{after_as, after_on, after_rest, after_unique, between_as, between_none, between_on, splits_join, stops_after}
 pub use Rattle.mm_lex.proofs.ScanRuns.{Outcome, inside, outside, prepend, scan, scan-split}

@@ -53,7 +53,7 @@ codes_or_len-more names more (x ∷ xs) named =
     ap (λ n. n ∷ codes_or_len (names ++ more) xs) (code_or_len-more x names more (named x (or_left (name_eq x x) (has_name x xs) (name_same x))))
     ∙ ap (λ ns. code_or_len names x ∷ ns) (codes_or_len-more names more xs (λ y h. named y (or_right (name_eq y x) (has_name y xs) h)))
 
--- two names of one code are one
+-- two names with the same code are equal
 pub code_or_len-same : (x y : Name) (names : List Name) → has_name x names ≡ true → code_or_len names x ≡ code_or_len names y → name_eq y x ≡ true
 code_or_len-same x y [] h e = cc
 code_or_len-same x y (z ∷ names) h e = by (name_eq x z) (name_eq y z) refl refl h e (code_or_len-same x y names)

@@ -1,4 +1,4 @@
--- Names that stay distinct: one more appended, or truncated to the first ones.
+-- Names that stay distinct: with one more appended, and truncated to the first ones.
 use Rattle.names.proofs.Words.{◌≡◌, ℕ, zero, suc, ◌+◌, ◌<◌, ◌≤◌, Bool, true, false, cond, List, [], ◌∷◌, ◌++◌, length, take, drop, refl, sym, ◌∙◌, ap, arith, length-append, add-one, take-append-drop, or_parts, or_from, Name, name_eq, has_name, name_at, with_name, with_names, AreDistinct}
 use Rattle.names.proofs.CodesLemmas.{name_eq-comm}
 

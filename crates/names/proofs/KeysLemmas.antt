@@ -1,12 +1,12 @@
--- Below the hints a key is the key of one name alone.
+-- The key of a name that is too short to be hashed is the key of no other name.
 use Rattle.names.proofs.Words.{◌≡◌, ℕ, zero, suc, ◌+◌, ◌-◌, ◌*◌, ◌/◌, ◌%◌, ◌<◌, ◌≤◌, ◌^◌, Bool, true, false, cond, List, [], ◌∷◌, length, nat_lt, refl, sym, ◌∙◌, ap, subst, arith, Name, LEAST_HASHED_LEN, LEAST_HASH, AreBytes, digits, first_middle_last, first_four_last_three, key_bytes, eight, mixed, mixed_front, key_of}
 use Rattle.names.specs.Stored.Keys.{hash_of}
 
--- the first digit and the others
+-- a number in base 256 determines its lowest digit and the others
 digit-same : (a b m n : ℕ) → a < 256 → b < 256 → a + 256 * m ≡ b + 256 * n → (a ≡ b) × (m ≡ n)
 digit-same a b m n p q e = (omega (arith, p, q, e), omega (arith, p, q, e))
 
--- a name from its length and its key bytes
+-- a name, from its length and its key bytes
 abbrev unpicked : ℕ → List ℕ → Name
 unpicked (suc zero) (a ∷ bs) = a ∷ []
 unpicked (suc (suc zero)) (a ∷ b ∷ bs) = a ∷ b ∷ []
@@ -28,7 +28,7 @@ unpicked-key_bytes (a ∷ b ∷ c ∷ d ∷ e ∷ f ∷ []) h = refl
 unpicked-key_bytes (a ∷ b ∷ c ∷ d ∷ e ∷ f ∷ g ∷ []) h = refl
 unpicked-key_bytes (a ∷ b ∷ c ∷ d ∷ e ∷ f ∷ g ∷ i ∷ x) h = absurd (omega (arith, h))
 
--- the digits of two numbers of as many digits
+-- each of the digits is less than 256
 abbrev AreDigits : List ℕ → Type 0
 AreDigits [] = Unit {0}
 AreDigits (a ∷ xs) = (a < 256) × AreDigits xs

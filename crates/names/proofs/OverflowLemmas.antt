@@ -1,14 +1,14 @@
--- A name's code in the overflow stays when that of another is written or taken away.
+-- The code of a name in the overflow stays the same when that of another name is written or removed.
 use Rattle.names.proofs.Words.{◌≡◌, ◌≢◌, ◌<◌, ◌≤◌, Bool, true, false, List, ℕ, Option, length, nat_lt, if◌then◌else◌, refl, sym, ◌∙◌, ap, arith, ◌⊎◌, inl, inr, Vec, Global, BTreeMap, UpdatesBy, get_by, IsKeyTest, AreApart, lookup, eq_by_cmp_equiv, Equal-is, slice_cmp, nat_list_cmp_total, nat_cmp, is_eq, bytes_eq, cases_lt, exact_unsigned, is_eq-slice_cmp, bytes_eq-Decides, Name, AreBytes, key_of, code_in_overflow, LEAST_HASHED_LEN, Overflow}
 use Rattle.std.specs.Map.{KeepsOthers}
 use Rattle.names.proofs.KeysLemmas.{key-same}
 
--- an update keeps what is looked up by another key
+-- an update leaves the values of other keys as they are
 pub keeps : {K X : Type 0} (eq : K → K → Bool) (test : K → Bool) (old new : List (K × X)) → KeepsOthers eq test old new → (other : K → Bool) → IsKeyTest eq other → AreApart test other → lookup other new ≡ lookup other old
 unfolding KeepsOthers
 keeps eq test old new h = h
 
--- a text that compares equal to one text does not to another
+-- a text that equals one text does not equal another
 pub apart : (xs ys zs : List ℕ) → ys ≢ xs → is_eq (slice_cmp nat_cmp xs zs) ≡ true → is_eq (slice_cmp nat_cmp ys zs) ≡ false
 apart xs ys zs ne e = by (is_eq (slice_cmp nat_cmp ys zs)) (sym (is_eq-slice_cmp ys zs))
   where
@@ -16,7 +16,7 @@ apart xs ys zs ne e = by (is_eq (slice_cmp nat_cmp ys zs)) (sym (is_eq-slice_cmp
     by false p = refl
     by true p = absurd (ne ((bytes_eq-Decides ys zs).0 p ∙ sym ((bytes_eq-Decides xs zs).0 (sym (is_eq-slice_cmp xs zs) ∙ e))))
 
--- keys that are read as texts by f
+-- an update leaves the values of other keys as they are, if keys are compared as texts by `f`
 other-text : {K X : Type 0} (f : K → List ℕ) (xs : List ℕ) (m n : BTreeMap K X) (w : Option X) → UpdatesBy (λ a b. slice_cmp nat_cmp (f a) (f b)) (λ k. slice_cmp nat_cmp xs (f k)) m n w
     → (ys : List ℕ) → ys ≢ xs → get_by (λ k. slice_cmp nat_cmp ys (f k)) n ≡ get_by (λ k. slice_cmp nat_cmp ys (f k)) m
 other-text f xs m n w h ys ne =
@@ -39,7 +39,7 @@ nat-apart a b ne = by (is_eq (nat_cmp a b)) refl
     by false p = refl
     by true p = absurd (ne (sym (exact_unsigned a b ((Equal-is (nat_cmp a b)).0 p))))
 
--- a short name was written or taken away
+-- a short name is written or removed
 pub others-short : (a b : Overflow) (name : Name) (key : ℕ) (w : Option ℕ) → AreBytes name → key ≡ key_of name → b.long ≡ a.long → UpdatesBy nat_cmp (nat_cmp key) a.short b.short w
     → (x : Name) → AreBytes x → x ≢ name → code_in_overflow b x ≡ code_in_overflow a x
 others-short a b name key w own is same h x bytes ne = by (cases_lt (length x) LEAST_HASHED_LEN)
@@ -50,7 +50,7 @@ others-short a b name key w own is same h x bytes ne = by (cases_lt (length x) L
         of-short b x short ∙ (h.2 (key_of x) (nat-apart key (key_of x) other) ∙ sym (of-short a x short))
     by (inr long) = of-long b x long ∙ (ap (λ (m : BTreeMap (Vec ℕ Global) ℕ). get_by (λ k. slice_cmp nat_cmp x k.items) m) same ∙ sym (of-long a x long))
 
--- a long name was written or taken away
+-- a long name is written or removed
 pub others-long : (a b : Overflow) (name : Name) (w : Option ℕ) → b.short ≡ a.short → UpdatesBy (λ p q. slice_cmp nat_cmp p.items q.items) (λ k. slice_cmp nat_cmp name k.items) a.long b.long w
     → (x : Name) → x ≢ name → code_in_overflow b x ≡ code_in_overflow a x
 others-long a b name w same h x ne = by (cases_lt (length x) LEAST_HASHED_LEN)

@@ -1,4 +1,4 @@
--- Names by code stay so when one is put last, and when that fails.
+-- The table holds the names also after one more is added, and after that fails.
 use Rattle.names.proofs.Words.{◌≡◌, ◌≢◌, ℕ, ◌+◌, ◌<◌, ◌≤◌, ◌^◌, List, [], ◌∷◌, ◌++◌, false, length, take, get_or, Some, sym, ◌∙◌, ap, subst, arith, slice_set, length-append, Name, has_name, name_at, AreDistinct, AreBytes, key_of, code_in_overflow, IN_OVERFLOW, NameKeys, Slot, NO_NAME, slot_of, IsFree, AreReachable, IsTable}
 use Rattle.names.proofs.CodesLemmas.{name_at-last}
 use Rattle.names.proofs.DistinctLemmas.{distinct-push, distinct-take, length-take-below}
@@ -8,7 +8,7 @@ use Rattle.names.proofs.NameKeyLemmas.{table-same, reachable-same, reachable-mor
 abbrev pub Holds : List Slot → NameKeys → List Name → Type 0
 Holds slots a names = (length names < 2 ^ 32) × (AreDistinct names × IsTable slots a names)
 
--- no name came
+-- no name is added
 pub names-same : (slots : List Slot) (a b : NameKeys) (names new : List Name) (n : ℕ) → new ≡ names → Holds slots a names → n ≡ length names → n ≤ length b.keys.items
     → ((k : ℕ) → k < n → get_or b.keys.items k 0 ≡ get_or a.keys.items k 0) → ((k : ℕ) → k < length names → code_in_overflow b.overflow (name_at names k) ≡ code_in_overflow a.overflow (name_at names k)) → Holds slots b new
 names-same slots a b names new n is h count within same others =
@@ -32,7 +32,7 @@ reachable-all slots b names name n count reachable =
     let e : n + 1 ≡ length (names ++ name ∷ []) = omega (arith, l, count) in
     subst (λ m. AreReachable m slots b (names ++ name ∷ [])) e reachable
 
--- a name came that has a slot
+-- a name is added that has a slot
 pub names-put : (slots : List Slot) (a b : NameKeys) (names new : List Name) (name : Name) (n key at : ℕ) → new ≡ names ++ name ∷ [] → Holds slots a names → n ≡ length names → n < NO_NAME → has_name name names ≡ false
     → b.overflow ≡ a.overflow → ((k : ℕ) → k < n → get_or b.keys.items k 0 ≡ get_or a.keys.items k 0) → n < length b.keys.items → get_or b.keys.items n 0 ≡ key → key ≡ key_of name → key ≢ IN_OVERFLOW → AreBytes name
     → IsFree slots key at → Holds (slice_set slots at (slot_of key n)) b new
@@ -52,7 +52,7 @@ names-put slots a b names new name n key at is h count few fresh overflow same m
     at-n : name_at (names ++ name ∷ []) n ≡ name
     at-n = last-name names name n count
 
--- a name came that is in the overflow
+-- a name is added that is in the overflow
 pub names-put_in_overflow : (slots : List Slot) (a b : NameKeys) (names new : List Name) (name : Name) (n : ℕ) → new ≡ names ++ name ∷ [] → Holds slots a names → n ≡ length names → n < NO_NAME → has_name name names ≡ false
     → ((y : Name) → AreBytes y → y ≢ name → code_in_overflow b.overflow y ≡ code_in_overflow a.overflow y) → ((k : ℕ) → k < n → get_or b.keys.items k 0 ≡ get_or a.keys.items k 0) → n < length b.keys.items → get_or b.keys.items n 0 ≡ IN_OVERFLOW
     → code_in_overflow b.overflow name ≡ Some n → AreBytes name → Holds slots b new
@@ -68,7 +68,7 @@ names-put_in_overflow slots a b names new name n is h count few fresh others sam
       ),
     )
 
--- the first names stay
+-- the names are truncated to the first ones
 pub names-take : (slots : List Slot) (a b : NameKeys) (names new : List Name) (n : ℕ) → new ≡ take n names → Holds slots a names → b.keys ≡ a.keys
     → ((k : ℕ) → k < n → code_in_overflow b.overflow (name_at names k) ≡ code_in_overflow a.overflow (name_at names k)) → Holds slots b new
 names-take slots a b names new n is h keys numbers =

@@ -1,4 +1,4 @@
--- A table by keys: what is put there is found, and what is not found is not there.
+-- A table of slots by keys: a name that is put there is found, and a name that is not found is not there.
 use Rattle.names.proofs.Words.{◌≡◌, ◌≢◌, ℕ, zero, suc, ◌+◌, ◌<◌, ◌≤◌, ◌^◌, ◌⊎◌, List, [], ◌∷◌, ◌++◌, length, take, slice_get, Option, Some, None, IfSome, refl, sym, ◌∙◌, ap, subst, arith, inl, inr, slice_set, cases_lt, unwrap_or, replicate, length-set, length-replicate, get_or-replicate, slice_get_within, unwrap_or-slice_get, same_Some, Name, name_at, code_of, Slot, NO_NAME, MAX_PROBES, NameKeys, Overflow, code_in_overflow, key_of, half_of, slot_of, slot_index_of, slot_at, IsTaken, IsReachable, AreReachable, AreFound, AreUnused, IsFree, IsPassed}
 use Rattle.names.proofs.CodesLemmas.{code-absent}
 
@@ -13,7 +13,7 @@ passed-one slots names name key step t at taken other s g =
 no-name : (k n : ℕ) → k < n → n < 2 ^ 32 → k ≡ NO_NAME → ⊥
 no-name k n p q e = omega (arith, p, q, e)
 
--- the search met a slot without a code, or each slot that it may, and the name is not in the overflow: then no name is this one
+-- no name is this one, if it is not in the overflow and the search reached a slot without a code or has tried all its slots
 pub not-found : (slots : List Slot) (a : Overflow) (names : List Name) (name : Name) (key step : ℕ) → key ≡ key_of name → AreFound slots a names → length names < 2 ^ 32
     → ((i : ℕ) → i < step → IsPassed slots names name key i) → ((length slots ≤ step) ⊎ (MAX_PROBES ≤ step)) ⊎ ((s : Slot) × slot_at slots key step s × (s.code ≡ NO_NAME))
     → ((k : ℕ) → k < length names → name_at names k ≡ name → code_in_overflow a name ≢ Some k) → code_of names name ≡ None
@@ -47,7 +47,7 @@ not-found slots a names name key step own found few passed end other = code-abse
                     let there : slot_at slots key step (slot_of key k) = subst (λ i. slot_at slots key i (slot_of key k)) same h.there in
                     no-name k (length names) lt few (ap (λ (u : Slot). u.code) (same-slot slots key step (slot_of key k) g.0 there g.1) ∙ g.2)
 
--- the same for the answer of the overflow then
+-- the answer of the overflow is then the answer for the name
 pub ended : (slots : List Slot) (a : Overflow) (names : List Name) (name : Name) (key step : ℕ) (r : Option ℕ) → key ≡ key_of name → AreFound slots a names → length names < 2 ^ 32
     → ((i : ℕ) → i < step → IsPassed slots names name key i) → ((length slots ≤ step) ⊎ (MAX_PROBES ≤ step)) ⊎ ((s : Slot) × slot_at slots key step s × (s.code ≡ NO_NAME))
     → IfSome r (λ n. code_of names name ≡ Some n) → (r ≡ None → (k : ℕ) → k < length names → name_at names k ≡ name → code_in_overflow a name ≢ Some k) → r ≡ code_of names name
@@ -117,7 +117,7 @@ put-new slots at key k f known =
       before = λ i p. taken-set slots at new key i known (f.before i p);
     }
 
--- slots that are all equal
+-- slots that are all equal to one without a code are unused
 pub unused : (slots old : List Slot) (m n : ℕ) (free : Slot) → old ≡ [] → slots ≡ take m old ++ replicate n free → free.code ≡ NO_NAME → AreUnused slots
 unused slots old m n free nothing e none i s g = alike (sym (ap (λ xs. slice_get xs i) (e ∙ (ap (λ xs. take m xs ++ replicate n free) nothing ∙ front m))) ∙ g)
   where
@@ -133,7 +133,7 @@ unused slots old m n free nothing e none i s g = alike (sym (ap (λ xs. slice_ge
         sym (ap (λ r. unwrap_or r free) g) ∙ (unwrap_or-slice_get (replicate n free) i free ∙ get_or-replicate n i free free (omega (arith, w, l))) in
         ap (λ (u : Slot). u.code) same ∙ none
 
--- one more name is put where its key meets the first free slot
+-- one more name is put into the first free slot that its key leads to
 pub put-reachable : (slots : List Slot) (a : NameKeys) (names : List Name) (key at n : ℕ) → key ≡ key_of (name_at names n) → n < NO_NAME → AreReachable n slots a names → IsFree slots key at
     → AreReachable (n + 1) (slice_set slots at (slot_of key n)) a names
 put-reachable slots a names key at n own few reachable f k lt ne = by (cases_lt k n)

@@ -1,11 +1,11 @@
--- Texts one after the other in one buffer.
+-- Texts in one buffer, each after the one before.
 use Rattle.names.proofs.Words.{◌≡◌, ℕ, zero, suc, ◌+◌, ◌-◌, ◌<◌, ◌≤◌, List, [], ◌∷◌, ◌++◌, length, take, drop, slice_get, slice_range, Some, refl, ◌∙◌, ap, sym, subst, arith, length-drop, length-take-le, take-append-le, drop-append-le, take-append-drop, take_all, drop-append_seam, same_Some, name_at, texts_from, start_of, AreAscendingEnds}
 
 pub texts_from-length : (xs : List ℕ) (from : ℕ) (ends : List ℕ) → length (texts_from xs from ends) ≡ length ends
 texts_from-length xs from [] = refl
 texts_from-length xs from (to ∷ ends) = ap suc (texts_from-length xs to ends)
 
--- the last end is after the others
+-- the place where the texts begin is at most the last end
 ascending-behind : (n from : ℕ) (ends : List ℕ) → AreAscendingEnds n from ends → from ≤ n
 ascending-behind n from [] l = omega (arith, l)
 ascending-behind n from (to ∷ ends) l = let r = ascending-behind n to ends l.1 in let a = l.0 in omega (arith, a, r)
@@ -57,7 +57,7 @@ range-last xs ys from to p q =
     let k : to - from ≡ length ys = omega arith in
     ap (λ n. take n (drop from (xs ++ ys))) k ∙ (ap (λ n. take (length ys) (drop n (xs ++ ys))) p ∙ (ap (take (length ys)) (drop-append_seam xs ys) ∙ take_all (length ys) ys (omega arith)))
 
--- a text put at the end
+-- a text that is appended at the end
 pub push-text : (xs ys : List ℕ) (from : ℕ) (ends : List ℕ) (to : ℕ) → AreAscendingEnds (length xs) from ends → to ≡ length xs + length ys → texts_from (xs ++ ys) from (ends ++ to ∷ []) ≡ texts_from xs from ends ++ ys ∷ []
 push-text xs ys from [] to l q = ap (λ r. r ∷ []) (range-last xs ys from to (sym l) q)
 push-text xs ys from (t ∷ ends) to l q =
@@ -69,7 +69,7 @@ pub ascending-push : (n m from : ℕ) (ends : List ℕ) → n ≤ m → AreAscen
 ascending-push n m from [] le l = (omega (arith, l, le), refl)
 ascending-push n m from (t ∷ ends) le l = (l.0, ascending-push n m t ends le l.1)
 
--- texts_from back to where a text begins
+-- the texts before one of them end where that one begins
 pub ascending-take : (n from : ℕ) (ends : List ℕ) (i : ℕ) → i < length ends → AreAscendingEnds n from ends → AreAscendingEnds (start_of from ends i) from (take i ends)
 ascending-take n from [] i h l = absurd (omega (arith, h))
 ascending-take n from (t ∷ ends) zero h l = refl

@@ -1,4 +1,4 @@
--- The words in which this crate is proved, passed on from one place.
+-- The names that the proofs of this crate use, exported again from one place.
 pub use Rattle.mm_lex.proofs.NameLemmas.{name_same, same_name}
 pub use Rattle.mm_lex.specs.Alphabet.{Name, has_name, name_eq}
 pub use Rattle.names.specs.Codes.{AreDistinct, AreNamed, code_of, name_at, code_or_len, codes_or_len, with_name, with_names}

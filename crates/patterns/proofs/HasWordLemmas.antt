@@ -1,11 +1,11 @@
--- Words of a text, whatever the case of letters.
+-- The words of a text, whatever the case of letters.
 use Rattle.patterns.proofs.Prelude.{◌≡◌, ℕ, ◌+◌, ◌-◌, ◌<◌, ◌≤◌, Bool, true, false, List, [], ◌∷◌, ◌++◌, length, take, drop, map, refl, ap, sym, ◌∙◌, subst, arith, append_assoc, length-append, AllByRecursion, str_to_ascii_lowercase, to_ascii_lowercase, drop-append_seam, take-append_seam, take-append-drop, length-map, length-take, Name, words_after, HasWord, HasWords}
 
--- the text begins with the word at an index
+-- the text from an index on begins with the word
 abbrev pub IsAlikeAt : List ℕ → Name → ℕ → Type 0
 IsAlikeAt text w k = str_to_ascii_lowercase (take (length w) (drop k text)) ≡ str_to_ascii_lowercase w
 
--- the text from an index on
+-- the text from an index on, given as an equal text
 pub alike_at : (text : List ℕ) (w : Name) (k : ℕ) (rest : List ℕ) → rest ≡ drop k text → IsAlikeAt text w k → str_to_ascii_lowercase (take (length w) rest) ≡ str_to_ascii_lowercase w
 alike_at text w k rest same alike = ap (λ r. str_to_ascii_lowercase (take (length w) r)) same ∙ alike
 
@@ -30,7 +30,7 @@ word_at text w k alike =
       same = alike;
     }
 
--- .. and a word that it has begins at an index
+-- .. and if it has the word, it begins with it at an index
 pub index_of_word : (text : List ℕ) (w : Name) (h : HasWord text w) → (length h.before + length w ≤ length text) × IsAlikeAt text w (length h.before)
 index_of_word text w h =
     let count : length h.slice ≡ length w = sym (length-map h.slice to_ascii_lowercase) ∙ (ap length h.same ∙ length-map w to_ascii_lowercase) in
@@ -39,7 +39,7 @@ index_of_word text w h =
     let whole : length text ≡ length (h.before ++ (h.slice ++ h.after)) = ap length h.whole in
     (omega (arith, whole, count, length-append h.before (h.slice ++ h.after), length-append h.slice h.after), ap str_to_ascii_lowercase front ∙ h.same)
 
--- each text has the word of no bytes
+-- each text has the empty word
 pub empty_word : (text : List ℕ) (w : Name) → length w ≡ 0 → HasWord text w
 empty_word text [] none = record { before = []; slice = []; after = text; whole = refl; same = refl }
 empty_word text (x ∷ w) none = absurd (omega (arith, none))
@@ -48,7 +48,7 @@ empty_word text (x ∷ w) none = absurd (omega (arith, none))
 pub no_word : (text : List ℕ) (w : Name) → ((k : ℕ) → k + length w ≤ length text → IsAlikeAt text w k → ⊥) → HasWord text w → ⊥
 no_word text w none h = let at = index_of_word text w h in none (length h.before) at.0 at.1
 
--- the text has all words if it has those after an index, ..
+-- the text has all words exactly if it has those from an index on, ..
 pub record AreAllIf (text query : List ℕ) (at : ℕ) : Type 0 where
   pub all : HasWords text (words_after query at) → HasWords text (words_after query 0)
   pub each : HasWords text (words_after query 0) → HasWords text (words_after query at)
@@ -57,17 +57,17 @@ pub all_none : (text query : List ℕ) → AreAllIf text query 0
 all_none text query = record { all = λ h. h; each = λ h. h }
 
 module _ (text query : List ℕ) (at end : ℕ) (w : Name) (e : words_after query at ≡ w ∷ words_after query end) (is : AreAllIf text query at) where
-  -- .. one word more, ..
+  -- .. also if it has the next word, ..
   pub all_on : HasWord text w → AreAllIf text query end
   all_on has = record {
     all = λ rest. is.all (subst (HasWords text) (sym e) (has, rest));
     each = λ all. (subst (HasWords text) e (is.each all)).1;
   }
 
-  -- .. or not all of them
+  -- .. but it does not have all words if it lacks the next one
   pub not_all : (HasWord text w → ⊥) → HasWords text (words_after query 0) → ⊥
   not_all lacks all = lacks (subst (HasWords text) e (is.each all)).0
 
--- at the end it has all
+-- at the end of the query the text has all words
 pub all_end : (text query : List ℕ) (at : ℕ) → AreAllIf text query at → words_after query at ≡ [] → HasWords text (words_after query 0)
 all_end text query at is none = is.all (subst (HasWords text) (sym none) tt)

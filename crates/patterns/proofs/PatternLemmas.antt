@@ -1,8 +1,8 @@
--- The parts stand for a contiguous part of an expression exactly if some tail of it begins with what they stand for.
+-- The parts match a contiguous run of the symbols of an expression exactly if some tail of it begins with what they match.
 use Rattle.patterns.proofs.Prelude.{◌≡◌, ◌↔◌, ℕ, ◌+◌, ◌≤◌, IsTrue, Some, None, Bool, true, false, List, [], ◌∷◌, ◌++◌, length, take, drop, map, refl, ap, sym, ◌∙◌, subst, arith, append_assoc, length-append, drop-append_seam, and_parts, and_from, both_ways, take-append-drop, drop-map, Name, name_eq, name_same, same_name, Part, Symbol, AnySymbol, AnySequence, MatchesExactly, Matches, part_view, segment_len, matches_prefix, IsFirstMatch}
 use Rattle.patterns.proofs.SegmentLemmas.{Begins, IsSomewhere, GoesOn, none_found, all_found, goes_past}
 
--- symbols that the parts stand for, before others
+-- symbols that the parts match, with others after them
 begins_from : (p : List Part) (run after : List Name) → MatchesExactly (map part_view p) run → Begins p (run ++ after)
 begins_from [] run after s = tt
 begins_from (Symbol w ∷ p) run after s =
@@ -16,7 +16,7 @@ begins_from (AnySequence ∷ p) run after s =
     let whole : run ++ after ≡ s.0 ++ (s.1 ++ after) = ap (λ r. r ++ after) s.2 ∙ rest in
     subst (Begins (AnySequence ∷ p)) (sym whole) (length s.0, far, there)
 
--- symbols that begin so are symbols that the parts stand for, and others
+-- symbols that begin with what the parts match: a run that they match, and others
 record Front (p : List Part) (e : List Name) : Type 0 where
   run : List Name
   after : List Name
@@ -43,14 +43,14 @@ front_of (AnySequence ∷ p) e b =
       exact = (take b.0 e, r.run, refl, r.exact);
     }
 
--- a match is a tail that begins so ..
+-- if the parts match, a tail begins with what they match ..
 pub somewhere_of : (p : List Part) (e : List Name) → Matches (map part_view p) e → IsSomewhere p e
 somewhere_of p e m =
     let tail : drop (length m.before) (m.before ++ (m.run ++ m.after)) ≡ m.run ++ m.after = drop-append_seam m.before (m.run ++ m.after) in
     let far : length m.before ≤ length (m.before ++ (m.run ++ m.after)) = omega (arith, length-append m.before (m.run ++ m.after)) in
     subst (IsSomewhere p) (sym m.whole) (length m.before, far, subst (Begins p) (sym tail) (begins_from p m.run m.after m.exact))
 
--- .. and back
+-- .. and conversely
 pub match_of : (p : List Part) (e : List Name) → IsSomewhere p e → Matches (map part_view p) e
 match_of p e there =
     let r : Front p (drop there.0 e) = front_of p (drop there.0 e) there.2 in
@@ -58,7 +58,7 @@ match_of p e there =
 
 -- ---- a segment of the pattern
 
--- a segment after some parts, and the symbols after some symbols
+-- a segment after some parts, and the symbols that are left
 pub record IsSegment {R : Type 0} (p : List Part) (symbols : List R) (from at len : ℕ) (left segment : List Part) (rest : List R) : Type 0 where
   pub left_is : left ≡ drop from p
   pub rest_is : rest ≡ drop at symbols
@@ -76,7 +76,7 @@ module _ {R : Type 0} (f : R → Name) (p : List Part) (symbols : List R) (from 
   len_here : len ≡ segment_len (drop from p)
   len_here = is.len_is ∙ ap segment_len is.left_is
 
-  -- it stands nowhere
+  -- if the segment matches nowhere, the pattern does not match
   pub no_match : IsFirstMatch segment (map f rest) None → IsTrue false ↔ Matches (map part_view p) (map f symbols)
   no_match none = (
     λ t. absurd (both_ways false refl t),
@@ -87,14 +87,14 @@ module _ {R : Type 0} (f : R → Name) (p : List Part) (symbols : List R) (from 
     first_is : IsFirstMatch segment (drop at (map f symbols)) (Some index)
     first_is = subst (λ e. IsFirstMatch segment e (Some index)) symbols_are first
 
-    -- it is the last one
+    -- if the segment matches and is the last one, the pattern matches
     pub last_match : len ≡ length left → IsTrue true ↔ Matches (map part_view p) (map f symbols)
     last_match all =
         let left_len = ap length is.left_is in
         let here = len_here in
         (λ _. match_of p (map f symbols) (all_found p (map f symbols) from at goes index segment same first_is (omega (arith, all, left_len, here))), λ _. refl)
 
-    -- a `$*` stands after it
+    -- if the segment matches and is not the last one, a `$*` follows it, and the search continues after both
     pub next_segment : (len ≡ length left → ⊥) → len ≤ length left
         → GoesOn p (drop (from + (len + 1)) p) (map f symbols) (drop (at + (index + len)) (map f symbols))
     next_segment more within =

@@ -4,7 +4,7 @@ use Rattle.places.proofs.TokenSpanLemmas.{symbol_goes_on, label_goes_on}
 
 -- ---- the loop
 
--- what is listed, and what the rest would add, is the whole
+-- the list, with what the walk over the rest adds, is the whole list
 abbrev pub IsListed : List ℕ → ℕ → Walk → List (Option Span) → Type 0
 IsListed text at walk list = list ++ walk_over text walk (runs_after text at) ≡ walk_over text at_start (runs text)
 
@@ -25,7 +25,7 @@ listed_on text at walk next run w old new is runs_are same added step =
 pub listed_all : (text : List ℕ) (at : ℕ) (walk : Walk) (list : List (Option Span)) → IsListed text at walk list → runs_after text at ≡ [] → list ≡ walk_over text at_start (runs text)
 listed_all text at walk list is none = sym (append-nil list) ∙ (ap (λ r. list ++ walk_over text walk r) (sym none) ∙ is)
 
--- the walk goes on from a later offset
+-- the walk continues from a later offset
 pub listed_later : (text : List ℕ) (at later : ℕ) (walk : Walk) (list : List (Option Span)) → IsListed text at walk list
     → walk_over text walk (runs_after text at) ≡ walk_over text walk (runs_after text later) → IsListed text later walk list
 listed_later text at later walk list is same = ap (λ r. list ++ r) (sym same) ∙ is
@@ -40,7 +40,7 @@ picked begins [] comments = []
 picked begins (w ∷ ws) [] = []
 picked begins (w ∷ ws) (comment ∷ comments) = kept begins comment ++ picked (ends_statement w) ws comments
 
--- a plain word begins and ends no comment
+-- a plain word neither begins nor ends a comment
 plain_parts : (a b : Bool) → not (a || b) ≡ true → (a ≡ false) × (b ≡ false)
 plain_parts true b h = absurd (both_ways false refl h)
 plain_parts false true h = absurd (both_ways false refl h)
@@ -51,7 +51,7 @@ not_true true h = absurd (both_ways false refl h)
 not_true false h = refl
 
 module _ (text : List ℕ) where
-  -- plain runs outside comments, before others
+  -- plain runs outside comments, in front of other runs
   plain_walk : (ps rest : List Span) (ws : List Name) (comments : List (Option Span)) → AllPlain text ps
       → ((last : Option Span) (begins : Bool) → walk_over text (Outside last begins) rest ≡ picked begins ws comments)
       → (last : Option Span) (begins : Bool) → walk_over text (Outside last begins) (ps ++ rest) ≡ picked begins (words text ps ++ ws) (comments_before last ps ++ comments)
@@ -65,7 +65,7 @@ module _ (text : List ℕ) where
       ap (λ b. cond b [] (kept begins last) ++ walk_over text (cond b (Inside p.end begins) (Outside None (ends_statement w))) (ps ++ rest)) opens
       ∙ ap (λ l. kept begins last ++ l) more
 
-  -- a comment up to its end
+  -- the inside of a comment, up to its end
   inside_walk : (inside rest : List Span) (end : Span) (start : ℕ) (begins : Bool) → AllPlain text inside → word text end ≡ closer
       → walk_over text (Inside start begins) (inside ++ (end ∷ rest)) ≡ walk_over text (Outside (Some (record { start = start; end = end.start })) begins) rest
   inside_walk [] rest end start begins plain closes =
@@ -81,7 +81,7 @@ module _ (text : List ℕ) where
   abbrev outer : List Part → List Span
   outer ps = flat_map (λ (p : Part). p.after) ps
 
-  -- comments, and the tokens after each
+  -- comments, with the tokens after each
   parts_walk : (ps : List Part) → AreParts text ps → (last : Option Span) (begins : Bool)
       → walk_over text (Outside last begins) (flat_map part_spans ps) ≡ picked begins (words text (outer ps)) (flat_map comments_in ps)
   parts_walk [] are last begins = refl
@@ -132,7 +132,7 @@ count_of first ps =
 abbrev goes_on : Name → Bool
 goes_on w = not (ends_statement w)
 
--- the tokens of a statement: none but the last ends one
+-- the tokens of a statement: only the last one ends a statement
 record IsOne (tokens : List Name) : Type 0 where
   front : List Name
   last : Name
@@ -141,7 +141,7 @@ record IsOne (tokens : List Name) : Type 0 where
   end : ends_statement last ≡ true
 
 module _ (last : Name) (ws : List Name) (end : ends_statement last ≡ true) where
-  -- after its first token
+  -- the tokens after the first one have no descriptions
   pass_rest : (front : List Name) (comments : List (Option Span)) → list_all goes_on front ≡ true → length front < length comments
       → picked false (front ++ (last ∷ ws)) comments ≡ picked true ws (drop (suc (length front)) comments)
   pass_rest [] [] on room = absurd (omega (arith, room))
@@ -152,7 +152,7 @@ module _ (last : Name) (ws : List Name) (end : ends_statement last ≡ true) whe
       let stays : ends_statement w ≡ false = not_true (ends_statement w) both.0 in
       ap (λ b. picked b (front ++ (last ∷ ws)) comments) stays ∙ pass_rest front comments both.1 (omega (arith, room))
 
-  -- its first token has its description
+  -- the first token has its description
   pick_one : (front : List Name) (comments : List (Option Span)) → list_all goes_on front ≡ true → length front < length comments
       → picked true (front ++ (last ∷ ws)) comments ≡ first_of comments ∷ picked true ws (drop (suc (length front)) comments)
   pick_one [] [] on room = absurd (omega (arith, room))
@@ -163,7 +163,7 @@ module _ (last : Name) (ws : List Name) (end : ends_statement last ≡ true) whe
       let stays : ends_statement w ≡ false = not_true (ends_statement w) both.0 in
       ap (λ b. c ∷ picked b (front ++ (last ∷ ws)) comments) stays ∙ ap (λ l. c ∷ l) (pass_rest front comments both.1 (omega (arith, room)))
 
--- symbols and labels end no statement
+-- a word that does not end a statement passes the test for it, as symbols and labels do
 on_of : (w : Name) → ends_statement w ≡ false → goes_on w ≡ true
 on_of w e = ap (λ b. not b) e
 
@@ -226,7 +226,7 @@ statements_picked (s ∷ S) comments h room =
     ap (λ ws. picked true ws comments) whole
     ∙ (here ∙ (ap (λ l. first_of comments ∷ picked true (tokens_of S) l) split ∙ ap (λ l. first_of comments ∷ l) more))
 
--- what the walk lists is the descriptions
+-- the list that the walk gives is that of the descriptions
 pub walk_describes : (text : List ℕ) (S : Database) (list : List (Option Span)) → Reads text S → list ≡ walk_over text at_start (runs text) → AreDescriptions text S list
 walk_describes text S list reads e =
     let tokens : List Span = reads.tokens.0 in

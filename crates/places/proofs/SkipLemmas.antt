@@ -1,4 +1,4 @@
--- A walk that can skip passes runs that begin with another byte.
+-- A walk that can skip passes over runs that do not begin with `$`.
 use Rattle.places.proofs.Words.{◌≡◌, ℕ, zero, suc, ◌+◌, ◌-◌, ◌<◌, ◌≤◌, Bool, true, false, cond, List, [], ◌∷◌, ◌++◌, length, take, drop, Some, None, refl, ◌∙◌, ap, arith, eqb, get_or, sym, drop-drop, get_or-drop, get_or-take, length-drop, take-append-drop, Span, Name, is_white, name_eq, runs_from, starts_white, with_byte, word, runs_after, closer, opener, Walk, Inside, Outside, ends_statement, CanSkip, SkipsRuns, walk_over}
 use Rattle.std.proofs.lemmas.List.{length-take}
 
@@ -34,7 +34,7 @@ module _ (w : Name) (differs : get_or w 0 0 ≡ 36 → ⊥) where
       by (b ∷ v) d = rw (no_dollar b d) refl
 
 module _ (text : List ℕ) where
-  -- the word of a span begins with the byte at its start
+  -- if the byte at the start of a span is not `$`, its word does not begin with `$`
   first_byte : (s : Span) → (get_or text s.start 0 ≡ 36 → ⊥) → get_or (word text s) 0 0 ≡ 36 → ⊥
   first_byte s differs = by (s.end - s.start)
     where
@@ -45,7 +45,7 @@ module _ (text : List ℕ) where
           let same : s.start + 0 ≡ s.start = omega arith in
           differs (ap (λ k. get_or text k 0) (sym same) ∙ (sym (get_or-drop s.start text 0 0) ∙ (sym (get_or-take (suc n) (drop s.start text) 0 0 some) ∙ e)))
 
-  -- one run that begins with another byte
+  -- one run that does not begin with `$`
   pass_run : (walk : Walk) → CanSkip walk → (s : Span) (spans : List Span) → (get_or text s.start 0 ≡ 36 → ⊥) → walk_over text walk (s ∷ spans) ≡ walk_over text walk spans
   pass_run (Inside start begins) skips s spans differs =
       ap (λ b. walk_over text (cond b (Outside (Some (record { start = start; end = s.start })) begins) (Inside start begins)) spans) (no_closer (word text s) (first_byte s differs))
@@ -70,7 +70,7 @@ ends_white zero (b ∷ bytes) inside h = h
 ends_white (suc i) (b ∷ []) inside h = absurd (omega (arith, inside))
 ends_white (suc i) (b ∷ c ∷ bytes) inside h = ends_white i (c ∷ bytes) (omega (arith, inside)) h
 
--- the first run of bytes that begin with one that is not white begins there
+-- there is a run, and the first one begins at the offset
 abbrev BeginsAt : ℕ → List Span → Type 0
 BeginsAt at [] = ⊥
 BeginsAt at (s ∷ spans) = s.start ≡ at
@@ -81,7 +81,7 @@ begins_with at false [] = refl
 begins_with at false (s ∷ spans) = refl
 
 module _ (text : List ℕ) (walk : Walk) (skips : CanSkip walk) where
-  -- a visible byte before runs that begin with the next byte is passed with the first of them
+  -- a visible byte in front that is not `$` is passed over, with the run that it lengthens if that run did not begin with `$`
   pass_byte : (at : ℕ) (t : Bool) (spans : List Span) → (get_or text at 0 ≡ 36 → ⊥) → (t ≡ false → BeginsAt (at + 1) spans) → (get_or text (at + 1) 0 ≡ 36 → t ≡ false → ⊥)
       → walk_over text walk (with_byte at t spans) ≡ walk_over text walk spans
   pass_byte at true spans differs first next = pass_run text walk skips (record { start = at; end = at + 1 }) spans differs
@@ -96,7 +96,7 @@ module _ (text : List ℕ) (walk : Walk) (skips : CanSkip walk) where
   begins_shown : (at c : ℕ) (bytes : List ℕ) → is_white c ≡ false → BeginsAt at (runs_from at (c ∷ bytes))
   begins_shown at c bytes e = rw e (begins_with at (starts_white bytes) (runs_from (at + 1) bytes))
 
-  -- one byte more
+  -- one more byte in front
   pass_step : (at b c : ℕ) (front rest : List ℕ) (t : Bool) → is_white b ≡ t → NoDollar at (at + length (b ∷ c ∷ front))
       → walk_over text walk (runs_from (at + 1) ((c ∷ front) ++ rest)) ≡ walk_over text walk (runs_from (at + 1 + length (c ∷ front)) rest)
       → walk_over text walk (runs_from at ((b ∷ c ∷ front) ++ rest)) ≡ walk_over text walk (runs_from (at + length (b ∷ c ∷ front)) rest)
@@ -109,7 +109,7 @@ module _ (text : List ℕ) (walk : Walk) (skips : CanSkip walk) where
       (λ is shown. none (at + 1) (omega arith) (omega arith) is)
       ∙ (more ∙ ap (λ n. walk_over text walk (runs_from n rest)) same))
 
-  -- bytes that end white and have no `$` are passed
+  -- bytes that end white and have no `$` are passed over
   pass_bytes : (at : ℕ) (front rest : List ℕ) → EndsWhite front → NoDollar at (at + length front)
       → walk_over text walk (runs_from at (front ++ rest)) ≡ walk_over text walk (runs_from (at + length front) rest)
   pass_bytes at [] rest white none = let same : at ≡ at + 0 = omega arith in ap (λ n. walk_over text walk (runs_from n rest)) same
@@ -143,7 +143,7 @@ module _ (text : List ℕ) (at : ℕ) (start : at ≤ length text) where
             ∙ ap (λ bytes. walk_over text walk (runs_from (at + suc i) bytes)) (drop-drop (suc i) at text)));
       }
 
-  -- up to the last white byte before which no `$` stands
+  -- up to after a white byte before which there is no `$`
   pub skips_runs : (n plain : ℕ) (rest part : List ℕ) → rest ≡ drop at text → part ≡ take plain rest → plain ≤ length rest → ((k : ℕ) → k < plain → get_or rest k 0 ≡ 36 → ⊥)
       → n ≤ length part → (0 < n → is_white (get_or part (n - 1) 0) ≡ true) → SkipsRuns text at (at + n)
   skips_runs zero plain rest part whole front few none within white = skips_none

@@ -19,7 +19,7 @@ symbol_goes_on w h = plain_goes_on w (symbol_plain w h)
 pub label_goes_on : (w : Name) → is_label w ≡ true → ends_statement w ≡ false
 label_goes_on w h = plain_goes_on w (label_plain w h)
 
--- one token that ends none is passed ..
+-- one token that ends no statement is passed over ..
 pass_one : (n : ℕ) (w : Name) (ws : List Name) → ends_statement w ≡ false → index_after_ends (suc n) (w ∷ ws) ≡ suc (index_after_ends (suc n) ws)
 pass_one n w ws goes = ap (λ b. suc (index_after_ends (cond b n (suc n)) ws)) goes
 
@@ -34,7 +34,7 @@ pass_symbols n (x ∷ xs) ws h =
 
 -- the last token of a statement ends it
 module _ (n : ℕ) (ws : List Name) where
-  -- a token that ends a statement is passed with it
+  -- a token that ends a statement is counted, and passed over
   past_end : (w : Name) → ends_statement w ≡ true → index_after_ends (suc n) (w ∷ ws) ≡ suc (index_after_ends n ws)
   past_end w e = ap (λ b. suc (index_after_ends (cond b n (suc n)) ws)) e
 
@@ -46,7 +46,7 @@ module _ (n : ℕ) (ws : List Name) where
       let last = past_end (codes "$.") refl in
       ap (index_after_ends (suc n)) whole ∙ omega (arith, passed, last, length-append xs (codes "$." ∷ []))
 
-  -- a label and a keyword before what ends the statement
+  -- a label and a keyword, in front of the tokens that end the statement
   past_labelled : (label k : Name) (rest : List Name) → is_label label ≡ true → ends_statement k ≡ false → index_after_ends (suc n) (rest ++ ws) ≡ length rest + index_after_ends n ws
       → index_after_ends (suc n) (label ∷ k ∷ (rest ++ ws)) ≡ length (label ∷ k ∷ rest) + index_after_ends n ws
   past_labelled label k rest is goes e =
@@ -65,7 +65,7 @@ module _ (n : ℕ) (ws : List Name) where
       let last = past_list proof p in
       ap (index_after_ends (suc n)) whole ∙ omega (arith, passed, one, last, length-append expr (codes "$=" ∷ rest))
 
-  -- after a statement that is well shaped
+  -- a statement that is well shaped
   past_statement : (s : Stmt) → is_shaped s ≡ true → index_after_ends (suc n) (stmt_tokens s ++ ws) ≡ length (stmt_tokens s) + index_after_ends n ws
   past_statement Open h = past_end (codes "${") refl ∙ omega arith
   past_statement Close h = past_end (codes "$}") refl ∙ omega arith
@@ -92,7 +92,7 @@ module _ (n : ℕ) (ws : List Name) where
       let parts : (is_label label ≡ true) × (are_symbols expr ≡ true) = and_parts (is_label label) (are_symbols expr) both.0 in
       past_labelled label (codes "$p") (expr ++ codes "$=" ∷ (proof ++ codes "$." ∷ [])) parts.0 refl (past_proof expr proof (symbols_of expr parts.1) both.1)
 
--- after so many statements
+-- the index after `n` ends is the number of tokens of the first `n` statements
 past_statements : (n : ℕ) (S : Database) → AreShaped S → n ≤ length S → index_after_ends n (tokens_of S) ≡ length (tokens_of (take n S))
 past_statements zero S h within = refl
 past_statements (suc n) [] h within = absurd (omega (arith, within))
@@ -101,13 +101,13 @@ past_statements (suc n) (s ∷ S) h within =
     let rest = past_statements n S parts.1 (omega (arith, within)) in
     past_statement n (tokens_of S) s parts.0 ∙ omega (arith, rest, length-append (stmt_tokens s) (tokens_of (take n S)))
 
--- ---- the search for it
+-- ---- the search for the span
 
--- the words after an index are that of its token and those after it
+-- the words of the spans from an index on are the word there and then those after it
 words_drop : (text : List ℕ) (spans : List Span) (i : ℕ) (d : Span) → i < length spans → words text (drop i spans) ≡ word text (get_or spans i d) ∷ words text (drop (suc i) spans)
 words_drop text spans i d h = ap (words text) (drop-cons spans i d h)
 
--- one token more
+-- one more token
 pub one_token : (text : List ℕ) (spans : List Span) (i left next : ℕ) (d : Span) → i < length spans → 0 < left
     → next ≡ cond (ends_statement (word text (get_or spans i d))) (left - 1) left
     → i + index_after_ends left (words text (drop i spans)) ≡ (i + 1) + index_after_ends next (words text (drop (i + 1) spans))
@@ -122,7 +122,7 @@ one_token text spans i (suc left) next d h some e =
     opened ∙ (ap (λ k. suc (index_after_ends k (words text (drop (suc i) spans)))) (sym is) ∙ ap (λ k. suc (index_after_ends next (words text (drop k spans)))) after) in
     omega (arith, step)
 
--- the tokens of a statement stand after those before it
+-- the tokens before a statement and its own are at most as many as all tokens
 room_for : (n : ℕ) (S : Database) (s : Stmt) → slice_get S n ≡ Some s → length (tokens_of (take n S)) + length (stmt_tokens s) ≤ length (tokens_of S)
 room_for n [] s e = absurd (none_is e)
   where
@@ -136,7 +136,7 @@ room_for (suc n) (r ∷ S) s e =
     let rest = room_for n S s e in
     omega (arith, rest, length-append (stmt_tokens r) (tokens_of S), length-append (stmt_tokens r) (tokens_of (take n S)))
 
--- there is a token at that index, and it is the statement's
+-- the span at that index is the span of the token of the statement
 some_span : (text : List ℕ) (spans : List Span) (S : Database) (statement token : ℕ) → AreTokens text spans → words text spans ≡ tokens_of S
     → (i : ℕ) → i ≡ token_index S statement token → i < length spans → (span : Option Span) → span ≡ slice_get spans i → IsSomeAnd span (IsTokenSpan text S statement token)
 some_span text spans S statement token are written i at h None e = absurd (bad (e ∙ slice_get-get_or spans i (record { start = 0; end = 0 }) h))
@@ -146,7 +146,7 @@ some_span text spans S statement token are written i at h None e = absurd (bad (
 some_span text spans S statement token are written i at h (Some p) e =
     record { tokens = spans; are = are; written = written; here = ap (slice_get spans) (sym at) ∙ sym e }
 
--- the token that is found is the statement's
+-- the span that is found is the span of the token of the statement
 pub span_is : (text : List ℕ) (spans : List Span) (S : Database) (statement token : ℕ) → AreTokens text spans → Reads text S → (h : HasToken S statement token)
     → (span : Option Span) → span ≡ slice_get spans (index_after_ends (statement - 1) (words text spans) + (token - 1))
     → IsSomeAnd span (IsTokenSpan text S statement token)

@@ -1,4 +1,4 @@
--- The words in which this crate is proved, passed on from one place.
+-- The names that the proofs of this crate use, exported again from one place.
 pub use Rattle.memchr.proofs.lemmas.CallerLemmas.{length-places}
 pub use Rattle.memchr.specs.Find.{is_byte}
 pub use Rattle.mm_lex.proofs.NameLemmas.{name_same}

@@ -11,11 +11,11 @@ pub record NamesTo (labels left : List Name) (names : BTreeSet (Bor Name)) : Typ
 bytes_eq-sym : (a b : Name) → bytes_eq a b ≡ bytes_eq b a
 bytes_eq-sym a b = same_from_decides (bytes_eq a b) (bytes_eq b a) (bytes_eq-Decides a b) (Decides-like (bytes_eq b a) sym sym (bytes_eq-Decides b a))
 
--- names that compare equal have the same bytes
+-- two names compare as equal exactly if their bytes are the same
 equal_names : (a b : Name) → is_eq (slice_cmp nat_cmp a b) ≡ bytes_eq b a
 equal_names a b = is_eq-slice_cmp a b ∙ bytes_eq-sym a b
 
--- one more label comes into the set
+-- one more label is put into the set
 pub names_more : (labels left rest : List Name) (label : Bor Name) (old new : BTreeSet (Bor Name)) → NamesTo labels left old → left ≡ label.now ∷ rest
     → ((q : Bor Name) → contains (λ a b. slice_cmp nat_cmp a.now b.now) new q ≡ cond (is_eq (slice_cmp nat_cmp label.now q.now)) true (contains (λ a b. slice_cmp nat_cmp a.now b.now) old q)) → NamesTo labels rest new
 names_more labels left rest label old new m first updates = record {

@@ -1,4 +1,4 @@
--- Letters that are read write the items of their numbers, and no others.
+-- Letters that are read write the items of their numbers, and no other items.
 use Rattle.proof_code.proofs.Words.{◌≡◌, ℕ, zero, suc, ◌+◌, ◌-◌, ◌*◌, ◌<◌, true, false, ◌==◌, nat_lt, nat_le, List, [], ◌∷◌, ◌++◌, length, Some, None, refl, sym, ◌∙◌, ap, arith, true≢false, none-some, nat_tests, cond_both, eqb-true, false_from_ne_true, Name, Item, Mark, number_of, items_of, numbers_from, starts_with_mark, AreItems, starts_with_result, WritesRow}
 use Rattle.proof_code.proofs.LettersLemmas.{number_of-placed}
 use Rattle.proof_code.proofs.RowOfNumbers.{joined, by_letter, begun-none, ReadRow, read_row, RowRead, row_read}
@@ -23,9 +23,9 @@ starts_with_result-read labels marks [] (zero ∷ numbers) m s = absurd m
 starts_with_result-read labels marks (word ∷ row) (zero ∷ numbers) m s = absurd (true≢false (sym (ap (λ w. starts_with_mark (w ++ joined row)) m.0) ∙ s))
 starts_with_result-read labels marks row (suc n ∷ numbers) m s = cond_both (nat_lt n (length labels)) _ _ (λ item. starts_with_result (item ∷ items_of labels numbers) ≡ true) (λ e. refl) (λ e. refl)
 
--- ---- both together
+-- ---- letters that are read, and letters that write items
 
--- letters that are read and do not begin with a mark write the items of their numbers
+-- letters that are read, and do not begin with a mark, write the items of their numbers
 pub WritesRow-read : (labels : List Name) (letters numbers : List ℕ) → starts_with_mark letters ≡ false → numbers_from (length labels) 0 letters ≡ Some numbers → WritesRow labels letters (items_of labels numbers)
 WritesRow-read labels letters numbers s h =
     let read : ReadRow labels 0 [] letters numbers = read_row labels 0 (length labels) 0 [] letters numbers (omega arith) begun-none h in
@@ -36,7 +36,7 @@ WritesRow-read labels letters numbers s h =
       starts = starts_with_result-read labels 0 read.row numbers read.means (sym (ap starts_with_mark read.whole) ∙ s);
     }
 
--- and letters that write items are read so
+-- the letters are read, and the items are those of their numbers
 pub record RowIsRead (labels : List Name) (letters : List ℕ) (items : List Item) : Type 0 where
   pub starts : starts_with_mark letters ≡ false
   pub numbers : List ℕ
@@ -53,7 +53,7 @@ read-WritesRow labels letters items w =
       are = read.are;
     }
 
--- a word that is over the limit already writes nothing, however it goes on
+-- letters of a word that is already over the limit give no numbers, whatever follows
 pub numbers_from-over : (limit digits : ℕ) (letters : List ℕ) → limit < 20 * digits → numbers_from limit digits letters ≡ None
 numbers_from-over limit digits [] over =
     let test : (digits == 0) ≡ false = grind (arith, nat_tests) in

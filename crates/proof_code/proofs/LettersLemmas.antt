@@ -1,4 +1,4 @@
--- A word's place in the order of all words is what the formula gives.
+-- A word's place in the order of all words is the number that the formula gives.
 use Rattle.proof_code.proofs.Words.{◌≡◌, ℕ, zero, suc, ◌+◌, ◌-◌, ◌*◌, ◌<◌, ◌≤◌, true, false, List, [], ◌∷◌, ◌++◌, map, flat_map, length, Option, Some, slice_get, get_or, refl, range_with_len, Contains, option_map, sym, ◌∙◌, ap, subst, arith, inl, inr, slice_get-map, slice_get-get_or, none-some, same_Some, cases_Bool, nat_tests, and-false, map-append, length-map, get_or-map, get_or-range_with_len, get_or-map-range_with_len, Name, first_letters, words_of_size, words_below, IsNumber, is_last, is_first, number_from, number_of, Contains-append_left, Contains-append_right}
 
 -- how many words have n letters before the last, and how many have fewer
@@ -14,7 +14,7 @@ count_below (suc n) = count_below n + count_of_size n
 abbrev row : ℕ → ℕ → List (Option ℕ)
 row from count = map Some (range_with_len from count)
 
--- two rows one after the other
+-- two rows, of which the second continues the first, are one row
 row-append : (a m n b c : ℕ) → b ≡ a + m → c ≡ m + n → row a m ++ row b n ≡ row a c
 row-append a zero n b c e f =
     let first : b ≡ a = omega arith in
@@ -23,7 +23,7 @@ row-append a zero n b c e f =
 row-append a (suc m) n b zero e f = absurd (omega arith)
 row-append a (suc m) n b (suc c) e f = ap (λ r. Some a ∷ r) (row-append (a + 1) m n b c (omega arith) (omega arith))
 
--- the number at a place of a row
+-- the number at a place of a row is the first number plus the place
 row-get : (a m k : ℕ) (x : Option ℕ) → slice_get (row a m) k ≡ Some x → x ≡ Some (a + k)
 row-get a zero k x h = absurd (none-some x h)
 row-get a (suc m) zero x h = sym (same_Some (Some a) x h) ∙ ap Some (omega arith)
@@ -35,7 +35,7 @@ is_last-true c low high = grind (arith, nat_tests)
 pub is_first-false : (c : ℕ) → c ≤ 84 → is_first c ≡ false
 is_first-false c high = grind (arith, nat_tests)
 
--- the words of one letter, from a letter on
+-- the numbers of the words of one letter, from a letter on
 numbers_of_last : (d a n : ℕ) → 65 ≤ a → a + n ≤ 85 → map (number_from d) (map (λ c. c ∷ []) (range_with_len a n)) ≡ row (20 * d + (a - 64)) n
 numbers_of_last d a zero low high = refl
 numbers_of_last d a (suc n) low high =
@@ -44,7 +44,7 @@ numbers_of_last d a (suc n) low high =
     let next : 20 * d + (a + 1 - 64) ≡ 20 * d + (a - 64) + 1 = omega arith in
     rw (first, last) (ap (λ r. Some (20 * d + (a - 64)) ∷ r) (numbers_of_last d (a + 1) n (omega arith) (omega arith) ∙ ap (λ b. row b n) next))
 
--- a letter more before the words counts five times as much
+-- one more letter in front of the words is one more digit in base 5
 numbers_after : (d e letter : ℕ) (words : List Name) → is_first letter ≡ true → 5 * d + (letter - 84) ≡ e → map (number_from d) (map (λ word. letter ∷ word) words) ≡ map (number_from e) words
 numbers_after d e letter [] first is = refl
 numbers_after d e letter (word ∷ words) first is = rw (first, is) (ap (λ r. number_from e word ∷ r) (numbers_after d e letter words first is))
@@ -55,7 +55,7 @@ after_letter letter words = map (λ word. letter ∷ word) words
 pub is_first-true : (c : ℕ) → 85 ≤ c → c ≤ 89 → is_first c ≡ true
 is_first-true c low high = grind (arith, nat_tests)
 
--- words of one size after some letters in a row, where they count a row of `size` numbers wherever they stand
+-- words of one size after each of some letters in turn give a row, if the words give a row of `size` numbers after any digits
 numbers_of_first : (words : List Name) (size below d e a k : ℕ) → e ≡ 5 * d + (a - 84) → 85 ≤ a → a + k ≤ 90 → ((e : ℕ) → map (number_from e) words ≡ row (suc (e * size + below)) size)
     → map (number_from d) (flat_map (λ letter. after_letter letter words) (range_with_len a k)) ≡ row (suc (e * size + below)) (k * size)
 numbers_of_first words size below d e a zero is low high listed_count = let none : 0 ≡ 0 * size = omega arith in ap (row (suc (e * size + below))) none
@@ -77,7 +77,7 @@ numbers_below (suc n) =
     rw (map-append, numbers_below n, numbers_of_size n 0)
     (row-append 1 (count_below n) (count_of_size n) (suc (0 * count_of_size n + count_below n)) (count_below n + count_of_size n) (omega arith) (omega arith))
 
--- the place in the order gives the formula
+-- the formula gives the place of a word in the order
 pub number_of-placed : (word : Name) (n : ℕ) → IsNumber word n → number_of word ≡ Some n
 number_of-placed word zero h = absurd h
 number_of-placed word (suc n) h =
@@ -85,7 +85,7 @@ number_of-placed word (suc n) h =
     let in_row : slice_get (row 1 (count_below (length word))) n ≡ Some (number_of word) = ap (λ r. slice_get r n) (sym (numbers_below (length word))) ∙ at in
     row-get 1 (count_below (length word)) n (number_of word) in_row ∙ ap Some (omega arith)
 
--- ---- a word with a number stands in the order
+-- ---- a word with a number is in the order
 
 Contains-after : (letter : ℕ) (words : List Name) (word : Name) → Contains words word → Contains (after_letter letter words) (letter ∷ word)
 Contains-after letter words word h =
@@ -98,15 +98,15 @@ Contains-after_one (letter ∷ letters) words c zero word within at h =
 Contains-after_one (letter ∷ letters) words c (suc j) word within at h =
     Contains-append_right (after_letter letter words) (flat_map (λ letter. after_letter letter words) letters) (c ∷ word) (Contains-after_one letters words c j word (omega arith) at h)
 
--- a letter that stands before the end of a word lies between U and Y
+-- a letter before the last letter of a word lies between U and Y
 pub first_bounds : (c : ℕ) → is_first c ≡ true → (85 ≤ c) × (c ≤ 89)
 first_bounds c h = (grind (arith, nat_tests), grind (arith, nat_tests))
 
--- a letter that ends a word lies between A and T
+-- the last letter of a word lies between A and T
 pub last_bounds : (c : ℕ) → is_last c ≡ true → (65 ≤ c) × (c ≤ 84)
 last_bounds c h = (grind (arith, nat_tests), grind (arith, nat_tests))
 
--- the word stands among those of its size
+-- a word to which the formula gives a number is among those of its size
 Contains-word : (c : ℕ) (word : Name) (d m : ℕ) → number_from d (c ∷ word) ≡ Some m → Contains (words_of_size (length word)) (c ∷ word)
 Contains-word c [] d m h = elim (cases_Bool (is_first c)) [
   | inl e ↦ absurd (none-some m (rw e at h))
@@ -125,7 +125,7 @@ Contains-word c (x ∷ word) d m h = elim (cases_Bool (is_first c)) [
   | inr e ↦ absurd (none-some m (rw (e, and-false (is_last c)) at h))
 ]
 
--- the formula gives the place in the order
+-- the number that the formula gives is the word's place in the order
 pub placed-number_of : (word : Name) (n : ℕ) → number_of word ≡ Some n → IsNumber word n
 placed-number_of [] n h = absurd (none-some n h)
 placed-number_of (c ∷ word) n h =

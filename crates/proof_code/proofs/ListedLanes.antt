@@ -1,4 +1,4 @@
--- The bytes of labels and the spaces among sixteen bytes, by the lanes of a vector.
+-- The bytes of labels and the spaces among sixteen bytes, found by the lanes of a vector.
 use Rattle.proof_code.proofs.Words.{◌≡◌, ℕ, zero, suc, ◌+◌, ◌-◌, ◌*◌, ◌<◌, ◌≤◌, true, false, cond, ◌==◌, List, [], ◌∷◌, length, take, refl, sym, ◌∙◌, ap, arith, map, get_or, slice_index_or, range_with_len, get_or-map-range_with_len, cases_Bool, inl, inr, is_listed, are_listed, count_by, not, ltb, eqb, replicate, w8, Fits, ◌%◌, ◌^◌, bit_and, bit_or, zip2, mask_l, top, count_ones, bitmask_splat, mask_l-mod, ones-mask_l, length-map, length-take-le, count_by-le-length}
 
 -- ---- one lane
@@ -18,7 +18,7 @@ less a b = (a + (2 ^ 8 - b)) % 2 ^ 8
 abbrev lane : ℕ → ℕ
 lane b = bit_and (bit_and (bit_and (unlike b 32) (below 25 (less (bit_or b 32) 97))) (bit_or (below 12 (less b 45)) (same (less b 45) 2))) (unlike b 95)
 
--- whatever the byte, the top bit tells whether it is none of a label and no space
+-- for each byte, the top bit is set exactly if it is neither a byte of a label nor a space
 lane_table : map (λ b. top 7 (lane b)) (range_with_len 0 256) ≡ map (λ b. not (is_listed b)) (range_with_len 0 256)
 lane_table = refl
 
@@ -27,7 +27,7 @@ lane_is b h =
     sym (get_or-map-range_with_len (λ b. top 7 (lane b)) 0 256 b b true h (omega arith))
     ∙ (ap (λ ts. get_or ts b true) lane_table ∙ get_or-map-range_with_len (λ b. not (is_listed b)) 0 256 b b true h (omega arith))
 
--- ---- sixteen of them
+-- ---- sixteen lanes
 
 abbrev compared : ℕ → List ℕ → List ℕ
 compared n xs =
@@ -50,13 +50,13 @@ none_other (b ∷ bytes) e =
     ]
 
 module _ (text : List ℕ) (room : 16 ≤ length text) where
-  -- where the mask of the other bytes is 0, all are of labels or spaces
+  -- if the mask of the other bytes is 0, each byte is a byte of a label or a space
   pub all-listed : ((i : ℕ) → Fits w8 (slice_index_or text i 0)) → mask_l (map (top 7) (compared 16 (take 16 text))) % 2 ^ 64 ≡ 0 → are_listed (take 16 text) ≡ true
   all-listed bytes none =
       none_other (take 16 text) (sym (mask_l-mod (map (λ b. not (is_listed b)) (take 16 text)) 64 (omega (arith, length-map (take 16 text) (λ b. not (is_listed b)), length-take-le 16 text room)))
       ∙ (ap (λ ts. mask_l ts % 2 ^ 64) (sym (compared_is 16 text room bytes)) ∙ none))
 
-  -- the bits of the mask of the spaces are as many as they
+  -- the mask of the spaces has as many set bits as there are spaces
   pub spaces-listed_count : count_ones (mask_l (map (top 7) (zip2 same (take 16 text) (replicate 16 32))) % 2 ^ 64) ≡ count_by (λ b. b == 32) (take 16 text)
   spaces-listed_count = ap count_ones (bitmask_splat w8 eqb (take 16 text) 16 32 (length-take-le 16 text room) (omega arith)) ∙ ones-mask_l (λ b. b == 32) (take 16 text)
 

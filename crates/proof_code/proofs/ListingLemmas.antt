@@ -1,4 +1,4 @@
--- The labels counted are those that the header lists, whether byte by byte or sixteen bytes at a time.
+-- The labels counted are those that the header lists, whether they are counted byte by byte or sixteen bytes at a time.
 use Rattle.proof_code.proofs.Words.{◌≡◌, ℕ, zero, suc, ◌+◌, ◌-◌, ◌<◌, ◌≤◌, Bool, true, false, cond, ◌==◌, List, [], ◌∷◌, ◌++◌, length, drop, slice_index_or, Option, Some, None, refl, list_all, option_map, sym, ◌∙◌, ap, arith, true≢false, inl, inr, append-nil, drop_more, same_Some, bytes_eq-Decides, and_parts, cases_Bool, eqb-true, false_from_ne_true, and-false, Name, name_eq, is_visible, is_label, is_label_byte, spaced, is_word, class_of, is_listed, are_listed, count_by, take, take-append-drop, drop-drop, get_or-drop, letters_from, more_labels, after_none, listed_count, Header, with_label, header_of, finish, get_or, length-drop, is_count_by}
 use Rattle.proof_code.proofs.TextLemmas.{not_space}
 
@@ -16,12 +16,12 @@ class-space b e = rw (eqb-true b 32 e) refl
 label-no_space : (b : ℕ) → is_label_byte b ≡ true → (b == 32) ≡ false
 label-no_space b h = false_from_ne_true (b == 32) (λ e. true≢false (sym (rw (eqb-true b 32 e) at h)))
 
--- the effect of a byte of a class
+-- the effect of a byte on the count, by its class
 listed_count-at : (fresh : Bool) (b : ℕ) (text : List ℕ) (class : ℕ) → class_of b ≡ class
     → listed_count fresh (b ∷ text) ≡ cond (class == 0) (listed_count false text) (cond (class == 1) (more_labels 1 (listed_count true text)) (after_none fresh (letters_from (b ∷ text))))
 listed_count-at fresh b text class h = ap (λ c. cond (c == 0) (listed_count false text) (cond (c == 1) (more_labels 1 (listed_count true text)) (after_none fresh (letters_from (b ∷ text))))) h
 
--- ---- a word, and what stands after it
+-- ---- a word, and the text after it
 
 abbrev after_word : List Name → List ℕ
 after_word [] = []
@@ -47,11 +47,11 @@ listed_count-after : (words : List Name) → listed_count false (after_word word
 listed_count-after [] = refl
 listed_count-after (word ∷ words) = refl
 
--- a byte alone that is not `)`
+-- a single byte that is not `)`
 not_finish : (b : ℕ) → name_eq (b ∷ []) finish ≡ false → (b == 41) ≡ false
 not_finish b other = false_from_ne_true (b == 41) (λ e. true≢false (rw (eqb-true b 41 e) at other))
 
--- a word that is neither a label nor `)`
+-- a word other than `)` does not begin the letters
 letters-none : (b : ℕ) (word : Name) (words : List Name) → list_all is_visible word ≡ true → name_eq (b ∷ word) finish ≡ false → letters_from ((b ∷ word) ++ after_word words) ≡ None
 letters-none b [] [] seen other = rw (not_finish b other) refl
 letters-none b [] (next ∷ words) seen other = rw (not_finish b other) refl
@@ -116,7 +116,7 @@ module _ (start : Bool) (text : List ℕ) (at count last : ℕ) (same : listed_c
   abbrev byte : ℕ
   byte = slice_index_or text at 0
 
-  -- the next byte is the first of what is left to count
+  -- the next byte is the first of those that are left to count
   at_drop : listed_count start text ≡ more_labels count (listed_count (last == 32) (byte ∷ drop (at + 1) text))
   at_drop = same ∙ ap (λ r. more_labels count (listed_count (last == 32) r)) (drop_more text at 0 within)
 
@@ -171,7 +171,7 @@ module _ (text : List ℕ) (at count last : ℕ) (same : listed_count true text 
   abbrev next : List ℕ
   next = take 16 (drop at text)
 
-  -- the byte before what is left
+  -- a word begins after the sixteen bytes exactly if the last of them is a space
   last_is : begins (last == 32) next ≡ (slice_index_or text (at + 16 - 1) 0 == 32)
   last_is =
       begins-last (last == 32) 15 (drop at text) (omega (arith, room, length-drop at text))
@@ -193,7 +193,7 @@ told-none : (o : Option Header) → told o ≡ None → o ≡ None
 told-none None e = refl
 told-none (Some header) e = cc
 
--- a header is read, and these are the text of what is left and how many labels there are
+-- a header is read, with this text after its labels and this number of labels
 abbrev pub Counted : Option Header → List ℕ → ℕ → Type 0
 Counted o letters count = (header : Header) × (o ≡ Some header) × (spaced header.rest ≡ letters) × (length header.listed ≡ count)
 

@@ -1,4 +1,4 @@
--- Tokens write one list of items at most, and there is one answer to them.
+-- Tokens write at most one list of items, and each proof has exactly one answer.
 use Rattle.proof_code.proofs.Words.{◌≡◌, ℕ, ◌⊎◌, Bool, true, false, List, [], ◌∷◌, ◌++◌, map, length, Option, Some, None, refl, list_all, sym, ◌∙◌, ap, true≢false, inl, inr, none-some, same_Some, bytes_eq-Decides, both_ways, cases_Bool, Name, is_label, Item, Cite, items_of, share_label, Header, header_of, numbers_from, starts_with_mark, begin, is_unfinished, is_compressed, WritesRow, WritesCompressed, WritesNormal, Writes, IsMalformed, WritesPacked, OneAnswer}
 use Rattle.proof_code.proofs.LetterItemLemmas.{RowIsRead, WritesRow-read, read-WritesRow}
 use Rattle.proof_code.proofs.RowOfNumbers.{joined}
@@ -6,23 +6,23 @@ use Rattle.proof_code.proofs.WritesLemmas.{without_header, row_after, written_af
 
 -- ---- one list, or none
 
--- one list of items is written, or none
+-- exactly one list of items is written, or none
 abbrev Written : (List Item → Type 0) → Type 0
 Written W = ((items : List Item) × W items × ((other : List Item) → W other → other ≡ items)) ⊎ ((items : List Item) → W items → ⊥)
 
--- where two ways write the same, a property of the one holds for the other
+-- if two ways of writing write the same lists, the property holds for one if it holds for the other
 carried : {V W : List Item → Type 0} → ((items : List Item) → V items → W items) → ((items : List Item) → W items → V items) → Written V → Written W
 carried to from (inl v) = inl (v.0, to v.0 v.1, λ other w. v.2 other (from other w))
 carried to from (inr none) = inr (λ items w. none items (from items w))
 
--- a normal proof writes items where all its tokens are labels
+-- a normal proof writes one list of items, or none
 normal_or_not : (tokens : List Name) → Written (WritesNormal tokens)
 normal_or_not tokens = elim (cases_Bool (list_all is_label tokens)) [
   | inl e ↦ inl (map (λ token. Cite token) tokens, record { labels = e; cites = refl }, λ items w. w.cites)
   | inr e ↦ inr (λ items w. true≢false (sym w.labels ∙ e))
 ]
 
--- letters do where they are a row of words and marks
+-- letters write one list of items, or none
 row_or_not : (labels : List Name) (letters : List ℕ) → Written (WritesRow labels letters)
 row_or_not labels letters = by (starts_with_mark letters) refl (numbers_from (length labels) 0 letters) refl
   where
@@ -47,7 +47,7 @@ begins_so : (tokens : List Name) → is_compressed tokens ≡ true → tokens �
 begins_so [] h = cc
 begins_so (token ∷ tokens) h = ap (λ t. t ∷ tokens) ((bytes_eq-Decides token begin).0 h)
 
--- a compressed proof does by its header and its row
+-- a compressed proof writes one list of items, or none
 compressed_or_not : (tokens mandatory : List Name) → is_compressed tokens ≡ true → Written (WritesCompressed tokens mandatory)
 compressed_or_not tokens mandatory compressed = by (header_of (without_first tokens)) refl
   where
@@ -85,7 +85,7 @@ one_or_none tokens mandatory = elim (cases_Bool (is_unfinished tokens)) [
     plain c items (inl w) = absurd (true≢false (sym w.0 ∙ c))
     plain c items (inr w) = w.1.1
 
--- tokens write one list of items at most
+-- tokens write at most one list of items
 pub one_list : (tokens mandatory : List Name) (a b : List Item) → Writes tokens mandatory a → Writes tokens mandatory b → a ≡ b
 one_list tokens mandatory a b wa wb = elim (one_or_none tokens mandatory) [
   | inl w ↦ w.2 a wa ∙ sym (w.2 b wb)
@@ -94,12 +94,12 @@ one_list tokens mandatory a b wa wb = elim (one_or_none tokens mandatory) [
 
 -- ---- one answer
 
--- the tokens of a compressed proof that are malformed write no items
+-- the tokens of a malformed compressed proof write no items
 pub malformed-none : (tokens mandatory : List Name) → is_compressed tokens ≡ true → IsMalformed tokens (WritesPacked tokens mandatory) → (items : List Item) → Writes tokens mandatory items → ⊥
 malformed-none tokens mandatory compressed malformed items (inl w) = malformed.1 items w.1
 malformed-none tokens mandatory compressed malformed items (inr w) = both_ways (is_compressed tokens) w.0 compressed
 
--- each proof has one answer alone
+-- each proof has exactly one answer
 pub one_answer : (tokens mandatory : List Name) → OneAnswer tokens mandatory
 one_answer tokens mandatory = record {
   some = elim (one_or_none tokens mandatory) [

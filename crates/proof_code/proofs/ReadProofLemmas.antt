@@ -1,4 +1,4 @@
--- A compressed proof that is read with no mandatory label at hand.
+-- A compressed proof that is read without its mandatory labels.
 use Rattle.proof_code.proofs.Words.{◌≡◌, ℕ, ◌+◌, ◌-◌, ◌*◌, ◌<◌, suc, ◌≤◌, Bool, true, false, cond, ◌==◌, nat_le, List, [], ◌∷◌, ◌++◌, length, take, drop, slice_index_or, Option, Some, None, refl, list_all, sym, ◌∙◌, ap, arith, true≢false, length-append, append_assoc, nat_tests, drop_more, list_all-append, none-some, and_parts, Name, is_word, AreWords, Item, items_of, before_rest, IsByteEffect, IsLetterEffect, share_label, IsHeading, Header, header_of, letters_of, starts_with_mark, numbers_from, begin, finish, WritesCompressed, take-append_seam}
 use Rattle.proof_code.proofs.LettersLemmas.{first_bounds, last_bounds}
 use Rattle.proof_code.proofs.LetterItemLemmas.{numbers_from-over, RowIsRead, WritesRow-read, read-WritesRow}
@@ -9,7 +9,7 @@ use Rattle.proof_code.proofs.WritesLemmas.{IsHeader, header-read, row_after, wri
 
 -- ---- the letters
 
--- the letters up to an index are read, and the numbers kept stand before those of the rest
+-- the letters up to an index are read, and their numbers come before those of the rest
 abbrev pub IsRead : ℕ → List ℕ → ℕ → ℕ → List ℕ → ℕ → Type 0
 IsRead labels text limit digits numbers index =
     numbers_from labels 0 (letters_of text) ≡ before_rest numbers (numbers_from limit digits (letters_of (drop index text)))
@@ -26,14 +26,14 @@ pub read-none : (labels : ℕ) (text : List ℕ) → IsRead labels text labels 0
 read-none labels text = before-none (numbers_from labels 0 (letters_of text))
 
 module _ (labels : ℕ) (text : List ℕ) (limit digits : ℕ) (numbers : List ℕ) (index : ℕ) (read : IsRead labels text limit digits numbers index) where
-  -- one byte more is read
+  -- one more byte is read
   pub read-more : (limit' digits' : ℕ) (more : List ℕ) → index < length text → IsByteEffect limit digits (slice_index_or text index 0) more limit' digits' → IsRead labels text limit' digits' (numbers ++ more) (index + 1)
   read-more limit' digits' more within goes =
       let rest : List ℕ = drop (index + 1) text in
       read ∙ (ap (λ rest. before_rest numbers (numbers_from limit digits (letters_of rest))) (drop_more text index 0 within)
       ∙ (ap (before_rest numbers) (goes rest) ∙ before-more numbers more (numbers_from limit' digits' (letters_of rest))))
 
--- a letter A to Z with which the word comes to more than the limit however it ends: a mark does after digits
+-- a letter A to Z that takes a word over the limit, however the word ends, gives no numbers; so does a mark after digits
 pub over_limit : (limit most digits letter value : ℕ) (ends : Bool) → IsLetterEffect letter digits value ends → 65 ≤ letter → letter ≤ 90 → limit < 20 * most + 20 → cond ends limit most < value
     → (text : List ℕ) → numbers_from limit digits (letters_of (letter ∷ text)) ≡ None
 over_limit limit most digits letter value ends is low high room over text =
@@ -62,7 +62,7 @@ module _ (tokens before : List Name) (letters : List ℕ) (count : ℕ) (starts 
   abbrev header : Header
   header = found.0
 
-  -- it has the parts of the definition
+  -- its parts are those of the definition
   is : IsHeader before header
   is = header-read before header found.1
 
@@ -77,29 +77,29 @@ module _ (tokens before : List Name) (letters : List ℕ) (count : ℕ) (starts 
     letters_are : letters_of letters ≡ joined header.rest
     letters_are = ap letters_of (sym found.2) ∙ letters_of-spaced header.rest rest_visible
 
-    -- they begin with a mark where the joined words do
+    -- they begin with a mark exactly if the joined words do
     first_is : starts_with_mark letters ≡ starts_with_mark (joined header.rest)
     first_is = ap starts_with_mark (sym found.2) ∙ starts_with_mark-spaced header.rest rest_visible
 
-    -- the limit counts the mandatory labels and the listed ones
+    -- the limit is the number of mandatory labels and listed ones
     numbered : (labels : List Name) → length labels ≡ mandatory → length (labels ++ header.listed) ≡ limit
     numbered labels long = omega (arith, length-append labels header.listed, found.3, limit_is, long)
 
-    -- whatever is written after the header is read as a row
+    -- if the proof writes items, its letters are read, and the items are those of their numbers
     is_row : (labels : List Name) (items : List Item) → WritesCompressed tokens labels items → RowIsRead (labels ++ header.listed) (joined header.rest) items
     is_row labels items w = read-WritesRow (labels ++ header.listed) (joined header.rest) items (row_after tokens before starts header found.1 labels items w).1
 
-    -- letters that begin with a mark write nothing
+    -- if the letters begin with a mark, the proof writes nothing
     pub marked_first : starts_with_mark letters ≡ true → (labels : List Name) (items : List Item) → WritesCompressed tokens labels items → ⊥
     marked_first h labels items w = true≢false (sym h ∙ (first_is ∙ (is_row labels items w).starts))
 
-    -- nor do letters that write no numbers
+    -- if the letters give no numbers, the proof writes nothing
     pub unnumbered : numbers_from limit 0 (letters_of letters) ≡ None → (labels : List Name) → length labels ≡ mandatory → (items : List Item) → WritesCompressed tokens labels items → ⊥
     unnumbered h labels long items w =
         let row : RowIsRead (labels ++ header.listed) (joined header.rest) items = is_row labels items w in
         none-some row.numbers (sym h ∙ (ap (numbers_from limit 0) letters_are ∙ (ap (λ l. numbers_from l 0 (joined header.rest)) (sym (numbered labels long)) ∙ row.read)))
 
-    -- and where they write numbers, the proof is read
+    -- if the letters give numbers, the proof is read as its listed labels and these numbers
     pub heading : (numbers : List ℕ) → starts_with_mark letters ≡ false → numbers_from limit 0 (letters_of letters) ≡ Some numbers → IsHeading tokens mandatory before count numbers
     heading numbers first read = record {
       listed = header.listed;
@@ -116,27 +116,27 @@ module _ (tokens before : List Name) (letters : List ℕ) (count : ℕ) (starts 
 -- ---- with the mandatory labels
 
 module _ (tokens mandatory words : List Name) (many count : ℕ) (numbers : List ℕ) (many_is : many ≡ length mandatory) (h : IsHeading tokens many words count numbers) where
-  -- the labels that are listed
+  -- the first `count` words are the listed labels
   listed-is : take count words ≡ h.listed
   listed-is = ap (take count) h.whole ∙ (ap (λ n. take n (h.listed ++ finish ∷ h.rest)) (sym h.many) ∙ take-append_seam h.listed (finish ∷ h.rest))
 
-  -- where one of them is a mandatory one, nothing is written
+  -- if one of them is a mandatory label, the proof writes nothing
   pub shared-none : share_label mandatory (take count words) ≡ true → (items : List Item) → WritesCompressed tokens mandatory items → ⊥
   shared-none s = h.shared mandatory (ap (share_label mandatory) (sym listed-is) ∙ s)
 
-  -- else the items of the numbers
+  -- otherwise the proof writes the items of the numbers
   pub apart-written : share_label mandatory (take count words) ≡ false → WritesCompressed tokens mandatory (items_of (mandatory ++ take count words) numbers)
   apart-written s = rw listed-is (h.apart mandatory (sym many_is) (ap (share_label mandatory) (sym listed-is) ∙ s))
 
 -- ---- the table of the labels
 
--- with so many of the words that are left, the labels are all
+-- the labels, with so many of the words that are left, are all labels
 pub record AreAdded (all labels words : List Name) (left : ℕ) : Type 0 where
   pub joined : labels ++ take left words ≡ all
   pub some : left ≤ length words
   pub visible : AreWords words
 
--- the first of them is added
+-- the first of these words is added to the labels
 pub one-added : (all labels words : List Name) (left next : ℕ) (label : Name) (rest new : List Name) → AreAdded all labels words left → words ≡ label ∷ rest → left ≡ suc next → new ≡ labels ++ label ∷ [] → AreAdded all new rest next
 one-added all labels words left next label rest new added first more is =
     let taken : take left words ≡ label ∷ take next rest = ap (λ n. take n words) more ∙ ap (take (suc next)) first in

@@ -1,4 +1,4 @@
--- Letters read from left to right give the numbers of one row of words and marks, and a row's numbers are read.
+-- Letters that are read give the numbers of one row of words and marks, and the letters of each row are read.
 use Rattle.proof_code.proofs.Words.{◌≡◌, ℕ, zero, suc, ◌+◌, ◌-◌, ◌*◌, ◌<◌, ◌≤◌, false, true, cond, ◌&&◌, ◌==◌, nat_lt, nat_le, List, [], ◌∷◌, ◌++◌, flat_map, length, Option, Some, None, refl, get_or, option_map, sym, ◌∙◌, ap, arith, append_assoc, none-some, same_Some, slice_get-get_or, slice_get_within, get_or_from_slice_get, nat_tests, cond_both, and_parts, eqb-true, leb-true, ltb-true, ltb-false, lt-ltb, le-ltb, append-nil, Name, is_empty, Item, Cite, Recall, Mark, IsNumber, is_first, is_last, number_from, number_of, item_of, items_of, with_number, numbers_from, mark, AreItems}
 use Rattle.proof_code.proofs.LettersLemmas.{number_of-placed, placed-number_of, first_bounds, last_bounds}
 
@@ -7,7 +7,7 @@ joined row = flat_map (λ word. word) row
 
 -- ---- one letter
 
--- the property of the numbers, whatever letter comes first
+-- a property of the numbers, if it holds for each kind of first letter
 pub by_letter : (P : Option (List ℕ) → Type 0) (limit digits letter : ℕ) (letters : List ℕ)
     → (is_first letter ≡ true → P (numbers_from limit (5 * digits + (letter - 84)) letters))
     → (is_first letter ≡ false → is_last letter ≡ true → P (with_number limit (20 * digits + (letter - 64)) (numbers_from limit 0 letters)))
@@ -20,15 +20,15 @@ by_letter P limit digits letter letters first last marks none =
 
 -- ---- the meaning of a number
 
--- a number within those of the labels cites the label at that place
+-- a number up to the count of the labels cites the label at that place
 pub item-cite : (labels : List Name) (n k : ℕ) → n ≡ suc k → k < length labels → item_of labels n ≡ Cite (get_or labels k [])
 item-cite labels n k e h = ap (item_of labels) e ∙ ap (λ b. cond b (Cite (get_or labels k [])) (Recall (suc (k - length labels)))) (lt-ltb k (length labels) h)
 
--- a number after those of the labels recalls a mark
+-- a number above the count of the labels recalls a mark
 pub item-recall : (labels : List Name) (n k : ℕ) → n ≡ suc k → length labels ≤ k → item_of labels n ≡ Recall (suc (k - length labels))
 item-recall labels n k e h = ap (item_of labels) e ∙ ap (λ b. cond b (Cite (get_or labels k [])) (Recall (suc (k - length labels)))) (le-ltb k (length labels) h)
 
--- a word whose number is within the labels and the marks means the item of that number
+-- a word whose number is at most the count of labels and marks means the item of that number
 means : (labels : List Name) (marks number : ℕ) (word : Name) (row : List Name) (items : List Item)
     → 1 ≤ number → number ≤ length labels + marks → IsNumber word number → AreItems labels marks row items → AreItems labels marks (word ∷ row) (item_of labels number ∷ items)
 means labels marks zero word row items some within is rest = absurd (omega arith)
@@ -39,7 +39,7 @@ means labels marks (suc n) word row items some within is rest =
 
 -- ---- sound: the numbers read are those of a row
 
--- the letters `before` of a word that is begun come to `digits`
+-- the letters `before` at the start of a word have the value `digits`
 pub record Begun (before : Name) (digits : ℕ) : Type 0 where
   pub counts : (word : Name) → number_of (before ++ word) ≡ number_from digits word
   pub none : digits ≡ 0 → before ≡ []
@@ -70,7 +70,7 @@ with_number-some limit number rest numbers =
     cond_both (nat_le number limit) _ _ (λ o. o ≡ Some numbers → (number ≤ limit) × ((more : List ℕ) × (rest ≡ Some more) × (number ∷ more ≡ numbers)))
     (λ e h. (leb-true number limit e, option_map-some (λ numbers. number ∷ numbers) rest numbers h)) (λ e h. absurd (none-some numbers h))
 
--- a word's last letter
+-- the last letter of a word
 read_last : (labels : List Name) (marks limit digits : ℕ) (before : Name) (letter : ℕ) (letters numbers : List ℕ) → limit ≡ length labels + marks → Begun before digits
     → is_first letter ≡ false → is_last letter ≡ true → ((more : List ℕ) → numbers_from limit 0 letters ≡ Some more → ReadRow labels marks [] letters more)
     → with_number limit (20 * digits + (letter - 64)) (numbers_from limit 0 letters) ≡ Some numbers → ReadRow labels marks before (letter ∷ letters) numbers
@@ -105,9 +105,9 @@ read_row labels marks limit digits before (letter ∷ letters) numbers is begun 
     rw (← got.2, begun.none none, z) (record { row = mark ∷ read.row; whole = ap (λ r. mark ++ r) read.whole; means = (refl, read.means) }))
     (λ first last h. absurd (none-some numbers h))
 
--- ---- complete: a row's numbers are read
+-- ---- complete: the numbers of a row are read
 
--- the letters of one word and what follows
+-- the numbers of the letters of a word and of those after it
 numbers_from-word : (limit d number : ℕ) (word : Name) (rest : List ℕ) → number_from d word ≡ Some number → numbers_from limit d (word ++ rest) ≡ with_number limit number (numbers_from limit 0 rest)
 numbers_from-word limit d number [] rest h = absurd (none-some number h)
 numbers_from-word limit d number (letter ∷ word) rest h =
@@ -122,13 +122,13 @@ numbers_from-word limit d number (letter ∷ word) rest h =
     alone [] h = ap (λ n. with_number limit n (numbers_from limit 0 rest)) (same_Some (20 * d + (letter - 64)) number h)
     alone (x ∷ word) h = absurd (none-some number h)
 
--- the numbers of a row, and its items from them
+-- the letters are read as numbers, and the items are those of the numbers
 pub record RowRead (labels : List Name) (limit : ℕ) (letters : List ℕ) (items : List Item) : Type 0 where
   pub numbers : List ℕ
   pub read : numbers_from limit 0 letters ≡ Some numbers
   pub are : items_of labels numbers ≡ items
 
--- a word's item before those that follow
+-- the item of a word in front of the items that follow
 word_read : (labels : List Name) (marks limit number : ℕ) (word : Name) (row : List Name) (item : Item) (items : List Item)
     → IsNumber word number → number ≤ limit → item_of labels number ≡ item → RowRead labels limit (joined row) items → RowRead labels limit (word ++ joined row) (item ∷ items)
 word_read labels marks limit number word row item items is within of more =
@@ -139,7 +139,7 @@ word_read labels marks limit number word row item items is within of more =
       are = rw (of, more.are) refl;
     }
 
--- the numbers of a row's words are read, where the limit counts the labels and the marks before
+-- the numbers of a row are read, if the limit is the count of the labels and the marks before
 pub row_read : (labels : List Name) (marks limit : ℕ) (row : List Name) (items : List Item) → limit ≡ length labels + marks → AreItems labels marks row items → RowRead labels limit (joined row) items
 row_read labels marks limit [] [] is m = record { numbers = []; read = refl; are = refl }
 row_read labels marks limit [] (item ∷ items) is m = absurd m

@@ -15,7 +15,7 @@ last_of_one_letter = refl
 first_of_two_letters : IsNumber (codes "UA") 21
 first_of_two_letters = refl
 
--- after U stand the next twenty words
+-- twenty words of two letters begin with U, and UT is the last of them
 last_after_u : IsNumber (codes "UT") 40
 last_after_u = refl
 
@@ -45,29 +45,29 @@ cut_word_has_no_number = refl
 
 -- ---- letters
 
--- a space between two words and one inside a word have the same effect
+-- a space between two words has the same effect as one inside a word
 spaces_cut_letters_anywhere : numbers_from 130 0 (letters_of (codes "TU AYTU UA")) ≡ Some (20 ∷ 21 ∷ 120 ∷ 121 ∷ [])
 spaces_cut_letters_anywhere = refl
 
--- the word is 131, one more than the limit
+-- the word has the number 131, one more than the limit
 word_past_the_limit : numbers_from 130 0 (codes "UUK") ≡ None
 word_past_the_limit = refl
 
--- with one label, a mark lets B recall its result
+-- with one label, a mark lets B recall the marked result
 mark_gives_one_number_more : numbers_from 1 0 (codes "AZB") ≡ Some (1 ∷ 0 ∷ 2 ∷ [])
 mark_gives_one_number_more = refl
 
--- before its mark the recall is over the limit
+-- a recall before its mark is over the limit
 recall_before_its_mark : numbers_from 1 0 (codes "ABZ") ≡ None
 recall_before_its_mark = refl
 
--- a Z may not stand after a U
+-- a Z may not follow a U
 mark_inside_a_word : numbers_from 130 0 (codes "AUZA") ≡ None
 mark_inside_a_word = refl
 
 -- ---- items
 
--- `( b ) ABZBC` with one mandatory label: a, b, a mark, b, the result marked
+-- `( b ) AB ZBC` with one mandatory label: cite a, cite b, mark, cite b, recall the marked result
 compressed : WritesPacked (words_of (codes "( b ) AB ZBC")) (codes "a" ∷ []) (Cite (codes "a") ∷ Cite (codes "b") ∷ Mark ∷ Cite (codes "b") ∷ Recall 1 ∷ [])
 compressed = (
   refl,
@@ -90,7 +90,7 @@ compressed = (
 numbers_over_labels : items_of (codes "a" ∷ codes "b" ∷ []) (1 ∷ 2 ∷ 0 ∷ 2 ∷ 3 ∷ []) ≡ Cite (codes "a") ∷ Cite (codes "b") ∷ Mark ∷ Cite (codes "b") ∷ Recall 1 ∷ []
 numbers_over_labels = refl
 
--- two labels cite, each the statement that it names
+-- two labels, each of which cites the statement that it names
 normal : WritesPlain (words_of (codes "tt tze")) (Cite (codes "tt") ∷ Cite (codes "tze") ∷ [])
 normal = (refl, record { labels = refl; cites = refl })
 

@@ -1,4 +1,4 @@
--- The table of the letters, and what a letter makes by it of the digits before it.
+-- The table of the letters, and the value that it gives for a letter and the digits before it.
 use Rattle.proof_code.proofs.Words.{◌≡◌, ℕ, zero, suc, ◌+◌, ◌-◌, ◌*◌, ◌<◌, ◌≤◌, cond, ◌==◌, nat_le, List, [], ◌∷◌, refl, sym, ◌∙◌, ap, arith, map, get_or, range_with_len, get_or-map-range_with_len, cond_both, nat_tests, IsLetterEffect, ◌%◌, ◌^◌, bit_and, and_le_r, and_mask, STEPS}
 
 -- the four numbers of a letter, where `A` is 0
@@ -12,7 +12,7 @@ columns (suc (suc zero)) h = refl
 columns (suc (suc (suc zero))) h = refl
 columns (suc (suc (suc (suc place)))) h = absurd (omega (arith, h))
 
--- the table has them
+-- the table holds these numbers
 step-read : (place i at : ℕ) → place < 4 → i < 26 → at ≡ 4 * i + place → get_or STEPS at 0 ≡ get_or (step i) place 0
 step-read place i at few h is =
     ap (λ n. get_or STEPS n 0) is ∙ (sym (get_or-map-range_with_len (λ i. get_or STEPS (4 * i + place) 0) 0 26 i i 0 h (omega arith))
@@ -21,7 +21,7 @@ step-read place i at few h is =
 abbrev value : ℕ → ℕ → ℕ → ℕ
 value digits factor digit = (digits * factor) % 2 ^ 64 + digit
 
--- the effect of a letter on the digits by four numbers, and how many numbers it ends
+-- the value of the digits with a letter after them, by four numbers, and how many numbers the letter ends
 abbrev Makes : ℕ → ℕ → ℕ → ℕ → ℕ → ℕ → Type 0
 Makes letter digits factor digit kept ends =
     (value digits factor digit < 2 ^ 64) × IsLetterEffect letter digits (value digits factor digit) (ends == 1)
@@ -31,7 +31,7 @@ module _ (letter digits : ℕ) (low : 65 ≤ letter) (high : letter ≤ 90) (sma
   abbrev By : List ℕ → Type 0
   By numbers = Makes letter digits (get_or numbers 0 0) (get_or numbers 1 0) (get_or numbers 2 0) (get_or numbers 3 0)
 
-  -- no bits of a value are kept
+  -- no bit of the value is kept
   none : (n : ℕ) → bit_and n 0 ≡ 0
   none n = omega (arith, and_le_r n 0)
 
@@ -60,6 +60,6 @@ module _ (letter digits : ℕ) (low : 65 ≤ letter) (high : letter ≤ 90) (sma
     at : (place place' : ℕ) → place < 4 → 4 * (from - 65) + place ≡ place' → get_or STEPS place' 0 ≡ get_or (step (letter - 65)) place 0
     at place place' few there = step-read place (letter - 65) place' few (omega (arith, high)) (omega (arith, is, there))
 
-    -- the numbers of the table do
+    -- the numbers of the table give the effect of the letter
     pub makes : Makes letter digits (get_or STEPS (4 * (from - 65)) 0) (get_or STEPS (4 * (from - 65) + 1) 0) (get_or STEPS (4 * (from - 65) + 2) 0) (get_or STEPS (4 * (from - 65) + 3) 0)
     makes = rw (at 0 (4 * (from - 65)) (omega arith) (omega arith), at 1 (4 * (from - 65) + 1) (omega arith) refl, at 2 (4 * (from - 65) + 2) (omega arith) refl, at 3 (4 * (from - 65) + 3) (omega arith) refl) by_step

@@ -4,17 +4,17 @@ use Rattle.proof_code.proofs.RowOfNumbers.{joined}
 
 -- ---- the header
 
--- the header's parts are those of the definition
+-- the parts of the header are those of the definition
 pub record IsHeader (tokens : List Name) (header : Header) : Type 0 where
   pub whole : tokens ≡ header.listed ++ finish ∷ header.rest
   pub labels : list_all is_label header.listed ≡ true
 
--- a header with a label put before comes from one without that label
+-- a header with a label in front comes from a header without it
 some_header : (o : Option Header) (label : Name) (header : Header) → option_map (with_label label) o ≡ Some header → (more : Header) × (o ≡ Some more) × (with_label label more ≡ header)
 some_header None label header h = absurd (none-some header h)
 some_header (Some more) label header h = (more, refl, same_Some (with_label label more) header h)
 
--- a header that is read is one
+-- a header that is read has the parts of the definition
 pub header-read : (tokens : List Name) (header : Header) → header_of tokens ≡ Some header → IsHeader tokens header
 header-read [] header h = absurd (none-some header h)
 header-read (token ∷ tokens) header h = elim (cases_Bool (name_eq token finish)) [
@@ -28,7 +28,7 @@ header-read (token ∷ tokens) header h = elim (cases_Bool (name_eq token finish
   ]
 ]
 
--- and the one that is there is read
+-- a header that is there is read
 read-header : (listed rest : List Name) → list_all is_label listed ≡ true → header_of (listed ++ finish ∷ rest) ≡ Some (record { listed = listed; rest = rest })
 read-header [] rest labels = refl
 read-header (label ∷ listed) rest labels =
@@ -45,7 +45,7 @@ begins iter tokens before (Some x) steps is compressed =
     let first : tokens ≡ x.now ∷ before = sym is ∙ steps in
     first ∙ ap (λ t. t ∷ before) ((bytes_eq-Decides x.now begin).0 (sym (ap is_compressed first) ∙ compressed))
 
--- the text of words begins with a mark where the words joined do
+-- the text of words begins with a mark exactly if the joined words do
 pub starts_with_mark-spaced : (words : List Name) → list_all is_word words ≡ true → starts_with_mark (spaced words) ≡ starts_with_mark (joined words)
 starts_with_mark-spaced [] h = refl
 starts_with_mark-spaced ([] ∷ words) h = absurd (true≢false (sym h))
@@ -53,23 +53,23 @@ starts_with_mark-spaced ((b ∷ word) ∷ []) h = refl
 starts_with_mark-spaced ((b ∷ word) ∷ next ∷ words) h = refl
 
 module _ (tokens before : List Name) (starts : tokens ≡ begin ∷ before) where
-  -- written tokens have the header that is read
+  -- tokens that write items have the header that is read
   header-is : (labels : List Name) (items : List Item) (w : WritesCompressed tokens labels items) → header_of before ≡ Some (record { listed = w.listed; rest = w.rest })
   header-is labels items w =
       let same : before ≡ w.listed ++ finish ∷ w.rest = cc (starts, w.whole) in
       ap header_of same ∙ read-header w.listed w.rest w.labels
 
-  -- without a header nothing is written
+  -- tokens without a header write nothing
   pub without_header : header_of before ≡ None → (labels : List Name) (items : List Item) → WritesCompressed tokens labels items → ⊥
   without_header none labels items w = none-some (record { listed = w.listed; rest = w.rest }) (sym none ∙ header-is labels items w)
 
   module _ (header : Header) (read : header_of before ≡ Some header) where
-    -- after the header that is read a row is written, and it lists no mandatory label
+    -- after the header a row is written, and the header lists no mandatory label
     pub row_after : (labels : List Name) (items : List Item) → WritesCompressed tokens labels items → (share_label labels header.listed ≡ false) × WritesRow (labels ++ header.listed) (joined header.rest) items
     row_after labels items w =
         rw (← same_Some (record { listed = w.listed; rest = w.rest }) header (sym (header-is labels items w) ∙ read)) (w.apart, w.letters)
 
-    -- and such a row is written by the whole proof
+    -- if such a row is written after the header, the whole proof writes its items
     pub written_after : (labels : List Name) (items : List Item) → share_label labels header.listed ≡ false → WritesRow (labels ++ header.listed) (joined header.rest) items → WritesCompressed tokens labels items
     written_after labels items apart row =
         let is : IsHeader before header = header-read before header read in

@@ -1,4 +1,4 @@
--- Two parts of a text that is cut at a place read as the statements of the whole.
+-- Two parts of a text that is cut at a place read as the statements of the whole text.
 use Rattle.std.specs.Prelude.{◌≡◌, ℕ, true, ◌||◌, List, [], ◌∷◌, ◌++◌, take, drop, Option, Some, None, IfSome, Vec}
 use Rattle.std.specs.declared.alloc.Global.{Global}
 use Rattle.std.proofs.Common.{refl, sym, ◌∙◌, ap, subst}
@@ -13,23 +13,23 @@ use Rattle.mm_read.proofs.JoinedReads.{joined_reads}
 use Rattle.read_pool.specs.Cut.{IsCut}
 use Rattle.read_pool.specs.Concatenation.{IsConcatenation}
 
--- no word goes on into a text that starts white
+-- no word continues into a text that starts white
 white_joins : (text other : List ℕ) → starts_white other ≡ true → joins_no_words text other ≡ true
 white_joins [] other white = refl
 white_joins (b ∷ []) other white = ap (λ t. is_white b || t) white ∙ or-true (is_white b)
 white_joins (b ∷ c ∷ text) other white = white_joins (c ∷ text) other white
 
 module _ (text front back : List ℕ) (at : ℕ) (cut : IsCut text at) (begins : front ≡ take at text) (ends : back ≡ drop at text) where
-  -- the two parts are the text
+  -- the two parts together are the text
   whole : front ++ back ≡ text
   whole = ap (λ r. r ++ back) begins ∙ (ap (λ r. take at text ++ r) ends ∙ take-append-drop at text)
 
-  -- no word goes on from the one into the other
+  -- no word continues from the first part into the second
   no_word_joined : joins_no_words front back ≡ true
   no_word_joined = white_joins front back (ap starts_white ends ∙ cut.1)
 
   module _ (first second : Option (Vec Stmt Global)) (one : IfSome first (λ S. Reads front S.items)) (other : IfSome second (λ S. Reads back S.items)) where
-    -- where both parts read, the text reads as the statements of both
+    -- if both parts can be read, the text reads as the statements of the first and then those of the second
     both_read : (S : Database) → IsConcatenation first second S → Reads text S
     both_read S are = by first second one other are
       where
@@ -38,7 +38,7 @@ module _ (text front back : List ℕ) (at : ℕ) (cut : IsCut text at) (begins :
         by (Some v) None one other are = absurd are
         by None second one other are = absurd are
 
-    -- .. and so does what is answered, where there is an answer
+    -- .. and so does the result, if there is one
     pub parts_read : (r : Option (Vec Stmt Global)) → IfSome r (λ S. IsConcatenation first second S.items) → IfSome r (λ S. Reads text S.items)
     parts_read (Some v) are = both_read v.items are
     parts_read None are = tt

@@ -4,6 +4,6 @@
 use Rattle.std.specs.Prelude.{ℕ, ◌≤◌, IsTrue, List, length, drop}
 use Rattle.mm_lex.specs.Alphabet.{starts_white}
 
--- a white byte stands there, or the text ends
+-- a white byte is there, or the text ends
 abbrev pub IsCut : List ℕ → ℕ → Type 0
 IsCut text at = (at ≤ length text) × IsTrue (starts_white (drop at text))

@@ -1,4 +1,4 @@
--- Marks given to names, one test after another, and names that are given codes.
+-- Marks of names, set by one test after another, and names that are given codes.
 use Rattle.rule_violation.proofs.Words.{◌≡◌, ℕ, zero, suc, ◌<◌, Bool, true, false, cond, not, ◌&&◌, ◌||◌, List, [], ◌∷◌, ◌++◌, map, replicate, length, slice_set, slice_get, refl, sym, ◌∙◌, ap, arith, append-nil, Some, true≢false, Name, name_eq, has_name, name_at, code_of, AreDistinct, name_same, same_name, name_eq-comm, has-at, code-name, has_name-append, slice_index_or, ◌≤◌, inl, inr, or_parts, or_right, cases_lt, false_from_ne_true, or_assoc, or-false, all_different, IsTwice, marked}
 
 pub marked-same : (p q : Name → Bool) (v : Bool) → ((x : Name) → p x ≡ q x) → (names : List Name) (marks : List Bool) → marked p v names marks ≡ marked q v names marks
@@ -6,7 +6,7 @@ marked-same p q v same [] marks = refl
 marked-same p q v same (x ∷ names) [] = refl
 marked-same p q v same (x ∷ names) (m ∷ marks) = ap (λ b. cond b v m ∷ marked p v names marks) (same x) ∙ ap (λ r. cond (q x) v m ∷ r) (marked-same p q v same names marks)
 
--- names that pass the one test or the other
+-- marks that are set by one test and then by another are set by either
 pub marked-both : (p q r : Name → Bool) (v : Bool) → ((x : Name) → r x ≡ (q x || p x)) → (names : List Name) (marks : List Bool) → marked p v names (marked q v names marks) ≡ marked r v names marks
 marked-both p q r v either [] marks = refl
 marked-both p q r v either (x ∷ names) [] = refl
@@ -24,7 +24,7 @@ marked-none p v none [] marks = refl
 marked-none p v none (x ∷ names) [] = refl
 marked-none p v none (x ∷ names) (m ∷ marks) = ap (λ b. cond b v m ∷ marked p v names marks) (none x) ∙ ap (λ l. m ∷ l) (marked-none p v none names marks)
 
--- a name that has no code, and one that has
+-- the test for a name without a code changes no mark
 pub marked-absent : (w : Name) (v : Bool) (names : List Name) (marks : List Bool) → has_name w names ≡ false → marked (λ x. name_eq x w) v names marks ≡ marks
 marked-absent w v [] marks h = refl
 marked-absent w v (x ∷ names) [] h = refl
@@ -32,7 +32,7 @@ marked-absent w v (x ∷ names) (m ∷ marks) h =
     let parts : (name_eq w x ≡ false) × (has_name w names ≡ false) = or_parts (name_eq w x) (has_name w names) h in
     ap (λ b. cond b v m ∷ marked (λ x. name_eq x w) v names marks) (name_eq-comm x w ∙ parts.0) ∙ ap (λ l. m ∷ l) (marked-absent w v names marks parts.1)
 
--- the mark of one name is set at the place where the name is
+-- the test for one name sets the mark at the index of that name
 at_place : (w : Name) (v : Bool) (names : List Name) (marks : List Bool) (n : ℕ) → AreDistinct names → n < length names → name_at names n ≡ w → length marks ≡ length names
     → marked (λ x. name_eq x w) v names marks ≡ slice_set marks n v
 at_place w v [] marks n d h e l = absurd (omega (arith, h))
@@ -61,12 +61,12 @@ pub map-same : (f g : Name → Bool) → ((x : Name) → f x ≡ g x) → (names
 map-same f g same [] = refl
 map-same f g same (x ∷ names) = ap (λ b. b ∷ map f names) (same x) ∙ ap (λ l. g x ∷ l) (map-same f g same names)
 
--- equal marks, as a map
+-- equal marks, written as a map
 all_alike : (b : Bool) (names : List Name) → replicate (length names) b ≡ map (λ (x : Name). b) names
 all_alike b [] = refl
 all_alike b (x ∷ names) = ap (λ l. b ∷ l) (all_alike b names)
 
--- one test from equal marks, and two
+-- marks that were equal, after one test
 pub marked-once : (p f : Name → Bool) (v b : Bool) (names : List Name) (marks : List Bool) → marks ≡ replicate (length names) b → ((x : Name) → cond (p x) v b ≡ f x)
     → marked p v names marks ≡ map f names
 marked-once p f v b names marks e same =
@@ -85,7 +85,7 @@ marked-three p q r v names marks =
 
 -- ---- reading a mark
 
--- the mark at a name's code is what the test says of the name
+-- the mark at the code of a name is the result of the test for the name
 pub mark_is : (t : Name → Bool) (names : List Name) (marks : List Bool) (w : Name) (n : ℕ) → code_of names w ≡ Some n → marks ≡ map t names → slice_index_or marks n false ≡ t w
 mark_is t names marks w n c e = let at = code-name names w n c in ap (λ m. slice_index_or m n false) e ∙ (read names n at.0 ∙ ap t at.1)
   where
@@ -96,7 +96,7 @@ mark_is t names marks w n c e = let at = code-name names w n c in ap (λ m. slic
 
 -- ---- names with a code
 
--- a name that is given a code has one, and the others keep theirs
+-- a name that is given a code has one, and so have the names that had one before
 coded : (old new : List Name) (x w : Name) (n : ℕ) → (n < length new) × (name_at new n ≡ w) → (n < length old → new ≡ old) → (length old ≤ n → new ≡ old ++ w ∷ [])
     → (has_name x old || name_eq x w) ≡ true → has_name x new ≡ true
 coded old new x w n at same more h = by (name_eq x w) refl
@@ -111,7 +111,7 @@ coded old new x w n at same more h = by (name_eq x w) refl
     by true e = has-at new x n at.0 (at.1 ∙ sym (same_name x w e))
     by false e = kept (sym (or-false (has_name x old)) ∙ (ap (λ b. has_name x old || b) (sym e) ∙ h))
 
--- a name that has a code or is still to get one does so also when the next has got its own
+-- a name that has a code or is among those left is so also after the next of them is given its code
 pub coded_first : (old new rest : List Name) (x w : Name) (n : ℕ) → (n < length new) × (name_at new n ≡ w) → (n < length old → new ≡ old) → (length old ≤ n → new ≡ old ++ w ∷ [])
     → (has_name x old || has_name x (w ∷ rest)) ≡ true → (has_name x new || has_name x rest) ≡ true
 coded_first old new rest x w n at same more h = by (has_name x rest) refl
@@ -120,20 +120,20 @@ coded_first old new rest x w n at same more h = by (has_name x rest) refl
     by true e = or_right (has_name x new) (has_name x rest) e
     by false e = ap (λ b. b || has_name x rest) (coded old new x w n at same more (ap (λ b. has_name x old || b) (sym (ap (λ c. name_eq x w || c) e ∙ or-false (name_eq x w))) ∙ h))
 
--- ---- the first that occurs twice
+-- ---- the first name that occurs twice
 
--- an element of the first of two lists, by its place
+-- an element of the first of two lists, by its index
 got_before : (X ys : List Name) (n : ℕ) → n < length X → slice_get (X ++ ys) n ≡ Some (name_at X n)
 got_before [] ys n h = absurd (omega (arith, h))
 got_before (x ∷ X) ys zero h = refl
 got_before (x ∷ X) ys (suc n) h = got_before X ys n (omega (arith, h))
 
--- the first element after a list, by the length of that list
+-- the first element after a list has the length of that list as its index
 got_after : (X rest : List Name) (w : Name) → slice_get (X ++ w ∷ rest) (length X) ≡ Some w
 got_after [] rest w = refl
 got_after (x ∷ X) rest w = got_after X rest w
 
--- a name that is met again, at a place of those before it, occurs twice
+-- a name that is read again, and has an index among those before, occurs twice
 pub again : (X rest words : List Name) (w : Name) (first second : ℕ) → X ++ (w ∷ rest) ≡ words → second ≡ length X → first < second → name_at X first ≡ w → IsTwice words first second
 again X rest words w first second split count low is = (
   low,
@@ -144,12 +144,12 @@ again X rest words w first second split count low is = (
   },
 )
 
--- distinct names are all different
+-- distinct names pass the test that all names are different
 differ : (names : List Name) → AreDistinct names → all_different names ≡ true
 differ [] d = refl
 differ (x ∷ names) d = ap (λ b. not b && all_different names) d.0 ∙ differ names d.1
 
--- where none is left and none was met again, the names are all different
+-- if no name is left and none was read again, the names are all different
 pub none_again : (names left words : List Name) → names ++ left ≡ words → left ≡ [] → AreDistinct names → all_different words ≡ true
 none_again names left words split e d =
     ap all_different (sym split ∙ (ap (λ r. names ++ r) e ∙ append-nil names)) ∙ differ names d

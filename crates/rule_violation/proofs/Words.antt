@@ -1,4 +1,4 @@
--- The words in which this crate is proved, passed on from one place.
+-- The names that the proofs of this crate use, exported again from one place.
 pub use Rattle.mm_lex.proofs.NameLemmas.{name_same, same_name}
 pub use Rattle.mm_lex.specs.Alphabet.{Name, has_name, name_eq}
 pub use Rattle.mm_read.specs.Statements.{Database, Expr}

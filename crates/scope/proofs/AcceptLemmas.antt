@@ -1,4 +1,4 @@
--- Each kind of legal statement keeps what the rules keep.
+-- The state of the rules after a legal statement of each kind.
 use Rattle.scope.proofs.Words.{◌≡◌, ℕ, ◌+◌, ◌<◌, ◌==◌, Bool, true, false, not, ◌&&◌, ◌||◌, List, [], ◌∷◌, ◌++◌, cond, nat_lt, length, None, is_some, refl, Result, Ok, Err, OnOk, is_err, list_any, list_all, ◌∙◌, ap, sym, subst, true≢false, arith, append-nil, not-true, and_parts, ltb-true, Name, name_eq, has_name, Stmt, Open, Close, Const, Var, Disj, Float, Ess, Axiom, Prove, Database, bare, has_float, active_variables, typed_variables, all_different, broken_rule, are_numbers_distinct, name_at, decode, with_names, codes_or_len, code_or_len, AreNamed, AreCodes, AreDistinct, Declared, kind_in, with_kind, with_kinds, IsRulesState, IsPlain, can_push, symbols_of, AreNumbers, StackHeights, NameKind, with_names-more, codes_or_len-more, has-with_names, same_name, code-at, found-number}
 use Rattle.std.proofs.lemmas.List.{append_assoc}
 use Rattle.scope.proofs.NamesLemmas.{symbols_of-append, symbols-distinct, active-named}
@@ -30,11 +30,11 @@ with_kinds-more names kind (x ∷ xs) =
 plus_zero : (n : ℕ) → n + 0 ≡ n
 plus_zero n = omega arith
 
--- each of no names is among the names
+-- each name of the empty list is among the names
 no_names : (names : List Name) → AreNamed names []
 no_names names x h = absurd (true≢false (sym h))
 
--- the numbers that stand for names are the numbers of these names
+-- numbers that decode to some names are the numbers of these names
 pub numbers-of : (names : List Name) (numbers : List ℕ) (xs : List Name) → AreDistinct names → AreCodes names numbers → decode names numbers ≡ xs → codes_or_len names xs ≡ numbers
 numbers-of names numbers xs distinct codes stand = ap (codes_or_len names) (sym stand) ∙ by numbers codes
   where
@@ -46,7 +46,7 @@ numbers-of names numbers xs distinct codes stand = ap (codes_or_len names) (sym 
     by (n ∷ ns) h = let p = and_parts (nat_lt n (length names)) (list_all (λ m. nat_lt m (length names)) ns) h in
         ap (λ m. m ∷ codes_or_len names (decode names ns)) (one n (ltb-true n (length names) p.0)) ∙ ap (λ ms. n ∷ ms) (by ns p.1)
 
--- they differ where the names do
+-- the numbers are distinct exactly if the names are
 pub numbers-differ : (names : List Name) (numbers : List ℕ) (xs : List Name) → AreDistinct names → AreNumbers names xs numbers → are_numbers_distinct numbers ≡ all_different xs
 numbers-differ names numbers xs distinct are = by numbers are.0 ∙ ap all_different are.1
   where
@@ -86,7 +86,7 @@ module _ (S M : Database) (vs ts : List ℕ) (n : ℕ) (blocks : List StackHeigh
       ∙ can_push-names N (active_variables S) xs (λ x h. has-with_names x (symbols_of S) xs h) l.1
       (λ x h. sym (is_variable-active S x) ∙ inactive-not S x (all-has _ x xs l.0 h)))
 
-  -- the variable of a legal `$f` has a number
+  -- the variable of a legal `$f` is a declared symbol
   float-known : (l c v : Name) → broken_rule S (Float l c v) ≡ None → has_name v (symbols_of S) ≡ true
   float-known l c v legal = active-named S v (sym (is_variable-active S v) ∙ (legal-float S l c v legal).0)
 
@@ -138,7 +138,7 @@ bare-rule S (Float label constant variable) = refl
 bare-rule S (Ess label expr) = refl
 bare-rule S (Axiom label expr) = refl
 
--- the property of a call's success, where it has not failed
+-- if a call does not fail, the property of its success holds
 pub ok_of : {A B : Type 0} {P : Type 0} (r : Result A B) → is_err r ≡ false → OnOk r P → P
 ok_of (Ok x) h p = p
 ok_of (Err e) h p = cc

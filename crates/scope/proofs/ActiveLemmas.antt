@@ -1,7 +1,7 @@
--- The effect of one more statement on the active ones.
+-- The active statements after one more statement.
 use Rattle.scope.proofs.Words.{◌≡◌, ℕ, zero, suc, ◌+◌, ◌-◌, ◌≤◌, Bool, true, false, cond, List, [], ◌∷◌, ◌++◌, length, take, refl, flat_map, ◌∙◌, ap, sym, arith, true≢false, take_at, flat_map-append, or_parts, Stmt, Open, Close, Database, NeverCloses, has_open, before_open, count, stays_open, active_from, is_open, is_close}
 
--- one that closes no block closes none
+-- a statement that is no `$}` closes no block
 pub stays_open-append : (d : ℕ) (S : Database) (s : Stmt) → is_close s ≡ false → stays_open d (S ++ s ∷ []) ≡ stays_open d S
 stays_open-append d [] Close h = cc
 stays_open-append d [] s h = refl
@@ -14,7 +14,7 @@ pub cond-append : {A : Type 0} (b : Bool) (x : A) (xs ys : List A) → cond b (x
 cond-append true x xs ys = refl
 cond-append false x xs ys = refl
 
--- it is active itself, and so is what was
+-- a statement that is no `$}` is active, and the earlier ones stay as they are
 pub active_from-append : (at : ℕ) (S : Database) (s : Stmt) → is_close s ≡ false → active_from at (S ++ s ∷ []) ≡ active_from at S ++ (at + length S, s) ∷ []
 active_from-append at [] s h = ap (λ n. (n, s) ∷ []) (grind arith)
 active_from-append at (t ∷ S) s h =
@@ -26,7 +26,7 @@ active_from-append at (t ∷ S) s h =
     place : (a n : ℕ) → a + 1 + n ≡ a + suc n
     place a n = omega arith
 
--- ---- how many blocks that were open before the statements they close
+-- ---- how many of the blocks that are open before the statements they close
 
 abbrev pub deficit : Database → ℕ
 deficit [] = 0
@@ -48,11 +48,11 @@ below-deficit zero (Close ∷ S) h = absurd (omega arith)
 below-deficit (suc d) (Close ∷ S) h = below-deficit d S (omega arith)
 below-deficit d (s ∷ S) h = below-deficit d S h
 
--- statements that close no block before them have no `$}` too many
+-- if the statements close no block that is open before them, the count is 0
 pub no_deficit : (S : Database) → stays_open 0 S ≡ true → deficit S ≡ 0
 no_deficit S h = omega (arith, deficit-below 0 S h)
 
--- others have one at least
+-- otherwise the count is at least 1
 pub some_deficit : (S : Database) → stays_open 0 S ≡ false → 1 ≤ deficit S
 some_deficit S h = by (deficit S) refl
   where
@@ -71,7 +71,7 @@ stays_open-same S T e = by (stays_open 0 T) refl
     by true h = below-deficit 0 S (omega (arith, no_deficit T h))
     by false h = other (stays_open 0 S) refl (omega (arith, some_deficit T h))
 
--- how many blocks that they open they leave open
+-- how many of the blocks that the statements open they leave open
 abbrev pub left_open : Database → ℕ
 left_open [] = 0
 left_open (Open ∷ S) = cond (stays_open 0 S) (suc (left_open S)) (left_open S)
@@ -88,7 +88,7 @@ deficit-close (Open ∷ S) = by (stays_open 0 S) refl (deficit-close S)
 deficit-close (Close ∷ S) = omega (arith, deficit-close S)
 deficit-close (s ∷ S) = deficit-close S
 
--- the brackets, counted
+-- `${` and the closed blocks from before are as many as `$}` and the blocks left open
 pub count-left_open : (S : Database) → count is_open S + deficit S ≡ count is_close S + left_open S
 count-left_open [] = refl
 count-left_open (Open ∷ S) = by (stays_open 0 S) refl (count-left_open S)
@@ -108,13 +108,13 @@ count-append p (s ∷ S) T = by (p s) (count-append p S T)
     by true e = omega arith
     by false e = e
 
--- ---- the statements that a `$}` leaves: those before the last open block
+-- ---- the statements that stay active after a `$}`: those before the last open block
 
 abbrev pub from_open : List (ℕ × Stmt) → List (ℕ × Stmt)
 from_open [] = []
 from_open (p ∷ es) = cond (has_open es) (from_open es) (p ∷ es)
 
--- an active statement stands before the last open block, or from its start on
+-- the active statements are those before the last open block and those from its start on
 pub split_open : (es : List (ℕ × Stmt)) → es ≡ before_open es ++ from_open es
 split_open [] = refl
 split_open (p ∷ es) = by (has_open es) (split_open es)
@@ -157,7 +157,7 @@ none-left at (s ∷ S) h = by (stays_open 0 S) h (none-left (at + 1) S)
     by true h rest = rest (or_parts (is_open s) (has_open (active_from (at + 1) S)) h).1
     by false h rest = rest h
 
--- a `$}` closes what is still open exactly where a block is
+-- statements that close no block from before still close none with a `$}` after them exactly if one of their own is open
 closes : (at : ℕ) (S : Database) → stays_open 0 S ≡ true → stays_open 0 (S ++ Close ∷ []) ≡ has_open (active_from at S)
 closes at S h = by (has_open (active_from at S)) refl
   where
@@ -169,7 +169,7 @@ closes at S h = by (has_open (active_from at S)) refl
     by true o = below-deficit 0 (S ++ Close ∷ []) (omega (arith, deficit-close S, no_deficit S h, open-left at S o))
     by false o = no (stays_open 0 (S ++ Close ∷ [])) refl (none-left at S o)
 
--- a `$}` more leaves a block closed that was closed
+-- statements that close a block from before them do so also with a `$}` after them
 closed_stays : (S : Database) → stays_open 0 S ≡ false → stays_open 0 (S ++ Close ∷ []) ≡ false
 closed_stays S h = by (stays_open 0 (S ++ Close ∷ [])) refl
   where
@@ -177,11 +177,11 @@ closed_stays S h = by (stays_open 0 (S ++ Close ∷ [])) refl
     by true k = absurd (omega (arith, no_deficit (S ++ Close ∷ []) k, deficit-close S, some_deficit S h))
     by false k = refl
 
--- a position moved on by one, in two ways
+-- a position that is moved by one, written in two ways
 pub place : (a n : ℕ) → a + 1 + n ≡ a + suc n
 place a n = omega arith
 
--- one statement before those that a `$}` leaves: it is left where its block is still open
+-- one more statement in front: after a `$}` it stays active if it was active and a block after it is open
 close_step : (b o : Bool) (p : ℕ × Stmt) (q : ℕ × Stmt) (r later : List (ℕ × Stmt)) → has_open r ≡ o → later ≡ before_open r ++ q ∷ []
     → cond (cond b o false) (p ∷ later) later ≡ before_open (cond b (p ∷ r) r) ++ q ∷ []
 close_step true true p q r later o e = ap (λ x. p ∷ x) e ∙ ap (λ c. cond c (p ∷ before_open r) [] ++ q ∷ []) (sym o)
@@ -189,7 +189,7 @@ close_step true false p q r later o e =
     e ∙ (ap (λ x. x ++ q ∷ []) (before_open-none r o) ∙ ap (λ c. cond c (p ∷ before_open r) [] ++ q ∷ []) (sym o))
 close_step false o p q r later h e = e
 
--- with a `$}` more, statements close no block before them where they closed none and one of theirs is open
+-- with a `$}` after them, statements close no block from before exactly if they close none without it and one of theirs is open
 closes_all : (at : ℕ) (S : Database) → stays_open 0 (S ++ Close ∷ []) ≡ cond (stays_open 0 S) (has_open (active_from at S)) false
 closes_all at S = by (stays_open 0 S) refl
   where
@@ -204,7 +204,7 @@ active_from-close at (s ∷ S) =
     ∙ (close_step (stays_open 0 S) (has_open (active_from (at + 1) S)) (at, s) (at + 1 + length S, Close) (active_from (at + 1) S) _ refl (active_from-close (at + 1) S)
     ∙ ap (λ n. before_open (active_from at (s ∷ S)) ++ (n, Close) ∷ []) (place at (length S)))
 
--- the statements that a list of one kind loses at a `$}`
+-- after a `$}`, a list of entries of active statements is the first part of the list before
 pub flat_map-taken : {A : Type 0} (f : ℕ × Stmt → List A) (es : List (ℕ × Stmt)) → take (length (flat_map f (before_open es))) (flat_map f es) ≡ flat_map f (before_open es)
 flat_map-taken f es =
     ap (take (length (flat_map f (before_open es)))) (ap (flat_map f) (split_open es) ∙ flat_map-append f (before_open es) (from_open es))
@@ -229,7 +229,7 @@ active_from-later at (s ∷ S) T h =
     place : (a n : ℕ) → a + 1 + n ≡ a + suc n
     place a n = omega arith
 
--- ---- the test is the sentence: no beginning has more `$}` than `${`, of which `d` more are open
+-- ---- the test agrees with the law: no prefix has more `$}` than `${` and the `d` blocks that are open before
 
 -- no statements close no block
 none_closed : (d : ℕ) (S : Database) → count is_close (take 0 S) ≤ count is_open (take 0 S) + d

@@ -1,7 +1,7 @@
--- No rule looks at a proof, and a statement declares the same without it.
+-- No rule looks at a proof, and a statement declares the same names without it.
 use Rattle.scope.proofs.Words.{◌≡◌, ℕ, zero, suc, ◌+◌, ◌==◌, Bool, true, false, not, cond, ◌||◌, ◌&&◌, nat_lt, List, [], ◌∷◌, Some, None, refl, list_any, list_all, ◌∙◌, ap, Name, has_name, Stmt, Open, Close, Const, Var, Disj, Float, Ess, Axiom, Prove, Database, Expr, bare, bares, count, stays_open, active_from, is_open, is_close, constants, variables, label_of, has_label, is_float_of, is_variable, is_constant, was_symbol, was_label, has_float, IsLegal, broken_rule, end_rule, all_different, Declared, symbols_by, declared_with, G1, G2, G3, G4, G5, G6, G7, G8, G9, G10}
 
--- a property that ignores proofs is that of the statement without one
+-- a function that ignores proofs gives the same for a statement without its proof
 pub bare-same : {A : Type 0} (f : Stmt → A) → ((label : Name) (expr : Expr) (proof : List Name) → f (Prove label expr []) ≡ f (Prove label expr proof)) → (s : Stmt) → f (bare s) ≡ f s
 bare-same f h (Prove label expr proof) = h label expr proof
 bare-same f h Open = refl
@@ -55,11 +55,11 @@ any-active q h at (s ∷ S) =
     by false e = e
 
 module _ (S : Database) where
-  -- as many blocks are opened
+  -- the same number of blocks is opened
   opens : count is_open (bares S) ≡ count is_open S
   opens = count-bares is_open (bare-same is_open (λ l e p. refl)) S
 
-  -- as many are closed
+  -- the same number of blocks is closed
   closes : count is_close (bares S) ≡ count is_close S
   closes = count-bares is_close (bare-same is_close (λ l e p. refl)) S
 

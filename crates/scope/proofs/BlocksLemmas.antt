@@ -1,4 +1,4 @@
--- The open blocks, and how high the stacks stood before them.
+-- The open blocks, and the heights of the stacks before each.
 use Rattle.scope.proofs.Words.{◌≡◌, ℕ, suc, ◌+◌, ◌==◌, Bool, true, false, not, cond, ◌||◌, nat_lt, List, [], ◌∷◌, ◌++◌, length, refl, ◌∙◌, ap, sym, arith, append_assoc, append-nil, nat_tests, Stmt, Open, Database, count, stays_open, active_from, is_open, is_close, is_closed, heights_of, blocks_from, StackHeights, has_open, before_open}
 use Rattle.scope.proofs.ActiveLemmas.{left_open, count-left_open, no_deficit}
 
@@ -40,7 +40,7 @@ open-left_open S h = by (count is_open S) (count is_close S) (left_open S) (omeg
     by : (a b l : ℕ) → a ≡ b + l → nat_lt b a ≡ not (l == 0)
     by a b l e = grind (arith, nat_tests)
 
--- where no block is open there are no starts of blocks
+-- if no block is open, the list of heights is empty
 no_blocks : (pre es : List (ℕ × Stmt)) → has_open es ≡ false → blocks_from pre es ≡ []
 no_blocks pre [] h = refl
 no_blocks pre (p ∷ es) h = by (is_open p.1) h (no_blocks (pre ++ p ∷ []) es)
@@ -50,7 +50,7 @@ no_blocks pre (p ∷ es) h = by (is_open p.1) h (no_blocks (pre ++ p ∷ []) es)
     by true h rest = cc
     by false h rest = rest h
 
--- the last of the open blocks starts where what stands before it ends
+-- the last heights are those of the statements before the last open block, and the others are those of the earlier blocks
 pub blocks-close : (pre es : List (ℕ × Stmt)) → has_open es ≡ true → blocks_from pre es ≡ blocks_from pre (before_open es) ++ heights_of (pre ++ before_open es) ∷ []
 blocks-close pre [] h = cc
 blocks-close pre (p ∷ es) h = by (has_open es) refl (is_open p.1) refl h (blocks-close (pre ++ p ∷ []) es)

@@ -1,4 +1,4 @@
--- The databases of the worked rows.
+-- The databases of the worked examples.
 use Rattle.scope.proofs.Words.{◌≡◌, ℕ, List, [], ◌∷◌, ◌++◌, codes, refl, Name, words_of, Stmt, Open, Close, Const, Var, Disj, Float, Ess, Axiom, Prove, Database, AreShaped, tokens_of}
 
 abbrev pub w : List ℕ → List Name
@@ -30,7 +30,7 @@ demo_mp = Axiom (codes "mp") (w (codes "|- Q"))
 abbrev pub demo : Database
 demo = demo_before ++ demo_mp ∷ Close ∷ Prove (codes "th1") (w (codes "|- t = t")) (w (codes "tt tze tpl tt weq tt tt weq tt a2 tt tze tpl tt weq tt tze tpl tt weq tt tt weq wim tt a2 tt tze tpl tt tt a1 mp mp")) ∷ []
 
--- rows 6 and 7
+-- the front of the databases of rows 6 and 7
 abbrev pub rows_front : Database
 rows_front =
     Const (w (codes "wff R |-"))
@@ -53,7 +53,7 @@ row_seven = rows_front ++ row_ax ∷ Close
 abbrev pub row_th : Stmt
 row_th = Prove (codes "th") (w (codes "|- R x")) (w (codes "wx wz wx wz ax r"))
 
--- the words of D's text
+-- the tokens of D are the words of its text
 demo_tokens : tokens_of demo ≡ w (codes "$c 0 + = -> ( ) term wff |- $. $v t r s P Q $. tt $f term t $. tr $f term r $. ts $f term s $. wp $f wff P $. wq $f wff Q $. tze $a term 0 $. tpl $a term ( t + r ) $. weq $a wff t = r $. wim $a wff ( P -> Q ) $. a1 $a |- ( t = r -> ( t = s -> r = s ) ) $. a2 $a |- ( t + 0 ) = t $. ${ min $e |- P $. maj $e |- ( P -> Q ) $. mp $a |- Q $. $} th1 $p |- t = t $= tt tze tpl tt weq tt tt weq tt a2 tt tze tpl tt weq tt tze tpl tt weq tt tt weq wim tt a2 tt tze tpl tt tt a1 mp mp $.")
 demo_tokens = refl
 

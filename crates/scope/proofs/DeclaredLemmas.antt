@@ -1,4 +1,4 @@
--- The declarations of one more statement.
+-- The names that are declared after one more statement.
 use Rattle.scope.proofs.Words.{◌≡◌, ℕ, Bool, true, false, ◌||◌, List, [], ◌∷◌, ◌++◌, Option, Some, None, refl, list_any, ◌∙◌, ap, sym, subst, true≢false, or-false, append-nil, list_any-append, Name, name_eq, has_name, Stmt, Open, Close, Const, Var, Disj, Float, Ess, Axiom, Prove, Database, constants, variables, label_of, has_label, broken_rule, with_names, Declared, kind_in, MatchesKind, MatchesKinds, IsNumberingOf, with_kind, with_kinds, is_label_kind, is_constant_kind, is_variable_kind, symbols_of, symbols_by, symbols_after, symbols_in, option_list, labels_of, declared_with, MayDeclare, IsRecordedBy, AreRecorded, NameKind, Label, Constant, Variable, same_name}
 use Rattle.scope.proofs.NamesLemmas.{or_kind, kind_in-with_kinds, symbols_of-append, labels_of-append}
 use Rattle.scope.proofs.SymbolNameLemmas.{declared_symbols-label, declared_symbols-with_kinds, declared_labels-label, declared_labels-with_kinds}
@@ -11,7 +11,7 @@ use Rattle.scope.proofs.LegalLemmas.{legal-constants, legal-variables, legal-lab
 any-append : (p : Stmt → Bool) (S : Database) (s : Stmt) → list_any p (S ++ s ∷ []) ≡ (list_any p S || p s)
 any-append p S s = list_any-append p S (s ∷ []) ∙ ap (λ b. list_any p S || b) (or-false (p s))
 
--- the three tests after one more statement, from what it adds to each
+-- the kind of a name after one more statement, from the name's kind before and what the statement declares
 tells-step : (S : Database) (s : Stmt) (x : Name) (k k' : Option NameKind) → MatchesKind S x k
     → (is_label_kind k || has_label x (label_of s)) ≡ is_label_kind k' → (is_constant_kind k || has_name x (constants s)) ≡ is_constant_kind k'
     → (is_variable_kind k || has_name x (variables s)) ≡ is_variable_kind k' → MatchesKind (S ++ s ∷ []) x k'
@@ -159,7 +159,7 @@ declared_with-more names Open = ([], sym (append-nil names))
 declared_with-more names Close = ([], sym (append-nil names))
 declared_with-more names (Disj xs) = ([], sym (append-nil names))
 
--- the recorded numbers of a legal statement stand for its symbols
+-- the recorded numbers of a legal statement are those of its symbols
 pub recorded-after : (S : Database) (s : Stmt) (names : Declared) (old new : Option (List ℕ)) → broken_rule S s ≡ None → IsNumberingOf S names → IsRecordedBy (declared_with names s) s old new
     → AreRecorded (symbols_after S s) (symbols_in s) old → AreRecorded (symbols_after S s) (symbols_in s) new
 recorded-after S (Const xs) names old new legal k is recorded = subst (λ (N : List Name). AreRecorded N xs new) ((numbering-constants S names xs legal k).symbols ∙ symbols_of-append S (Const xs)) is

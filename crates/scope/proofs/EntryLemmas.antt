@@ -1,11 +1,11 @@
--- The entry of a name tells its kind and its number.
+-- The entry of a name gives its kind and its number.
 use Rattle.scope.proofs.Words.{◌≡◌, ℕ, ◌-◌, ◌<◌, ◌≤◌, Bool, true, cond, List, [], ◌∷◌, ◌++◌, length, take, Some, slice_get, option_map, refl, ◌∙◌, ap, sym, subst, arith, length-take-le, get_or, slice_get-map, slice_get_read, Name, name_at, code_of, code-name, code-first, added-name, Declared, declared_names, declared_symbols, declared_labels, names_that, names_of_kind, kind_in, zip_kinds, is_symbol_kind, is_label, IsNumberOf, kinds_of, AreCounted, indexes_that, NameKind, Label, Constant, Variable, CountedKind}
 use Rattle.scope.proofs.KindsLemmas.{names-seen, kind-at, length-seen}
 use Rattle.scope.proofs.KindCountLemmas.{kinds-length, count-at, both-counts, indexes-length, index-at}
 use Rattle.scope.proofs.SymbolNameLemmas.{names_that-append, number-at}
 
 module _ (names : List Name) (entries : List CountedKind) (same : length entries ≡ length names) (counted : AreCounted 0 entries) (e : CountedKind) where
-  -- the symbols before a index
+  -- the count of an entry is the number of symbols before its index
   pub symbols-earlier_symbols : (n : ℕ) → slice_get entries n ≡ Some e → e.earlier_symbols ≡ length (declared_symbols (take n (zip_kinds names (kinds_of entries))))
   symbols-earlier_symbols n at = let is = count-at names entries 0 n e same counted at in omega (arith, is)
 
@@ -14,7 +14,7 @@ module _ (names : List Name) (entries : List CountedKind) (same : length entries
       let size = length-seen names (kinds_of entries) (kinds-length names entries same) in
       length-take-le n (zip_kinds names (kinds_of entries)) (omega (arith, size, below))
 
-  -- there are no more than names, and the others are labels
+  -- at most n symbols come before the index n, and the other names before it are labels
   pub earlier_symbols-within : (n : ℕ) → n ≤ length names → slice_get entries n ≡ Some e → e.earlier_symbols ≤ n
   earlier_symbols-within n below at =
       let is = symbols-earlier_symbols n at in
@@ -29,7 +29,7 @@ module _ (names : List Name) (entries : List CountedKind) (same : length entries
       let both = both-counts (take n (zip_kinds names (kinds_of entries))) in
       omega (arith, is, all, both)
 
-  -- the kind of the name at a index
+  -- the kind of the name at an index
   pub kind-of-entry : (x : Name) (n : ℕ) → code_of names x ≡ Some n → slice_get entries n ≡ Some e → kind_in (zip_kinds names (kinds_of entries)) x ≡ Some e.kind
   kind-of-entry x n code at =
       let p = code-name names x n code in
@@ -48,7 +48,7 @@ module _ (names : List Name) (entries : List CountedKind) (same : length entries
           number-at own (zip_kinds names (kinds_of entries)) x n e.kind (subst (λ (N : List Name). n < length N) (sym is_seen) below) (ap (λ N. name_at N n) is_seen ∙ here)
           (λ m lt q. first m lt (ap (λ N. name_at N m) (sym is_seen) ∙ q)) (kind-of-entry x n code at) is
 
-  -- and its number
+  -- the number of the name at an index
   pub number-of-entry : (x : Name) (n : ℕ) → code_of names x ≡ Some n → slice_get entries n ≡ Some e
       → IsNumberOf (names_of_kind e.kind (zip_kinds names (kinds_of entries))) x (cond (is_symbol_kind e.kind) e.earlier_symbols (n - e.earlier_symbols))
   number-of-entry x n code at = by e.kind refl (code-name names x n code).0
@@ -61,12 +61,12 @@ module _ (names : List Name) (entries : List CountedKind) (same : length entries
       by Constant q lt = subst (λ (i : ℕ). IsNumberOf (names_that is_symbol_kind (zip_kinds names (kinds_of entries))) x i) (sym (symbols-earlier_symbols n at)) (numbered is_symbol_kind x n code at (ap is_symbol_kind q))
       by Variable q lt = subst (λ (i : ℕ). IsNumberOf (names_that is_symbol_kind (zip_kinds names (kinds_of entries))) x i) (sym (symbols-earlier_symbols n at)) (numbered is_symbol_kind x n code at (ap is_symbol_kind q))
 
--- there are as many indexes as names of some kinds
+-- there are as many indexes as names of these kinds
 pub indexes-count : (own : NameKind → Bool) (names : List Name) (entries : List CountedKind) (indexes : List ℕ) (seen : Declared) → length entries ≡ length names → indexes ≡ indexes_that own 0 entries → zip_kinds names (kinds_of entries) ≡ seen
     → length indexes ≡ length (names_that own seen)
 indexes-count own names entries indexes seen same are view = ap length are ∙ (indexes-length own 0 names entries same ∙ ap (λ N. length (names_that own N)) view)
 
--- the name of a number stands at its index
+-- the name of a number is the name at its index
 pub name-of-number : (own : NameKind → Bool) (names : List Name) (entries : List CountedKind) (indexes : List ℕ) (seen : Declared) (n p : ℕ) → length entries ≡ length names → indexes ≡ indexes_that own 0 entries → zip_kinds names (kinds_of entries) ≡ seen
     → n < length (names_that own seen) → p ≡ get_or indexes n p → (p < length names) × (name_at names p ≡ name_at (names_that own seen) n)
 name-of-number own names entries indexes seen n p same are view below at =

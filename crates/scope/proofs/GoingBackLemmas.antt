@@ -1,11 +1,11 @@
--- Marking, and going back to the mark; what the rules say of the names to be declared.
+-- The mark, the return to it, and what the rules say of the names to be declared.
 use Rattle.scope.proofs.Words.{◌≡◌, ℕ, ◌+◌, ◌==◌, Bool, true, false, not, ◌||◌, ◌&&◌, List, [], ◌∷◌, ◌++◌, length, take, Option, Some, None, is_some, refl, list_any, list_all, flat_map, ◌∙◌, ap, sym, arith, true≢false, or-false, append-nil, map-append, take-map, take_at, nil_from_length, flat_map-append, nat_tests, and_parts, or_parts, not-true, Name, name_eq, has_name, Stmt, Database, stays_open, active_from, active, is_closed, variables, typed_by, was_label, was_symbol, is_constant, is_variable, all_different, codes_or_len, code_or_len, AreNamed, symbols_of, stands_at, standing_of, Standing, Declared, kind_in, MatchesKinds, is_label_kind, is_constant_kind, heights_of, blocks_of, can_push, IsRulesState, StackHeights, NameKind, codes_or_len-more, has_name-append, name_same, same_name}
 use Rattle.scope.proofs.ActiveLemmas.{active_from-later, below-deficit, no_deficit, deficit, deficit-append, left_open}
 use Rattle.scope.proofs.BlocksLemmas.{length-blocks, closed-left}
 use Rattle.scope.proofs.NamesLemmas.{symbols_of-later, active-named}
 use Rattle.scope.proofs.SortsLemmas.{numbers-has, fresh-kind}
 
--- ---- marking, and going back to the mark
+-- ---- the mark, and the return to it
 
 pub kept-mark : (S M : Database) (vs ts : List ℕ) (n : ℕ) (blocks : List StackHeights) (mark heights : StackHeights) → is_closed S ≡ true → heights ≡ heights_of (active S)
     → IsRulesState S M vs ts n blocks mark → IsRulesState S S vs ts n blocks heights
@@ -37,7 +37,7 @@ stack-back f S M T stack e below known is =
     ∙ (ap (codes_or_len (symbols_of S)) (take_at A (flat_map f (active_from (1 + length M) T)) (length A) refl)
     ∙ (ap (λ ns. codes_or_len ns A) (ap symbols_of e ∙ more.1) ∙ codes_or_len-more (symbols_of M) more.0 A known))))
 
--- the statements that stand at the mark are the first of those that stood
+-- the active `$f`, `$e` and `$d` at the mark are the first of those that are active later
 pub standing-back : (S M : Database) (vs ts : List ℕ) (n : ℕ) (blocks : List StackHeights) (mark : StackHeights) → IsRulesState S M vs ts n blocks mark → take (length (standing_of M)) (standing_of S) ≡ standing_of M
 standing-back S M vs ts n blocks mark k =
     let f : ℕ × Stmt → List Standing = λ p. stands_at p.0 p.1 in
@@ -107,7 +107,7 @@ inactive-not S x h =
     let p = or_parts (is_variable S x || is_constant S x) (was_label S x) (not-true (is_variable S x || is_constant S x || was_label S x) h) in
     (or_parts (is_variable S x) (is_constant S x) p.0).0
 
--- a name of a list is another than one that is not in it
+-- a name in a list differs from a name that is not in it
 pub apart_from : (w x : Name) (ws : List Name) → has_name x ws ≡ true → not (has_name w ws) ≡ true → name_eq x w ≡ false
 apart_from w x ws h n = by (name_eq x w) refl
   where
@@ -115,7 +115,7 @@ apart_from w x ws h n = by (name_eq x w) refl
     by true e = absurd (true≢false (sym n ∙ (ap (λ z. not (has_name z ws)) (sym (same_name x w e)) ∙ ap not h)))
     by false e = refl
 
--- names that differ from one another and from those on the stack can be put there
+-- names that are distinct and are not on the stack can be pushed
 pub can_push-names : (names active ws : List Name) → AreNamed names ws → all_different ws ≡ true → ((x : Name) → has_name x ws ≡ true → has_name x active ≡ false)
     → can_push (codes_or_len names active) (codes_or_len names ws) ≡ true
 can_push-names names active [] known differ apart = refl

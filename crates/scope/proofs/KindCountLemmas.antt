@@ -1,10 +1,10 @@
--- The counts and the indexes beside the kinds.
+-- The counts of symbols, and the indexes of the names of some kinds.
 use Rattle.scope.proofs.Words.{◌≡◌, ℕ, zero, suc, ◌+◌, ◌<◌, ◌≤◌, Bool, true, false, cond, List, [], ◌∷◌, ◌++◌, length, take, Some, slice_get, refl, ◌∙◌, ap, sym, arith, add-zero, length-map, same_Some, Name, name_at, kinds_of, count_after, AreCounted, indexes_that, Declared, names_that, declared_symbols, symbols_before, zip_kinds, is_symbol_kind, is_label, CountedKind, NameKind, Label, Constant, Variable}
 
 pub kinds-length : (names : List Name) (entries : List CountedKind) → length entries ≡ length names → length (kinds_of entries) ≡ length names
 kinds-length names entries h = length-map entries (λ e. e.kind) ∙ h
 
--- as many of each stay
+-- the first n elements of two lists of the same length are as many
 pub take-same : {A B : Type 0} (n : ℕ) (xs : List A) (ys : List B) → length xs ≡ length ys → length (take n xs) ≡ length (take n ys)
 take-same zero [] [] h = refl
 take-same (suc n) [] [] h = refl
@@ -13,7 +13,7 @@ take-same n (x ∷ xs) [] h = absurd (omega (arith, h))
 take-same zero (x ∷ xs) (y ∷ ys) h = refl
 take-same (suc n) (x ∷ xs) (y ∷ ys) h = ap suc (take-same n xs ys (omega (arith, h)))
 
--- an entry more that has the count of those that are there
+-- one more entry, with the count of the symbols before it
 pub counted-push : (n m : ℕ) (entries : List CountedKind) (e : CountedKind) → AreCounted n entries → e.earlier_symbols ≡ n + length (indexes_that is_symbol_kind m entries) → AreCounted n (entries ++ e ∷ [])
 counted-push n m [] e c h = (h ∙ add-zero n, tt)
 counted-push n m (d ∷ entries) e c h = (c.0, counted-push (count_after d) (m + 1) entries e c.1 (by (is_symbol_kind d.kind) h))
@@ -29,7 +29,7 @@ counted-take n (suc i) [] c = tt
 counted-take n zero (e ∷ entries) c = tt
 counted-take n (suc i) (e ∷ entries) c = (c.0, counted-take (count_after e) i entries c.1)
 
--- the count of an entry is that of the symbols before its index
+-- the count of an entry is the number of symbols before its index
 pub count-at : (names : List Name) (entries : List CountedKind) (n i : ℕ) (e : CountedKind) → length entries ≡ length names → AreCounted n entries → slice_get entries i ≡ Some e
     → e.earlier_symbols ≡ n + symbols_before (zip_kinds names (kinds_of entries)) i
 count-at names [] n i e l c h = cc
@@ -56,7 +56,7 @@ indexes-push own n (d ∷ entries) e = by (own d.kind) (indexes-push own (n + 1)
     by true h = ap (λ r. n ∷ r) h
     by false h = h
 
--- there are as many as names of these kinds
+-- there are as many indexes as names of these kinds
 pub indexes-length : (own : NameKind → Bool) (n : ℕ) (names : List Name) (entries : List CountedKind) → length entries ≡ length names → length (indexes_that own n entries) ≡ length (names_that own (zip_kinds names (kinds_of entries)))
 indexes-length own n [] [] h = refl
 indexes-length own n [] (e ∷ entries) h = absurd (omega (arith, h))
@@ -76,7 +76,7 @@ indexes-fewer own n (e ∷ entries) = by (own e.kind) (indexes-fewer own (n + 1)
     by true k = omega (arith, k)
     by false k = omega (arith, k)
 
--- the index of a number is that of the name
+-- the name at the index of a number is the name of that number
 pub index-at : (own : NameKind → Bool) (n : ℕ) (names : List Name) (entries : List CountedKind) (c p : ℕ) → length entries ≡ length names → slice_get (indexes_that own n entries) c ≡ Some p
     → (i : ℕ) × (p ≡ n + i) × (i < length names) × (name_at names i ≡ name_at (names_that own (zip_kinds names (kinds_of entries))) c)
 index-at own n [] [] c p h g = cc
@@ -97,7 +97,7 @@ index-at own n (x ∷ names) (e ∷ entries) c p h g = by (own e.kind) c g (λ d
     by true (suc c) g rest = later c (rest c g)
     by false c g rest = later c (rest c g)
 
--- those of the first entries come first
+-- the indexes of the first entries come first
 pub indexes-take : (own : NameKind → Bool) (n k : ℕ) (names : List Name) (entries : List CountedKind) → length entries ≡ length names
     → indexes_that own n (take k entries) ≡ take (length (names_that own (take k (zip_kinds names (kinds_of entries))))) (indexes_that own n entries)
 indexes-take own n zero [] [] h = refl
@@ -113,7 +113,7 @@ indexes-take own n (suc k) (x ∷ names) (e ∷ entries) h = by (own e.kind) (in
     by true g = ap (λ r. n ∷ r) g
     by false g = g
 
--- each name is a symbol or a label
+-- the symbols and the labels together are as many as the names
 pub both-counts : (names : Declared) → length (declared_symbols names) + length (names_that is_label names) ≡ length names
 both-counts [] = refl
 both-counts (p ∷ names) = let rest = both-counts names in by p.1 rest

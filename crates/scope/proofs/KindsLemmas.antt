@@ -11,7 +11,7 @@ length-seen [] kinds h = refl
 length-seen (x ∷ names) [] h = absurd (omega (arith, h))
 length-seen (x ∷ names) (k ∷ kinds) h = ap suc (length-seen names kinds (omega (arith, h)))
 
--- the kind at the first place of the name, where no earlier one is the name
+-- the kind at the first index of a name is the kind of the name
 pub kind-at : (names : List Name) (kinds : List NameKind) (x : Name) (n : ℕ) (k : NameKind) → n < length names → name_at names n ≡ x → ((m : ℕ) → m < n → name_at names m ≡ x → ⊥) → slice_get kinds n ≡ Some k
     → kind_in (zip_kinds names kinds) x ≡ Some k
 kind-at [] kinds x n k lt e first h = absurd (omega (arith, lt))
@@ -35,12 +35,12 @@ kind-none (y ∷ names) (l ∷ kinds) x h =
     let p = or_parts (name_eq x y) (has_name x names) h in
     ap (λ b. cond b (Some l) (kind_in (zip_kinds names kinds) x)) p.0 ∙ kind-none names kinds x p.1
 
--- where a test that gives something or the rest gave nothing, it failed, and the rest is nothing
+-- if a choice between `Some` and a rest is `None`, the test fails and the rest is `None`
 pub none-cond : {A : Type 0} (b : Bool) (x : A) (r : Option A) → cond b (Some x) r ≡ None → (b ≡ false) × (r ≡ None)
 none-cond true x r h = cc
 none-cond false x r h = (refl, h)
 
--- a name with no kind is not among them
+-- a name without a kind is not among the names
 pub none-kind : (names : List Name) (kinds : List NameKind) (x : Name) → length kinds ≡ length names → kind_in (zip_kinds names kinds) x ≡ None → has_name x names ≡ false
 none-kind [] kinds x l h = refl
 none-kind (y ∷ names) [] x l h = absurd (omega (arith, l))

@@ -1,7 +1,7 @@
 -- Properties of a legal statement.
 use Rattle.scope.proofs.Words.{◌≡◌, Bool, true, false, not, cond, ◌||◌, ◌&&◌, nat_lt, List, [], ◌∷◌, Option, Some, None, refl, list_all, ◌∙◌, ap, sym, and_parts, or_comm, and-true, not-not, same_Some, Name, Stmt, Open, Close, Const, Var, Disj, Float, Ess, Axiom, Prove, Database, is_variable, is_constant, was_symbol, was_label, has_float, label_of, count, is_open, is_close, all_different, broken_rule, IsSort, is_symbol_sort, is_constant_sort, is_untyped_sort, broken_by_sorts, Sort, Rule, G4, G5, G6, G7}
 
--- where no rule is broken, the first is kept and so are the rest
+-- if no rule is broken, the first is kept, and the rest breaks none
 first_rule : (b : Bool) (r : Rule) (rest : Option Rule) → cond (not b) (Some r) rest ≡ None → (b ≡ true) × (rest ≡ None)
 first_rule true r rest h = (refl, h)
 first_rule false r rest h = cc
@@ -17,7 +17,7 @@ legal-variables S xs h = and_parts _ _ (first_rule _ _ _ h).0
 pub legal-close : (S : Database) → broken_rule S Close ≡ None → nat_lt (count is_close S) (count is_open S) ≡ true
 legal-close S h = (first_rule _ _ _ h).0
 
--- neither a label nor a symbol, in the other order
+-- a name that is neither a label nor a symbol, with the two tests exchanged
 fresh : (S : Database) (l : Name) → not (was_label S l || was_symbol S l) ≡ true → not (was_symbol S l || was_label S l) ≡ true
 fresh S l h = ap not (or_comm (was_symbol S l) (was_label S l)) ∙ h
 
@@ -44,7 +44,7 @@ legal-float S label constant variable h =
     by true false c false h = cc
     by false b c false h = cc
 
--- a `$f` with a fresh label breaks what its symbols break, by what they are
+-- a `$f` with a new label breaks the rule that the sorts of its two symbols give
 pub float-sorts : (S : Database) (l c v : Name) (p q : Sort) → not (was_symbol S l || was_label S l) ≡ true → IsSort S c p → IsSort S v q → broken_rule S (Float l c v) ≡ broken_by_sorts p q
 float-sorts S l c v p q new first second =
     (λ j. cond (not (unused j)) (Some G4)

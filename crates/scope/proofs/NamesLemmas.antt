@@ -17,11 +17,11 @@ symbols_from-more symbols (s ∷ S) =
     let rest = symbols_from-more (with_names symbols (symbols_by s)) S in
     (one.0 ++ rest.0, rest.1 ∙ (ap (λ ns. ns ++ rest.0) one.1 ∙ append_assoc symbols one.0 rest.0))
 
--- the later symbols
+-- the symbols after later statements are the earlier ones and then others
 pub symbols_of-later : (S T : Database) → (more : List Name) × (symbols_of (S ++ T) ≡ symbols_of S ++ more)
 symbols_of-later S T = let rest = symbols_from-more (symbols_of S) T in (rest.0, symbols_from-append [] S T ∙ rest.1)
 
--- no symbol stands twice
+-- no symbol is in the list twice
 pub symbols-distinct : (S : Database) → AreDistinct (symbols_of S)
 symbols-distinct S = by [] S tt
   where
@@ -59,7 +59,7 @@ active-was at (s ∷ S) x h = by (stays_open 0 S) h (active-was (at + 1) S x)
     by true k rest = both (or_cases (has_name x (variables s)) _ (sym (has_name-append x (variables s) _) ∙ k)) rest
     by false k rest = first (inr (rest k))
 
--- the names of a `$v` are declared by it
+-- a name that a statement declares as a variable is a symbol that it declares
 declares : (s : Stmt) (x : Name) → has_name x (variables s) ≡ true → has_name x (symbols_by s) ≡ true
 declares (Var names) x h = h
 declares Open x h = cc
@@ -79,7 +79,7 @@ was-named names (s ∷ S) x h = elim (or_cases (has_name x (variables s)) (was_v
   | inr k ↦ was-named (with_names names (symbols_by s)) S x k
 ]
 
--- the active variables have numbers
+-- the active variables are declared symbols
 pub active-named : (S : Database) → AreNamed (symbols_of S) (active_variables S)
 active-named S x h = was-named [] S x (active-was 1 S x h)
 
@@ -93,13 +93,13 @@ kind-has (p ∷ names) x = by (name_eq x p.0) (kind-has names x)
     by true e = refl
     by false e = e
 
--- the kind of a name after some are declared
+-- the kind of a name after another declaration: the kind that it has, or else the new one if it is declared
 abbrev pub or_kind : Option NameKind → Bool → NameKind → Option NameKind
 or_kind (Some k) new kind = Some k
 or_kind None true kind = Some kind
 or_kind None false kind = None
 
--- the kind of a name, after one is declared
+-- the kind of a name after one more name is declared
 pub kind_in-append : (names : Declared) (x y : Name) (kind : NameKind) → kind_in (names ++ (y, kind) ∷ []) x ≡ or_kind (kind_in names x) (name_eq x y) kind
 kind_in-append [] x y kind = by (name_eq x y)
   where

@@ -1,4 +1,4 @@
--- Words in order: one that stands twice is next to itself, so that they all differ where each two neighbours do.
+-- Sorted words: equal words are neighbours, so all words differ exactly if each differs from the one before it.
 use Rattle.scope.proofs.Words.{◌≡◌, ◌∙◌, refl, sym, ap, subst, arith, Bool, ℕ, ◌+◌, ◌-◌, ◌<◌, ◌≤◌, true, false, not, ◌&&◌, ◌||◌, true≢false, List, [], ◌∷◌, length, get_or, map, Bor, IsPermutation, IsSorted, Ordering, Less, Equal, Greater, is_lt, is_eq, nat_cmp, slice_cmp, on_texts, AllByRecursion, eq_by_cmp, ordering_reverse, IsPermutation-sym, IsDistinct-IsPermutation, IsDistinct-from_sorted, apart_from_distinct, sorted_from_all_adjacent, is_eq-slice_cmp, Name, name_eq, has_name, name_eq-comm, all_different, DifferFromNext, HasEqualNeighbours}
 use Rattle.std.specs.List.{IsDistinct}
 use Rattle.std.specs.List.Sorted.{IsStrictlySortedBy}
@@ -11,18 +11,18 @@ order x y = slice_cmp nat_cmp x.now y.now
 abbrev pub names_of : List (Bor Name) → List Name
 names_of = map (λ w. w.now)
 
--- a word that differs from others is none of them
+-- a word that differs from each of some words is not among their names
 none-of : (w : Bor Name) (ws : List (Bor Name)) → AllByRecursion (λ y. eq_by_cmp order w y ≡ false) ws → has_name w.now (names_of ws) ≡ false
 none-of w [] h = refl
 none-of w (x ∷ ws) h = ap (λ b. b || has_name w.now (names_of ws)) (sym (is_eq-slice_cmp w.now x.now) ∙ h.0) ∙ none-of w ws h.1
 
--- words none of which is another all differ
+-- words that are distinct in the order have distinct names
 different-from_distinct : (ws : List (Bor Name)) → IsDistinct (eq_by_cmp order) ws → all_different (names_of ws) ≡ true
 unfolding IsDistinct
 different-from_distinct [] d = refl
 different-from_distinct (w ∷ ws) d = ap (λ b. not b && all_different (names_of ws)) (none-of w ws d.0) ∙ different-from_distinct ws d.1
 
--- a name that is none of others differs from each
+-- a word whose name is not among those of some words differs from each of them
 apart-from_none : (w : Bor Name) (ws : List (Bor Name)) → has_name w.now (names_of ws) ≡ false → AllByRecursion (λ y. eq_by_cmp order w y ≡ false) ws
 apart-from_none w [] h = tt
 apart-from_none w (x ∷ ws) h = by (name_eq w.now x.now) refl h (apart-from_none w ws)
@@ -32,7 +32,7 @@ apart-from_none w (x ∷ ws) h = by (name_eq w.now x.now) refl h (apart-from_non
     by true e q rest = absurd (true≢false q)
     by false e q rest = (is_eq-slice_cmp w.now x.now ∙ e, rest q)
 
--- words that all differ are none another
+-- words with distinct names are distinct in the order
 distinct-from_different : (ws : List (Bor Name)) → all_different (names_of ws) ≡ true → IsDistinct (eq_by_cmp order) ws
 unfolding IsDistinct
 distinct-from_different [] d = tt
@@ -42,17 +42,17 @@ distinct-from_different (w ∷ ws) d = by (has_name w.now (names_of ws)) refl d 
     by true e q rest = absurd (true≢false (sym q))
     by false e q rest = (apart-from_none w ws e, rest q)
 
--- one word is another where the other is it
+-- two words are equal in the order whichever comes first
 flips : (x y : Bor Name) → eq_by_cmp order x y ≡ eq_by_cmp order y x
 flips x y = is_eq-slice_cmp x.now y.now ∙ (name_eq-comm x.now y.now ∙ sym (is_eq-slice_cmp y.now x.now))
 
--- a list that does not fall and has no equal neighbours rises
+-- an order that is neither less nor equal is less in reverse
 rises : (r : Ordering) (s : Ordering) → s ≡ ordering_reverse r → is_lt r ≡ false → is_eq s ≡ false → s ≡ Less
 rises Less s e l d = absurd (true≢false l)
 rises Equal s e l d = absurd (true≢false (sym (ap is_eq e) ∙ d))
 rises Greater s e l d = e
 
--- words in order all differ where no one is the one before it
+-- sorted words all differ if none equals the one before it
 differ-in_order : (ws os : List (Bor Name)) → IsPermutation ws os → IsSorted order os → DifferFromNext os (length os) → all_different (names_of ws) ≡ true
 unfolding IsStrictlySortedBy
 differ-in_order ws [] moved sorted differ = different-from_distinct ws (IsDistinct-IsPermutation (eq_by_cmp order) flips [] ws (IsPermutation-sym ws [] moved) (IsDistinct-from_sorted order [] tt))
@@ -64,7 +64,7 @@ differ-in_order ws (o ∷ os) moved sorted differ =
     rises (order y x) (order x y) (total.antisymm x y) (sorted k o (omega arith) within) (is_eq-slice_cmp x.now y.now ∙ differ k o within)) in
     different-from_distinct ws (IsDistinct-IsPermutation (eq_by_cmp order) flips (o ∷ os) ws (IsPermutation-sym ws (o ∷ os) moved) (IsDistinct-from_sorted order (o ∷ os) up))
 
--- a word that is the one before it stands twice
+-- if a sorted word equals the one before it, the words do not all differ
 same-in_order : (ws os : List (Bor Name)) → IsPermutation ws os → HasEqualNeighbours os → all_different (names_of ws) ≡ false
 same-in_order ws os moved twice = by (all_different (names_of ws)) refl
   where
@@ -75,13 +75,13 @@ same-in_order ws os moved twice = by (all_different (names_of ws)) refl
         sym twice.same ∙ (sym (is_eq-slice_cmp (get_or os twice.place twice.other).now (get_or os (twice.place + 1) twice.other).now) ∙ apart_from_distinct (eq_by_cmp order) os twice.place (twice.place + 1) twice.other distinct (omega arith) within)
     by false e = refl
 
--- the neighbours of the words in order tell whether a word stands twice
+-- comparing neighbours of the sorted words decides whether all words differ
 pub differ-told : (words : List Name) (ws os : List (Bor Name)) (told : Bool) → names_of ws ≡ words → IsPermutation ws os → IsSorted order os → (told ≡ true → DifferFromNext os (length os)) → (told ≡ false → HasEqualNeighbours os)
     → told ≡ all_different words
 differ-told words ws os true is moved sorted differ twice = sym (ap all_different (sym is) ∙ differ-in_order ws os moved sorted (differ refl))
 differ-told words ws os false is moved sorted differ twice = sym (ap all_different (sym is) ∙ same-in_order ws os moved (twice refl))
 
--- a word that is the one before it, by its own place
+-- a word that equals the one before it, given by its own place
 pub twice-at : (ws : List (Bor Name)) (i : ℕ) (d : Bor Name) → 1 ≤ i → i < length ws → true ≡ name_eq (get_or ws (i - 1) d).now (get_or ws i d).now → HasEqualNeighbours ws
 twice-at ws i d one within e = record {
   place = i - 1;

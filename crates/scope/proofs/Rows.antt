@@ -1,4 +1,4 @@
--- The rules, worked out.
+-- The rules, worked out on small databases.
 use Rattle.scope.proofs.Words.{◌≡◌, [], ◌∷◌, ◌++◌, codes, refl, Some, Open, Close, Const, Var, Float, Axiom, G1, G2, G3, G4, G10, first_broken, AllLegal}
 use Rattle.scope.proofs.Databases.{w, demo, row_seven, row_th}
 
@@ -18,7 +18,7 @@ inner_constant = refl
 stray_close : first_broken 1 [] (Close ∷ []) ≡ Some (1, G10)
 stray_close = refl
 
--- an open block at the end counts as one statement more
+-- an open block at the end counts as one more statement
 open_at_end : first_broken 1 [] (Open ∷ Var (w (codes "x")) ∷ []) ≡ Some (3, G10)
 open_at_end = refl
 
@@ -43,6 +43,6 @@ retyped : AllLegal (Const (w (codes "wff set |- R")) ∷ Open ∷ Var (w (codes 
     ∷ Open ∷ Var (w (codes "x")) ∷ Float (codes "sx") (codes "set") (codes "x") ∷ Axiom (codes "a2") (w (codes "|- R x")) ∷ Close ∷ [])
 retyped = refl
 
--- a symbol that was a variable of a closed block is no constant any more
+-- a symbol that was a variable of a closed block cannot be declared as a constant
 once_variable : first_broken 1 [] (Open ∷ Var (w (codes "x")) ∷ Close ∷ Const (w (codes "x")) ∷ []) ≡ Some (4, G2)
 once_variable = refl

@@ -12,7 +12,7 @@ any-variables (p ∷ es) x = ap (λ b. has_name x (variables p.1) || b) (any-var
 pub is_variable-active : (S : Database) (x : Name) → is_variable S x ≡ has_name x (active_variables S)
 is_variable-active S x = any-variables (active S) x
 
--- the variable of a `$f` is the one that it types, and other statements type none
+-- a `$f` gives a typecode to its variable, and no other statement gives one
 types : (s : Stmt) (x : Name) → is_float_of x s ≡ has_name x (typed_by s)
 types Open x = refl
 types Close x = refl
@@ -33,7 +33,7 @@ any-typed (p ∷ es) x =
 pub has_float-typed : (S : Database) (x : Name) → has_float S x ≡ has_name x (typed_variables S)
 has_float-typed S x = any-typed (active S) x
 
--- four tests, those in the middle the other way round
+-- a disjunction of four tests, with the two in the middle exchanged
 pub or_swap : (a b c d : Bool) → ((a || b) || (c || d)) ≡ ((a || c) || (b || d))
 or_swap true b c d = refl
 or_swap false true true d = refl
@@ -53,7 +53,7 @@ numbers_apart : (m n : ℕ) (b : Bool) → (m == n) ≡ b → (m ≡ n → ⊥) 
 numbers_apart m n true e differ = absurd (differ (eqb-true m n e))
 numbers_apart m n false e differ = refl
 
--- the number of a name is among the numbers of names exactly where the name is among them
+-- the number of a name is among those of some names exactly if the name is among them
 pub numbers-has : (names : List Name) (x : Name) (xs : List Name) → has_name x names ≡ true → list_any (λ n. n == code_or_len names x) (codes_or_len names xs) ≡ has_name x xs
 numbers-has names x [] h = refl
 numbers-has names x (y ∷ xs) h = ap (λ b. b || list_any (λ n. n == code_or_len names x) (codes_or_len names xs)) (one (name_eq x y) refl) ∙ ap (λ r. name_eq x y || r) (numbers-has names x xs h)
@@ -64,7 +64,7 @@ numbers-has names x (y ∷ xs) h = ap (λ b. b || list_any (λ n. n == code_or_l
 
 -- ---- sorts
 
--- a name that was never declared as a variable is no active one
+-- a name that was never declared as a variable is not an active variable
 not_active : (S : Database) (x : Name) → was_variable S x ≡ false → is_variable S x ≡ false
 not_active S x h = false_from_ne_true (is_variable S x) (λ e. true≢false (sym (active-was 1 S x (sym (is_variable-active S x) ∙ e)) ∙ h))
 
@@ -135,7 +135,7 @@ short_differ [] h = refl
 short_differ (x ∷ []) h = refl
 short_differ (x ∷ y ∷ xs) h = absurd (omega arith)
 
--- a name that is found has a kind, and so it is among the names
+-- a pair is found exactly if its first part is
 pub some_second : {A B : Type 0} (r : Option (A × B)) → is_some r ≡ is_some (option_map (λ (p : A × B). p.1) r)
 some_second None = refl
 some_second (Some p) = refl

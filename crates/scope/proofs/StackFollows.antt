@@ -1,12 +1,12 @@
--- How the stacks of a scope follow a statement that opens or closes no block, a `${` and a `$}`.
+-- The stacks of a scope after a statement that opens or closes no block, after a `${` and after a `$}`.
 use Rattle.scope.proofs.Words.{◌≡◌, ℕ, zero, suc, ◌+◌, ◌≤◌, Bool, true, false, cond, ◌||◌, nat_lt, List, [], ◌∷◌, ◌++◌, length, take, refl, flat_map, ◌∙◌, ap, sym, arith, append_assoc, true≢false, length-append, append-nil, map-append, take-map, same_from_push, flat_map-append, nat_tests, eqb-true, Name, has_name, Stmt, Open, Close, Database, stays_open, active_from, active, is_open, is_close, is_closed, count, variables, typed_by, codes_or_len, code_or_len, AreNamed, stands_at, standing_of, symbols_of, heights_of, blocks_from, blocks_of, IsRulesState, IsMarked, StackHeights, has_open, before_open, codes_or_len-more, has-more, has_name-append}
 use Rattle.scope.proofs.ActiveLemmas.{active_from-append, active_from-close, stays_open-append, flat_map-taken, from_open, split_open, below-deficit, no_deficit, deficit-close, left_open, count-left_open, count-append, none-left}
 use Rattle.scope.proofs.BlocksLemmas.{blocks_from-append, blocks-close}
 use Rattle.scope.proofs.NamesLemmas.{symbols_of-later, symbols_of-append, active-named}
 
--- ---- a statement that is no bracket
+-- ---- a statement that is neither `${` nor `$}`
 
--- a list of one kind, after a statement that closes nothing
+-- a statement that is no `$}` adds its entries to a list of entries of active statements
 pub flat_map-more : {A : Type 0} (f : ℕ × Stmt → List A) (S : Database) (s : Stmt) → is_close s ≡ false → flat_map f (active (S ++ s ∷ [])) ≡ flat_map f (active S) ++ f (1 + length S, s)
 flat_map-more f S s h =
     ap (flat_map f) (active_from-append 1 S s h)
@@ -40,7 +40,7 @@ marked-more S M s mark h k = record {
   typed_known = k.typed_known;
 }
 
--- the standing statements, after a statement that closes nothing
+-- a statement that is no `$}` adds its entries to the active `$f`, `$e` and `$d`
 pub standing-more : (S : Database) (s : Stmt) → is_close s ≡ false → standing_of (S ++ s ∷ []) ≡ standing_of S ++ stands_at (1 + length S) s
 standing-more S s h = flat_map-more (λ p. stands_at p.0 p.1) S s h
 
@@ -88,7 +88,7 @@ stack-close f S stack none is =
     ∙ (take-map (code_or_len (symbols_of S)) (length (flat_map f (before_open (active S)))) (flat_map f (active S))
     ∙ (ap (codes_or_len (symbols_of S)) (flat_map-taken f (active S) ∙ sym (flat_map-close f S none)) ∙ ap (λ ns. codes_or_len ns (flat_map f (active (S ++ Close ∷ [])))) (sym (symbols_of-append S Close))))
 
--- a block is open
+-- if more blocks were opened than closed, a block is open
 pub some_open : (S : Database) → stays_open 0 S ≡ true → nat_lt (count is_close S) (count is_open S) ≡ true → 1 ≤ left_open S
 some_open S below h = by (count is_open S) (count is_close S) (left_open S) (omega (arith, count-left_open S, no_deficit S below)) h
   where

@@ -1,10 +1,10 @@
--- The active `$f`, `$e` and `$d` follow the statements.
+-- The active `$f`, `$e` and `$d` after one more statement.
 use Rattle.scope.proofs.Words.{◌≡◌, ℕ, suc, ◌+◌, ◌≤◌, Bool, true, false, cond, List, [], ◌∷◌, ◌++◌, length, take, refl, flat_map, ◌∙◌, ap, sym, arith, subst, length-append, append-nil, take_all, flat_map-append, Stmt, Open, Close, Const, Var, Disj, Float, Ess, Axiom, Prove, Database, active, active_from, bare, is_close, stays_open, before_open, stands_at, standing_of, Standing}
 use Rattle.scope.proofs.ActiveLemmas.{flat_map-taken}
 use Rattle.scope.proofs.BareLemmas.{bare-same}
 use Rattle.scope.proofs.StackFollows.{flat_map-close, standing-more}
 
--- the standing statements after one statement more: the first of those before and the ones that it adds
+-- the list after one more statement is the first part of the list before with the statement's entries after it
 pub standing-after : (S : Database) (s : Stmt) → take (length (standing_of (S ++ s ∷ []))) (standing_of S ++ stands_at (length S + 1) s) ≡ standing_of (S ++ s ∷ [])
 standing-after S s = by (is_close s) refl
   where
@@ -31,7 +31,7 @@ standing-after S s = by (is_close s) refl
         let more : standing_of S ++ stands_at (length S + 1) s ≡ standing_of (S ++ s ∷ []) = ap (λ i. standing_of S ++ stands_at i s) (next (length S)) ∙ sym (standing-more S s h) in
         ap (take (length (standing_of (S ++ s ∷ [])))) more ∙ take_all (length (standing_of (S ++ s ∷ []))) (standing_of (S ++ s ∷ [])) (omega arith)
 
--- no more stand than there are statements
+-- there are at most as many active `$f`, `$e` and `$d` as statements
 pub standing-fewer : (S : Database) → length (standing_of S) ≤ length S
 standing-fewer S = let one = stand (active S) in let all = active-fewer 1 S in omega (arith, one, all)
   where
@@ -58,7 +58,7 @@ standing-fewer S = let one = stand (active S) in let all = active-fewer 1 S in o
         one true h = omega (arith, h)
         one false h = omega (arith, h)
 
--- a statement that stands there is copied whole
+-- each entry of the list, taken as a statement at its position, gives this entry
 pub stands-again : (es : List (ℕ × Stmt)) → flat_map (λ e. stands_at e.at e.stmt) (flat_map (λ p. stands_at p.0 p.1) es) ≡ flat_map (λ p. stands_at p.0 p.1) es
 stands-again [] = refl
 stands-again (p ∷ es) =

@@ -13,7 +13,7 @@ names_that-append own (p ∷ names) more = by (own p.1) (names_that-append own n
     by true e = ap (λ r. p.0 ∷ r) e
     by false e = e
 
--- a label is no symbol
+-- a label adds no symbol
 pub declared_symbols-label : (names : Declared) (l : Name) → declared_symbols (with_kind names Label l) ≡ declared_symbols names
 declared_symbols-label names l = by (is_some (kind_in names l))
   where
@@ -21,7 +21,7 @@ declared_symbols-label names l = by (is_some (kind_in names l))
     by true = refl
     by false = names_that-append is_symbol_kind names ((l, Label) ∷ []) ∙ append-nil (declared_symbols names)
 
--- a symbol is no label
+-- the kind of a symbol is not that of a label
 no_label : (kind : NameKind) → is_symbol_kind kind ≡ true → is_label kind ≡ false
 no_label Label e = cc
 no_label Constant e = refl
@@ -38,11 +38,11 @@ pub declared_labels-with_kinds : (names : Declared) (kind : NameKind) (xs : List
 declared_labels-with_kinds names kind [] own = refl
 declared_labels-with_kinds names kind (x ∷ xs) own = declared_labels-with_kinds (with_kind names kind x) kind xs own ∙ declared_labels-symbol names kind x own
 
--- a new label is the last one
+-- a new label comes last
 pub declared_labels-label : (names : Declared) (l : Name) → kind_in names l ≡ None → declared_labels (with_kind names Label l) ≡ declared_labels names ++ l ∷ []
 declared_labels-label names l new = ap (λ k. declared_labels (cond (is_some k) names (names ++ (l, Label) ∷ []))) new ∙ names_that-append is_label names ((l, Label) ∷ [])
 
--- a name of a symbol's kind is among the symbols, and one of no kind is not
+-- a name that is no label is among the symbols exactly if it has a kind
 has-symbol : (names : Declared) (x : Name) (k : Option NameKind) → kind_in names x ≡ k → is_label_kind k ≡ false → has_name x (declared_symbols names) ≡ is_some k
 has-symbol [] x None e h = refl
 has-symbol [] x (Some k) e h = cc
@@ -68,7 +68,7 @@ declared_symbols-with_kind names kind x own free =
     by true = refl
     by false = names_that-append is_symbol_kind names ((x, kind) ∷ []) ∙ ap (λ b. declared_symbols names ++ cond b (x ∷ []) []) own
 
--- where a symbol is declared, no other name becomes a label
+-- if a name is declared as a symbol, no name becomes a label
 pub label_free : (names : Declared) (kind : NameKind) (x y : Name) → is_symbol_kind kind ≡ true → is_label_kind (kind_in names y) ≡ false → is_label_kind (kind_in (with_kind names kind x) y) ≡ false
 label_free names kind x y own free = ap is_label_kind (kind_in-with_kinds names y kind (x ∷ [])) ∙ or_free (kind_in names y) (has_name y (x ∷ [])) free
   where
@@ -91,7 +91,7 @@ declared_symbols-with_kinds names kind (x ∷ xs) own free =
 
 -- ---- the number of a symbol
 
--- where the name at a place is of one of some kinds, its number among them is the count of those before
+-- the number of a name among those of some kinds is the count of those before its index
 pub number-at : (own : NameKind → Bool) (names : Declared) (x : Name) (n : ℕ) (k : NameKind) → n < length (declared_names names) → name_at (declared_names names) n ≡ x → ((m : ℕ) → m < n → name_at (declared_names names) m ≡ x → ⊥)
     → kind_in names x ≡ Some k → own k ≡ true → IsNumberOf (names_that own names) x (length (names_that own (take n names)))
 number-at own [] x n k lt e first h is = absurd (omega (arith, lt))
@@ -115,7 +115,7 @@ number-at own (p ∷ names) x (suc n) k lt e first h is =
 
 -- ---- numbers that are recorded
 
--- one symbol more
+-- one more symbol and its number
 pub recorded-more : (symbols : List Name) (xs : Expr) (x : Name) (n : ℕ) (old new : Option (List ℕ)) → IsNumberOf symbols x n → IsAppended n old new → AreRecorded symbols xs old → AreRecorded symbols (xs ++ x ∷ []) new
 recorded-more symbols xs x n old None is more recorded = tt
 recorded-more symbols xs x n None (Some new) is more recorded = cc
@@ -126,7 +126,7 @@ recorded-more symbols xs x n (Some old) (Some new) is more recorded =
       ap (decode symbols) same ∙ (map-append (name_at symbols) old (n ∷ []) ∙ (ap (λ r. r ++ name_at symbols n ∷ []) recorded.1 ∙ ap (λ y. xs ++ y ∷ []) is.1)),
     )
 
--- with more symbols
+-- recorded numbers stay right if more symbols are declared
 pub recorded-later : (symbols more : List Name) (xs : Expr) (recorded : Option (List ℕ)) → AreRecorded symbols xs recorded → AreRecorded (symbols ++ more) xs recorded
 recorded-later symbols more xs None are = tt
 recorded-later symbols more xs (Some numbers) are = (codes numbers are.0, same numbers are.0 ∙ are.1)
@@ -146,6 +146,6 @@ recorded-later symbols more xs (Some numbers) are = (codes numbers are.0, same n
         let p = and_parts (nat_lt n (length symbols)) (list_all (λ m. nat_lt m (length symbols)) ns) h in
         ap (λ x. x ∷ decode (symbols ++ more) ns) (name_at-more symbols more n (ltb-true n (length symbols) p.0)) ∙ ap (λ r. name_at symbols n ∷ r) (same ns p.1)
 
--- the recorded numbers stand for the first of the symbols, and the rest is to come
+-- the recorded numbers are those of the first symbols, and the rest of the symbols is still to come
 abbrev pub AreDone : List Name → Expr → Expr → Option (List ℕ) → Type 0
 AreDone symbols all rest recorded = (done : Expr) × (done ++ rest ≡ all) × AreRecorded symbols done recorded

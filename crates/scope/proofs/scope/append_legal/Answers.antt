@@ -7,7 +7,7 @@ use Rattle.scope.proofs.scope.append_legal.Goals as goal
 pub declare_names-requires : goal.declare_names-requires
 declare_names-requires c = may-declare c.args.rules.now.statements c.args.stmt.now c.args.names.now c.requires.legal c.requires.numbering.told
 
--- the numbers of all symbols are those that are required
+-- the numbers of all symbols of a statement are the numbers that are required
 asked : (symbols : List Name) (s : Stmt) (numbers : List ℕ) → AreNumbers symbols (symbols_in s) numbers → AreVariableNumbers symbols s numbers
 asked symbols (Var xs) numbers are = are
 asked symbols (Float label constant variable) numbers are = are

@@ -1,4 +1,4 @@
--- The statements that contracts see own nothing, so they may go to another thread.
+-- The statements that contracts see own nothing, so they can be sent to another thread.
 use Rattle.scope.proofs.Words.{IsSend, owning_send, the_row, the_type}
 
 pub send : IsSend the_row

@@ -4,7 +4,7 @@ use Rattle.scope.proofs.SortsLemmas.{constant-sort, label-sort, no-sort, variabl
 use Rattle.scope.proofs.NamesLemmas.{symbols-distinct}
 use Rattle.scope.proofs.legal.RuleChecker.look_up.Goals as goal
 
--- the kind of a name by the numbering tells its declarations in the statements
+-- the kind of a name in the numbering is the one that the statements declare it as
 tells : (S : Database) (names : Declared) (x : Name) (k : Option NameKind) → MatchesKinds S names → k ≡ kind_in names x → MatchesKind S x k
 tells S names x k told is = subst (λ (k : Option NameKind). MatchesKind S x k) (sym is) (told x)
 
@@ -26,7 +26,7 @@ returns-in-None-clause-sort c =
     subst (λ (v : Accepted). IsSort v.statements x sort.Other) c.self.view_is
     (no-sort S x (tells S c.self.inside.names.now x None c.self.invariant.told c.in-None.ensures.kind))
 
--- the sort of a variable by its number
+-- the sort of a variable, by whether its number is on each of the two stacks
 variable : (S : Database) (x : Name) (n : ℕ) (r : Sort) → MatchesKind S x (Some Variable) → IsNumberOf (symbols_of S) x n
     → r ≡ sort_by (list_any (λ m. m == n) (codes_or_len (symbols_of S) (active_variables S))) (list_any (λ m. m == n) (codes_or_len (symbols_of S) (typed_variables S))) → IsSort S x r
 variable S x n r t number is =

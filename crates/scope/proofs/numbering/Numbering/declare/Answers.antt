@@ -47,7 +47,7 @@ invariant_of-self-else-is_err c =
           ∙ (sym (indexes-push is_label 0 a.entries.items e) ∙ ap (indexes_that is_label 0) (sym entries))));
     }
 
--- the symbols before, and the names
+-- the number of symbols that were declared before
 earlier_symbols : (c : After-number_of_entry) → c.len-earlier_symbols.result ≡ length (declared_symbols c.args.self.now)
 earlier_symbols c =
     let a = c.self.inside in

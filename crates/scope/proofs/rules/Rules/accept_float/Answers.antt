@@ -4,7 +4,7 @@ use Rattle.scope.proofs.StandingLemmas.{standing-fewer}
 use Rattle.scope.proofs.AcceptLemmas.{same-kept, accept-float, float-apart, float-number}
 use Rattle.scope.proofs.rules.Rules.accept_float.Goals as goal
 
--- the numbers, by the parts of the `$f`
+-- the numbers of the two symbols of the `$f`
 numbers_are : (S : Database) (s : Stmt) (l k v : Name) (numbers : List ℕ) → s ≡ shape.Float l k v → AreVariableNumbers (symbols_after S s) s numbers → (a : ℕ) × (b : ℕ) × (numbers ≡ a ∷ b ∷ []) × (code_or_len (symbols_of S) v ≡ b)
 numbers_are S s l k v numbers is are = float-number S l k v numbers (subst (λ (s : Stmt). AreVariableNumbers (symbols_after S s) s numbers) is are)
 

@@ -1,4 +1,4 @@
--- A tally owns nothing, so it may go to another thread.
+-- A `Steps` owns nothing, so it can be sent to another thread.
 use denote.Param.Send.{IsSend, owning_send, sendable}
 use Rattle.scope.specs.contracts.steps.Steps.{the_row, the_type}
 

@@ -1,4 +1,4 @@
--- `new` makes a value of no bytes, at 0.
+-- `new` makes a value without bytes, whose count is 0.
 use Rattle.scope.proofs.Words.{Ura, Val, vstruct, vcons, vnil, SProp, Memory, Routine, WpFn, Tables, Logic, Fun, tables, WpFn-mono, raw, ◌$◌, ◌∵◌, !, qed, keep, join, suffices, done, no_more, and_then, returns, enter, agg, alloc_all, pass_all, free_all, look_at, get, sets, pure_i, nothing, on_entry, Meets, triple_of, entered, says, ends_at, walked, walk_Meets, Steps}
 use mathlib.Core.Path.{refl}
 use mathlib.Core.List.{[], ◌∷◌}

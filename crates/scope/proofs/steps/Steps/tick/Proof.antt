@@ -1,4 +1,4 @@
--- An empty body. The borrow is opened and closed at another ghost value.
+-- An empty body: the borrow is opened, and closed at another ghost value.
 use Rattle.scope.proofs.Words.{ℕ, ◌+◌, List, [], ◌∷◌, refl, MutBor, Ura, named, Val, vunit, vptr, SProp, ent, sep, emp, via, fst∗, id⊢, GName, Lft, Share, ftrue, flft, fobs, fbor, Memory, Routine, Calls, Loops, WpFn, Tables, Logic, Fun, tables, ‵, ◌⊛◌, ◌$◌, ◌∵◌, !, qed, by, move, keep, use1, split, join, fsplit, fsplit3, fjoin, fjoin3, feq_i, suffices, frame, done, unit_lit, of_opd, returns, enter, Body, alloc_all, pass_all, free_all, look_at, sets, WpFn-mono, owns, mem, MutRef, mut_vals, mut_Tells, plain, opens, closes, on_entry, Meets, triple_of, entered, says, Stays, stay_ref, walk_of, AllGo, Goes-ref, Walks, ends_at, walked, walk_Meets, Steps}
 use contract.Running.{tables_of}
 use types.Kit.{drop}
