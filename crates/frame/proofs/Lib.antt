@@ -46,5 +46,6 @@ pub mod LongExpressionLemmas
 pub mod PairSearchLemmas
 pub mod PairFactLemmas
 pub mod CitingListLemmas
+pub mod KeptFactLemmas
 pub mod ShrunkStorage
 mod Rows

@@ -34,7 +34,7 @@ pub record IsTop (k : Storage) (x p : ℕ) (rest : List ℕ) : Type 0 where
   pub before_it : rest ≡ row k x (p - 1)
   pub after_it : p ∷ rest ≡ row k x p
 
-row-top : (k : Storage) (x p : ℕ) (rest : List ℕ) (fuel n : ℕ) → n ≤ fuel → n ≤ length (statements_of k) → p ∷ rest ≡ row k x n → IsTop k x p rest
+pub row-top : (k : Storage) (x p : ℕ) (rest : List ℕ) (fuel n : ℕ) → n ≤ fuel → n ≤ length (statements_of k) → p ∷ rest ≡ row k x n → IsTop k x p rest
 row-top k x p rest zero n le high is =
     let none : n ≡ 0 = omega (arith, le) in
     let e : p ∷ rest ≡ [] = is ∙ ap (row k x) none in

@@ -14,4 +14,5 @@ pub mod Whole
 pub mod PairSearch
 pub mod PairLists
 pub mod EssentialSets
+pub mod KeptFacts
 pub mod Merged

@@ -18,7 +18,7 @@ use entries::Hypothesis;
 use std::alloc::{AllocError, Global};
 
 /// The number of symbols of `$d` that take about as long to go through as a search for a pair with known facts.
-const PAIR_COST: usize = 256;
+const PAIR_COST: usize = 16;
 
 /// The largest number of attempts to search for all pairs, each up to four times as long as the one before it.
 const MOST_TRIES: usize = 16;
@@ -30,11 +30,13 @@ const MOST_TRIES: usize = 16;
 pub fn fill_for_citation(
     alloc: Global,
     storage: &Storage,
+    kept: &PairFacts,
     at: usize,
     facts: &mut PairFacts,
     buffers: &mut FrameBuffers,
 ) -> Result<(), AllocError>
     requires place { IsSearchPosition storage.now at }
+    requires kept { AreFacts (numbered storage.now) kept.now }
     requires facts { AreFacts (numbered storage.now) facts.old }
     requires hypotheses { AreHypotheses storage.now.entries buffers.old.hypotheses }
     requires undescribed { (buffers.old.required ≡ []) × (buffers.old.typecodes ≡ []) × (buffers.old.groups ≡ []) }
@@ -42,8 +44,8 @@ pub fn fill_for_citation(
     ensures filled { OnOk result (IsFilledForCitation storage.now at buffers.old.hypotheses buffers.new) }
 {
     let variables = variables(alloc, storage, &buffers.hypotheses)?;
-    if search_all_pairs(storage, at, facts, &variables) {
-        fill_by_pairs(storage, at, facts, buffers, &variables)
+    if search_all_pairs(storage, kept, at, facts, &variables) {
+        fill_by_pairs(storage, kept, at, facts, buffers, &variables)
     } else {
         fill_from_hypotheses(storage, at, buffers)
     }
@@ -78,8 +80,15 @@ fn add_variable(hypothesis: Hypothesis, list: &mut Vec<u32>) -> Result<(), Alloc
 /// Searches for each pair of the variables, and returns whether that took no longer than going through the active `$d`.
 ///
 /// Cost: at most a constant times that of the cheaper one.
-fn search_all_pairs(storage: &Storage, at: usize, facts: &mut PairFacts, variables: &[u32]) -> bool
+fn search_all_pairs(
+    storage: &Storage,
+    kept: &PairFacts,
+    at: usize,
+    facts: &mut PairFacts,
+    variables: &[u32],
+) -> bool
     requires place { IsSearchPosition storage.now at }
+    requires kept { AreFacts (numbered storage.now) kept.now }
     requires facts { AreFacts (numbered storage.now) facts.old }
     requires below { AreBelow (length (names_in storage.now)) variables.now }
     ensures { AreFacts (numbered storage.now) facts.new }
@@ -91,7 +100,7 @@ fn search_all_pairs(storage: &Storage, at: usize, facts: &mut PairFacts, variabl
         if !has_more_symbols(storage, at, most) {
             return false;
         }
-        if search_pairs(storage, at, facts, variables, most) {
+        if search_pairs(storage, kept, at, facts, variables, most) {
             return true;
         }
         most = most.saturating_mul(4);
@@ -123,19 +132,21 @@ fn has_more_symbols(storage: &Storage, at: usize, most: usize) -> bool
 /// searched for.
 fn search_pairs(
     storage: &Storage,
+    kept: &PairFacts,
     at: usize,
     facts: &mut PairFacts,
     variables: &[u32],
     most: usize,
 ) -> bool
     requires place { IsSearchPosition storage.now at }
+    requires kept { AreFacts (numbered storage.now) kept.now }
     requires facts { AreFacts (numbered storage.now) facts.old }
     requires below { AreBelow (length (names_in storage.now)) variables.now }
     ensures { AreFacts (numbered storage.now) facts.new }
 {
     facts.allow(most);
     for i in 0..variables.len() {
-        if !search_pairs_of(storage, at, facts, variables[i], &variables[..i]) {
+        if !search_pairs_of(storage, kept, at, facts, variables[i], &variables[..i]) {
             return false;
         }
     }
@@ -146,12 +157,14 @@ fn search_pairs(
 /// Returns whether all were searched for.
 fn search_pairs_of(
     storage: &Storage,
+    kept: &PairFacts,
     at: usize,
     facts: &mut PairFacts,
     x: u32,
     others: &[u32],
 ) -> bool
     requires place { IsSearchPosition storage.now at }
+    requires kept { AreFacts (numbered storage.now) kept.now }
     requires facts { AreFacts (numbered storage.now) facts.old }
     requires below { (x < length (names_in storage.now)) × AreBelow (length (names_in storage.now)) others.now }
     ensures { AreFacts (numbered storage.now) facts.new }
@@ -160,20 +173,28 @@ fn search_pairs_of(
         if facts.is_spent() {
             return false;
         }
-        search_pair(storage, at, facts, x, *y);
+        search_pair(storage, kept, at, facts, x, *y);
     }
     true
 }
 
 /// Searches for a pair of variables, to record facts about it.
-fn search_pair(storage: &Storage, at: usize, facts: &mut PairFacts, x: u32, y: u32)
+fn search_pair(
+    storage: &Storage,
+    kept: &PairFacts,
+    at: usize,
+    facts: &mut PairFacts,
+    x: u32,
+    y: u32,
+)
     requires place { IsSearchPosition storage.now at }
+    requires kept { AreFacts (numbered storage.now) kept.now }
     requires facts { AreFacts (numbered storage.now) facts.old }
     requires below { (x < length (names_in storage.now)) × (y < length (names_in storage.now)) }
     ensures { AreFacts (numbered storage.now) facts.new }
 {
     if x != y {
-        let _found = search_by_facts(storage, at, facts, x, y);
+        let _found = search_by_facts(storage, kept, at, facts, x, y);
     }
 }
 
@@ -183,12 +204,14 @@ fn search_pair(storage: &Storage, at: usize, facts: &mut PairFacts, x: u32, y: u
 /// Cost: the size of the hypotheses, and that of `search_by_facts` for each two variables.
 fn fill_by_pairs(
     storage: &Storage,
+    kept: &PairFacts,
     at: usize,
     facts: &mut PairFacts,
     buffers: &mut FrameBuffers,
     variables: &[u32],
 ) -> Result<(), AllocError>
     requires place { IsSearchPosition storage.now at }
+    requires kept { AreFacts (numbered storage.now) kept.now }
     requires facts { AreFacts (numbered storage.now) facts.old }
     requires hypotheses { AreHypotheses storage.now.entries buffers.old.hypotheses }
     requires undescribed { (buffers.old.required ≡ []) × (buffers.old.typecodes ≡ []) × (buffers.old.groups ≡ []) }
@@ -202,25 +225,35 @@ fn fill_by_pairs(
         &mut buffers.required,
         &mut buffers.typecodes,
     )?;
-    add_pairs(storage, at, facts, buffers, variables)
+    add_pairs(storage, kept, at, facts, buffers, variables)
 }
 
 /// Appends a group for each two of the variables that are disjoint.
 fn add_pairs(
     storage: &Storage,
+    kept: &PairFacts,
     at: usize,
     facts: &mut PairFacts,
     buffers: &mut FrameBuffers,
     variables: &[u32],
 ) -> Result<(), AllocError>
     requires place { IsSearchPosition storage.now at }
+    requires kept { AreFacts (numbered storage.now) kept.now }
     requires facts { AreFacts (numbered storage.now) facts.old }
     requires below { AreBelow (length (names_in storage.now)) variables.now }
     ensures facts { AreFacts (numbered storage.now) facts.new }
     ensures pairs { OnOk result (HasPairs storage.now at (are_among variables.now) buffers.old buffers.new) }
 {
     for i in 0..variables.len() {
-        add_pairs_of(storage, at, facts, buffers, variables[i], &variables[..i])?;
+        add_pairs_of(
+            storage,
+            kept,
+            at,
+            facts,
+            buffers,
+            variables[i],
+            &variables[..i],
+        )?;
     }
     Ok(())
 }
@@ -228,6 +261,7 @@ fn add_pairs(
 /// Appends a group of two for a variable and each of some others from which it is disjoint.
 fn add_pairs_of(
     storage: &Storage,
+    kept: &PairFacts,
     at: usize,
     facts: &mut PairFacts,
     buffers: &mut FrameBuffers,
@@ -235,13 +269,14 @@ fn add_pairs_of(
     others: &[u32],
 ) -> Result<(), AllocError>
     requires place { IsSearchPosition storage.now at }
+    requires kept { AreFacts (numbered storage.now) kept.now }
     requires facts { AreFacts (numbered storage.now) facts.old }
     requires below { (x < length (names_in storage.now)) × AreBelow (length (names_in storage.now)) others.now }
     ensures facts { AreFacts (numbered storage.now) facts.new }
     ensures pairs { OnOk result (HasPairs storage.now at (is_beside x others.now) buffers.old buffers.new) }
 {
     for y in others {
-        add_if_pair(storage, at, facts, buffers, x, *y)?;
+        add_if_pair(storage, kept, at, facts, buffers, x, *y)?;
     }
     Ok(())
 }
@@ -249,6 +284,7 @@ fn add_pairs_of(
 /// Appends a group of two variables, if they are disjoint.
 fn add_if_pair(
     storage: &Storage,
+    kept: &PairFacts,
     at: usize,
     facts: &mut PairFacts,
     buffers: &mut FrameBuffers,
@@ -256,6 +292,7 @@ fn add_if_pair(
     y: u32,
 ) -> Result<(), AllocError>
     requires place { IsSearchPosition storage.now at }
+    requires kept { AreFacts (numbered storage.now) kept.now }
     requires facts { AreFacts (numbered storage.now) facts.old }
     requires below { (x < length (names_in storage.now)) × (y < length (names_in storage.now)) }
     ensures facts { AreFacts (numbered storage.now) facts.new }
@@ -264,7 +301,7 @@ fn add_if_pair(
     if x == y {
         return Ok(());
     }
-    if search_by_facts(storage, at, facts, x, y) {
+    if search_by_facts(storage, kept, at, facts, x, y) {
         buffers.add_pair(x, y)
     } else {
         Ok(())

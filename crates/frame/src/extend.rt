@@ -289,6 +289,7 @@ impl Frames {
     {
         cut(&mut self.storage, len);
         self.given.truncate(len);
+        self.facts.truncate(len);
     }
 
     /// Gives back the room of removed statements, if it is more than that of the remaining ones.

@@ -6,6 +6,7 @@ use crate::at_position::{is_active_at, last_active_at};
 use crate::citing_lists::fill_for_citation;
 use crate::essential_sets::EssentialSets;
 use crate::frame_buffers::FrameBuffers;
+use crate::kept_facts::KeptFacts;
 use crate::make::fill_from_hypotheses;
 use crate::mandatory_view::{MandatoryView, missing};
 use crate::meaning::Meaning;
@@ -33,18 +34,19 @@ pub struct Frames {
     pub(crate) alloc: Global,
     pub(crate) storage: Storage,
     pub(crate) given: EssentialSets,
+    pub(crate) facts: KeptFacts,
     pub(crate) buffers: FrameBuffers,
     pub(crate) recorded: SymbolNumbers,
 }
 
 impl Model for Frames {
-    ghost use Rattle.{frame.specs.Parts.Numbered, frame.specs.Stored.EntryMeanings.numbered, frame.specs.Stored.EssentialSets.AreFrames};
+    ghost use Rattle.{frame.specs.Parts.Numbered, frame.specs.Stored.EntryMeanings.numbered, frame.specs.Stored.KeptFacts.AreFramesAndFacts};
 
     ghost Value = { Numbered };
 
     ghost view = { λ a. numbered a.storage };
 
-    ghost invariant = { λ a. AreFrames a.storage a.given };
+    ghost invariant = { λ a. AreFramesAndFacts a.storage a.given a.facts };
 }
 
 impl Frames {
@@ -72,6 +74,7 @@ impl Frames {
                 },
             },
             given: EssentialSets::new(alloc),
+            facts: KeptFacts::new(alloc),
             buffers: FrameBuffers::new(alloc),
             recorded: SymbolNumbers::new(alloc),
         }
@@ -175,6 +178,7 @@ impl Frames {
     {
         Pairs {
             storage: &self.storage,
+            facts: &self.facts.facts,
             at,
         }
     }
@@ -217,8 +221,8 @@ impl Frames {
     /// for pair by pair if that costs less than going through the active `$d`.
     ///
     /// Errors: an allocation fails. Cost: the size of its hypotheses, which are sorted; and, times a constant, the symbols of
-    /// the active `$d`, or for each two of its variables the `$d` that earlier calls with the same facts have not passed and
-    /// about 64 more, whichever are fewer.
+    /// the active `$d`, or for each two of its variables the `$d` that neither earlier calls with the same facts nor searches
+    /// whose answers are kept have passed and about 64 more, whichever are fewer.
     pub fn fill_for_citing(
         &self,
         a: usize,
@@ -232,7 +236,14 @@ impl Frames {
     {
         buffers.clear();
         self.mandatory(a, &mut buffers.hypotheses)?;
-        fill_for_citation(self.alloc, &self.storage, a, facts, buffers)
+        fill_for_citation(
+            self.alloc,
+            &self.storage,
+            &self.facts.facts,
+            a,
+            facts,
+            buffers,
+        )
     }
 
     /// Returns the parts by which the assertion at a position can be cited, from the buffers that `fill_for_citing` filled.

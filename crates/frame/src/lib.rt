@@ -6,7 +6,7 @@
 //!
 //! Reading order: `storage`, `stored_entries`, `shape`, `frame_buffers`; `symbol_numbers`, `at_position`, `stacks`, `declare`,
 //! `mandatory`, `essential_sets`, `make`, `extend` (appending and truncating); `meaning`, `frames`, `mandatory_view`, `row`,
-//! `pair_memo`, `pair_facts`, `pairs`, `active_disjoint`, `citing_lists` (queries); `assertion`, `one_frame`; `laws`.
+//! `long_searches`, `pair_memo`, `fact_slots`, `pair_facts`, `kept_facts`, `learning`, `pairs`, `active_disjoint`, `citing_lists` (queries); `assertion`, `one_frame`; `laws`.
 #![tactic(auto)]
 
 mod active_disjoint;
@@ -16,9 +16,13 @@ mod citing_lists;
 mod declare;
 mod essential_sets;
 mod extend;
+mod fact_slots;
 mod frame_buffers;
 mod frames;
+mod kept_facts;
 mod laws;
+mod learning;
+mod long_searches;
 mod make;
 mod mandatory;
 mod mandatory_view;

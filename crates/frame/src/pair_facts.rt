@@ -6,11 +6,12 @@ ghost use Rattle.frame.specs.Stored.EntryMeanings.{numbered};
 ghost use Rattle.frame.specs.Stored.PairLists.{AreAnswered, IsSearchedIn};
 ghost use Rattle.frame.specs.Stored.PairSearch.{AreSearched, are_pair};
 
+use crate::fact_slots::{FactKey, FactSlots, PROBES, hash_of};
+use crate::long_searches::{LongSearch, LongSearches};
 use crate::pairs::has_symbol;
 use crate::storage::Storage;
 use entries::PositionStack;
 use std::alloc::Global;
-use std::collections::BTreeMap;
 use std::marker::Model;
 
 /// The largest number of facts in a table.
@@ -19,7 +20,11 @@ const MOST_FACTS: usize = 262_144;
 /// The largest number of `$d` that a search passes without recording facts.
 const SHORT: usize = 16;
 
-/// A search looks up a fact at its first `$d`, and at each `$d` that has a multiple of this many `$d` left, itself included.
+/// A search that passes more `$d` than this is made again for the statements, which then keep its answer.
+pub(crate) const LONG: usize = 256;
+
+/// A search looks up a fact at each of its first `SHORT` `$d`, and at each `$d` that has a multiple of this many `$d` left,
+/// itself included.
 const STRIDE: usize = 64;
 
 /// A fact: whether two variables stand together in a `$d` that is active right after the `$d` at a position.
@@ -35,14 +40,14 @@ pub struct PairFact {
     pub found: bool,
 }
 
-/// The answers of long searches, as facts.
+/// The answers of long searches, as facts, and the longest of these searches.
 ///
 /// Contracts see the list of the facts. A fact holds for one database and for those of which its statements are a prefix.
 #[derive(Drop)]
 pub struct PairFacts {
     facts: Vec<PairFact>,
-    /// The index of the fact of a position and two variables.
-    indexes: BTreeMap<(u64, u64), usize>,
+    slots: FactSlots,
+    pub(crate) searches: LongSearches,
     /// How many more `$d` searches may pass before they are abandoned.
     left: usize,
 }
@@ -63,28 +68,50 @@ impl PairFacts {
     {
         PairFacts {
             facts: Vec::new(alloc),
-            indexes: BTreeMap::new(alloc),
+            slots: FactSlots::new(alloc),
+            searches: LongSearches::new(alloc),
             left: 0,
         }
     }
 
-    /// Discards all facts.
+    /// Discards all facts and searches.
+    ///
+    /// Cost: the facts.
     pub fn clear(&mut self)
         ensures { self.new ≡ [] }
     {
+        remove_all(&self.facts, &mut self.slots);
         self.facts.clear();
-        self.indexes.clear();
+        self.searches.clear();
     }
 
     /// Returns the fact that is recorded for a position and two variables, if there is one.
     ///
-    /// Cost: log n for n facts.
-    fn known(&self, position: u32, x: u32, y: u32) -> Option<PairFact>
+    /// Cost: a constant, and log n for n facts whose slots were taken.
+    #[inline(always)]
+    pub(crate) fn known(&self, position: u32, x: u32, y: u32) -> Option<PairFact>
         ensures fact { (v : Numbered) → AreFacts v self.now → IfSome result (IsFact v) }
         ensures asked { IfSome result (λ f. (f.position ≡ position) × (f.x ≡ x) × (f.y ≡ y)) }
     {
-        let index = self.indexes.get(&key(position, x, y))?;
-        let fact = *self.facts.get(*index)?;
+        let key = FactKey { position, x, y };
+        let hash = hash_of(key);
+        for probe in 0..PROBES {
+            let index = self.slots.guess(hash, probe)?;
+            if let Some(fact) = self.at(index, position, x, y) {
+                return Some(fact);
+            }
+        }
+        let index = self.slots.crowded_guess(key)?;
+        self.at(index, position, x, y)
+    }
+
+    /// Returns the fact at an index, if it is that of a position and two variables.
+    #[inline(always)]
+    fn at(&self, index: usize, position: u32, x: u32, y: u32) -> Option<PairFact>
+        ensures fact { (v : Numbered) → AreFacts v self.now → IfSome result (IsFact v) }
+        ensures asked { IfSome result (λ f. (f.position ≡ position) × (f.x ≡ x) × (f.y ≡ y)) }
+    {
+        let fact = *self.facts.get(index)?;
         if fact.position == position && fact.x == x && fact.y == y {
             Some(fact)
         } else {
@@ -105,10 +132,23 @@ impl PairFacts {
     fn add(&mut self, fact: PairFact)
         ensures { (v : Numbered) → AreFacts v self.old → IsFact v fact → AreFacts v self.new }
     {
-        let index = self.facts.len();
         if self.facts.push(fact).is_ok() {
-            let key = key(fact.position, fact.x, fact.y);
-            let _recorded = self.indexes.insert(key, index);
+            self.record_last();
+        }
+    }
+
+    /// Records the index of the last fact in the slots, which grow if they are few.
+    ///
+    /// Cost: a constant; if the slots grow, the facts.
+    fn record_last(&mut self)
+        ensures { self.new ≡ self.old }
+    {
+        if self.facts.len() > self.slots.room() {
+            self.slots.grow();
+            record_all(&self.facts, &mut self.slots, 0);
+        } else {
+            let last = self.facts.len().saturating_sub(1);
+            record_all(&self.facts, &mut self.slots, last);
         }
     }
 
@@ -118,6 +158,15 @@ impl PairFacts {
     {
         if self.facts.len() > MOST_FACTS / 2 {
             self.clear();
+        }
+    }
+
+    /// Records that a search was made, if it passed many `$d`.
+    fn record_search(&mut self, steps: usize, search: LongSearch)
+        ensures { self.new ≡ self.old }
+    {
+        if steps > LONG {
+            self.searches.add(search);
         }
     }
 
@@ -141,39 +190,81 @@ impl PairFacts {
     }
 }
 
-/// Returns one key for a position and two variables.
-fn key(position: u32, x: u32, y: u32) -> (u64, u64) {
-    (position as u64, (x as u64) << 32 | y as u64)
+/// Records the indexes of the facts from an index on in the slots.
+fn record_all(facts: &[PairFact], slots: &mut FactSlots, from: usize) {
+    for index in from..facts.len() {
+        slots.record(key(facts[index]), index);
+    }
 }
 
-/// Returns whether two variables are disjoint at a position, with the facts of earlier searches.
+/// Removes the indexes of all facts from the slots.
+fn remove_all(facts: &[PairFact], slots: &mut FactSlots) {
+    for index in 0..facts.len() {
+        slots.remove(key(facts[index]), index);
+    }
+    slots.clear_crowded();
+}
+
+/// Returns the position and the variables of a fact.
+fn key(fact: PairFact) -> FactKey {
+    FactKey {
+        position: fact.position,
+        x: fact.x,
+        y: fact.y,
+    }
+}
+
+/// Returns whether two variables are disjoint at a position, with the facts of earlier searches, and with others that are
+/// kept.
 ///
 /// Cost: the smaller count of active `$d` that have x or that have y, times a binary search; if an earlier search for the
-/// two began at the same `$d` or an earlier one, only the `$d` after that one and at most 64 more, and log n for n facts.
-pub fn search_by_facts(storage: &Storage, at: usize, facts: &mut PairFacts, x: u32, y: u32) -> bool
+/// two began at the same `$d` or an earlier one, only the `$d` after that one and at most 64 more.
+pub fn search_by_facts(
+    storage: &Storage,
+    kept: &PairFacts,
+    at: usize,
+    facts: &mut PairFacts,
+    x: u32,
+    y: u32,
+) -> bool
     requires sought { AreSearched storage.now at x y }
+    requires kept { AreFacts (numbered storage.now) kept.now }
     requires facts { AreFacts (numbered storage.now) facts.old }
     ensures found { result ≡ are_pair storage.now at x y }
     ensures facts { AreFacts (numbered storage.now) facts.new }
 {
     let with_x = storage.disjoints.stack(x, at).len();
     let with_y = storage.disjoints.stack(y, at).len();
-    if with_x <= with_y {
-        search_row(storage, at, facts, x, y)
+    if is_first(with_x, with_y, x, y) {
+        search_row(storage, kept, at, facts, x, y)
     } else {
-        search_row(storage, at, facts, y, x)
+        search_row(storage, kept, at, facts, y, x)
     }
 }
 
+/// Returns whether the `$d` of x are searched, and not those of y, given how many each has: the same for either order.
+pub(crate) fn is_first(with_x: usize, with_y: usize, x: u32, y: u32) -> bool {
+    with_x < with_y || (with_x == with_y && x <= y)
+}
+
 /// Returns whether two variables are disjoint at a position, by the `$d` that have the first.
-fn search_row(storage: &Storage, at: usize, facts: &mut PairFacts, x: u32, y: u32) -> bool
+pub(crate) fn search_row(
+    storage: &Storage,
+    kept: &PairFacts,
+    at: usize,
+    facts: &mut PairFacts,
+    x: u32,
+    y: u32,
+) -> bool
     requires sought { AreSearched storage.now at x y }
+    requires kept { AreFacts (numbered storage.now) kept.now }
     requires facts { AreFacts (numbered storage.now) facts.old }
     ensures found { result ≡ are_pair storage.now at x y }
     ensures facts { AreFacts (numbered storage.now) facts.new }
 {
-    let walked = walk(storage, facts, storage.disjoints.stack(x, at), x, y);
+    let walked = walk(storage, kept, facts, storage.disjoints.stack(x, at), x, y);
     facts.spend(walked.steps);
+    facts.record_search(walked.steps, LongSearch { at, x, y });
     if walked.steps > SHORT {
         let row = storage.disjoints.stack(x, at);
         record_passed(storage, facts, row, x, y, walked);
@@ -191,8 +282,16 @@ pub struct Walked {
 }
 
 /// Goes through the `$d` that have x until one also has y, or a fact says whether one of those that are left does.
-fn walk(storage: &Storage, facts: &PairFacts, mut row: PositionStack<'_>, x: u32, y: u32) -> Walked
+fn walk(
+    storage: &Storage,
+    kept: &PairFacts,
+    facts: &PairFacts,
+    mut row: PositionStack<'_>,
+    x: u32,
+    y: u32,
+) -> Walked
     requires sought { IsSearchedIn storage.now x y row }
+    requires kept { AreFacts (numbered storage.now) kept.now }
     requires facts { AreFacts (numbered storage.now) facts.now }
     ensures { AreAnswered storage.now y row.entry result }
 {
@@ -205,7 +304,7 @@ fn walk(storage: &Storage, facts: &PairFacts, mut row: PositionStack<'_>, x: u32
             return Walked { steps, found: true };
         }
         if is_looked_up(steps, row.len()) {
-            if let Some(fact) = facts.known(position, x, y) {
+            if let Some(fact) = known_in(facts, kept, position, x, y) {
                 return Walked {
                     steps,
                     found: fact.found,
@@ -216,6 +315,23 @@ fn walk(storage: &Storage, facts: &PairFacts, mut row: PositionStack<'_>, x: u32
     Walked {
         steps: height,
         found: false,
+    }
+}
+
+/// Returns the fact that is recorded for a position and two variables in one of two tables, if there is one.
+fn known_in(
+    facts: &PairFacts,
+    others: &PairFacts,
+    position: u32,
+    x: u32,
+    y: u32,
+) -> Option<PairFact>
+    ensures fact { (v : Numbered) → AreFacts v facts.now → AreFacts v others.now → IfSome result (IsFact v) }
+    ensures asked { IfSome result (λ f. (f.position ≡ position) × (f.x ≡ x) × (f.y ≡ y)) }
+{
+    match facts.known(position, x, y) {
+        Some(fact) => Some(fact),
+        None => others.known(position, x, y),
     }
 }
 
@@ -251,9 +367,10 @@ fn record_passed(
     }
 }
 
-/// Returns whether a search looks up a fact at a `$d`, after having passed `passed` others and with `below` more to go.
-fn is_looked_up(passed: usize, below: usize) -> bool {
-    passed == 0 || below % STRIDE == STRIDE - 1
+/// Returns whether a search looks up a fact at a `$d`, after having passed `passed` others and with `below` more to go. No
+/// fact is recorded at the last `SHORT` ones.
+pub(crate) fn is_looked_up(passed: usize, below: usize) -> bool {
+    below >= SHORT && (passed < SHORT || below % STRIDE == STRIDE - 1)
 }
 
 /// Returns whether a long search that began with `top` `$d` to go records its answer at the `$d` with `height` to go: at its

@@ -1,8 +1,12 @@
 //! Records the `$d` in which long searches found pairs of variables.
 ghost use Rattle.std.specs.Prelude.{◌≡◌, true};
+ghost use Rattle.frame.specs.PairFacts.{AreFacts};
+ghost use Rattle.frame.specs.Stored.EntryMeanings.{numbered};
 ghost use Rattle.frame.specs.Stored.PairSearch.{AreSearched, IsLeft, are_pair};
 
 use crate::at_position::is_active_at;
+use crate::long_searches::{LongSearch, LongSearches};
+use crate::pair_facts::{LONG, PairFacts, is_looked_up};
 use crate::pairs::has_symbol;
 use crate::storage::Storage;
 use entries::{Kind, PositionStack};
@@ -15,12 +19,13 @@ const MOST_PAIRS: usize = 65_536;
 /// A search that goes through more `$d` than this is long.
 const SHORT: usize = 16;
 
-/// The positions of the `$d` in which long searches found pairs of variables.
+/// The positions of the `$d` in which long searches found pairs of variables, and the longest of the other searches.
 ///
 /// A position only says where to look first, so one memo serves at all positions and for all databases.
 #[derive(Drop)]
 pub struct PairMemo {
     found: BTreeMap<u64, u32>,
+    pub(crate) searches: LongSearches,
 }
 
 impl PairMemo {
@@ -28,6 +33,7 @@ impl PairMemo {
     pub fn new(alloc: Global) -> PairMemo {
         PairMemo {
             found: BTreeMap::new(alloc),
+            searches: LongSearches::new(alloc),
         }
     }
 
@@ -46,6 +52,13 @@ impl PairMemo {
         }
         let _recorded = self.found.insert(key(x, y), position);
     }
+
+    /// Records that a search was made, if it passed many `$d`.
+    fn record_search(&mut self, steps: usize, search: LongSearch) {
+        if steps > LONG {
+            self.searches.add(search);
+        }
+    }
 }
 
 /// Returns a key for two variables, the same in either order.
@@ -56,16 +69,18 @@ fn key(x: u32, y: u32) -> u64 {
 /// Returns whether two variables are disjoint, given the `$d` that are left to search, all of which have the first variable.
 ///
 /// Cost: the number of these `$d`, times a binary search; if they are many and the pair is in the memo, log n for n pairs
-/// there.
+/// there; and if facts tell the answer, only the `$d` after the first of these facts.
 pub fn search(
     storage: &Storage,
+    facts: &PairFacts,
     at: usize,
     memo: &mut PairMemo,
     mut left: PositionStack<'_>,
     x: u32,
     y: u32,
 ) -> bool
-    requires { IsLeft storage.now at x y left }
+    requires left { IsLeft storage.now at x y left }
+    requires facts { AreFacts (numbered storage.now) facts.now }
     ensures { result ≡ are_pair storage.now at x y }
 {
     for _ in 0..SHORT {
@@ -76,7 +91,7 @@ pub fn search(
             return true;
         }
     }
-    search_on(storage, at, memo, left, x, y)
+    search_on(storage, facts, at, memo, left, x, y)
 }
 
 /// Continues a search that is long.
@@ -84,25 +99,37 @@ pub fn search(
 #[inline(never)]
 fn search_on(
     storage: &Storage,
+    facts: &PairFacts,
     at: usize,
     memo: &mut PairMemo,
     mut left: PositionStack<'_>,
     x: u32,
     y: u32,
 ) -> bool
-    requires { IsLeft storage.now at x y left }
+    requires left { IsLeft storage.now at x y left }
+    requires facts { AreFacts (numbered storage.now) facts.now }
     ensures { result ≡ are_pair storage.now at x y }
 {
     let known = memo.position(x, y);
     if has_both(storage, at, known, x, y) {
         return true;
     }
+    let height = left.len();
     while let Some(position) = left.pop() {
         if has_symbol(storage, position, y) {
             memo.record(x, y, position);
             return true;
         }
+        let below = left.len();
+        let passed = height.saturating_sub(below);
+        if is_looked_up(passed, below) {
+            if let Some(fact) = facts.known(position, x, y) {
+                memo.record_search(passed, LongSearch { at, x, y });
+                return fact.found;
+            }
+        }
     }
+    memo.record_search(height, LongSearch { at, x, y });
     false
 }
 

@@ -3,6 +3,7 @@ ghost use Rattle.std.specs.Prelude.{◌≡◌, ◌==◌, ◌&&◌, ◌||◌, ◌
 ghost use Rattle.{std.specs.List.list_any, mm_lex.specs.Alphabet.Name, names.specs.Codes.name_at, names.specs.Codes.code_of, scope.specs.Active.is_variable, frame.specs.Below.AllBelow, frame.specs.Below.AreBelow, frame.specs.FrameOf.is_pair, frame.specs.LastActive.is_disj, frame.specs.PairRows.AreTogether, frame.specs.Stored.EntryMeanings.statements_of, frame.specs.Stored.Stacks.AreOfKind, frame.specs.Stored.Stacks.IsOfKind, frame.specs.Stored.Stacks.has_code, frame.specs.Stored.Whole.AreStored};
 
 use crate::at_position::last_active_at;
+use crate::pair_facts::{PairFacts, is_first};
 use crate::pair_memo::{PairMemo, search};
 use crate::row::Row;
 use crate::storage::Storage;
@@ -16,18 +17,20 @@ use std::marker::Model;
 #[derive(Drop)]
 pub struct Pairs<'a> {
     pub(crate) storage: &'a Storage,
+    /// Facts that are kept with the statements.
+    pub(crate) facts: &'a PairFacts,
     pub(crate) at: usize,
 }
 
 impl<'a> Model for Pairs<'a> {
     ghost use Rattle.std.specs.Prelude.{◌≤◌, length};
-    ghost use Rattle.{names.specs.Codes.AreDistinct, scope.specs.Active.before, frame.specs.Parts.Numbered, frame.specs.Stored.EntryMeanings.names_in, frame.specs.Stored.EntryMeanings.statements_of, frame.specs.Stored.Whole.AreStored};
+    ghost use Rattle.{names.specs.Codes.AreDistinct, scope.specs.Active.before, frame.specs.PairFacts.AreFacts, frame.specs.Parts.Numbered, frame.specs.Stored.EntryMeanings.names_in, frame.specs.Stored.EntryMeanings.numbered, frame.specs.Stored.EntryMeanings.statements_of, frame.specs.Stored.Whole.AreStored};
 
     ghost Value = { Numbered };
 
     ghost view = { λ a. record { statements = before (statements_of a.storage.now) a.at; names = names_in a.storage.now } };
 
-    ghost invariant = { λ a. AreStored a.storage.now × AreDistinct (names_in a.storage.now) × (1 ≤ a.at) × (a.at ≤ length (statements_of a.storage.now)) };
+    ghost invariant = { λ a. AreStored a.storage.now × AreDistinct (names_in a.storage.now) × (1 ≤ a.at) × (a.at ≤ length (statements_of a.storage.now)) × AreFacts (numbered a.storage.now) a.facts.now };
 }
 
 impl<'a> Pairs<'a> {
@@ -54,7 +57,7 @@ impl<'a> Pairs<'a> {
     /// searches found. If an allocation fails, the pair is not recorded.
     ///
     /// Cost: that of `has`; if the memo has the pair and the `$d` in which it was found is active, only a constant, and
-    /// log n for n pairs in the memo.
+    /// log n for n pairs in the memo; and if facts that are kept tell the answer, only the `$d` after the first of these facts.
     pub fn has_by_memo(&self, memo: &mut PairMemo, x: u32, y: u32) -> bool
         requires { (x < length self.now.names) × (y < length self.now.names) }
         ensures { result ≡ is_pair self.now.statements (name_at self.now.names x) (name_at self.now.names y) }
@@ -64,10 +67,10 @@ impl<'a> Pairs<'a> {
         }
         let with_x = self.storage.disjoints.stack(x, self.at);
         let with_y = self.storage.disjoints.stack(y, self.at);
-        if with_x.len() <= with_y.len() {
-            search(self.storage, self.at, memo, with_x, x, y)
+        if is_first(with_x.len(), with_y.len(), x, y) {
+            search(self.storage, self.facts, self.at, memo, with_x, x, y)
         } else {
-            search(self.storage, self.at, memo, with_y, y, x)
+            search(self.storage, self.facts, self.at, memo, with_y, y, x)
         }
     }
 

@@ -170,9 +170,10 @@ fn append_all(statements: &mut Vec<Stmt>, mut more: Vec<Stmt>) -> Result<(), All
     Ok(())
 }
 
-/// Adds the statements after the first `front` to the tables, which have taken these first ones.
+/// Adds the statements after the first `front` to the tables, which have taken these first ones. Before, the frames take over
+/// what the checkers found when they judged the text before.
 ///
-/// Cost: that of `add`.
+/// Cost: that of `add`, and of `Checkers::teach`.
 fn add_after<E: Fn(&[Stmt], &mut Tables, &mut StepCounts, &mut Checkers) -> Added>(
     statements: &[Stmt],
     front: usize,
@@ -189,6 +190,7 @@ fn add_after<E: Fn(&[Stmt], &mut Tables, &mut StepCounts, &mut Checkers) -> Adde
     ensures rises { count_of steps.old ≤ count_of steps.new }
     ensures counted { count_of steps.new ≤ count_of steps.old + 2 * (length statements.now - front) }
 {
+    checkers.teach(&mut tables.frames);
     add(&statements[front..], tables, steps, checkers)
 }
 

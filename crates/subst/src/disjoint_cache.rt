@@ -14,7 +14,7 @@ use crate::image_variables::LONG_RESULT;
 use crate::subject::Subject;
 use crate::symbol_range::SymbolRange;
 use entries::Groups;
-use frame::Pairs;
+use frame::{Frames, Pairs};
 use std::alloc::{AllocError, Global};
 use std::marker::Model;
 
@@ -70,6 +70,16 @@ impl DisjointCache {
     {
         self.tables.release(alloc);
         self.subject = Subject::none();
+    }
+
+    /// Has the frames make the longest searches for pairs again that proofs made, so that they keep the answers.
+    ///
+    /// Cost: that of `PairMemo::teach`.
+    pub fn teach(&mut self, frames: &mut Frames)
+        ensures cache { self.new ≡ self.old }
+        ensures frames { frames.new ≡ frames.old }
+    {
+        self.tables.teach(frames);
     }
 
     /// Returns whether the images of each two variables of each group are disjoint at the statement of the pairs: no variable

@@ -10,7 +10,7 @@ use crate::hints::Hints;
 use crate::one_list::OneDisjointList;
 use crate::place_words::{PlaceWord, costly_steps, lowest, without};
 use crate::variable_places::VariablePlaces;
-use frame::{PairMemo, Pairs};
+use frame::{Frames, PairMemo, Pairs};
 use std::alloc::{AllocError, Global};
 use std::marker::Model;
 
@@ -84,6 +84,14 @@ impl DisjointRows {
         self.words.clear();
         self.learned = false;
         self.one_list.release(alloc);
+    }
+
+    /// Has the frames make the longest searches for pairs again, as `PairMemo::teach`.
+    pub fn teach(&mut self, frames: &mut Frames)
+        ensures facts { self.new ≡ self.old }
+        ensures frames { frames.new ≡ frames.old }
+    {
+        self.memo.teach(frames);
     }
 
     /// Returns the position of the word for a place and for the 64 other places of an index, if there is one.

@@ -20,7 +20,7 @@ use crate::place_words::{PlaceWord, costly_steps};
 use crate::symbol_range::{SymbolRange, contains};
 use crate::variable_places::VariablePlaces;
 use entries::Groups;
-use frame::Pairs;
+use frame::{Frames, Pairs};
 use std::alloc::{AllocError, Global};
 
 /// The variables of one proof, those of its images, and the pairs of variables and of images that were found to be disjoint.
@@ -68,6 +68,14 @@ impl DisjointTables {
         self.images.release(alloc);
         self.rows.release(alloc);
         self.found.release(alloc);
+    }
+
+    /// Has the frames make the longest searches for pairs again, as `PairMemo::teach`.
+    pub fn teach(&mut self, frames: &mut Frames)
+        ensures tables { self.new ≡ self.old }
+        ensures frames { frames.new ≡ frames.old }
+    {
+        self.rows.teach(frames);
     }
 
     /// Returns whether the images of two variables are disjoint, by comparing their variables.

@@ -82,6 +82,18 @@ impl Checker {
         self.buffers.kept.begin();
     }
 
+    /// Has the frames make the longest searches for pairs of disjoint variables again that were made since `begin`. They keep
+    /// the answers, so that later searches for these pairs, by any checker, are short.
+    ///
+    /// Cost: that of the searches, of which there are at most 128.
+    pub fn teach(&mut self, frames: &mut Frames)
+        ensures checker { self.new ≡ self.old }
+        ensures frames { frames.new ≡ frames.old }
+    {
+        self.buffers.kept.teach(frames);
+        self.buffers.results.teach(frames);
+    }
+
     /// Limits the buffer of results to `symbols` symbols; at first the limit is `SYMBOLS_LIMIT`. The check of a proof that
     /// would exceed it returns `AllocError`.
     pub fn limit(&mut self, symbols: usize) {

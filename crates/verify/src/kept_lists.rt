@@ -271,6 +271,16 @@ impl KeptLists {
         self.facts.clear();
     }
 
+    /// Has the frames make the longest searches for pairs again that were made since `begin`, so that they keep the answers.
+    ///
+    /// Cost: that of `PairFacts::teach`.
+    pub fn teach(&mut self, frames: &mut Frames)
+        ensures kept { self.new ≡ self.old }
+        ensures frames { frames.new ≡ frames.old }
+    {
+        self.facts.teach(frames);
+    }
+
     /// Returns how many citations of the assertion at a position were counted.
     fn count(&self, position: usize) -> usize {
         match self.counts.get(&position) {

@@ -75,6 +75,16 @@ impl Results {
         self.share = share;
     }
 
+    /// Has the frames make the longest searches for pairs again that proofs made, so that they keep the answers.
+    ///
+    /// Cost: that of `DisjointCache::teach`.
+    pub fn teach(&mut self, frames: &mut Frames)
+        ensures results { self.new ≡ self.old }
+        ensures frames { frames.new ≡ frames.old }
+    {
+        self.cache.teach(frames);
+    }
+
     /// Begins a proof under the pairs that are active at its statement: removes all results and images, and adds an empty
     /// saved result for each of `labels` labels. Keeps the buffers.
     ///

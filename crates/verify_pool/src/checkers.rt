@@ -1,6 +1,7 @@
 //! Checkers that are reused from text to text.
-ghost use Rattle.std.specs.Prelude.{◌≤◌, vec_len, OnOk};
+ghost use Rattle.std.specs.Prelude.{◌≡◌, ◌≤◌, vec_len, OnOk};
 
+use frame::Frames;
 use std::alloc::{AllocError, Global};
 use verify::Checker;
 
@@ -51,6 +52,19 @@ impl Checkers {
         } else {
             MOST_WORKER_SYMBOLS
         });
+    }
+
+    /// Has the frames make the longest searches for pairs of disjoint variables again that the checkers made for the last jobs.
+    /// They keep the answers, so that later searches for these pairs are short.
+    ///
+    /// Cost: that of the searches, of which there are at most 128 for each checker.
+    pub fn teach(&mut self, frames: &mut Frames)
+        ensures { frames.new ≡ frames.old }
+    {
+        self.calling.teach(frames);
+        for worker in &mut self.workers {
+            worker.checker.teach(frames);
+        }
     }
 
     /// Gives back the memory that large proofs needed.

@@ -5,23 +5,16 @@ use Rattle.std.specs.Prelude.{◌≡◌, ℕ, ◌<◌, ◌≤◌, ◌-◌, ◌==
 use Rattle.frame.specs.Words.{list_any, Assertion, AreDistinct}
 use Rattle.frame.specs.AssertionView.{has_both}
 use Rattle.frame.specs.Below.{AllBelow}
-use Rattle.frame.specs.LastActive.{actives, is_disj}
 use Rattle.frame.specs.declared.pair_facts.Walked.{Walked}
 use Rattle.frame.specs.declared.storage.Storage.{Storage}
 use Rattle.frame.specs.Stored.AssertionParts.{required_at, typecode_at, is_typed}
 use Rattle.frame.specs.Stored.EntryMeanings.{names_in, statements_of}
 use Rattle.frame.specs.Stored.Hypotheses.{IsFilledFrom}
-use Rattle.frame.specs.Stored.PairSearch.{are_pair}
-use Rattle.frame.specs.Stored.Stacks.{has_code, positions_with}
+use Rattle.frame.specs.Stored.PairSearch.{IsRowOf, are_pair}
+use Rattle.frame.specs.Stored.Stacks.{has_code}
 use Rattle.frame.specs.Stored.Whole.{AreStored}
 
 -- ---- the search for a pair, with known facts
-
--- the `$d` that have x and are active after the first `count` statements, from the last one back
-pub record IsRowOf (k : Storage) (x : ℕ) (row : List ℕ) : Type 0 where
-  pub count : ℕ
-  pub within : count ≤ length (statements_of k)
-  pub are : row ≡ positions_with k.entries x (actives is_disj (take count (statements_of k)))
 
 -- x and y are variables that are searched for, and the row is that of the `$d` that have x
 pub record IsSearchedIn (k : Storage) (x y : ℕ) (row : List ℕ) : Type 0 where

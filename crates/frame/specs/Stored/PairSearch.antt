@@ -1,13 +1,13 @@
 -- The search for an active `$d` that has two variables. The code's own form: no public clause cites it.
 -- Metamath, 4.2.4: two variables are disjoint if they stand together in an active `$d`.
 -- The code goes through the `$d` of one of the variables, from the last one back.
-use Rattle.std.specs.Prelude.{◌≡◌, ℕ, ◌<◌, ◌≤◌, ◌==◌, Bool, false, List, length}
+use Rattle.std.specs.Prelude.{◌≡◌, ℕ, ◌<◌, ◌≤◌, ◌==◌, Bool, false, List, length, take}
 use Rattle.frame.specs.Words.{list_any, name_at, AreDistinct, before}
 use Rattle.frame.specs.declared.storage.Storage.{Storage}
 use Rattle.frame.specs.FrameOf.{is_pair}
-use Rattle.frame.specs.LastActive.{is_disj}
+use Rattle.frame.specs.LastActive.{actives, is_disj}
 use Rattle.frame.specs.Stored.EntryMeanings.{names_in, statements_of}
-use Rattle.frame.specs.Stored.Stacks.{AreOfKind, has_code}
+use Rattle.frame.specs.Stored.Stacks.{AreOfKind, has_code, positions_with}
 use Rattle.frame.specs.Stored.Whole.{AreStored}
 
 -- the variables x and y stand together in a `$d` that is active at the position
@@ -24,8 +24,15 @@ pub record AreSearched (k : Storage) (at x y : ℕ) : Type 0 where
   pub second : y < length (names_in k)
   pub differ : (x == y) ≡ false
 
--- x and y are a pair exactly if one of the `$d` that are left has y
+-- the `$d` that have x and are active after the first `count` statements, from the last one back
+pub record IsRowOf (k : Storage) (x : ℕ) (row : List ℕ) : Type 0 where
+  pub count : ℕ
+  pub within : count ≤ length (statements_of k)
+  pub are : row ≡ positions_with k.entries x (actives is_disj (take count (statements_of k)))
+
+-- x and y are a pair exactly if one of the `$d` that are left, which have x, has y
 pub record IsLeft (k : Storage) (at x y : ℕ) (left : List ℕ) : Type 0 where
   pub sought : AreSearched k at x y
   pub of_kind : AreOfKind is_disj (statements_of k) left
+  pub row_of : IsRowOf k x left
   pub rest : are_pair k at x y ≡ list_any (has_code k.entries y) left

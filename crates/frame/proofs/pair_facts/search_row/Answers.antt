@@ -17,7 +17,7 @@ pub returns-else-walked-gt-SHORT-clause-found : goal.returns-else-walked-gt-SHOR
 returns-else-walked-gt-SHORT-clause-found c = sym (c.walk-walked.ensures 0 (omega arith)) ∙ row-answer c.args.storage.now c.args.at c.args.x c.args.y c.stack.result c.requires.sought c.stack.ensures
 
 pub record_passed-requires-clause-facts : goal.record_passed-requires-clause-facts
-record_passed-requires-clause-facts c = subst (AreFacts (numbered c.args.storage.now)) (sym c.spend.ensures) c.requires.facts
+record_passed-requires-clause-facts c = subst (AreFacts (numbered c.args.storage.now)) (sym (c.record_search.ensures ∙ c.spend.ensures)) c.requires.facts
 
 pub returns-else-walked-gt-SHORT-clause-facts : goal.returns-else-walked-gt-SHORT-clause-facts
-returns-else-walked-gt-SHORT-clause-facts c = subst (AreFacts (numbered c.args.storage.now)) (sym c.spend.ensures) c.requires.facts
+returns-else-walked-gt-SHORT-clause-facts c = subst (AreFacts (numbered c.args.storage.now)) (sym (c.record_search.ensures ∙ c.spend.ensures)) c.requires.facts

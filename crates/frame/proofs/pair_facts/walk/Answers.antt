@@ -11,12 +11,12 @@ pub has_symbol-requires-clause-disjoint : goal.has_symbol-requires-clause-disjoi
 has_symbol-requires-clause-disjoint c =
     top-kind c.args.storage.now c.args.x c.args.y c.args.row c.loop-steps.row c.loop-steps.steps c.in-Some.position c.pop.new.self c.in-Some.ensures.some c.loop-steps.invariant.at.sought
 
-pub returns-in-Some-known : goal.returns-in-Some-known
-returns-in-Some-known c =
+pub returns-in-Some-known_in : goal.returns-in-Some-known_in
+returns-in-Some-known_in c =
     let k = c.args.storage.now in
-    let f = c.in-Some-known.fact in
+    let f = c.in-Some-known_in.fact in
     walk-known k c.args.x c.args.y c.args.row c.loop-steps.row c.loop-steps.steps c.in-Some.position c.pop.new.self c.in-Some.ensures.some (record { steps = c.loop-steps.steps; found = f.found }) f c.loop-steps.invariant
-    (c.in-Some-known.ensures.fact (numbered k) c.requires.facts) c.in-Some-known.ensures.asked refl refl
+    (c.in-Some-known_in.ensures.fact (numbered k) c.requires.facts c.requires.kept) c.in-Some-known_in.ensures.asked refl refl
 
 pub loop-steps-preserved : goal.loop-steps-preserved
 loop-steps-preserved c =

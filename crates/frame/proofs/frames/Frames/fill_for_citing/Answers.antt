@@ -3,7 +3,11 @@ use Rattle.frame.specs.AssertionView.{AreCitingListsOf}
 use Rattle.frame.proofs.AssertionLemmas.{hypotheses-of, hypothesis-kinds}
 use Rattle.frame.proofs.AssertionViewLemmas.{is-there}
 use Rattle.frame.proofs.CitingListLemmas.{citing, place-of}
+use Rattle.frame.proofs.KeptFactLemmas.{kept-facts}
 use Rattle.frame.proofs.frames.Frames.fill_for_citing.Goals as goal
+
+pub fill_for_citation-requires-clause-kept : goal.fill_for_citation-requires-clause-kept
+fill_for_citation-requires-clause-kept c = kept-facts c.self.inside.storage c.self.inside.facts c.self.invariant.stored c.self.invariant.facts
 
 pub fill_for_citation-requires-clause-place : goal.fill_for_citation-requires-clause-place
 fill_for_citation-requires-clause-place c =

@@ -13,4 +13,5 @@ invariant_of-result c = record {
   };
   sets = rw c.new-6.ensures c.new-9.ensures.sets;
   count = c.new-9.ensures.count ∙ sym (ap length c.new-6.ensures);
+  facts = c.new-10.ensures _;
 }

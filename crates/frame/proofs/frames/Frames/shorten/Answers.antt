@@ -1,4 +1,5 @@
 use Rattle.frame.proofs.Words.{◌∙◌, ap, sym, subst, length, take, statements_of, AreEssentialSets}
+use Rattle.frame.specs.Stored.KeptFacts.{AreKeptFacts}
 use Rattle.frame.proofs.frames.Frames.shorten.Goals as goal
 
 pub invariant_of-self : goal.invariant_of-self
@@ -9,6 +10,7 @@ invariant_of-self c =
       stored = c.cut.ensures.stored;
       sets = subst (λ es. AreEssentialSets g es (statements_of new)) (sym c.cut.ensures.entries) (subst (AreEssentialSets g (take c.args.len k.entries)) (sym c.cut.ensures.statements) t.0);
       count = t.1 ∙ sym (ap length c.cut.ensures.entries);
+      facts = subst (λ R. AreKeptFacts R c.truncate-2.new.self) (sym c.cut.ensures.statements) (c.truncate-2.ensures (statements_of k) c.self.invariant.facts);
     }
 
 pub returns : goal.returns

@@ -1,4 +1,5 @@
 use Rattle.frame.proofs.ShrunkStorage.{IsShrunk, frames-shrunk}
+use Rattle.frame.proofs.KeptFactLemmas.{with-facts, without-facts}
 use Rattle.frame.proofs.frames.Frames.shrink.Goals as goal
 
 pub invariant_of-self : goal.invariant_of-self
@@ -15,4 +16,5 @@ invariant_of-self c =
       variables = e.variables;
       last_active = e.last_active;
     } in
-    frames-shrunk c.self.inside.storage c.shrink_lists.new.storage c.self.inside.given c.shrink.new.self c.self.invariant shrunk c.shrink.ensures.sets c.shrink.ensures.kept
+    let frames = frames-shrunk c.self.inside.storage c.shrink_lists.new.storage c.self.inside.given c.shrink.new.self (without-facts c.self.inside.storage c.self.inside.given c.self.inside.facts c.self.invariant) shrunk c.shrink.ensures.sets c.shrink.ensures.kept in
+    with-facts c.shrink_lists.new.storage c.shrink.new.self c.self.inside.facts frames (rw (e.numbering, e.entries) c.self.invariant.facts)

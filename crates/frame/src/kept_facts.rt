@@ -1,0 +1,56 @@
+//! Keeps the answers of long searches for pairs of disjoint variables with the statements of a database.
+ghost use Rattle.frame.specs.Stored.EntryMeanings.{statements_of};
+ghost use Rattle.frame.specs.Stored.KeptFacts.{AreKeptFacts};
+ghost use Rattle.frame.specs.Stored.PairSearch.{AreSearched};
+ghost use Rattle.mm_read.specs.Statements.{Database};
+ghost use Rattle.std.specs.Prelude.{take};
+
+use crate::pair_facts::{PairFacts, search_row};
+use crate::storage::Storage;
+use std::alloc::Global;
+
+/// Facts that are kept as statements are added.
+#[derive(Drop)]
+pub struct KeptFacts {
+    pub facts: PairFacts,
+    /// The number of the first statements that the facts are about.
+    pub count: usize,
+}
+
+impl KeptFacts {
+    /// Returns an empty table. Does not allocate.
+    pub(crate) fn new(alloc: Global) -> KeptFacts
+        ensures { (S : Database) → AreKeptFacts S result }
+    {
+        KeptFacts {
+            facts: PairFacts::new(alloc),
+            count: 0,
+        }
+    }
+
+    /// Prepares for the removal of all but the first `len` statements.
+    ///
+    /// Cost: a constant; if facts are about one that is removed, the facts.
+    pub(crate) fn truncate(&mut self, len: usize)
+        ensures { (S : Database) → AreKeptFacts S self.old → AreKeptFacts (take len S) self.new }
+    {
+        if self.count > len {
+            self.facts.clear();
+            self.count = 0;
+        }
+    }
+
+    /// Searches for the `$d` of x, active at a position, that have y, too, and keeps the answer.
+    ///
+    /// Cost: that of `search_by_facts`.
+    pub(crate) fn search(&mut self, alloc: Global, storage: &Storage, at: usize, x: u32, y: u32)
+        requires sought { AreSearched storage.now at x y }
+        requires kept { AreKeptFacts (statements_of storage.now) self.old }
+        ensures { AreKeptFacts (statements_of storage.now) self.new }
+    {
+        self.facts.make_room();
+        let none = PairFacts::new(alloc);
+        let _found = search_row(storage, &none, at, &mut self.facts, x, y);
+        self.count = storage.entries.len();
+    }
+}

@@ -1,0 +1,58 @@
+//! The long searches for pairs of variables that were made, to be made again elsewhere.
+
+use std::alloc::Global;
+
+/// The largest number of searches in a list.
+const MOST_SEARCHES: usize = 64;
+
+/// A search for the `$d` of one variable that has another one, too.
+#[derive(Clone, Copy, Drop)]
+pub struct LongSearch {
+    /// The position at which the `$d` are active.
+    pub at: usize,
+    /// The number of the variable whose `$d` are searched.
+    pub x: u32,
+    /// The number of the other variable.
+    pub y: u32,
+}
+
+/// Long searches in the order in which they were made. They only say what to search for again, so contracts see nothing of
+/// them.
+#[derive(Drop)]
+pub struct LongSearches {
+    list: Vec<LongSearch>,
+}
+
+impl LongSearches {
+    /// Returns an empty list. Does not allocate.
+    pub(crate) fn new(alloc: Global) -> LongSearches {
+        LongSearches {
+            list: Vec::new(alloc),
+        }
+    }
+
+    /// Adds a search, unless the list is full or an allocation fails.
+    pub(crate) fn add(&mut self, search: LongSearch) {
+        if self.list.len() < MOST_SEARCHES {
+            let _added = self.list.push(search);
+        }
+    }
+
+    /// Returns how many searches there are.
+    pub(crate) fn len(&self) -> usize {
+        self.list.len()
+    }
+
+    /// Returns the search at an index, if there is one.
+    pub(crate) fn get(&self, index: usize) -> Option<LongSearch> {
+        match self.list.get(index) {
+            Some(search) => Some(*search),
+            None => None,
+        }
+    }
+
+    /// Removes all searches.
+    pub(crate) fn clear(&mut self) {
+        self.list.clear();
+    }
+}
