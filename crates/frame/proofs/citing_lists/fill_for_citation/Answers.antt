@@ -15,13 +15,13 @@ search_all_pairs-requires-clause-below c =
 
 pub fill_by_pairs-requires-clause-variables : goal.fill_by_pairs-requires-clause-variables
 fill_by_pairs-requires-clause-variables c = λ d.
-    ap (list_any (λ n. n == d)) c.deref-then-learn_pairs.ensures.value ∙ typed (goal.at.fill_by_pairs-requires-clause-variables c).In_ok-variables d
+    ap (list_any (λ n. n == d)) c.deref-then-search_all_pairs.ensures.value ∙ typed (goal.at.fill_by_pairs-requires-clause-variables c).In_ok-variables d
 
 pub fill_from_hypotheses-requires-clause-place : goal.fill_from_hypotheses-requires-clause-place
 fill_from_hypotheses-requires-clause-place c = (c.requires.place.above, omega (arith, c.requires.place.within))
 
-pub returns-then-learn_pairs-clause-filled : goal.returns-then-learn_pairs-clause-filled
-returns-then-learn_pairs-clause-filled c = ok-weaker c.fill_by_pairs.result _ _ (λ p. inr p) c.fill_by_pairs.ensures.filled
+pub returns-then-search_all_pairs-clause-filled : goal.returns-then-search_all_pairs-clause-filled
+returns-then-search_all_pairs-clause-filled c = ok-weaker c.fill_by_pairs.result _ _ (λ p. inr p) c.fill_by_pairs.ensures.filled
 
 pub returns-clause-filled : goal.returns-clause-filled
 returns-clause-filled c = ok-weaker c.fill_from_hypotheses.result _ _ (λ p. inl p) c.fill_from_hypotheses.ensures

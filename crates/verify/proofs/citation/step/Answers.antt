@@ -16,10 +16,10 @@ cite_entry-requires-clause-entry c =
     let found = rw c.in_default.is at c.in_ok-done.ensures.finds in
     (get_or c.requires.entries.0 (c.args.number - 1) [], entry_at _ _ c.requires.entries.0 c.args.table.now (c.args.number - 1) _ c.requires.entries.1 found.0)
 
-pub returns-then-waiting-len-clause-goes : goal.returns-then-waiting-len-clause-goes
-returns-then-waiting-len-clause-goes c = λ labels are.
+pub returns-then-stack_len-len-clause-goes : goal.returns-then-stack_len-len-clause-goes
+returns-then-stack_len-len-clause-goes c = λ labels are.
     let found = rw c.in_default.is at c.in_ok-done.ensures.finds in
-    let more = rw (c.len-waiting.ensures, c.len.ensures, found.1) at c.if-waiting-len.true in
+    let more = rw (c.len-stack_len.ensures, c.len.ensures, found.1) at c.if-stack_len-len.true in
     rw c.if-done.true (kept-on _ _ _ c.requires.ready.legal c.args.table.now _ _ c.requires.known labels c.args.number (c.args.number - 1) _ (suc_back c.args.number c.if-number-eq0.false) are found.0 _ more c.cache_last.ensures.keeps
     (rw (c.if-done.true, found.1) at c.in_ok-done-2.ensures.goes))
 

@@ -1,4 +1,4 @@
 use Rattle.entries.proofs.position_sets.PositionSets.+insert_node.Given as goal
 
-abbrev pub decreases-put_in : goal.decreases-put_in
-decreases-put_in l = l.set
+abbrev pub decreases-insert_node : goal.decreases-insert_node
+decreases-insert_node l = l.set

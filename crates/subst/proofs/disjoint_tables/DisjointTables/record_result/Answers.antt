@@ -31,8 +31,8 @@ add_image-requires-clause-number c =
     let e = c.args.expr.now in
     below-at n (rest_of e) c.loop-index.index 0 (below-take n (length e - 1) (drop 1 e) (below-drop n 1 e c.requires.below)) c.loop-index-test.true
 
-pub returns-in_err-stands_before : goal.returns-in_err-stands_before
-returns-in_err-stands_before c = rw c.occurs_earlier.ensures.same c.loop-index.invariant.0
+pub returns-in_err-occurs_earlier : goal.returns-in_err-occurs_earlier
+returns-in_err-occurs_earlier c = rw c.occurs_earlier.ensures.same c.loop-index.invariant.0
 
 pub add_image-requires-clause-recorded : goal.add_image-requires-clause-recorded
 add_image-requires-clause-recorded c = rw c.occurs_earlier.ensures.same c.loop-index.invariant.0.recorded
@@ -79,7 +79,7 @@ loop-index-preserved-then-branch c =
     let n = l.index in
     let rest = rest_of c.args.expr.now in
     let σ = images_at c.args.symbols.now c.args.images.now in
-    let stands = c.in_ok-stands_before.ensures.stands c.if-branch.true in
+    let stands = c.in_ok-occurs_earlier.ensures.stands c.if-branch.true in
     rw c.occurs_earlier.ensures.same (l.invariant.0, l.invariant.1, symbol-again v l.self.variables (HasPlace c.begin.new.self.list) (HasPlace l.self.images.list) σ rest stands.0 n stands.1 c.loop-index-test.true stands.2 l.invariant.2)
 
 pub without_first-requires : goal.without_first-requires
