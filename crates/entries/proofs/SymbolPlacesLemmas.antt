@@ -1,5 +1,14 @@
 -- The symbols of an expression by their keys in order: each run of keys of one symbol gives a group of indexes.
-use Rattle.entries.proofs.Words.{◌≡◌, ℕ, suc, ◌+◌, ◌-◌, ◌<◌, ◌≤◌, List, [], ◌∷◌, ◌++◌, length, drop, slice_get, slice_range, Some, refl, ◌∙◌, ap, sym, subst, arith, inl, inr, length-map, length-drop, length-take-le, get_or_from_slice_get, slice_get_within, BufferPart, cut, AreSpansIn, ⊎_elim, Contains, IsPermutation, IsSorted, eqb, get_or, map, nat_cmp, dedup, cases_lt, get_or-drop, get_or-map, get_or-take, get_or_default, Contains-get_or, AllPairs-from_increasing, Contains-dedup_nat, Contains-from_dedup, Contains-permutation, IsPermutation-sym, IsStrictlyIncreasing-dedup, div-mul-add, mod-mul-add, slice_get-get_or, INDEXES, key_of, symbol_of, symbol_at, index_of, AreKeys, AreKeysOf, IsRun, AreRuns, IsGroupOf, AreGroupsFrom, IsGrouped, ArePlacesOf}
+use Rattle.std.specs.Cmp.{both_ways}
+use Rattle.std.proofs.lemmas.List.Folds.{list_any_at, list_any_more}
+use Rattle.std.specs.Result.{MatchResult}
+use Rattle.std.specs.Prelude.{is_ok, not}
+use Rattle.entries.specs.declared.assertion_view.Hypothesis.{Hypothesis}
+use Rattle.std.proofs.lemmas.List.Elements.{All-contains, Contains-append_right}
+use Rattle.std.specs.List.{list_any}
+use Rattle.std.proofs.lemmas.Bool.{eqb-true, true≢false, cases_Bool, false_from_ne_true}
+use Rattle.entries.specs.SymbolPlaces.{SymbolGroups, has_float, is_float_of, is_symbol, without_float}
+use Rattle.entries.proofs.Words.{◌≡◌, ℕ, zero, suc, true, false, ◌||◌, Option, None, Result, Ok, Err, cond, take, take_more, append-nil, filter-append, nat_eq, eq-eqb, ◌+◌, ◌-◌, ◌<◌, ◌≤◌, List, [], ◌∷◌, ◌++◌, length, drop, slice_get, slice_range, Some, refl, ◌∙◌, ap, sym, subst, arith, inl, inr, length-map, length-drop, length-take-le, get_or_from_slice_get, slice_get_within, BufferPart, cut, AreSpansIn, ⊎_elim, Contains, IsPermutation, IsSorted, eqb, get_or, map, nat_cmp, dedup, cases_lt, get_or-drop, get_or-map, get_or-take, get_or_default, Contains-get_or, AllPairs-from_increasing, Contains-dedup_nat, Contains-from_dedup, Contains-permutation, IsPermutation-sym, IsStrictlyIncreasing-dedup, div-mul-add, mod-mul-add, slice_get-get_or, INDEXES, key_of, symbol_of, symbol_at, index_of, AreKeys, AreKeysOf, IsRun, AreRuns, IsGroupOf, AreGroupsFrom, IsGrouped, ArePlacesOf}
 
 -- ---- two keys
 
@@ -169,8 +178,8 @@ module _ (e keys : List ℕ) (k : AreKeysOf e keys) where
   grouped (s ∷ runs) from r j h l = ⊎_elim (λ less. inl (part-has s.from s.to j (omega (arith, r.0, h)) less r.1.end)) (λ ge. inr (grouped runs s.to r.2 j ge l)) (cases_lt j s.to)
 
   -- the runs of all keys are the groups of all symbols
-  places-of : (runs : List BufferPart) → AreRuns keys 0 (length keys) runs → ArePlacesOf e (record { symbols = map (symbol_at keys) runs; groups = cut (map index_of keys) runs })
-  places-of runs r = record {
+  places-of : (runs : List BufferPart) (constants : List ℕ) → AreRuns keys 0 (length keys) runs → ArePlacesOf e (record { symbols = map (symbol_at keys) runs; groups = cut (map index_of keys) runs; constants = constants })
+  places-of runs constants r = record {
     each = groups-from runs 0 0 r (λ j h l. omega arith) (λ j h l. absurd (omega (arith, h)));
     all = λ i h.
         let x = get_or e i 0 in
@@ -181,7 +190,7 @@ module _ (e keys : List ℕ) (k : AreKeysOf e keys) where
 
 -- the lists made of the keys
 pub record IsMade (e symbols indexes : List ℕ) (runs : List BufferPart) : Type 0 where
-  pub places : ArePlacesOf e (record { symbols = symbols; groups = cut indexes runs })
+  pub places : (constants : List ℕ) → ArePlacesOf e (record { symbols = symbols; groups = cut indexes runs; constants = constants })
   pub inside : AreSpansIn (length indexes) runs
 
 pub made : (e keys first second third symbols indexes : List ℕ) (runs parts : List BufferPart) → AreKeysOf e keys → first ≡ keys → second ≡ keys → third ≡ keys → AreRuns first 0 (length first) runs
@@ -191,4 +200,96 @@ made e keys first second third symbols indexes runs parts k p q t r same is at =
     let symbols-are : map (symbol_at keys) runs ≡ symbols = sym (is ∙ (ap (λ ks. map (symbol_at ks) parts) q ∙ ap (map (symbol_at keys)) same)) in
     let indexes-are : map index_of keys ≡ indexes = sym (at ∙ ap (map index_of) t) in
     subst (λ xs. IsMade e xs indexes runs) symbols-are (subst (λ xs. IsMade e (map (symbol_at keys) runs) xs runs) indexes-are
-    (record { places = places-of e keys k runs whole; inside = runs-inside keys runs 0 (length keys) (length (map index_of keys)) whole (length-map keys index_of) }))
+    (record { places = λ constants. places-of e keys k runs constants whole; inside = runs-inside keys runs 0 (length keys) (length (map index_of keys)) whole (length-map keys index_of) }))
+
+-- ---- the group of a symbol
+
+-- each symbol has its group
+pub groups-count : (e ss : List ℕ) (gs : List (List ℕ)) (low : ℕ) → AreGroupsFrom e low ss gs → length gs ≡ length ss
+groups-count e [] [] low h = refl
+groups-count e [] (g ∷ gs) low h = absurd h
+groups-count e (s ∷ ss) [] low h = absurd h
+groups-count e (s ∷ ss) (g ∷ gs) low h = ap suc (groups-count e ss gs (suc s) h.2)
+
+group-at : (e ss : List ℕ) (gs : List (List ℕ)) (low at : ℕ) → AreGroupsFrom e low ss gs → at < length ss → IsGroupOf e (get_or ss at 0) (get_or gs at [])
+group-at e [] gs low at h l = absurd (omega (arith, l))
+group-at e (s ∷ ss) [] low at h l = absurd h
+group-at e (s ∷ ss) (g ∷ gs) low zero h l = h.1
+group-at e (s ∷ ss) (g ∷ gs) low (suc at) h l = group-at e ss gs (suc s) at h.2 (omega (arith, l))
+
+symbols-low : (e ss : List ℕ) (gs : List (List ℕ)) (low j : ℕ) → AreGroupsFrom e low ss gs → j < length ss → low ≤ get_or ss j 0
+symbols-low e [] gs low j h l = absurd (omega (arith, l))
+symbols-low e (s ∷ ss) [] low j h l = absurd h
+symbols-low e (s ∷ ss) (g ∷ gs) low zero h l = h.0
+symbols-low e (s ∷ ss) (g ∷ gs) low (suc j) h l = let r = symbols-low e ss gs (suc s) j h.2 (omega (arith, l)) in let b = h.0 in omega (arith, r, b)
+
+-- the symbols are in order
+pub symbols-up : (e ss : List ℕ) (gs : List (List ℕ)) (low i j : ℕ) → AreGroupsFrom e low ss gs → i ≤ j → j < length ss → get_or ss i 0 ≤ get_or ss j 0
+symbols-up e [] gs low i j h le l = absurd (omega (arith, l))
+symbols-up e (s ∷ ss) [] low i j h le l = absurd h
+symbols-up e (s ∷ ss) (g ∷ gs) low zero zero h le l = omega arith
+symbols-up e (s ∷ ss) (g ∷ gs) low zero (suc j) h le l = let r = symbols-low e ss gs (suc s) j h.2 (omega (arith, l)) in omega (arith, r)
+symbols-up e (s ∷ ss) (g ∷ gs) low (suc i) zero h le l = absurd (omega (arith, le))
+symbols-up e (s ∷ ss) (g ∷ gs) low (suc i) (suc j) h le l = symbols-up e ss gs (suc s) i j h.2 (omega (arith, le)) (omega (arith, l))
+
+-- an index that is in a group is that of the group's symbol
+group-of : (e ss : List ℕ) (gs : List (List ℕ)) (low i : ℕ) → AreGroupsFrom e low ss gs → IsGrouped i gs → (k : ℕ) × (k < length ss) × (slice_get e i ≡ Some (get_or ss k 0))
+group-of e ss [] low i h in_one = absurd in_one
+group-of e [] (g ∷ gs) low i h in_one = absurd h
+group-of e (s ∷ ss) (g ∷ gs) low i h (inl here) = (0, omega arith, All-contains (λ k. slice_get e k ≡ Some s) g i h.1.only here)
+group-of e (s ∷ ss) (g ∷ gs) low i h (inr there) = let r = group-of e ss gs (suc s) i h.2 there in let l = r.1 in (suc r.0, omega (arith, l), r.2)
+
+symbol-is : (s : ℕ) (o : Option ℕ) → is_symbol s o ≡ true → o ≡ Some s
+symbol-is s None h = absurd (true≢false (sym h))
+symbol-is s (Some x) h = ap Some (eqb-true x s h)
+
+any-contains : (i : ℕ) (xs : List ℕ) → list_any (λ j. nat_eq i j) xs ≡ true → Contains xs i
+any-contains i [] h = absurd (true≢false (sym h))
+any-contains i (x ∷ xs) h = elim (cases_Bool (nat_eq i x)) [
+  | inl e ↦ (0, omega arith, sym (eqb-true i x e))
+  | inr e ↦ Contains-append_right (x ∷ []) xs i (any-contains i xs (sym (ap (λ b. b || list_any (λ j. nat_eq i j) xs) e) ∙ h))
+]
+
+contains-any : (i : ℕ) (xs : List ℕ) → Contains xs i → list_any (λ j. nat_eq i j) xs ≡ true
+contains-any i xs c = list_any_at (λ j. nat_eq i j) xs c.0 i c.1 (eq-eqb i (get_or xs c.0 i) (sym c.2))
+
+module _ (e : List ℕ) (gs : SymbolGroups) (places : ArePlacesOf e gs) where
+  pub found-group : (at s : ℕ) (g : List ℕ) → at < length gs.symbols → get_or gs.symbols at 0 ≡ s → slice_get gs.groups at ≡ Some g → (i : ℕ) → list_any (λ j. nat_eq i j) g ≡ is_symbol s (slice_get e i)
+  found-group at s g within is here i =
+      let h : IsGroupOf e s g = subst (λ x. IsGroupOf e x g) is (subst (IsGroupOf e (get_or gs.symbols at 0)) (get_or_from_slice_get gs.groups at g [] here) (group-at e gs.symbols gs.groups 0 at places.each within)) in
+      both_ways (list_any (λ j. nat_eq i j) g) (is_symbol s (slice_get e i))
+      (λ some. ap (is_symbol s) (All-contains (λ k. slice_get e k ≡ Some s) g i h.only (any-contains i g some)) ∙ eq-eqb s s refl)
+      (λ some. contains-any i g (h.all i (symbol-is s (slice_get e i) some)))
+
+  pub missed-group : (s : ℕ) → ((k : ℕ) → k < length gs.symbols → get_or gs.symbols k 0 ≡ s → ⊥) → (i : ℕ) → false ≡ is_symbol s (slice_get e i)
+  missed-group s none i =
+      sym (false_from_ne_true (is_symbol s (slice_get e i)) (λ some.
+      let at = symbol-is s (slice_get e i) some in
+      let r = group-of e gs.symbols gs.groups 0 i places.each (places.all i (slice_get_within e i s at)) in
+      let two : Some (get_or gs.symbols r.0 0) ≡ Some s = sym r.2 ∙ at in
+      none r.0 r.1 (cc)))
+
+-- ---- the constants
+
+pub found-any : (xs : List ℕ) (x : ℕ) (r : Result ℕ ℕ)
+    → MatchResult r (λ i. (i < length xs) × (get_or xs i 0 ≡ x)) (λ i. (i ≤ length xs) × ((k : ℕ) → k < i → get_or xs k 0 < x) × ((k : ℕ) → i ≤ k → k < length xs → x < get_or xs k 0))
+    → is_ok r ≡ list_any (λ y. nat_eq x y) xs
+found-any xs x (Ok i) h = sym (list_any_at (λ y. nat_eq x y) xs i 0 h.0 (eq-eqb x (get_or xs i 0) (sym h.1)))
+found-any xs x (Err i) h = sym (false_from_ne_true (list_any (λ y. nat_eq x y) xs) (λ some.
+    let c = any-contains x xs some in
+    let e : get_or xs c.0 0 ≡ x = get_or_default xs c.0 0 x c.1 ∙ c.2 in
+    ⊎_elim (λ lt. let a = h.1 c.0 lt in omega (arith, a, e)) (λ ge. let a = h.2 c.0 ge c.1 in omega (arith, a, e)) (cases_lt c.0 i)))
+
+-- one more hypothesis
+pub float-more : (hs : List Hypothesis) (i : ℕ) (h : Hypothesis) → slice_get hs i ≡ Some h → (c : ℕ) → has_float (take (i + 1) hs) c ≡ (has_float (take i hs) c || is_float_of c h)
+float-more hs i h at c = list_any_more (is_float_of c) hs i h (slice_get_within hs i h at) ∙ ap (λ g. has_float (take i hs) c || is_float_of c g) (get_or_from_slice_get hs i h h at)
+
+module _ (hs : List Hypothesis) (xs : List ℕ) (i : ℕ) (within : i < length xs) (found : List ℕ) (is : found ≡ without_float hs (take i xs)) where
+  without-more : without_float hs (take (i + 1) xs) ≡ found ++ without_float hs (get_or xs i 0 ∷ [])
+  without-more = ap (without_float hs) (take_more xs i 0 within) ∙ (filter-append (λ c. not (has_float hs c)) (take i xs) (get_or xs i 0 ∷ []) ∙ ap (λ f. f ++ without_float hs (get_or xs i 0 ∷ [])) (sym is))
+
+  pub without-kept : has_float hs (get_or xs i 0) ≡ false → found ++ get_or xs i 0 ∷ [] ≡ without_float hs (take (i + 1) xs)
+  without-kept h = sym (without-more ∙ ap (λ b. found ++ cond (not b) (get_or xs i 0 ∷ []) []) h)
+
+  pub without-passed : has_float hs (get_or xs i 0) ≡ true → found ≡ without_float hs (take (i + 1) xs)
+  without-passed h = sym (without-more ∙ (ap (λ b. found ++ cond (not b) (get_or xs i 0 ∷ []) []) h ∙ append-nil found))

@@ -1,9 +1,11 @@
 -- The indexes at which each symbol of an expression occurs.
 -- Metamath, 4.2.6: an image is substituted for each occurrence of a variable.
 -- The code keeps the indexes of all symbols in one list, one symbol's after the other's.
-use Rattle.std.specs.Prelude.{◌≡◌, ℕ, suc, ◌<◌, ◌≤◌, ◌⊎◌, List, [], ◌∷◌, length, slice_get, Some}
-use Rattle.std.specs.List.{All, Contains}
+use Rattle.std.specs.Prelude.{◌≡◌, ℕ, suc, ◌<◌, ◌≤◌, ◌==◌, ◌⊎◌, Bool, false, not, List, [], ◌∷◌, length, filter, slice_get, Option, Some, None}
+use Rattle.std.specs.List.{All, Contains, list_any}
 use Rattle.std.specs.List.Sorted.{IsStrictlyIncreasing}
+use Rattle.entries.specs.declared.assertion_view.Hypothesis.{Hypothesis}
+use Rattle.entries.specs.declared.assertion_view.Hypothesis.TheVariants.{Float, Essential}
 
 -- the group has exactly the indexes at which the symbol occurs, in ascending order, and at least one
 pub record IsGroupOf (expr : List ℕ) (symbol : ℕ) (group : List ℕ) : Type 0 where
@@ -24,12 +26,31 @@ abbrev pub IsGrouped : ℕ → List (List ℕ) → Type 0
 IsGrouped i [] = ⊥
 IsGrouped i (g ∷ groups) = Contains g i ⊎ IsGrouped i groups
 
--- symbols, and the group of each
+-- symbols, the group of each, and those of them that are constants
 pub record SymbolGroups : Type 0 where
   pub symbols : List ℕ
   pub groups : List (List ℕ)
+  pub constants : List ℕ
 
 -- the groups are those of the symbols of the expression, each symbol once, in ascending order
 pub record ArePlacesOf (expr : List ℕ) (places : SymbolGroups) : Type 0 where
   pub each : AreGroupsFrom expr 0 places.symbols places.groups
   pub all : (i : ℕ) → i < length expr → IsGrouped i places.groups
+
+-- the symbol is s
+abbrev pub is_symbol : ℕ → Option ℕ → Bool
+is_symbol s None = false
+is_symbol s (Some x) = x == s
+
+-- the symbol is the variable of that `$f`
+abbrev pub is_float_of : ℕ → Hypothesis → Bool
+is_float_of c (Float x) = c == x
+is_float_of c (Essential p) = false
+
+-- the symbol is the variable of one of the `$f`
+abbrev pub has_float : List Hypothesis → ℕ → Bool
+has_float hs c = list_any (is_float_of c) hs
+
+-- those of the symbols that are the variable of no `$f`
+abbrev pub without_float : List Hypothesis → List ℕ → List ℕ
+without_float hs symbols = filter (λ c. not (has_float hs c)) symbols

@@ -1,8 +1,9 @@
 //! The indexes of each symbol of long expressions, by the index of their statement.
 ghost use Rattle.std.specs.Prelude.{◌≡◌, ◌<◌, ◌++◌, ◌∷◌, [], ℕ, List, nat_eq, nat_lt, Some, None, IfSome, IfNone, OnOk, OnErr};
 ghost use Rattle.std.specs.{List.All, List.filter, Map.lookup};
-ghost use Rattle.entries.specs.SymbolPlaces.{ArePlacesOf, SymbolGroups};
+ghost use Rattle.entries.specs.SymbolPlaces.{ArePlacesOf, SymbolGroups, without_float};
 
+use crate::assertion_view::Hypotheses;
 use crate::room::give_back;
 use crate::symbol_places::SymbolPlaces;
 use std::alloc::{AllocError, Global};
@@ -54,16 +55,22 @@ impl LongExpressions {
         }
     }
 
-    /// Appends the places of the symbols of the expression at an index, which is greater than the earlier ones.
+    /// Appends the places of the symbols of the expression at an index, which is greater than the earlier ones. Its constants
+    /// are the symbols that are the variable of no `$f` among the hypotheses.
     ///
     /// Errors: an allocation fails, or the expression has 2^32 symbols or more; the list is then unchanged.
-    /// Cost: n log n for n symbols.
-    pub fn push(&mut self, index: usize, expr: &[u32]) -> Result<(), AllocError>
+    /// Cost: n log n for n symbols and hypotheses.
+    pub fn push(
+        &mut self,
+        index: usize,
+        expr: &[u32],
+        hypotheses: &Hypotheses<'_>,
+    ) -> Result<(), AllocError>
         requires { All (λ e. e.0 < index) self.old }
-        ensures added { OnOk result ((places : SymbolGroups) × ArePlacesOf expr.now places × (self.new ≡ self.old ++ (index, places) ∷ [])) }
+        ensures added { OnOk result ((places : SymbolGroups) × ArePlacesOf expr.now places × (places.constants ≡ without_float hypotheses.now places.symbols) × (self.new ≡ self.old ++ (index, places) ∷ [])) }
         ensures same { OnErr result (self.new ≡ self.old) }
     {
-        let places = SymbolPlaces::of(self.alloc, expr)?;
+        let places = SymbolPlaces::of(self.alloc, expr, hypotheses)?;
         self.places.push(places)?;
         match self.indexes.push(index) {
             Ok(()) => Ok(()),

@@ -1,7 +1,10 @@
 //! The indexes at which each symbol of an expression occurs.
-ghost use Rattle.std.specs.Prelude.{◌≡◌, ◌≢◌, ◌+◌, ◌<◌, true, false, length, map, slice_index, IfOk};
-ghost use Rattle.entries.specs.{SymbolPlaces.ArePlacesOf, Stored.Keys.symbol_of, Stored.Keys.symbol_at, Stored.Keys.index_of, Stored.Keys.AreKeys, Stored.Keys.AreKeysOf, Stored.Keys.AreRuns};
+ghost use Rattle.std.specs.Prelude.{◌≡◌, ◌≢◌, ◌+◌, ◌<◌, ◌==◌, ◌||◌, ℕ, List, true, false, length, map, slice_get, slice_index, IfOk, OnOk};
+ghost use Rattle.std.specs.List.{list_any};
+ghost use Rattle.std.specs.List.Sorted.{IsNonDecreasing};
+ghost use Rattle.entries.specs.{SymbolPlaces.ArePlacesOf, SymbolPlaces.has_float, SymbolPlaces.is_float_of, SymbolPlaces.is_symbol, SymbolPlaces.without_float, Stored.Keys.symbol_of, Stored.Keys.symbol_at, Stored.Keys.index_of, Stored.Keys.AreKeys, Stored.Keys.AreKeysOf, Stored.Keys.AreRuns};
 
+use crate::assertion_view::{Hypotheses, Hypothesis};
 use crate::buffer_part::{BufferPart, between};
 use crate::groups::Groups;
 use std::alloc::{AllocError, Global};
@@ -11,14 +14,16 @@ use std::marker::Model;
 const INDEXES: u64 = 4_294_967_296;
 
 /// The indexes of an expression's symbols, grouped by symbol, the least symbol first. Contracts see the list of the distinct
-/// symbols and the list of their groups, each the ascending list of the indexes at which one symbol occurs.
+/// symbols, the list of their groups, each the ascending list of the indexes at which one symbol occurs, and the list of the
+/// constants among them.
 ///
-/// Memory: four bytes for each symbol of the expression, and twelve for each distinct one.
+/// Memory: four bytes for each symbol of the expression, twelve for each distinct one, and four for each distinct constant.
 #[derive(Drop)]
 pub struct SymbolPlaces {
     symbols: Vec<u32>,
     indexes: Vec<u32>,
     groups: Vec<BufferPart>,
+    constants: Vec<u32>,
 }
 
 impl Model for SymbolPlaces {
@@ -28,27 +33,35 @@ impl Model for SymbolPlaces {
 
     ghost Value = { SymbolGroups };
 
-    ghost view = { λ a. record { symbols = a.symbols.items; groups = cut a.indexes.items a.groups.items } };
+    ghost view = { λ a. record { symbols = a.symbols.items; groups = cut a.indexes.items a.groups.items; constants = a.constants.items } };
 
     ghost invariant = { λ a. AreSpansIn (length a.indexes.items) a.groups.items };
 }
 
 impl SymbolPlaces {
-    /// Groups the indexes of an expression's symbols.
+    /// Groups the indexes of an expression's symbols. The constants are the symbols that are the variable of no `$f` among
+    /// the hypotheses.
     ///
     /// Errors: an allocation fails, or the expression has 2^32 symbols or more.
-    /// Cost: n log n for n symbols.
-    pub fn of(alloc: Global, expr: &[u32]) -> Result<SymbolPlaces, AllocError>
-        ensures { IfOk result (ArePlacesOf expr.now) }
+    /// Cost: n log n for n symbols and hypotheses.
+    pub fn of(
+        alloc: Global,
+        expr: &[u32],
+        hypotheses: &Hypotheses<'_>,
+    ) -> Result<SymbolPlaces, AllocError>
+        ensures places { IfOk result (ArePlacesOf expr.now) }
+        ensures constants { IfOk result (λ places. places.constants ≡ without_float hypotheses.now places.symbols) }
     {
         let keys = ordered_keys(alloc, expr)?;
         let groups = runs_of(alloc, &keys)?;
         let symbols = symbols_of(alloc, &keys, &groups)?;
         let indexes = indexes_of(alloc, &keys)?;
+        let constants = constants_of(alloc, &symbols, hypotheses)?;
         Ok(SymbolPlaces {
             symbols,
             indexes,
             groups,
+            constants,
         })
     }
 
@@ -64,6 +77,26 @@ impl SymbolPlaces {
         ensures { result ≡ self.now.groups }
     {
         Groups::new(&self.groups, &self.indexes)
+    }
+
+    /// Returns the distinct constants, in ascending order.
+    pub fn constants(&self) -> &[u32]
+        ensures { result.now ≡ self.now.constants }
+    {
+        &self.constants
+    }
+
+    /// Returns the indexes at which a symbol occurs.
+    ///
+    /// Cost: log n for n distinct symbols.
+    pub fn group(&self, symbol: u32) -> &[u32]
+        requires { (expr : List ℕ) × ArePlacesOf expr self.now }
+        ensures { (expr : List ℕ) → ArePlacesOf expr self.now → (i : ℕ) → list_any (λ j. i == j) result.now ≡ is_symbol symbol (slice_get expr i) }
+    {
+        match self.symbols.binary_search(&symbol) {
+            Ok(index) => self.groups().get(index),
+            Err(_) => &[],
+        }
     }
 }
 
@@ -149,4 +182,53 @@ fn indexes_of(alloc: Global, keys: &[u64]) -> Result<Vec<u32>, AllocError>
         indexes.push((*key % INDEXES) as u32)?;
     }
     Ok(indexes)
+}
+
+/// Returns those of the symbols that are the variable of no `$f` among the hypotheses.
+fn constants_of(
+    alloc: Global,
+    symbols: &[u32],
+    hypotheses: &Hypotheses<'_>,
+) -> Result<Vec<u32>, AllocError>
+    ensures { IfOk result (λ constants. constants.items ≡ without_float hypotheses.now symbols.now) }
+{
+    let variables = ordered_variables(alloc, hypotheses)?;
+    let mut constants = Vec::new(alloc);
+    for symbol in symbols {
+        if !has(&variables, *symbol) {
+            constants.push(*symbol)?;
+        }
+    }
+    Ok(constants)
+}
+
+/// Returns whether the number is in a list in ascending order.
+fn has(list: &[u32], number: u32) -> bool
+    requires { IsNonDecreasing list.now }
+    ensures { result ≡ list_any (λ x. number == x) list.now }
+{
+    list.binary_search(&number).is_ok()
+}
+
+/// Returns the variables of the `$f`, in ascending order.
+fn ordered_variables(alloc: Global, hypotheses: &Hypotheses<'_>) -> Result<Vec<u32>, AllocError>
+    ensures sorted { IfOk result (λ variables. IsNonDecreasing variables.items) }
+    ensures those { IfOk result (λ variables. (c : ℕ) → list_any (λ x. c == x) variables.items ≡ has_float hypotheses.now c) }
+{
+    let mut variables = Vec::new(alloc);
+    for index in 0..hypotheses.len() {
+        add_variable(hypotheses.get(index), &mut variables)?;
+    }
+    variables.sort_unstable();
+    Ok(variables)
+}
+
+/// Appends the variable of a hypothesis, if it is a `$f`.
+fn add_variable(hypothesis: Hypothesis, variables: &mut Vec<u32>) -> Result<(), AllocError>
+    ensures { OnOk result ((c : ℕ) → list_any (λ x. c == x) variables.new.items ≡ (list_any (λ x. c == x) variables.old.items || is_float_of c hypothesis)) }
+{
+    if let Hypothesis::Float(variable) = hypothesis {
+        variables.push(variable)?;
+    }
+    Ok(())
 }

@@ -1,5 +1,5 @@
 -- Each variable of a legal assertion is that of exactly one mandatory `$f`. So the results that the assertion takes determine the result that it gives.
-use Rattle.frame.proofs.Words.{list_all, All, All-filter, All-map, All-get_or, All-from_get_or, slice_get_within, get_or_from_slice_get, sym, ◌∙◌, ap, append-nil, subst, get_or, ◌≡◌, ℕ, suc, ◌-◌, Bool, true, false, cond, List, [], ◌∷◌, ◌++◌, length, map, filter, slice_get, Some, refl, bytes_eq-Decides, and_parts, and_from, or_left, or_right, Name, name_eq, has_name, Stmt, Expr, Database, stays_open, stmt_at, before, expr_of, is_variable, HasAssertion, is_used, is_mandatory, is_hypothesis, hypotheses, groups, has_two_or_more, mandatory_groups, OfVariables, premises, expr_at, HasFloat, IsBound, IsSingle, take-get}
+use Rattle.frame.proofs.Words.{list_all, All, variables, take, take-take, take-append_seam, arith, All-filter, All-map, All-get_or, All-from_get_or, slice_get_within, get_or_from_slice_get, sym, ◌∙◌, ap, append-nil, subst, get_or, ◌≡◌, ℕ, suc, ◌-◌, Bool, true, false, cond, List, [], ◌∷◌, ◌++◌, length, map, filter, slice_get, Some, refl, bytes_eq-Decides, and_parts, and_from, or_left, or_right, Name, name_eq, has_name, Stmt, Expr, Database, stays_open, stmt_at, before, expr_of, is_variable, HasAssertion, is_used, is_mandatory, is_hypothesis, hypotheses, groups, has_two_or_more, mandatory_groups, OfVariables, premises, expr_at, HasFloat, IsBound, IsSingle, take-get}
 use Rattle.frame.proofs.LegalAfter.{stands-at}
 use Rattle.mm_read.specs.declared.stmt.Stmt.TheVariants.{Float, Ess}
 use Rattle.frame.specs.Substitution.{Images, image, apply as applied}
@@ -7,7 +7,7 @@ use Rattle.frame.proofs.LegalLabels.{AllKept}
 use Rattle.frame.proofs.ActivePositions.{active-members, ascends-active}
 use Rattle.frame.proofs.ActiveFloats.{one-place}
 use Rattle.frame.proofs.AscendingLists.{in-place, place-in, once-each}
-use Rattle.frame.proofs.VariablePlaceLemmas.{first-fixed, own-fixed, float-kinds, mandatory-float}
+use Rattle.frame.proofs.VariablePlaceLemmas.{first-fixed, own-fixed, float-kinds, mandatory-float, still-active}
 use Rattle.frame.proofs.GroupsLemmas.{has-filter}
 use Rattle.frame.proofs.FoundByNumber.{map-at, kept-front, some-same}
 use Rattle.frame.proofs.PlacedHypotheses.{used-in}
@@ -35,6 +35,13 @@ module _ (S : Database) (a : ℕ) (s : Stmt) (legal : AllKept S) (is : HasAssert
     pub whole : T ≡ front ++ r ∷ rest
     pub at : p ≡ suc (length front)
     pub stays : stays_open 0 rest ≡ true
+
+  -- the statements before it
+  front-before : (p : ℕ) (A : Database) (t : Stmt) (B : Database) → T ≡ A ++ t ∷ B → p ≡ suc (length A) → before S p ≡ A
+  front-before p A t B whole at =
+      let less = (take-get (a - 1) (length A) S t (ap (λ w. slice_get w (length A)) whole ∙ stands-at A t B)).0 in
+      ap (λ n. take n S) (let one : p - 1 ≡ length A = omega (arith, at) in one)
+      ∙ (sym (take-take (length A) (a - 1) S (omega (arith, less))) ∙ (ap (take (length A)) whole ∙ take-append_seam A (t ∷ B)))
 
   hyp-at : (k p : ℕ) (r : Stmt) → slice_get hs k ≡ Some p → stmt_at S p ≡ Some r → IsBefore p r
   hyp-at k p r h g =
@@ -66,6 +73,7 @@ module _ (S : Database) (a : ℕ) (s : Stmt) (legal : AllKept S) (is : HasAssert
     own = λ x has var. used-float x (or_left (has_name x (expr_of s)) _ has) var;
     essential = λ k p label e x h g has var. let w = hyp-at k p (Ess label e) h g in used-float x (used-in T s x w.front (Ess label e) w.rest w.whole w.stays refl has) var;
     grouped = group-float;
+    still = λ k p l e x h g var. let w = hyp-at k p (Ess l e) h g in still-active (λ t. has_name x (variables t)) T w.front (Ess l e) w.rest w.whole w.stays (ap (λ D. is_variable D x) (sym (front-before p w.front (Ess l e) w.rest w.whole w.at)) ∙ var);
     variable = λ k p l c x h g. let w = hyp-at k p (Float l c x) h g in (float-kinds T w.front l c x w.rest front-legal w.whole w.stays).1;
     once = λ k j p q l c m d x h g u v.
         let w = hyp-at k p (Float l c x) h u in

@@ -1,6 +1,6 @@
 -- The storage after it is cut to its first statements, and after added statements are removed again.
 use Rattle.frame.proofs.Words.{sym, ◌∙◌, ap, subst, arith, take-take, ◌≡◌, ℕ, ◌+◌, ◌<◌, ◌≤◌, true, List, length, map, take, drop, slice_get, Some, refl, suc, [], ◌∷◌, Option, None, length-take-le, take-map, take-append-drop, take_at, length-map, Name, Database, IsNumberingOf, Declared, declared_symbols, declared_labels, stays_open, label_of, symbols_of, labels_of, option_list, LastActive, Entry, Symbol, is_disj, is_var, last_active_of, stmt_of, statements_of, positions_from, AreAllLegal, ReadsAs, replaced_of, symbol_of, names_in, labels_in, option_position, AreNumbered, KeepsCounts, IsAfter, Storage, naming_of, AreKept, AreStored, Extends, has_parts, IsKeptAs, extends-length, extends-take, take-get, labels_of-append, AreKeptUntil}
-use Rattle.frame.proofs.StackLemmas.{stacks-back}
+use Rattle.frame.proofs.StackLemmas.{essentials-back, stacks-back}
 use Rattle.frame.proofs.BlockWalkLemmas.{get-take}
 use Rattle.frame.proofs.DeclaredSymbolLemmas.{symbols_of-front}
 use Rattle.frame.proofs.AssertionLemmas.{kept-moved}
@@ -169,6 +169,7 @@ pub record IsTakenBack (old mid new : Storage) : Type 0 where
   pub entries_cut : new.entries ≡ mid.entries
   pub disjoints_cut : AreKeptUntil (length mid.entries) mid.disjoints new.disjoints
   pub variables_cut : AreKeptUntil (length mid.entries) mid.variables new.variables
+  pub essentials_cut : AreKeptUntil (length mid.entries) mid.essentials new.essentials
   pub last_active_cut : new.last_active ≡ mid.last_active
 
 module _ (old mid new : Storage) (stored : AreStored old) (t : IsTakenBack old mid new) where
@@ -211,4 +212,5 @@ module _ (old mid new : Storage) (stored : AreStored old) (t : IsTakenBack old m
         ended = rw (back-statements, ends) stored.ended;
         disjoints = rw (back-statements, back-entries) (stacks-back is_disj old.disjoints mid.disjoints new.disjoints old.entries (statements_of old) stored.disjoints t.after.disjoints (subst (λ m. AreKeptUntil m mid.disjoints new.disjoints) long t.disjoints_cut));
         variables = rw (back-statements, back-entries) (stacks-back is_var old.variables mid.variables new.variables old.entries (statements_of old) stored.variables t.after.variables (subst (λ m. AreKeptUntil m mid.variables new.variables) long t.variables_cut));
+        essentials = rw (back-statements, back-entries) (essentials-back old.essentials mid.essentials new.essentials old.entries (statements_of old) stored.essentials t.after.essentials (subst (λ m. AreKeptUntil m mid.essentials new.essentials) long t.essentials_cut));
       }

@@ -43,6 +43,7 @@ pub mod OneFrameLemmas
 pub mod LabelLemmas
 pub mod PositionLemmas
 pub mod LongExpressionLemmas
+mod LongEssentialLemmas
 pub mod PairSearchLemmas
 pub mod PairFactLemmas
 pub mod CitingListLemmas

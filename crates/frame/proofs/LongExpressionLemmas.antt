@@ -1,5 +1,5 @@
 -- The places of the symbols of long expressions, as statements are appended and removed.
-use Rattle.frame.proofs.Words.{SymbolGroups, ◌≡◌, ℕ, ◌<◌, List, [], ◌∷◌, ◌++◌, length, take, slice_get, Some, sym, ◌∙◌, ap, subst, Entry, inl, inr, nat_eq, nat_lt, cond, refl, All, lookup, cases_Bool, eqb-true, ltb-true, All-cons, All-head, All-nil, All-push, All-tail, All-weaker, slice_get_within, ArePlacesOf, get-more, get-last, IsLongIn, AreLongIn}
+use Rattle.frame.proofs.Words.{SymbolGroups, ◌≡◌, ℕ, ◌<◌, List, [], ◌∷◌, ◌++◌, length, take, slice_get, Some, sym, ◌∙◌, ap, subst, Entry, inl, inr, nat_eq, nat_lt, cond, refl, All, lookup, cases_Bool, eqb-true, ltb-true, All-cons, All-head, All-nil, All-push, All-tail, All-weaker, slice_get_within, ArePlacesOf, without_float, get-more, get-last, IsLongIn, AreLongIn}
 use Rattle.std.specs.List.{filter}
 use Rattle.frame.proofs.BlockWalkLemmas.{get-take}
 
@@ -11,18 +11,18 @@ pub are-below : (es : List Entry) (long : List (ℕ × SymbolGroups)) → AreLon
 are-below es long h = All-weaker (IsLongIn es) (λ (p : ℕ × SymbolGroups). p.0 < length es) (λ p is. slice_get_within es p.0 is.0 is.1) long h.each
 
 long-more : (es more : List Entry) (long : List (ℕ × SymbolGroups)) → All (IsLongIn es) long → All (IsLongIn (es ++ more)) long
-long-more es more long h = All-weaker (IsLongIn es) (IsLongIn (es ++ more)) (λ p is. (is.0, get-more es more p.0 is.0 is.1, is.2)) long h
+long-more es more long h = All-weaker (IsLongIn es) (IsLongIn (es ++ more)) (λ p is. (is.0, get-more es more p.0 is.0 is.1, is.2, is.3)) long h
 
 -- a statement without a long expression is appended
 pub short-pushed : (es new : List Entry) (x : Entry) (long : List (ℕ × SymbolGroups)) → new ≡ es ++ x ∷ [] → AreLongIn es long → AreLongIn new long
 short-pushed es new x long e h = subst (λ v. AreLongIn v long) (sym e) (record { each = long-more es (x ∷ []) long h.each })
 
 -- a statement with a long expression is appended
-pub long-pushed : (es new : List Entry) (x : Entry) (long grown : List (ℕ × SymbolGroups)) (groups : SymbolGroups) (i : ℕ) → new ≡ es ++ x ∷ [] → i ≡ length es → ArePlacesOf x.symbols groups → grown ≡ long ++ (i, groups) ∷ []
+pub long-pushed : (es new : List Entry) (x : Entry) (long grown : List (ℕ × SymbolGroups)) (groups : SymbolGroups) (i : ℕ) → new ≡ es ++ x ∷ [] → i ≡ length es → ArePlacesOf x.symbols groups → groups.constants ≡ without_float x.assertion.required groups.symbols → grown ≡ long ++ (i, groups) ∷ []
     → AreLongIn es long → AreLongIn new grown
-long-pushed es new x long grown groups i e last are g h =
+long-pushed es new x long grown groups i e last are fixed g h =
     subst (λ v. AreLongIn v grown) (sym e) (subst (AreLongIn (es ++ x ∷ [])) (sym g)
-    (record { each = All-push (IsLongIn (es ++ x ∷ [])) long (i, groups) (long-more es (x ∷ []) long h.each) (x, ap (slice_get (es ++ x ∷ [])) last ∙ get-last es x, are) }))
+    (record { each = All-push (IsLongIn (es ++ x ∷ [])) long (i, groups) (long-more es (x ∷ []) long h.each) (x, ap (slice_get (es ++ x ∷ [])) last ∙ get-last es x, are, fixed) }))
 
 -- the first statements, after more were appended, are as before
 taken : (es more : List Entry) → take (length es) (es ++ more) ≡ es
@@ -42,7 +42,7 @@ long-cut es n (p ∷ long) h =
     let is = All-head (IsLongIn es) p long h in
     let rest = long-cut es n long (All-tail (IsLongIn es) p long h) in
     elim (cases_Bool (nat_lt p.0 n)) [
-      | inl e ↦ rw e (All-cons (IsLongIn (take n es)) p (filter (λ q. nat_lt q.0 n) long) (is.0, get-take p.0 n es (ltb-true p.0 n e) ∙ is.1, is.2) rest)
+      | inl e ↦ rw e (All-cons (IsLongIn (take n es)) p (filter (λ q. nat_lt q.0 n) long) (is.0, get-take p.0 n es (ltb-true p.0 n e) ∙ is.1, is.2, is.3) rest)
       | inr e ↦ rw e rest
     ]
 
@@ -58,7 +58,7 @@ long-found es i (p ∷ long) groups h found =
       | inl e ↦
           let s : Some p.1 ≡ Some groups = sym (ap (λ b. cond b (Some p.1) (lookup (nat_eq i) long)) e) ∙ found in
           let same : p.1 ≡ groups = cc in
-          (is.0, ap (slice_get es) (eqb-true i p.0 e) ∙ is.1, subst (ArePlacesOf is.0.symbols) same is.2)
+          (is.0, ap (slice_get es) (eqb-true i p.0 e) ∙ is.1, subst (ArePlacesOf is.0.symbols) same is.2, subst (λ (g : SymbolGroups). g.constants ≡ without_float is.0.assertion.required g.symbols) same is.3)
       | inr e ↦ long-found es i long groups (All-tail (IsLongIn es) p long h) (sym (ap (λ b. cond b (Some p.1) (lookup (nat_eq i) long)) e) ∙ found)
     ]
 
@@ -68,3 +68,10 @@ found-places es i long groups x h found stands =
     let both : Some f.0 ≡ Some x = sym f.1 ∙ stands in
     let same : f.0 ≡ x = cc in
     subst (λ (v : Entry). ArePlacesOf v.symbols groups) same f.2
+
+pub found-constants : (es : List Entry) (i : ℕ) (long : List (ℕ × SymbolGroups)) (groups : SymbolGroups) (x : Entry) → AreLongIn es long → lookup (nat_eq i) long ≡ Some groups → slice_get es i ≡ Some x → groups.constants ≡ without_float x.assertion.required groups.symbols
+found-constants es i long groups x h found stands =
+    let f = long-found es i long groups h.each found in
+    let both : Some f.0 ≡ Some x = sym f.1 ∙ stands in
+    let same : f.0 ≡ x = cc in
+    subst (λ (v : Entry). groups.constants ≡ without_float v.assertion.required groups.symbols) same f.3

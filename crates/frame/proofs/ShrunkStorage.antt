@@ -1,5 +1,5 @@
 -- The storage after memory was released: its lists are as before.
-use Rattle.frame.proofs.Words.{◌≡◌, ◌∙◌, ap, sym, subst, refl, Bool, List, length, Stmt, Database, Entry, Storage, AreStored, statements_of, is_disj, is_var, StackVersion, IsUntil, AreSame, stack_at, AreFrames, AreStacks, EssentialSets}
+use Rattle.frame.proofs.Words.{◌≡◌, ◌∙◌, ap, sym, subst, refl, Bool, List, length, map, is_essential, long_entry, Stmt, Database, Entry, Storage, AreStored, statements_of, is_disj, is_var, StackVersion, IsUntil, AreSame, stack_at, AreFrames, AreStacks, EssentialSets}
 use Rattle.frame.proofs.EssentialSetLemmas.{sets-moved}
 
 pub record IsShrunk (k new : Storage) : Type 0 where
@@ -11,6 +11,7 @@ pub record IsShrunk (k new : Storage) : Type 0 where
   pub entries : new.entries ≡ k.entries
   pub disjoints : AreSame k.disjoints new.disjoints
   pub variables : AreSame k.variables new.variables
+  pub essentials : AreSame k.essentials new.essentials
   pub last_active : new.last_active ≡ k.last_active
 
 stacks-same : (kind : Stmt → Bool) (hs new : List (List StackVersion)) (es : List Entry) (S : Database) → AreStacks kind hs es S → AreSame hs new → AreStacks kind new es S
@@ -26,6 +27,7 @@ stored-shrunk k new are s = record {
   ended = rw (s.numbering, s.entries, s.ends) are.ended;
   disjoints = rw (s.numbering, s.entries) (stacks-same is_disj k.disjoints new.disjoints k.entries (statements_of k) are.disjoints s.disjoints);
   variables = rw (s.numbering, s.entries) (stacks-same is_var k.variables new.variables k.entries (statements_of k) are.variables s.variables);
+  essentials = rw (s.numbering, s.entries) (stacks-same is_essential k.essentials new.essentials (map long_entry k.entries) (statements_of k) are.essentials s.essentials);
 }
 
 pub frames-shrunk : (k new : Storage) (g h : EssentialSets) → AreFrames k g → IsShrunk k new → h.sets ≡ g.sets → h.kept.items ≡ g.kept.items → AreFrames new h

@@ -11,7 +11,7 @@ use Rattle.frame.proofs.PlacedHypotheses.{members, used-cases}
 -- ---- constants and variables of legal statements
 
 -- if a statement that passes is active after A, and no later one closes a block of A, one is active after S
-still-active : (q : Stmt → Bool) (S A : Database) (t : Stmt) (B : Database) → S ≡ A ++ t ∷ B → stays_open 0 (t ∷ B) ≡ true → list_any (λ p. q p.1) (active A) ≡ true → list_any (λ p. q p.1) (active S) ≡ true
+pub still-active : (q : Stmt → Bool) (S A : Database) (t : Stmt) (B : Database) → S ≡ A ++ t ∷ B → stays_open 0 (t ∷ B) ≡ true → list_any (λ p. q p.1) (active A) ≡ true → list_any (λ p. q p.1) (active S) ≡ true
 still-active q S A t B whole stays h =
     let r = active-stands q 1 A h in
     let longer : S ≡ r.front ++ r.stmt ∷ (r.rest ++ t ∷ B) = whole ∙ (ap (λ w. w ++ t ∷ B) r.whole ∙ append_assoc r.front (r.stmt ∷ r.rest) (t ∷ B)) in

@@ -12,7 +12,7 @@ pub use Rattle.entries.specs.Histories.{AreKeptUntil, AreSame, AreUntil, IsUntil
 pub use Rattle.entries.specs.Hypotheses.{told}
 pub use Rattle.entries.specs.PositionSets.{AreAbove, Ascends, IsSet, count_below, has_position, set_at, with_position}
 pub use Rattle.entries.specs.Stored.Spans.{AreSpansIn, Extends, cut}
-pub use Rattle.entries.specs.SymbolPlaces.{ArePlacesOf, SymbolGroups}
+pub use Rattle.entries.specs.SymbolPlaces.{ArePlacesOf, SymbolGroups, without_float}
 pub use Rattle.entries.specs.declared.assertion_view.AssertionView.{AssertionView}
 pub use Rattle.entries.specs.declared.assertion_view.Hypothesis.{Hypothesis}
 pub use Rattle.entries.specs.declared.buffer_part.BufferPart.{BufferPart}
@@ -44,7 +44,7 @@ pub use Rattle.frame.specs.Stored.Merged.{AreMerged, AreMissing, with_each}
 pub use Rattle.frame.specs.Stored.Naming.{is_declared, naming_from, naming_of}
 pub use Rattle.frame.specs.Stored.OneFrame.{AreMandatory, among, is_needed, groups_among, is_in_essential, required}
 pub use Rattle.frame.specs.Stored.PairSearch.{AreSearched, IsLeft, are_pair}
-pub use Rattle.frame.specs.Stored.Stacks.{AreChangedBy, AreOfKind, AreStacks, IsNext, IsOfKind, KeepsUntil, has_code, positions_with, having_after, kind_test, last_by_kind, latest_of, opening, with_top}
+pub use Rattle.frame.specs.Stored.Stacks.{AreChangedBy, AreOfKind, AreStacks, IsNext, IsOfKind, KeepsUntil, codes_by, entries_by, has_code, positions_with, having_after, kind_test, last_by_kind, latest_of, long_codes, long_entry, opening, with_top}
 pub use Rattle.frame.specs.Stored.Whole.{AreKept, ArePartsFor, AreStored, IsEntryHeader, IsKeptOf, AreStacksOfStorage}
 pub use Rattle.frame.specs.declared.essential_sets.EssentialSets.{EssentialSets}
 pub use Rattle.frame.specs.declared.essential_sets.EssentialSet.{EssentialSet}

@@ -20,11 +20,13 @@ abbrev pub IsFirstFixed : Database → Expr → Type 0
 IsFirstFixed S [] = Unit {0}
 IsFirstFixed S (x ∷ e) = is_variable S x ≡ false
 
--- each variable of the expression, of the mandatory `$e` and of the groups of the assertion s at a is that of exactly one mandatory `$f`
+-- each variable of the expression, of the mandatory `$e` and of the groups of the assertion s at a is that of exactly one
+-- mandatory `$f`; what is a variable at a mandatory `$e` is one at the assertion
 pub record IsBound (S : Database) (a : ℕ) (s : Stmt) : Type 0 where
   pub own : (x : Name) → has_name x (expr_of s) ≡ true → is_variable (before S a) x ≡ true → HasFloat S (hypotheses (before S a) s) x
   pub essential : (k p : ℕ) (label : Name) (e : Expr) (x : Name) → slice_get (hypotheses (before S a) s) k ≡ Some p → stmt_at S p ≡ Some (Ess label e) → has_name x e ≡ true → is_variable (before S a) x ≡ true → HasFloat S (hypotheses (before S a) s) x
   pub grouped : (k : ℕ) (g : List Name) (x : Name) → slice_get (mandatory_groups (before S a) s) k ≡ Some g → has_name x g ≡ true → HasFloat S (hypotheses (before S a) s) x
+  pub still : (k p : ℕ) (label : Name) (e : Expr) (x : Name) → slice_get (hypotheses (before S a) s) k ≡ Some p → stmt_at S p ≡ Some (Ess label e) → is_variable (before S p) x ≡ true → is_variable (before S a) x ≡ true
   pub variable : (k p : ℕ) (label constant x : Name) → slice_get (hypotheses (before S a) s) k ≡ Some p → stmt_at S p ≡ Some (Float label constant x) → is_variable (before S a) x ≡ true
   pub once : (k j p q : ℕ) (l c m d x : Name) → slice_get (hypotheses (before S a) s) k ≡ Some p → slice_get (hypotheses (before S a) s) j ≡ Some q → stmt_at S p ≡ Some (Float l c x) → stmt_at S q ≡ Some (Float m d x) → k ≡ j
   pub first : (k p : ℕ) (r : Stmt) → slice_get (hypotheses (before S a) s) k ≡ Some p → stmt_at S p ≡ Some r → IsFirstFixed (before S a) (expr_of r)

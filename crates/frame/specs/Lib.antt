@@ -8,6 +8,7 @@ pub mod Citations
 pub mod Below
 pub mod AssertionView
 pub mod ExprPlaces
+pub mod LongEssentials
 pub mod Bound
 pub mod AtPosition
 pub mod PairFacts

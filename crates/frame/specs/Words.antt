@@ -3,7 +3,7 @@ pub use Rattle.entries.specs.Entries.{Assertion, Entry, partless}
 pub use Rattle.entries.specs.Histories.{AreUntil, StackVersion, history, kept_until, stack_at}
 pub use Rattle.entries.specs.PositionSets.{Ascends, set_at}
 pub use Rattle.entries.specs.Stored.Spans.{AreSpansIn, Extends, cut}
-pub use Rattle.entries.specs.SymbolPlaces.{ArePlacesOf, SymbolGroups}
+pub use Rattle.entries.specs.SymbolPlaces.{ArePlacesOf, SymbolGroups, without_float}
 pub use Rattle.entries.specs.declared.assertion_view.AssertionView.{AssertionView}
 pub use Rattle.entries.specs.declared.assertion_view.Hypothesis.{Hypothesis}
 pub use Rattle.entries.specs.declared.assertion_view.Hypothesis.TheVariants.{Essential}

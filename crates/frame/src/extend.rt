@@ -68,6 +68,7 @@ fn extend(
     record_active(
         &mut storage.disjoints,
         &mut storage.variables,
+        &mut storage.essentials,
         storage.entries.list(),
         &next,
     )?;
@@ -166,6 +167,7 @@ fn roll_back(storage: &mut Storage, names: usize, replaced: usize)
     ensures entries { storage.new.entries ≡ storage.old.entries }
     ensures disjoints { AreKeptUntil (length storage.old.entries) storage.old.disjoints storage.new.disjoints }
     ensures variables { AreKeptUntil (length storage.old.entries) storage.old.variables storage.new.variables }
+    ensures essentials { AreKeptUntil (length storage.old.entries) storage.old.essentials storage.new.essentials }
     ensures last_active { storage.new.last_active ≡ storage.old.last_active }
 {
     storage.numbering.truncate(names);
@@ -176,6 +178,7 @@ fn roll_back(storage: &mut Storage, names: usize, replaced: usize)
     let last = storage.entries.len() as u32;
     storage.disjoints.truncate(last);
     storage.variables.truncate(last);
+    storage.essentials.truncate(last);
 }
 
 /// Gives back the room of the removed contents of the storage, if it is more than that of the remaining contents.
@@ -190,6 +193,7 @@ fn shrink_lists(alloc: Global, storage: &mut Storage)
     ensures entries { storage.new.entries ≡ storage.old.entries }
     ensures disjoints { AreSame storage.old.disjoints storage.new.disjoints }
     ensures variables { AreSame storage.old.variables storage.new.variables }
+    ensures essentials { AreSame storage.old.essentials storage.new.essentials }
     ensures last_active { storage.new.last_active ≡ storage.old.last_active }
 {
     storage.numbering.shrink(alloc);
@@ -201,6 +205,7 @@ fn shrink_lists(alloc: Global, storage: &mut Storage)
     let symbols = storage.numbering.symbol_count();
     storage.disjoints.shrink(symbols);
     storage.variables.shrink(symbols);
+    storage.essentials.shrink(symbols);
 }
 
 impl Frames {

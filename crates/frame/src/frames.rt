@@ -1,6 +1,6 @@
 //! The statements of a database by position.
-ghost use Rattle.std.specs.Prelude.{◌≡◌, ◌≤◌, [], IfOk, length, Some, option_map, OnOk, IfSome};
-ghost use Rattle.{mm_read.specs.declared.stmt.Stmt.Stmt as Statement, names.specs.Codes.name_at, names.specs.Codes.decode, scope.specs.Active.before, scope.specs.Active.stmt_at, scope.specs.Active.label_of, scope.specs.Active.expr_of, frame.specs.AtPosition.IsPosition, frame.specs.AtPosition.ArePositions, frame.specs.AtPosition.AreLegal, frame.specs.AtPosition.IsMeaning, frame.specs.FrameOf.HasAssertion, frame.specs.FrameOf.hypotheses, frame.specs.AssertionView.AreBuffersOf, frame.specs.AssertionView.AreCitingLists, frame.specs.AssertionView.IsCited, frame.specs.AssertionView.IsViewOf, frame.specs.PairFacts.AreFacts, frame.specs.ExprPlaces.AreExprPlaces, frame.specs.Below.AreBelow};
+ghost use Rattle.std.specs.Prelude.{◌≡◌, ◌≤◌, ◌<◌, [], true, IfOk, length, Some, option_map, OnOk, IfSome};
+ghost use Rattle.{mm_read.specs.declared.stmt.Stmt.Stmt as Statement, names.specs.Codes.name_at, names.specs.Codes.decode, scope.specs.Active.before, scope.specs.Active.stmt_at, scope.specs.Active.label_of, scope.specs.Active.expr_of, frame.specs.AtPosition.IsPosition, frame.specs.AtPosition.ArePositions, frame.specs.AtPosition.AreLegal, frame.specs.AtPosition.IsMeaning, frame.specs.FrameOf.HasAssertion, frame.specs.FrameOf.hypotheses, frame.specs.AssertionView.AreBuffersOf, frame.specs.AssertionView.AreCitingLists, frame.specs.AssertionView.IsCited, frame.specs.AssertionView.IsViewOf, frame.specs.PairFacts.AreFacts, frame.specs.ExprPlaces.AreExprPlaces, frame.specs.Below.AreBelow, frame.specs.LongEssentials.HasConstants, frame.specs.LongEssentials.long_essentials, scope.specs.Active.is_essential};
 
 use crate::at_position::{is_active_at, last_active_at};
 use crate::citing_lists::fill_for_citation;
@@ -16,7 +16,9 @@ use crate::shape::has_label;
 use crate::storage::Storage;
 use crate::stored_entries::StoredEntries;
 use crate::symbol_numbers::label_number;
-use entries::{AssertionView, Groups, Histories, Hypotheses, Kind, LastActive, SymbolPlaces};
+use entries::{
+    AssertionView, Groups, Histories, Hypotheses, Kind, LastActive, PositionStack, SymbolPlaces,
+};
 use mm_lex::Words;
 use scope::{Numbering, SymbolNumbers};
 use std::alloc::{AllocError, Global};
@@ -66,6 +68,7 @@ impl Frames {
                 entries: StoredEntries::new(alloc),
                 disjoints: Histories::new(alloc),
                 variables: Histories::new(alloc),
+                essentials: Histories::new(alloc),
                 last_active: LastActive {
                     block: 0,
                     essential: 0,
@@ -138,7 +141,8 @@ impl Frames {
     /// Cost: log n for n such expressions.
     pub fn places(&self, at: usize) -> Option<&SymbolPlaces>
         requires { (1 ≤ at) × (at ≤ length self.now.statements) }
-        ensures { (s : Statement) → stmt_at self.now.statements at ≡ Some s → IfSome result (λ places. AreExprPlaces self.now.names (expr_of s) places.now) }
+        ensures places { (s : Statement) → stmt_at self.now.statements at ≡ Some s → IfSome result (λ places. AreExprPlaces self.now.names (expr_of s) places.now) }
+        ensures constants { (s : Statement) → stmt_at self.now.statements at ≡ Some s → is_essential s ≡ true → IfSome result (λ places. HasConstants (before self.now.statements at) self.now.names (expr_of s) places.now.constants) }
     {
         let entry = self.storage.entries.entry(at - 1);
         if has_label(entry.kind) {
@@ -146,6 +150,18 @@ impl Frames {
         } else {
             None
         }
+    }
+
+    /// Returns the mandatory `$e` of the assertion at a position that have `LONG_EXPRESSION` symbols or more, one of which is x,
+    /// from the last one back.
+    ///
+    /// Cost: a binary search.
+    pub fn long_essentials(&self, x: u32, a: usize) -> PositionStack<'_>
+        requires named { x < length self.now.names }
+        requires assertion { (s : Statement) × HasAssertion self.now.statements a s }
+        ensures { (s : Statement) → stmt_at self.now.statements a ≡ Some s → result ≡ long_essentials self.now.statements a s (name_at self.now.names x) }
+    {
+        self.storage.essentials.stack(x, a)
     }
 
     /// Returns the meaning at `at` of a citation of the statement at `i`.

@@ -1,10 +1,11 @@
-//! The active `$d` and `$v` that have a symbol, as stacks by number.
+//! The active `$d`, `$v` and long `$e` that have a symbol, as stacks by number.
 ghost use Rattle.std.specs.Prelude.{◌≡◌, ◌+◌, ◌-◌, ◌<◌, ℕ, length, OnOk};
 ghost use Rattle.entries.specs.Histories.{AreUntil, gone_back, history, pushed, stack_at};
-ghost use Rattle.entries.specs.declared.kind.Kind.TheVariants.{Disj, Var};
-ghost use Rattle.frame.specs.Stored.Stacks.{AreChangedBy, IsNext, KeepsUntil, latest_of, last_by_kind, opening};
+ghost use Rattle.entries.specs.declared.kind.Kind.TheVariants.{Disj, Ess, Var};
+ghost use Rattle.frame.specs.Stored.Stacks.{AreChangedBy, IsNext, KeepsUntil, codes_by, latest_of, last_by_kind, long_codes, opening};
 ghost use Rattle.frame.specs.Stored.Whole.{AreStacksOfStorage};
 
+use crate::stored_entries::LONG_EXPRESSION;
 use entries::{Entries, Histories, Kind, LastActive};
 use std::alloc::AllocError;
 
@@ -20,30 +21,36 @@ pub struct NextStatement<'a> {
     pub last_active: LastActive,
 }
 
-/// Records the next statement if it is a `$d` or `$v`, or restores what is active after it if it is a `$}`.
+/// Records the next statement if it is a `$d`, a `$v` or a long `$e`, or restores what is active after it if it is a `$}`.
 ///
-/// Cost: the symbols of a `$d` or `$v`; for a `$}` those of the `$d` and `$v` that it makes inactive, and for each of
-/// these symbols a binary search.
+/// Cost: the symbols of a `$d`, `$v` or long `$e`; for a `$}` those of the `$d`, `$v` and long `$e` that it makes inactive, for
+/// each of these symbols a binary search, and a constant for each short `$e` that it makes inactive.
 pub fn record_active(
     disjoints: &mut Histories,
     variables: &mut Histories,
+    essentials: &mut Histories,
     entries: &Entries,
     next: &NextStatement<'_>,
 ) -> Result<(), AllocError>
     requires place { next.now.at ≡ length entries.now + 1 }
     requires disjoints { AreStacksOfStorage Disj entries.now next.now.last_active disjoints.old }
     requires variables { AreStacksOfStorage Var entries.now next.now.last_active variables.old }
+    requires essentials { AreStacksOfStorage Ess entries.now next.now.last_active essentials.old }
     ensures disjoints { OnOk result (IsNext next.now.at (latest_of Disj next.now.kind next.now disjoints.old) disjoints.old disjoints.new) }
     ensures variables { OnOk result (IsNext next.now.at (latest_of Var next.now.kind next.now variables.old) variables.old variables.new) }
+    ensures essentials { OnOk result (IsNext next.now.at (latest_of Ess next.now.kind next.now essentials.old) essentials.old essentials.new) }
     ensures kept_disjoints { KeepsUntil (next.now.at - 1) disjoints.old disjoints.new }
     ensures kept_variables { KeepsUntil (next.now.at - 1) variables.old variables.new }
+    ensures kept_essentials { KeepsUntil (next.now.at - 1) essentials.old essentials.new }
 {
     match next.kind {
         Kind::Disj => push_each(disjoints, next.codes, next.at),
         Kind::Var => push_each(variables, next.codes, next.at),
+        Kind::Ess => push_each(essentials, long_codes(next.codes), next.at),
         Kind::Close => {
             go_back_all(disjoints, entries, next, Kind::Disj)?;
-            go_back_all(variables, entries, next, Kind::Var)
+            go_back_all(variables, entries, next, Kind::Var)?;
+            go_back_all(essentials, entries, next, Kind::Ess)
         }
         _ => Ok(()),
     }
@@ -59,6 +66,28 @@ fn push_each(histories: &mut Histories, codes: &[u32], at: u32) -> Result<(), Al
         histories.push(*code, at)?;
     }
     Ok(())
+}
+
+/// Returns the symbols of a long expression, and none of a short one.
+#[inline(always)]
+fn long_codes(codes: &[u32]) -> &[u32]
+    ensures { result.now ≡ long_codes codes.now }
+{
+    if codes.len() >= LONG_EXPRESSION {
+        codes
+    } else {
+        &[]
+    }
+}
+
+/// Returns the symbols for whose stacks a statement of a kind counts.
+fn codes_of_kind(codes: &[u32], of: Kind) -> &[u32]
+    ensures { result.now ≡ codes_by of codes.now }
+{
+    match of {
+        Kind::Ess => long_codes(codes),
+        _ => codes,
+    }
 }
 
 /// Restores the stack of each symbol of the active statements of a kind in the last block to the stack that it was when that
@@ -78,7 +107,8 @@ fn go_back_all(
     let mut last = last_of_kind(next.last_active, of);
     while last > next.last_active.block {
         let entry = entries.entry(last as usize - 1);
-        go_back_each(histories, entry.symbols, next.at, before)?;
+        let codes = codes_of_kind(entry.symbols, of);
+        go_back_each(histories, codes, next.at, before)?;
         last = last_of_kind(entry.before.last_active, of);
     }
     Ok(())
@@ -107,6 +137,7 @@ fn last_of_kind(last_active: LastActive, of: Kind) -> u32
 {
     match of {
         Kind::Disj => last_active.disjoint,
+        Kind::Ess => last_active.essential,
         _ => last_active.variable,
     }
 }

@@ -28,5 +28,7 @@ pub struct Storage {
     pub disjoints: Histories,
     /// For each symbol, by its number, the active `$v` that have it.
     pub variables: Histories,
+    /// For each symbol, by its number, the active `$e` of `LONG_EXPRESSION` symbols or more that have it.
+    pub essentials: Histories,
     pub last_active: LastActive,
 }

@@ -1,11 +1,11 @@
 //! The statements as numbers, with the places of the symbols of long expressions.
 ghost use Rattle.std.specs.Prelude.{◌≡◌, ◌≤◌, ◌<◌, ◌+◌, ◌^◌, ◌++◌, ◌∷◌, [], length, take, slice_get, Some, OnOk, OnErr, IfNone, IfSome, false};
 ghost use Rattle.entries.specs.Entries.{AreShapedParts, AreWhole, Entry, IsEntry, assertion_of, made};
-ghost use Rattle.entries.specs.SymbolPlaces.{ArePlacesOf};
+ghost use Rattle.entries.specs.SymbolPlaces.{ArePlacesOf, without_float};
 
 use entries::{
-    AssertionParts, AssertionView, Entries, EntryHeader, EntryRef, Kind, LongExpressions,
-    SymbolPlaces,
+    AssertionParts, AssertionView, Entries, EntryHeader, EntryRef, Hypotheses, Kind,
+    LongExpressions, SymbolPlaces,
 };
 use std::alloc::{AllocError, Global};
 use std::marker::Model;
@@ -97,11 +97,13 @@ impl StoredEntries {
         self.list.cited(index)
     }
 
-    /// Returns where each symbol of the expression at an index stands, if the expression is long.
+    /// Returns where each symbol of the expression at an index stands, if the expression is long. Its constants are the symbols
+    /// that are the variable of no `$f` among the hypotheses that are kept with it.
     ///
     /// Cost: log n for n long expressions.
     pub fn places(&self, index: usize) -> Option<&SymbolPlaces>
-        ensures { (e : Entry) → slice_get self.now index ≡ Some e → IfSome result (λ places. ArePlacesOf e.symbols places.now) }
+        ensures places { (e : Entry) → slice_get self.now index ≡ Some e → IfSome result (λ places. ArePlacesOf e.symbols places.now) }
+        ensures constants { (e : Entry) → slice_get self.now index ≡ Some e → IfSome result (λ places. places.now.constants ≡ without_float e.assertion.required places.now.symbols) }
     {
         self.long.get(index)
     }
@@ -124,7 +126,10 @@ impl StoredEntries {
         if !is_long(header.kind, parts.symbols) {
             return Ok(());
         }
-        match self.long.push(index, parts.symbols) {
+        match self
+            .long
+            .push(index, parts.symbols, &Hypotheses::new(parts.required))
+        {
             Ok(()) => Ok(()),
             Err(error) => {
                 self.list.truncate(index);

@@ -6,7 +6,7 @@ mod WrittenImages
 mod AlikeLemmas
 pub mod MatchLemmas
 mod CopyLemmas
-mod VanishingLemmas
+pub mod VanishingLemmas
 pub mod SubstitutionLemmas
 pub mod DisjointLemmas
 mod Rows

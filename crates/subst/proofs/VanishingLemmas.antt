@@ -2,10 +2,23 @@
 use Rattle.subst.proofs.Words.{append-nil, ◌≡◌, ℕ, zero, suc, ◌+◌, ◌-◌, ◌<◌, ◌≤◌, Bool, true, false, true≢false, inl, inr, cond, nat_eq, List, [], ◌∷◌, ◌++◌, length, take, take_all, drop, slice_get, Option, Some, None, refl, lookup, sym, ◌∙◌, ap, subst, arith, code_image, code_apply, SymbolRange, images_at, ⊎_elim, get_or, cases_lt, ltb-false, Contains, cons_option, filter, filter_map, flat_map, All-contains, Contains-append_cases, Contains-append_left, Contains-append_right, filter_map-append, flat_map_more, take_more, get_or_from_slice_get, slice_get-get_or, slice_get_within, IsGroupOf, AreGroupsFrom, IsGrouped, AreAbove, Ascends, In, AreThose, contains-in, in-contains, has_nonempty_image, is_range_nonempty, is_symbol_left, is_group_left, group_left, remaining}
 use Rattle.entries.specs.SymbolPlaces.{ArePlacesOf, SymbolGroups}
 use Rattle.subst.proofs.ImageRangesLemmas.{image-some}
+use Rattle.std.specs.List.{list_any}
+use Rattle.std.specs.Prelude.{map, slice_range, ◌||◌, ◌^◌}
+use Rattle.std.proofs.Common.{eq-eqb, eqb-true}
+use Rattle.std.proofs.lemmas.List.{get_or-drop, get_or-take, get_or_default, length-drop, length-take-le}
+use Rattle.std.proofs.lemmas.List.Folds.{list_any_more}
+use Rattle.std.proofs.lemmas.Nat.{mod-mul-add}
+use Rattle.names.proofs.CodesLemmas.{list_any-map}
+use Rattle.entries.specs.Stored.Keys.{index_of, key_of}
+use Rattle.entries.specs.SymbolPlaces.{is_symbol}
+use Rattle.subst.specs.declared.vanishing.TheConstants.{SYMBOLS}
+use Rattle.frame.proofs.VariablePlaceLemmas.{any-in, in-any}
+use Rattle.frame.specs.Substitution.{CodeImages}
+use Rattle.subst.specs.Vanishing.{is_among}
 
 -- ---- a symbol whose image is empty
 
-vanished : (symbols : List ℕ) (ps : List (ℕ × SymbolRange)) (x : ℕ) → has_nonempty_image ps x ≡ false → code_image (images_at symbols ps) x ≡ []
+pub vanished : (symbols : List ℕ) (ps : List (ℕ × SymbolRange)) (x : ℕ) → has_nonempty_image ps x ≡ false → code_image (images_at symbols ps) x ≡ []
 vanished symbols ps x h = by (lookup (nat_eq x) ps) refl h
   where
     by : (o : Option SymbolRange) → lookup (nat_eq x) ps ≡ o → is_range_nonempty o ≡ false → code_image (images_at symbols ps) x ≡ []
@@ -14,15 +27,18 @@ vanished symbols ps x h = by (lookup (nat_eq x) ps) refl h
         let none : p.end - p.start ≡ 0 = (let l = ltb-false p.start p.end f in omega (arith, l)) in
         image-some symbols ps x p e ∙ ap (λ n. take n (drop p.start symbols)) none
 
-remaining-step : (symbols : List ℕ) (ps : List (ℕ × SymbolRange)) (x : ℕ) (e : List ℕ) → code_apply (images_at symbols ps) (remaining ps e) ≡ code_apply (images_at symbols ps) e
-    → (b : Bool) → has_nonempty_image ps x ≡ b → code_apply (images_at symbols ps) (cond b (x ∷ remaining ps e) (remaining ps e)) ≡ code_image (images_at symbols ps) x ++ code_apply (images_at symbols ps) e
-remaining-step symbols ps x e rest true h = ap (λ r. code_image (images_at symbols ps) x ++ r) rest
-remaining-step symbols ps x e rest false h = rest ∙ ap (λ r. r ++ code_apply (images_at symbols ps) e) (sym (vanished symbols ps x h))
+-- symbols whose images are empty may be left out
+pub apply-kept : (σ : CodeImages) (keeps : ℕ → Bool) (e : List ℕ) → ((x : ℕ) → In x e → keeps x ≡ false → code_image σ x ≡ []) → code_apply σ (filter keeps e) ≡ code_apply σ e
+apply-kept σ keeps [] gone = refl
+apply-kept σ keeps (x ∷ e) gone = by (keeps x) refl (apply-kept σ keeps e (λ y m. gone y (inr m)))
+  where
+    by : (b : Bool) → keeps x ≡ b → code_apply σ (filter keeps e) ≡ code_apply σ e → code_apply σ (cond b (x ∷ filter keeps e) (filter keeps e)) ≡ code_image σ x ++ code_apply σ e
+    by true h rest = ap (λ r. code_image σ x ++ r) rest
+    by false h rest = rest ∙ ap (λ r. r ++ code_apply σ e) (sym (gone x (inl refl) h))
 
 -- without such symbols the result is the same
 pub apply-remaining : (symbols : List ℕ) (ps : List (ℕ × SymbolRange)) (e : List ℕ) → code_apply (images_at symbols ps) (remaining ps e) ≡ code_apply (images_at symbols ps) e
-apply-remaining symbols ps [] = refl
-apply-remaining symbols ps (x ∷ e) = remaining-step symbols ps x e (apply-remaining symbols ps e) (has_nonempty_image ps x) refl
+apply-remaining symbols ps e = apply-kept (images_at symbols ps) (has_nonempty_image ps) e (λ x m h. vanished symbols ps x h)
 
 -- ---- the groups of the symbols that are left
 
@@ -178,3 +194,64 @@ pub read-more : (f : ℕ → Option ℕ) (is : List ℕ) (k : ℕ) (old : List �
 read-more f is k old o h done at =
     ap (λ r. r ++ cons_option o []) done
     ∙ (ap (λ r. filter_map f (take k is) ++ cons_option r []) (sym at) ∙ (sym (filter_map-append f (take k is) (get_or is k 0 ∷ [])) ∙ ap (filter_map f) (sym (take_more is k 0 h))))
+
+-- ---- the symbols that were listed
+
+-- one more symbol
+pub among-more : (symbols : List ℕ) (k : ℕ) (o : Option ℕ) → k < length symbols → is_among (take (k + 1) symbols) o ≡ (is_among (take k symbols) o || is_symbol (get_or symbols k 0) o)
+among-more symbols k None l = refl
+among-more symbols k (Some x) l = list_any_more (λ s. nat_eq x s) symbols k 0 l
+
+-- the indexes of the symbols of two lists, in order, give the occurrences of these symbols
+pub listed-read : (e : List ℕ) (first second all list : List ℕ) → ((i : ℕ) → list_any (λ j. nat_eq i j) all ≡ (is_among first (slice_get e i) || is_among second (slice_get e i))) → AreThose (λ i. In i all) list
+    → filter_map (slice_get e) list ≡ filter (λ x. list_any (λ s. nat_eq x s) first || list_any (λ s. nat_eq x s) second) e
+listed-read e first second all list told those =
+    picks keeps (slice_get e) e 0 list (λ j. let n : 0 + j ≡ j = omega arith in ap (slice_get e) n) (record {
+      ascends = those.ascends;
+      low = λ i m. omega arith;
+      only = λ i m. stands (slice_get e i) (sym (told i) ∙ in-any (λ j. nat_eq i j) all i (those.only i m) (eq-eqb i i refl));
+      all = λ i x l at kept. those.all i (found i (told i ∙ (ap (λ o. is_among first o || is_among second o) at ∙ kept)));
+    })
+  where
+    keeps : ℕ → Bool
+    keeps x = list_any (λ s. nat_eq x s) first || list_any (λ s. nat_eq x s) second
+
+    stands : (o : Option ℕ) → (is_among first o || is_among second o) ≡ true → (x : ℕ) × (o ≡ Some x) × (keeps x ≡ true)
+    stands None h = absurd (true≢false (sym h))
+    stands (Some x) h = (x, refl, h)
+
+    found : (i : ℕ) → list_any (λ j. nat_eq i j) all ≡ true → In i all
+    found i h = let r = any-in (λ j. nat_eq i j) all h in subst (λ n. In n all) (sym (eqb-true i r.0 r.2)) r.1
+
+-- ---- the keys of one statement
+
+above-at : (q : ℕ) (xs : List ℕ) (j : ℕ) → AreAbove q xs → j < length xs → q < get_or xs j 0
+above-at q [] j a l = absurd (omega (arith, l))
+above-at q (x ∷ xs) zero a l = a.0
+above-at q (x ∷ xs) (suc j) a l = above-at q xs j a.1 (omega (arith, l))
+
+pub ascends-at : (xs : List ℕ) (i j : ℕ) → Ascends xs → i < j → j < length xs → get_or xs i 0 < get_or xs j 0
+ascends-at [] i j a h l = absurd (omega (arith, l))
+ascends-at (x ∷ xs) i zero a h l = absurd (omega (arith, h))
+ascends-at (x ∷ xs) zero (suc j) a h l = above-at x xs j a.0 (omega (arith, l))
+ascends-at (x ∷ xs) (suc i) (suc j) a h l = ascends-at xs i j a.1 (omega (arith, h)) (omega (arith, l))
+
+pub ascends-level : (xs : List ℕ) (i j : ℕ) → Ascends xs → i ≤ j → j < length xs → get_or xs i 0 ≤ get_or xs j 0
+ascends-level xs i j a h l = ⊎_elim (λ less. let r = ascends-at xs i j a less l in omega (arith, r)) (λ ge. let same : i ≡ j = omega (arith, ge, h) in let e = ap (λ n. get_or xs n 0) same in omega (arith, e)) (cases_lt i j)
+
+-- a key that no key before `from` and no key from `to` on can be stands between
+pub in-part : (ks : List ℕ) (from to k : ℕ) → In k ks → ((j : ℕ) → j < from → j < length ks → get_or ks j 0 < k) → ((j : ℕ) → to ≤ j → j < length ks → k < get_or ks j 0) → to ≤ length ks → In k (slice_range ks from to)
+in-part ks from to k m below above end =
+    let c = in-contains k ks m in
+    let j = c.0 in
+    let is : get_or ks j 0 ≡ k = get_or_default ks j 0 k c.1 ∙ c.2 in
+    let low : from ≤ j = ⊎_elim (λ less. let b = below j less c.1 in absurd (omega (arith, b, is))) (λ ge. ge) (cases_lt j from) in
+    let high : j < to = ⊎_elim (λ less. less) (λ ge. let b = above j ge c.1 in absurd (omega (arith, b, is))) (cases_lt j to) in
+    let back : from + (j - from) ≡ j = omega (arith, low) in
+    let size = length-take-le (to - from) (drop from ks) (let n = length-drop from ks in omega (arith, n, end)) in
+    contains-in k (slice_range ks from to) (j - from, omega (arith, size, low, high), get_or-take (to - from) (drop from ks) (j - from) k (omega (arith, low, high)) ∙ (get_or-drop from ks (j - from) k ∙ (ap (λ n. get_or ks n k) back ∙ c.2)))
+
+-- the symbol of a key that is there
+pub symbol-listed : (ks : List ℕ) (p s : ℕ) → s < 2 ^ 32 → In (key_of p s) ks → list_any (λ y. nat_eq s y) (map index_of ks) ≡ true
+symbol-listed ks p s fits m =
+    sym (list_any-map index_of (λ y. nat_eq s y) ks) ∙ in-any (λ k. nat_eq s (index_of k)) ks (key_of p s) m (eq-eqb s (index_of (key_of p s)) (sym (mod-mul-add p SYMBOLS s (omega (arith, fits)))))

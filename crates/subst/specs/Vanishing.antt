@@ -1,8 +1,11 @@
 -- The symbols of an expression whose images are not empty.
 -- Metamath, 4.2.6: an image may be the empty sequence of symbols, and then nothing replaces the variable.
--- The code goes over the distinct symbols of an expression, each with its group of indexes, and skips those with an empty image.
-use Rattle.std.specs.Prelude.{◌≡◌, ℕ, Bool, true, false, nat_eq, nat_lt, List, [], Option, Some, None, slice_get, option_and_then, if◌then◌else◌}
-use Rattle.subst.specs.Words.{filter, lookup, code_apply}
+-- The code goes over the distinct symbols of an expression, each with its group of indexes, and skips those with an empty image;
+-- or it takes only the groups of the constants and of symbols that were listed for the expression.
+use Rattle.std.specs.Prelude.{◌≡◌, ◌<◌, ◌^◌, ◌==◌, ℕ, Bool, true, false, nat_eq, nat_lt, List, [], Option, Some, None, slice_get, option_and_then, if◌then◌else◌}
+use Rattle.subst.specs.Words.{filter, list_any, lookup, code_apply}
+use Rattle.entries.specs.Stored.Keys.{key_of}
+use Rattle.frame.specs.Stored.Hypotheses.{In}
 use Rattle.subst.specs.SymbolRanges.{images_at}
 use Rattle.subst.specs.declared.symbol_range.SymbolRange.{SymbolRange}
 
@@ -37,3 +40,23 @@ is_group_left images expr group = is_symbol_left images (first_symbol expr group
 -- the group, or nothing if that image is empty
 abbrev pub group_left : List (ℕ × SymbolRange) → List ℕ → List ℕ → List ℕ
 group_left images expr group = if is_group_left images expr group then group else []
+
+-- ---- the symbols that were listed for an expression
+
+-- symbols listed for statements by position, each pair as one number, and the symbols that are left of an expression
+pub record Remainder : Type 0 where
+  pub keys : List ℕ
+  pub left : List ℕ
+
+-- one of the symbols
+abbrev pub is_among : List ℕ → Option ℕ → Bool
+is_among symbols None = false
+is_among symbols (Some x) = list_any (λ s. x == s) symbols
+
+-- what is left of the expression are the occurrences of some of its symbols, among which are the constants and those that were
+-- listed for the statement at the position
+pub record HasListed (keys : List ℕ) (position : ℕ) (constants expr left : List ℕ) : Type 0 where
+  pub keeps : ℕ → Bool
+  pub is : left ≡ filter keeps expr
+  pub constants_stay : (s : ℕ) → list_any (λ c. s == c) constants ≡ true → keeps s ≡ true
+  pub listed_stay : (s : ℕ) → s < 2 ^ 32 → In (key_of position s) keys → keeps s ≡ true

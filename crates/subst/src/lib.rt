@@ -40,4 +40,4 @@ pub use image_ranges::ImageRanges;
 pub use images::{Subst, apply, has_room};
 pub use laws::{disjoint_condition_law, substitution_over_names};
 pub use symbol_range::{SymbolRange, range_between, symbols_at};
-pub use vanishing::Remaining;
+pub use vanishing::{Remaining, has_symbols};

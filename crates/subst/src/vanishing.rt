@@ -1,22 +1,39 @@
 //! An expression without the symbols whose images are empty.
-ghost use Rattle.std.specs.Prelude.{◌≡◌, ℕ, ◌<◌, ◌≤◌, true, false, length, slice_get, slice_index, IfOk, IfSome, IsTrue, OnOk};
-ghost use Rattle.std.specs.List.{filter_map, flat_map};
+ghost use Rattle.std.specs.Prelude.{◌≡◌, ℕ, List, [], ◌∷◌, ◌++◌, ◌==◌, ◌||◌, ◌<◌, ◌≤◌, ◌^◌, true, false, get_or, length, map, slice_get, slice_index, IfOk, IfSome, IsTrue, OnOk};
+ghost use Rattle.std.specs.List.{filter_map, flat_map, list_any};
+ghost use Rattle.entries.specs.PositionSets.{Ascends};
+ghost use Rattle.entries.specs.Stored.Keys.{index_of, key_of};
 ghost use Rattle.entries.specs.SymbolPlaces.{ArePlacesOf};
 ghost use Rattle.frame.specs.Stored.Hypotheses.{In, AreThose};
-ghost use Rattle.subst.specs.Vanishing.{has_nonempty_image, group_left, remaining, HaveSameResult};
+ghost use Rattle.subst.specs.Vanishing.{is_among, has_nonempty_image, group_left, remaining, HasListed, HaveSameResult};
 
 use crate::image_ranges::{ImageRanges, ImageTable};
 use entries::SymbolPlaces;
 use std::alloc::{AllocError, Global};
+use std::marker::Model;
 
 /// If more than one in this many symbols is left, reading the whole expression costs about as much.
 const PART: usize = 4;
 
-/// Buffers for the symbols that are left of an expression.
+/// A key is a position times this, plus a symbol.
+const SYMBOLS: u64 = 4_294_967_296;
+
+/// Buffers for the symbols that are left of an expression, and a list of symbols that may be left of the expressions of
+/// statements. Contracts see both lists, the second one of pairs of a position and a symbol, each as one number.
 #[derive(Drop)]
 pub struct Remaining {
     indexes: Vec<u32>,
     symbols: Vec<u32>,
+    keys: Vec<u64>,
+    listed: Vec<u32>,
+}
+
+impl Model for Remaining {
+    ghost use Rattle.subst.specs.Vanishing.{Remainder};
+
+    ghost Value = { Remainder };
+
+    ghost view = { λ a. record { keys = a.keys.items; left = a.symbols.items } };
 }
 
 impl Remaining {
@@ -25,7 +42,73 @@ impl Remaining {
         Remaining {
             indexes: Vec::new(alloc),
             symbols: Vec::new(alloc),
+            keys: Vec::new(alloc),
+            listed: Vec::new(alloc),
         }
+    }
+
+    /// Empties the list of symbols.
+    pub fn forget(&mut self)
+        ensures { self.new.keys ≡ [] }
+    {
+        self.keys.clear();
+    }
+
+    /// Lists a symbol for the statement at a position.
+    ///
+    /// Errors: an allocation fails.
+    pub fn list(&mut self, position: u32, symbol: u32) -> Result<(), AllocError>
+        ensures { OnOk result (self.new.keys ≡ self.old.keys ++ key_of position symbol ∷ []) }
+    {
+        self.keys.push(position as u64 * SYMBOLS + symbol as u64)?;
+        Ok(())
+    }
+
+    /// Puts the list of symbols in the order of positions.
+    ///
+    /// Cost: n log n for n symbols.
+    pub fn order(&mut self)
+        ensures { AreThose (λ k. In k self.old.keys) self.new.keys }
+    {
+        self.keys.sort_unstable();
+        self.keys.dedup();
+    }
+
+    /// Finds the occurrences of those symbols of an expression that are constants or are listed for the statement at a
+    /// position, in order, or returns `false` if they are more than a quarter of the expression.
+    ///
+    /// Errors: an allocation fails.
+    /// Cost: the occurrences that are found, times a logarithm.
+    pub fn find_listed(
+        &mut self,
+        position: u32,
+        expr: &[u32],
+        places: &SymbolPlaces,
+    ) -> Result<bool, AllocError>
+        requires places { ArePlacesOf expr.now places.now }
+        requires ordered { Ascends self.old.keys }
+        ensures keys { self.new.keys ≡ self.old.keys }
+        ensures left { IfOk result (λ few. IsTrue few → HasListed self.old.keys position places.now.constants expr.now self.new.left) }
+    {
+        self.indexes.clear();
+        read_symbols(&mut self.listed, keys_at(&self.keys, position))?;
+        let most = expr.len() / PART;
+        if !add_groups(&mut self.indexes, places, places.constants(), most)? {
+            return Ok(false);
+        }
+        if !add_groups(&mut self.indexes, places, &self.listed, most)? {
+            return Ok(false);
+        }
+        order(&mut self.indexes);
+        read(&mut self.symbols, expr, &self.indexes)?;
+        Ok(true)
+    }
+
+    /// Returns the symbols that were found last.
+    pub fn left(&self) -> &[u32]
+        ensures { result.now ≡ self.now.left }
+    {
+        &self.symbols
     }
 
     /// Returns the symbols of an expression whose images are not empty, in order, or `None` if they are more than a quarter of
@@ -55,6 +138,13 @@ impl Remaining {
         read(&mut self.symbols, expr, &self.indexes)?;
         Ok(Some(&self.symbols))
     }
+}
+
+/// Returns whether the image of a symbol is not empty.
+pub fn has_symbols(images: &ImageRanges, symbol: u32) -> bool
+    ensures { result ≡ has_nonempty_image images.now symbol }
+{
+    is_kept(&images.table(), symbol)
 }
 
 /// Returns whether the image of a symbol is not empty.
@@ -140,4 +230,70 @@ fn read(symbols: &mut Vec<u32>, expr: &[u32], indexes: &[u32]) -> Result<(), All
         }
     }
     Ok(())
+}
+
+/// Adds the indexes of each of the symbols, group by group, or returns `false` if there would be more than `most` indexes.
+fn add_groups(
+    indexes: &mut Vec<u32>,
+    places: &SymbolPlaces,
+    symbols: &[u32],
+    most: usize,
+) -> Result<bool, AllocError>
+    requires { (expr : List ℕ) × ArePlacesOf expr places.now }
+    ensures { IfOk result (λ few. IsTrue few → (expr : List ℕ) → ArePlacesOf expr places.now → (i : ℕ) → list_any (λ j. i == j) indexes.new.items ≡ (list_any (λ j. i == j) indexes.old.items || is_among symbols.now (slice_get expr i))) }
+{
+    for symbol in symbols {
+        let group = places.group(*symbol);
+        if group.len() > most.saturating_sub(indexes.len()) {
+            return Ok(false);
+        }
+        indexes.extend_from_slice(group)?;
+    }
+    Ok(true)
+}
+
+/// Reads the symbol of each key.
+fn read_symbols(symbols: &mut Vec<u32>, keys: &[u64]) -> Result<(), AllocError>
+    ensures { OnOk result (symbols.new.items ≡ map index_of keys.now) }
+{
+    symbols.clear();
+    for key in keys {
+        symbols.push((*key % SYMBOLS) as u32)?;
+    }
+    Ok(())
+}
+
+/// Returns how many keys precede the first one that is not less than a bound.
+fn place_from(keys: &[u64], bound: u64) -> usize
+    requires { Ascends keys.now }
+    ensures within { result ≤ length keys.now }
+    ensures less { (j : ℕ) → j < result → get_or keys.now j 0 < bound }
+{
+    match keys.binary_search(&bound) {
+        Ok(at) => at,
+        Err(at) => at,
+    }
+}
+
+/// Returns how many keys precede the first one that is greater than a bound.
+fn place_above(keys: &[u64], bound: u64) -> usize
+    requires { Ascends keys.now }
+    ensures within { result ≤ length keys.now }
+    ensures greater { (j : ℕ) → result ≤ j → j < length keys.now → bound < get_or keys.now j 0 }
+{
+    match keys.binary_search(&bound) {
+        Ok(at) => at + 1,
+        Err(at) => at,
+    }
+}
+
+/// Returns the keys of the symbols that are listed for the statement at a position.
+fn keys_at(keys: &[u64], position: u32) -> &[u64]
+    requires { Ascends keys.now }
+    ensures { (s : ℕ) → s < 2 ^ 32 → In (key_of position s) keys.now → In (key_of position s) result.now }
+{
+    let first = position as u64 * SYMBOLS;
+    let from = place_from(keys, first);
+    let to = place_above(keys, first + (SYMBOLS - 1)).max(from);
+    &keys[from..to]
 }

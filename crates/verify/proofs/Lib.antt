@@ -12,6 +12,7 @@ pub mod CitedPairLemmas
 pub mod CitationLemmas
 pub mod ReadImageLemmas
 pub mod Named
+mod LongHypothesesLemmas
 pub mod StepLemmas
 pub mod MandatoryEntries
 pub mod LabelTableLemmas

@@ -6,6 +6,7 @@ pub mod Right
 pub mod Machine
 pub mod ResultPlaces
 pub mod Fits
+pub mod LongHypotheses
 pub mod ReadPlaces
 pub mod KeptLists
 pub mod StepsByNumber

@@ -64,7 +64,7 @@ fn cite_parts(
     let Some(front) = results.read_images(cited.typecodes, &cited.hypotheses)? else {
         return Ok(false);
     };
-    if !results.hypotheses_match(claim.frames, &cited.hypotheses, front, remaining) {
+    if !results.hypotheses_match(claim.frames, position, &cited.hypotheses, front, remaining) {
         return Ok(false);
     }
     if !results.are_disjoint(&claim.pairs, &cited.groups)? {

@@ -1,16 +1,25 @@
 //! The results of a proof so far, as ranges of one buffer.
 
-ghost use Rattle.std.specs.Prelude.{take, ℕ, ◌≡◌, suc, ◌<◌, ◌≤◌, ◌↔◌, ◌∷◌, ◌++◌, [], length, map, get_or, slice_get, replicate, nat_eq, ◌==◌, Some, is_some, if◌then◌else◌, IfOk, IfSome, MatchOption, OnOk, OnErr, IsTrue};
+ghost use Rattle.std.specs.Prelude.{take, true, List, ℕ, ◌≡◌, suc, ◌<◌, ◌≤◌, ◌↔◌, ◌∷◌, ◌++◌, [], length, map, get_or, slice_get, replicate, nat_eq, ◌==◌, Some, is_some, if◌then◌else◌, IfOk, IfSome, MatchOption, OnOk, OnErr, IsTrue};
 ghost use Rattle.mm_read.specs.declared.stmt.Stmt.{Stmt as Statement};
+ghost use Rattle.entries.specs.PositionSets.{Ascends};
 ghost use Rattle.frame.specs.AtPosition.{AreLegal};
 ghost use Rattle.frame.specs.Below.{AllBelow, AreBelow};
 ghost use Rattle.frame.specs.Disjoint.{are_groups_disjoint};
+ghost use Rattle.frame.specs.FrameOf.{HasAssertion};
+ghost use Rattle.frame.specs.Stored.Hypotheses.{In};
 ghost use Rattle.frame.specs.Substitution.{code_apply, images_of_names};
+ghost use Rattle.mm_lex.specs.Alphabet.{Name};
+ghost use Rattle.mm_read.specs.Statements.{Expr};
+ghost use Rattle.mm_read.specs.declared.stmt.Stmt.TheVariants.{Ess};
 ghost use Rattle.names.specs.Codes.{AreDistinct, decode};
 ghost use Rattle.std.specs.Map.{lookup};
 ghost use Rattle.subst.specs.Images.{AreOver};
-ghost use Rattle.subst.specs.SymbolRanges.{AreInside, AreWithin};
-ghost use Rattle.verify.specs.Fits.{AreDifferent, AreLeadingFloats, ArePresent, DoMatch, IsExprAt, Reads};
+ghost use Rattle.entries.specs.declared.assertion_view.Hypothesis.TheVariants.{Float};
+ghost use Rattle.subst.specs.SymbolRanges.{AreInside, AreWithin, images_at, symbols_in};
+ghost use Rattle.subst.specs.Vanishing.{has_nonempty_image};
+ghost use Rattle.verify.specs.Fits.{AreDifferent, AreLeadingFloats, ArePresent, DoMatch, DoFitBefore, IsExprAt, Reads};
+ghost use Rattle.verify.specs.LongHypotheses.{AreListed, AreThoseOf, IsLeftOf, IsListed};
 ghost use Rattle.verify.specs.Machine.{IsSaved, with_mark, with_result};
 ghost use Rattle.verify.specs.ReadPlaces.{BeginsWith, IsMistyped, ReadTo, ReadsAll, tail_of};
 ghost use Rattle.verify.specs.ResultPlaces.{Adds, Finds, Keeps, Marks, Stays, below, top};
@@ -21,8 +30,8 @@ use frame::{Frames, LONG_EXPRESSION, Pairs};
 use std::alloc::{AllocError, Global};
 use std::marker::Model;
 use subst::{
-    Buffer, DisjointCache, ImageRanges, Remaining, SYMBOLS_LIMIT, SymbolRange, range_between,
-    symbols_at,
+    Buffer, DisjointCache, ImageRanges, Remaining, SYMBOLS_LIMIT, SymbolRange, has_symbols,
+    range_between, symbols_at,
 };
 
 /// The results of a proof so far, with their symbols in one buffer, and the images that were read from the last of them.
@@ -208,20 +217,23 @@ impl Results {
         read_off(&mut self.images, symbols, typecodes, hypotheses, places)
     }
 
-    /// Returns whether the last results for the `$e` are their expressions with the images substituted. `front` is the
-    /// number of `$f` that precede all `$e`. Results for `$f` are not read.
+    /// Returns whether the last results for the `$e` of the assertion at a position are their expressions with the images
+    /// substituted. `front` is the number of `$f` that precede all `$e`. Results for `$f` are not read.
     ///
-    /// Cost: the symbols that agree; for each long `$e` that of `shortened`.
+    /// Cost: the symbols that agree; if there are long `$e`, that of `long_hypotheses_match`.
     #[inline(always)]
     pub fn hypotheses_match(
         &self,
         frames: &Frames,
+        cited: usize,
         hypotheses: &Hypotheses<'_>,
         front: usize,
         remaining: &mut Remaining,
     ) -> bool
         requires front { AreLeadingFloats hypotheses.now front }
         requires legal { AreLegal frames.now.statements frames.now.names }
+        requires assertion { (s : Statement) × HasAssertion frames.now.statements cited s }
+        requires required { AreThoseOf frames.now.statements frames.now.names cited hypotheses.now }
         requires standing { ArePresent frames.now.statements hypotheses.now }
         requires count { length hypotheses.now ≤ length self.now.results.stack }
         requires over { AreOver frames.now.names self.now.images }
@@ -231,9 +243,59 @@ impl Results {
         let places = &self.stack[self.stack.len() - hypotheses.len()..];
         for k in front..hypotheses.len() {
             if let Hypothesis::Essential(position) = hypotheses.get(k) {
-                let whole = frames.expr(position as usize);
-                let expr = self.shortened(frames, position as usize, whole, remaining);
+                let expr = frames.expr(position as usize);
+                if expr.len() >= LONG_EXPRESSION {
+                    return self.long_hypotheses_match(frames, cited, hypotheses, k, remaining);
+                }
                 if !self.symbols.matches(&self.images, expr, places[k]) {
+                    return false;
+                }
+            }
+        }
+        true
+    }
+
+    /// Returns whether the last results for the `$e` from an index on are their expressions with the images substituted. A long
+    /// expression is compared by its constants and its variables whose images are not empty, if their occurrences are few.
+    ///
+    /// Cost: a step for each hypothesis, the symbols that agree, and the occurrences of constants and of variables whose images
+    /// are not empty in long `$e`, times a logarithm. If an allocation fails, the symbols of all expressions.
+    #[cold]
+    #[inline(never)]
+    fn long_hypotheses_match(
+        &self,
+        frames: &Frames,
+        cited: usize,
+        hypotheses: &Hypotheses<'_>,
+        from: usize,
+        remaining: &mut Remaining,
+    ) -> bool
+        requires legal { AreLegal frames.now.statements frames.now.names }
+        requires assertion { (s : Statement) × HasAssertion frames.now.statements cited s }
+        requires required { AreThoseOf frames.now.statements frames.now.names cited hypotheses.now }
+        requires standing { ArePresent frames.now.statements hypotheses.now }
+        requires count { length hypotheses.now ≤ length self.now.results.stack }
+        requires over { AreOver frames.now.names self.now.images }
+        requires named { AllBelow (length frames.now.names) self.now.results.stack }
+        requires before { DoFitBefore from frames.now.statements (images_of_names frames.now.names self.now.images) hypotheses.now (map (decode frames.now.names) (top (length hypotheses.now) self.now.results.stack)) }
+        ensures { IsTrue result ↔ DoMatch frames.now.statements (images_of_names frames.now.names self.now.images) hypotheses.now (map (decode frames.now.names) (top (length hypotheses.now) self.now.results.stack)) }
+    {
+        let places = &self.stack[self.stack.len() - hypotheses.len()..];
+        let listed = list_symbols(frames, cited, &self.images, hypotheses, remaining).is_ok();
+        for k in from..hypotheses.len() {
+            if let Hypothesis::Essential(position) = hypotheses.get(k) {
+                let expr = frames.expr(position as usize);
+                let matched = essential_matches(
+                    &self.symbols,
+                    &self.images,
+                    frames,
+                    position,
+                    expr,
+                    listed,
+                    remaining,
+                    places[k],
+                );
+                if !matched {
                     return false;
                 }
             }
@@ -401,6 +463,127 @@ impl Results {
         let place = self.stack[0];
         symbols_at(self.symbols.as_slice(), place) == expr
     }
+}
+
+/// Lists each variable whose image is not empty for the long `$e` of the assertion at a position that have it.
+///
+/// Errors: an allocation fails.
+/// Cost: a step for each hypothesis, and n log n for n occurrences of such variables in long `$e`.
+fn list_symbols(
+    frames: &Frames,
+    cited: usize,
+    images: &ImageRanges,
+    hypotheses: &Hypotheses<'_>,
+    remaining: &mut Remaining,
+) -> Result<(), AllocError>
+    requires assertion { (s : Statement) × HasAssertion frames.now.statements cited s }
+    requires required { AreThoseOf frames.now.statements frames.now.names cited hypotheses.now }
+    ensures { OnOk result ((symbols : List ℕ) → AreListed frames.now.statements frames.now.names cited hypotheses.now (images_at symbols images.now) remaining.new.keys) }
+{
+    remaining.forget();
+    for k in 0..hypotheses.len() {
+        list_hypothesis(frames, cited, images, hypotheses.get(k), remaining)?;
+    }
+    remaining.order();
+    Ok(())
+}
+
+/// Lists the variable of a hypothesis, if it is a `$f` and its image is not empty.
+///
+/// Errors: an allocation fails.
+fn list_hypothesis(
+    frames: &Frames,
+    cited: usize,
+    images: &ImageRanges,
+    hypothesis: Hypothesis,
+    remaining: &mut Remaining,
+) -> Result<(), AllocError>
+    requires named { (x : ℕ) → hypothesis ≡ Float x → x < length frames.now.names }
+    requires assertion { (s : Statement) × HasAssertion frames.now.statements cited s }
+    ensures kept { OnOk result ((n : ℕ) → In n remaining.old.keys → In n remaining.new.keys) }
+    ensures listed { OnOk result ((x : ℕ) → hypothesis ≡ Float x → has_nonempty_image images.now x ≡ true → IsListed frames.now.statements frames.now.names cited x remaining.new.keys) }
+{
+    let Hypothesis::Float(variable) = hypothesis else {
+        return Ok(());
+    };
+    if !has_symbols(images, variable) {
+        return Ok(());
+    }
+    list_symbol(frames, cited, variable, remaining)
+}
+
+/// Lists a symbol for each long `$e` of the assertion at a position that has it.
+///
+/// Errors: an allocation fails.
+fn list_symbol(
+    frames: &Frames,
+    cited: usize,
+    symbol: u32,
+    remaining: &mut Remaining,
+) -> Result<(), AllocError>
+    requires named { symbol < length frames.now.names }
+    requires assertion { (s : Statement) × HasAssertion frames.now.statements cited s }
+    ensures kept { OnOk result ((n : ℕ) → In n remaining.old.keys → In n remaining.new.keys) }
+    ensures listed { OnOk result (IsListed frames.now.statements frames.now.names cited symbol remaining.new.keys) }
+{
+    let mut stack = frames.long_essentials(symbol, cited);
+    while let Some(position) = stack.pop() {
+        remaining.list(position, symbol)?;
+    }
+    Ok(())
+}
+
+/// Finds those symbols of the expression of the `$e` at a position that are constants or are listed for it, and returns whether
+/// the expression is long and these are few. Returns `false` if an allocation fails.
+fn find_left(frames: &Frames, position: u32, expr: &[u32], remaining: &mut Remaining) -> bool
+    requires distinct { AreDistinct frames.now.names }
+    requires below { AreBelow (length frames.now.names) expr.now }
+    requires stands { (label : Name) × (e : Expr) × IsExprAt frames.now.statements frames.now.names position expr.now (Ess label e) }
+    requires ordered { Ascends remaining.old.keys }
+    ensures keys { remaining.new.keys ≡ remaining.old.keys }
+    ensures left { IsTrue result → IsLeftOf frames.now.statements frames.now.names position expr.now remaining.old.keys remaining.new.left }
+{
+    if expr.len() < LONG_EXPRESSION {
+        return false;
+    }
+    let Some(places) = frames.places(position as usize) else {
+        return false;
+    };
+    match remaining.find_listed(position, expr, places) {
+        Ok(few) => few,
+        Err(_) => false,
+    }
+}
+
+/// Returns whether the result in a range is the expression of the `$e` at a position with the images substituted. If the symbols
+/// are listed, it compares only what is left of a long expression, where that is little.
+fn essential_matches(
+    symbols: &Buffer,
+    images: &ImageRanges,
+    frames: &Frames,
+    position: u32,
+    expr: &[u32],
+    listed: bool,
+    remaining: &mut Remaining,
+    place: SymbolRange,
+) -> bool
+    requires inside { AreInside (length symbols.now) images.now }
+    requires place { (place.start ≤ place.end) × (place.end ≤ length symbols.now) }
+    requires distinct { AreDistinct frames.now.names }
+    requires below { AreBelow (length frames.now.names) expr.now }
+    requires stands { (label : Name) × (e : Expr) × IsExprAt frames.now.statements frames.now.names position expr.now (Ess label e) }
+    requires ordered { IsTrue listed → Ascends remaining.old.keys }
+    requires same { IsTrue listed → (left : List ℕ) → IsLeftOf frames.now.statements frames.now.names position expr.now remaining.old.keys left → code_apply (images_at symbols.now images.now) left ≡ code_apply (images_at symbols.now images.now) expr.now }
+    ensures keys { remaining.new.keys ≡ remaining.old.keys }
+    ensures matches { IsTrue result ↔ (symbols_in symbols.now place ≡ code_apply (images_at symbols.now images.now) expr.now) }
+{
+    if !listed {
+        return symbols.matches(images, expr, place);
+    }
+    if !find_left(frames, position, expr, remaining) {
+        return symbols.matches(images, expr, place);
+    }
+    symbols.matches(images, remaining.left(), place)
 }
 
 /// Truncates to the first `keep` ranges and appends one, mostly by overwriting another.

@@ -89,6 +89,7 @@ pub record HasMoreNames (old new : Storage) : Type 0 where
   pub entries : new.entries ≡ old.entries
   pub disjoints : new.disjoints ≡ old.disjoints
   pub variables : new.variables ≡ old.variables
+  pub essentials : new.essentials ≡ old.essentials
   pub last_active : new.last_active ≡ old.last_active
 
 -- the new storage may have more at its end: truncated, it is the old one
@@ -101,4 +102,5 @@ pub record IsAfter (old new : Storage) : Type 0 where
   pub entries : new.entries ≡ old.entries
   pub disjoints : KeepsUntil (length old.entries) old.disjoints new.disjoints
   pub variables : KeepsUntil (length old.entries) old.variables new.variables
+  pub essentials : KeepsUntil (length old.entries) old.essentials new.essentials
   pub last_active : new.last_active ≡ old.last_active

@@ -2,11 +2,11 @@
 -- Metamath, 4.2.6: an image may be empty, and then its variable is removed.
 -- The code keeps the places of the symbols of an expression with 128 symbols or more.
 use Rattle.std.specs.Prelude.{◌≡◌, ℕ, List, Some, slice_get}
-use Rattle.frame.specs.Words.{All, Entry, ArePlacesOf, SymbolGroups}
+use Rattle.frame.specs.Words.{All, Entry, ArePlacesOf, SymbolGroups, without_float}
 
--- there is a statement at the index, and these are the places of its symbols
+-- there is a statement at the index, these are the places of its symbols, and its constants are those without a `$f`
 abbrev pub IsLongIn : List Entry → ℕ × SymbolGroups → Type 0
-IsLongIn es p = (e : Entry) × (slice_get es p.0 ≡ Some e) × ArePlacesOf e.symbols p.1
+IsLongIn es p = (e : Entry) × (slice_get es p.0 ≡ Some e) × ArePlacesOf e.symbols p.1 × (p.1.constants ≡ without_float e.assertion.required p.1.symbols)
 
 pub record AreLongIn (es : List Entry) (long : List (ℕ × SymbolGroups)) : Type 0 where
   pub each : All (IsLongIn es) long

@@ -1,6 +1,6 @@
 -- The storage of a database. The code's own form: no public clause cites it.
 use Rattle.std.specs.Prelude.{◌≡◌, ℕ, ◌<◌, ◌^◌, true, List, length, map, take, slice_get, Some}
-use Rattle.frame.specs.Words.{Name, Stmt, stays_open, symbols_of, labels_of, LastActive, Assertion, Entry, Kind, EntryHeader, StackVersion}
+use Rattle.frame.specs.Words.{Name, Stmt, is_essential, stays_open, symbols_of, labels_of, LastActive, Assertion, Entry, Kind, EntryHeader, StackVersion}
 use Rattle.frame.specs.declared.storage.Symbol.{Symbol}
 use Rattle.frame.specs.declared.storage.Storage.{Storage}
 use Rattle.frame.specs.LastActive.{is_disj, is_var, last_active_of}
@@ -9,7 +9,7 @@ use Rattle.frame.specs.Stored.Counts.{AreNumbered, KeepsCounts, kind_of}
 use Rattle.frame.specs.Stored.Naming.{naming_of}
 use Rattle.frame.specs.Stored.AssertionParts.{IsKeptAs, has_parts}
 use Rattle.frame.specs.Stored.Ends.{AreEnds}
-use Rattle.frame.specs.Stored.Stacks.{AreStacks, kind_test}
+use Rattle.frame.specs.Stored.Stacks.{AreStacks, entries_by, kind_test, long_entry}
 
 -- the lists of a storage are those of its statements
 pub record AreKept (names labels : List Name) (positions : List ℕ) (symbols : List Symbol) (replaced : List ℕ) (entries : List Entry) (last_active : LastActive) : Type 0 where
@@ -34,6 +34,7 @@ pub record AreStored (k : Storage) : Type 0 where
   pub ended : AreEnds k.ends.items (statements_of k)
   pub disjoints : AreStacks is_disj k.disjoints k.entries (statements_of k)
   pub variables : AreStacks is_var k.variables k.entries (statements_of k)
+  pub essentials : AreStacks is_essential k.essentials (map long_entry k.entries) (statements_of k)
 
 -- the stacks of a kind are those of a storage with these entries and these last active statements
 pub record AreStacksOfStorage (of : Kind) (entries : List Entry) (last_active : LastActive) (hs : List (List StackVersion)) : Type 0 where
@@ -41,7 +42,7 @@ pub record AreStacksOfStorage (of : Kind) (entries : List Entry) (last_active : 
   pub stored : AreStored storage
   pub entries_are : entries ≡ storage.entries
   pub last_active_are : last_active ≡ storage.last_active
-  pub stacks : AreStacks (kind_test of) hs entries (statements_of storage)
+  pub stacks : AreStacks (kind_test of) hs (entries_by of entries) (statements_of storage)
 
 -- h is the header of the next statement
 pub record IsEntryHeader (k : Storage) (s : Stmt) (h : EntryHeader) : Type 0 where

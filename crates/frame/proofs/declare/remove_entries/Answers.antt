@@ -89,6 +89,6 @@ loop-storage-init c =
       ends_count = refl;
       count = refl;
       names = (refl, refl);
-      stacks = (refl, refl);
+      stacks = (refl, refl, refl);
       last_active = refl;
     }

@@ -11,7 +11,7 @@ invariant-loop-storage l = record {
   ends_count : length l.storage.ends.items ≡ length l.fn.storage.ends.items;
   count : length l.storage.symbols.items ≡ length l.fn.storage.symbols.items;
   names : (l.storage.numbering ≡ l.fn.storage.numbering) × (l.storage.positions ≡ l.fn.storage.positions);
-  stacks : (l.storage.disjoints ≡ l.fn.storage.disjoints) × (l.storage.variables ≡ l.fn.storage.variables);
+  stacks : (l.storage.disjoints ≡ l.fn.storage.disjoints) × (l.storage.variables ≡ l.fn.storage.variables) × (l.storage.essentials ≡ l.fn.storage.essentials);
   last_active : l.storage.last_active ≡ l.fn.storage.last_active;
 }
 

@@ -1,5 +1,5 @@
 use Rattle.frame.proofs.Words.{◌≡◌, ◌∙◌, ap, sym, subst, arith, length, take, ◌<◌, ◌≤◌, is_disj, is_var, AreStored, Extends, length-take-le, take-length, slice_get_within, names_in, labels_in, statements_of, ReadsAs, replaced_of, symbol_of, declared_symbols, declared_labels, naming_of, seen, AreKeptUntil}
-use Rattle.frame.proofs.StackLemmas.{stacks-front}
+use Rattle.frame.proofs.StackLemmas.{essentials-front, stacks-front}
 use Rattle.frame.proofs.EndLemmas.{ends-front, stored-blocks}
 use Rattle.frame.proofs.CutStorage.{IsCut, kept-cut, cut-statements, names-front, front-naming, numbering-front}
 use Rattle.frame.proofs.extend.cut.Goals as goal
@@ -40,7 +40,8 @@ left c =
     let statements = cut-statements c.requires.stored.kept cut in
     let low : n ≤ length k.entries = omega (arith, slice_get_within k.entries n e c.entry-first.ensures.1) in
     let kept_disjoints : AreKeptUntil (length c.remove_entries.new.storage.entries) c.remove_entries.new.storage.disjoints new.disjoints → AreKeptUntil n k.disjoints new.disjoints = λ h. rw (← long, ← away.stacks.0) h in
-    let kept_variables : AreKeptUntil (length c.remove_entries.new.storage.entries) c.remove_entries.new.storage.variables new.variables → AreKeptUntil n k.variables new.variables = λ h. rw (← long, ← away.stacks.1) h in (
+    let kept_variables : AreKeptUntil (length c.remove_entries.new.storage.entries) c.remove_entries.new.storage.variables new.variables → AreKeptUntil n k.variables new.variables = λ h. rw (← long, ← away.stacks.1) h in
+    let kept_essentials : AreKeptUntil (length c.remove_entries.new.storage.entries) c.remove_entries.new.storage.essentials new.essentials → AreKeptUntil n k.essentials new.essentials = λ h. rw (← long, ← away.stacks.2) h in (
       record {
         kept = kept-cut c.requires.stored.kept cut;
         numbered = numbering ∙ ap naming_of (sym statements);
@@ -48,6 +49,7 @@ left c =
             (ends-front c.remove_entries.new.storage.ends.items S n (omega (arith, fewer-than)) (away.count_ends ∙ c.requires.stored.ended.count) away.ends);
         disjoints = rw (statements, back.entries ∙ away.entries) (stacks-front is_disj k.disjoints new.disjoints k.entries S n c.requires.stored.disjoints low (kept_disjoints back.disjoints));
         variables = rw (statements, back.entries ∙ away.entries) (stacks-front is_var k.variables new.variables k.entries S n c.requires.stored.variables low (kept_variables back.variables));
+        essentials = rw (statements, back.entries ∙ away.entries) (essentials-front k.essentials new.essentials k.entries S n c.requires.stored.essentials low (kept_essentials back.essentials));
       },
       statements,
       names-front c.requires.stored.kept cut,

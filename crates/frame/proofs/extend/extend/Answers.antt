@@ -2,8 +2,8 @@ use Rattle.frame.proofs.Words.{Extends, IsAfter, Result, Ok, Err, OnErr, append-
 use Rattle.frame.proofs.EndLemmas.{block-within, ends-next}
 use Rattle.frame.proofs.EnterLemmas.{IsEntered, IsExtended, added-numbers, entered-below, kept-pushed, numbered-pushed, pushed-statements}
 use Rattle.frame.proofs.NamingLemmas.{stored-naming}
-use Rattle.frame.proofs.BackLemmas.{walked-disj, walked-var}
-use Rattle.frame.proofs.StackLemmas.{disjoints-next, variables-next}
+use Rattle.frame.proofs.BackLemmas.{walked-disj, walked-ess, walked-var}
+use Rattle.frame.proofs.StackLemmas.{disjoints-next, essentials-next, variables-next}
 use Rattle.frame.proofs.extend.extend.Goals as goal
 use Rattle.frame.proofs.extend.extend.Goals.{In-Some}
 
@@ -44,6 +44,11 @@ record_active-requires-clause-variables c =
     let g = c.in_ok-declare_next.ensures.grown in
     rw c.list.ensures (walked-var c.args.storage.now c.declare_next.new.storage.entries c.declare_next.new.storage.last_active c.declare_next.new.storage.variables c.requires.stored g.entries g.last_active g.variables)
 
+pub record_active-requires-clause-essentials : goal.record_active-requires-clause-essentials
+record_active-requires-clause-essentials c =
+    let g = c.in_ok-declare_next.ensures.grown in
+    rw c.list.ensures (walked-ess c.args.storage.now c.declare_next.new.storage.entries c.declare_next.new.storage.last_active c.declare_next.new.storage.essentials c.requires.stored g.entries g.last_active g.essentials)
+
 pub declare-requires : goal.declare-requires
 declare-requires c = c.declared-declared.ensures.below _ (below (goal.at.declare-requires c).In-Some)
 
@@ -70,6 +75,7 @@ returns-in_err-push-clause-after c =
       entries = g.entries;
       disjoints = λ d. ap (λ hs. kept_until (length c.args.storage.now.entries) (history hs d)) g.disjoints;
       variables = λ d. ap (λ hs. kept_until (length c.args.storage.now.entries) (history hs d)) g.variables;
+      essentials = λ d. ap (λ hs. kept_until (length c.args.storage.now.entries) (history hs d)) g.essentials;
       last_active = g.last_active;
     })
 
@@ -109,6 +115,7 @@ returns c =
             (omega (arith, c.len-at.ensures.len)) (c.in_ok-push.ensures.items ∙ ap (λ v. v.items ++ 0 ∷ []) told.grown.ends) c.record_end.ensures statements;
         disjoints = disjoints-next k s (made h codes a) x c.requires.stored place refl c.kind-kind.ensures told.grown.last_active new.disjoints c.record_active.new.disjoints c.push-2.new.self _ entries statements told.grown.disjoints c.in_ok-record_active.ensures.disjoints;
         variables = variables-next k s (made h codes a) x c.requires.stored place refl c.kind-kind.ensures told.grown.last_active new.variables c.record_active.new.variables c.push-2.new.self _ entries statements told.grown.variables c.in_ok-record_active.ensures.variables;
+        essentials = essentials-next k s (made h codes a) x c.requires.stored place refl c.kind-kind.ensures told.grown.last_active new.essentials c.record_active.new.essentials c.push-2.new.self _ entries statements told.grown.essentials c.in_ok-record_active.ensures.essentials;
       };
       added = statements;
       numbers = added-numbers e c.in-Some.ensures.numbers extended;

@@ -22,6 +22,7 @@ returns-then-is_err-clause-stored c =
       entries_cut = cut.entries;
       disjoints_cut = cut.disjoints;
       variables_cut = cut.variables;
+      essentials_cut = cut.essentials;
       last_active_cut = cut.last_active;
     })
 

@@ -28,7 +28,7 @@ loop-last-smaller c =
 pub loop-last-preserved : goal.loop-last-preserved
 loop-last-preserved c =
     rw c.last_of_kind-last-in-loop-last.ensures (back-step c.args.of c.args.entries.now c.args.next.now.last_active c.max-before.result c.args.next.now.at c.args.histories.now c.requires.place c.loop-last.last c.loop-last.histories c.loop-last.invariant
-    (seen c.entry-entry.result c.entry-entry.ensures.0) c.loop-last-test.true c.entry-entry.ensures.1 c.go_back_each.new.histories c.in_ok-go_back_each.ensures.changed)
+    (seen c.entry-entry.result c.entry-entry.ensures.0) c.loop-last-test.true c.entry-entry.ensures.1 c.go_back_each.new.histories (rw c.codes_of_kind-codes.ensures at c.in_ok-go_back_each.ensures.changed))
 
 opens : (b n : ℕ) → n ≡ max b 1 → n ≡ opening b
 opens zero n e = omega (arith, e)

@@ -95,4 +95,4 @@ pub cite_parts-requires-clause-standing : goal.cite_parts-requires-clause-standi
 cite_parts-requires-clause-standing c =
     let p = c.requires.can in
     let is = (c.parts-cited.ensures p.1 p.2.stands).1 in
-    standing-codes c.args.frames.now.names _ (expr_of p.1) _ c.requires.legal.distinct is.conclusion_below is.conclusion (c.places.ensures p.1 p.2.stands)
+    standing-codes c.args.frames.now.names _ (expr_of p.1) _ c.requires.legal.distinct is.conclusion_below is.conclusion (c.places.ensures.places p.1 p.2.stands)

@@ -21,7 +21,8 @@ returns-in-Ok-clause-added c =
     let ps = c.self.inside.places.items in
     let p = c.in_ok-places.places in (
       p,
-      c.in_ok-places.ensures,
+      c.in_ok-places.ensures.places,
+      c.in_ok-places.ensures.constants,
       ap (λ xs. zip xs c.push.new.self.items) c.in-Ok.ensures.items
           ∙ (ap (zip (is ++ c.args.index ∷ [])) c.in_ok-push.ensures.items
           ∙ (zip-push is ps c.args.index p c.self.invariant.1 ∙ ap (λ (es : List (ℕ × SymbolGroups)). es ++ (c.args.index, p) ∷ []) c.self.view_is)),

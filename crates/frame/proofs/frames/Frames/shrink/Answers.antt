@@ -14,6 +14,7 @@ invariant_of-self c =
       entries = e.entries;
       disjoints = e.disjoints;
       variables = e.variables;
+      essentials = e.essentials;
       last_active = e.last_active;
     } in
     let frames = frames-shrunk c.self.inside.storage c.shrink_lists.new.storage c.self.inside.given c.shrink.new.self (without-facts c.self.inside.storage c.self.inside.given c.self.inside.facts c.self.invariant) shrunk c.shrink.ensures.sets c.shrink.ensures.kept in

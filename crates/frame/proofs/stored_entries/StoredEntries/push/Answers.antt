@@ -1,4 +1,4 @@
-use Rattle.frame.proofs.Words.{◌∙◌, assertion_of, made}
+use Rattle.frame.proofs.Words.{◌∙◌, ap, without_float, assertion_of, made}
 use Rattle.frame.proofs.LongExpressionLemmas.{are-below, back-kept, long-pushed, short-pushed, taken-back}
 use Rattle.frame.proofs.stored_entries.StoredEntries.push.Goals as goal
 
@@ -12,7 +12,7 @@ push-requires-2 c = rw c.len-index.ensures.len (are-below c.self.inside.list c.s
 pub invariant_of-self-in-Ok : goal.invariant_of-self-in-Ok
 invariant_of-self-in-Ok c =
     let p = c.in-Ok.ensures.added in
-    long-pushed c.self.inside.list _ (made c.args.header c.args.parts.now.symbols.now (assertion_of c.args.parts.now)) c.self.inside.long _ p.0 c.len-index.result c.in_ok-push.ensures.added c.len-index.ensures.len p.1 p.2 c.self.invariant
+    long-pushed c.self.inside.list _ (made c.args.header c.args.parts.now.symbols.now (assertion_of c.args.parts.now)) c.self.inside.long _ p.0 c.len-index.result c.in_ok-push.ensures.added c.len-index.ensures.len p.1 (p.2 ∙ ap (λ hs. without_float hs p.0.symbols) c.new.ensures) p.3 c.self.invariant
 
 pub invariant_of-self-in-Err : goal.invariant_of-self-in-Err
 invariant_of-self-in-Err c =

@@ -1,26 +1,18 @@
-use Rattle.verify.proofs.Words.{◌≡◌, ◌↔◌, Bool, IsTrue, List, CodeImages, code_apply, sym, subst, same_Some, ℕ, ◌-◌, [], true, false, length, map, get_or, Some, ap, arith, refl, ◌∙◌, slice_get_within, stands-within, decode, images_of_names, Hypothesis, Float, Essential, HypothesisMatches, top}
+use Rattle.verify.proofs.Words.{◌≡◌, sym, subst, same_Some, ℕ, ◌-◌, [], true, false, length, map, get_or, Some, ap, arith, refl, ◌∙◌, slice_get_within, stands-within, decode, images_of_names, Hypothesis, Float, Essential, HypothesisMatches, top}
 use Rattle.verify.proofs.Named.{all-drop}
 use Rattle.verify.proofs.ResultPlaceLemmas.{seen_place}
 use Rattle.verify.proofs.ReadImageLemmas.{standing-at, fits-essential, one-more}
-use Rattle.verify.proofs.results.Results.hypotheses_match.Goals.{in-Essential+else-not-matches, in_default}
+use Rattle.verify.proofs.LongHypothesesLemmas.{images-iff}
+use Rattle.verify.proofs.results.Results.hypotheses_match.Goals.{in-Essential+else-expr-ge-LONG_EXPRESSION+else-not-matches, in_default}
 use Rattle.verify.proofs.results.Results.hypotheses_match.Goals as goal
-
--- a result may be compared with a shortened expression that has the same image
-short-iff : (b : Bool) (r short whole : List ℕ) (σ ρ : CodeImages) → σ ≡ ρ → code_apply ρ short ≡ code_apply ρ whole → IsTrue b ↔ (r ≡ code_apply σ short) → IsTrue b ↔ (r ≡ code_apply ρ whole)
-short-iff b r short whole σ ρ images same h = subst (λ v. IsTrue b ↔ (r ≡ v)) same (subst (λ τ. IsTrue b ↔ (r ≡ code_apply τ short)) images h)
 
 pub loop-k-init : goal.loop-k-init
 loop-k-init c j h less at = let x = c.requires.front.floats j less in subst (λ g. HypothesisMatches c.args.frames.now.statements (images_of_names c.args.frames.now.names c.args.self.now.images) g (get_or (map (decode c.args.frames.now.names) (top (length c.args.hypotheses.now) c.args.self.now.results.stack)) j [])) (same_Some (Float x.0) h (sym x.1 ∙ at)) tt
 
-pub expr-whole-requires : goal.expr-whole-requires
-expr-whole-requires c =
+pub expr-expr-requires : goal.expr-expr-requires
+expr-expr-requires c =
     let s = standing-at c.args.frames.now.statements c.args.hypotheses.now c.loop-k.k (Essential c.in-Essential.position) c.requires.standing (c.get.ensures ∙ ap Some c.in-Essential.is) in
     stands-within c.args.frames.now.statements c.in-Essential.position s.0 s.1
-
-pub shortened-expr-requires-clause-stands : goal.shortened-expr-requires-clause-stands
-shortened-expr-requires-clause-stands c =
-    let s = standing-at c.args.frames.now.statements c.args.hypotheses.now c.loop-k.k (Essential c.in-Essential.position) c.requires.standing (c.get.ensures ∙ ap Some c.in-Essential.is) in
-    (s.0, record { stands = s.1; same = c.expr-whole.ensures.same s.0 s.1 })
 
 pub matches-requires-clause-place : goal.matches-requires-clause-place
 matches-requires-clause-place c = (seen_place c.self.inside.symbols c.self.inside.stack.items c.deref.result.now c.args.self.now.results.stack (c.len.result - c.len-2.result) c.len-2.result c.loop-k.k _ c.deref.ensures.value (ap (λ v. v.results.stack) c.self.view_is) (omega (arith, c.len.ensures)) (omega (arith, c.requires.count, c.len-2.ensures)) (let w = slice_get_within c.args.hypotheses.now c.loop-k.k c.get.result c.get.ensures in omega (arith, w, c.len-2.ensures)) c.self.invariant.kept.stack_within).0
@@ -29,19 +21,19 @@ pub returns-then-not-matches : goal.returns-then-not-matches
 returns-then-not-matches c =
     let at = c.get.ensures ∙ ap Some c.in-Essential.is in
     let place = seen_place c.self.inside.symbols c.self.inside.stack.items c.deref.result.now c.args.self.now.results.stack (c.len.result - c.len-2.result) c.len-2.result c.loop-k.k _ c.deref.ensures.value (ap (λ v. v.results.stack) c.self.view_is) (omega (arith, c.len.ensures)) (omega (arith, c.requires.count, c.len-2.ensures)) (let w = slice_get_within c.args.hypotheses.now c.loop-k.k c.get.result c.get.ensures in omega (arith, w, c.len-2.ensures)) c.self.invariant.kept.stack_within in
-    let iff = fits-essential _ _ _ _ _ _ _ _ _ _ _ c.requires.legal.distinct c.requires.standing at c.expr-whole.ensures.same c.expr-whole.ensures.codes c.requires.over (all-drop _ (length c.args.self.now.results.stack - length c.args.hypotheses.now) _ c.requires.named)
-    refl (place.1 ∙ ap (λ n. get_or (top n c.args.self.now.results.stack) c.loop-k.k []) c.len-2.ensures) (short-iff _ _ _ _ _ _ (ap (λ v. v.images) c.self.view_is) c.shortened-expr.ensures.same c.matches.ensures) in
+    let iff = fits-essential _ _ _ _ _ _ _ _ _ _ _ c.requires.legal.distinct c.requires.standing at c.expr-expr.ensures.same c.expr-expr.ensures.codes c.requires.over (all-drop _ (length c.args.self.now.results.stack - length c.args.hypotheses.now) _ c.requires.named)
+    refl (place.1 ∙ ap (λ n. get_or (top n c.args.self.now.results.stack) c.loop-k.k []) c.len-2.ensures) (images-iff _ _ _ _ _ (ap (λ v. v.images) c.self.view_is) c.matches.ensures) in
     (λ t. (let e : false ≡ true = t in cc), λ fit. let t = iff.1 (fit.each c.loop-k.k (Essential c.in-Essential.position) at) in let u = c.if-not-matches.true in cc)
 
 pub loop-k-preserved : goal.loop-k-preserved
 loop-k-preserved c =
     let P : ℕ → Hypothesis → Type 0 = λ j h. HypothesisMatches c.args.frames.now.statements (images_of_names c.args.frames.now.names c.args.self.now.images) h (get_or (map (decode c.args.frames.now.names) (top (length c.args.hypotheses.now) c.args.self.now.results.stack)) j []) in
     elim c.match-get.branch [
-      | in-Essential+else-not-matches w ↦
+      | in-Essential+else-expr-ge-LONG_EXPRESSION+else-not-matches w ↦
           let at = c.get.ensures ∙ ap Some w.in-Essential.is in
           let place = seen_place c.self.inside.symbols c.self.inside.stack.items c.deref.result.now c.args.self.now.results.stack (c.len.result - c.len-2.result) c.len-2.result c.loop-k.k _ c.deref.ensures.value (ap (λ v. v.results.stack) c.self.view_is) (omega (arith, c.len.ensures)) (omega (arith, c.requires.count, c.len-2.ensures)) (let w = slice_get_within c.args.hypotheses.now c.loop-k.k c.get.result c.get.ensures in omega (arith, w, c.len-2.ensures)) c.self.invariant.kept.stack_within in
-          let iff = fits-essential _ _ _ _ _ _ _ _ _ _ _ c.requires.legal.distinct c.requires.standing at w.expr-whole.ensures.same w.expr-whole.ensures.codes c.requires.over (all-drop _ (length c.args.self.now.results.stack - length c.args.hypotheses.now) _ c.requires.named)
-          refl (place.1 ∙ ap (λ n. get_or (top n c.args.self.now.results.stack) c.loop-k.k []) c.len-2.ensures) (short-iff _ _ _ _ _ _ (ap (λ v. v.images) c.self.view_is) w.shortened-expr.ensures.same w.matches.ensures) in
+          let iff = fits-essential _ _ _ _ _ _ _ _ _ _ _ c.requires.legal.distinct c.requires.standing at w.expr-expr.ensures.same w.expr-expr.ensures.codes c.requires.over (all-drop _ (length c.args.self.now.results.stack - length c.args.hypotheses.now) _ c.requires.named)
+          refl (place.1 ∙ ap (λ n. get_or (top n c.args.self.now.results.stack) c.loop-k.k []) c.len-2.ensures) (images-iff _ _ _ _ _ (ap (λ v. v.images) c.self.view_is) w.matches.ensures) in
           one-more P _ c.loop-k.k (Essential w.in-Essential.position) at c.loop-k.invariant (iff.0 w.if-not-matches.false)
       | in_default w ↦ one-more P _ c.loop-k.k (Float w.in_default.field-0) (c.get.ensures ∙ ap Some w.in_default.is) c.loop-k.invariant tt
     ]

@@ -1,12 +1,8 @@
-use Rattle.verify.proofs.Words.{◌≡◌, ℕ, Bool, List, [], ◌∷◌, length, filter, sym, ◌∙◌, subst, Name, Expr, decode, decode-injective, expr_of, stands-within, AreBelow, AreDistinct, ArePlacesOf, SymbolGroups, AreExprPlaces, has_nonempty_image, inl, inr, cases_Bool}
+use Rattle.verify.proofs.Words.{ℕ, Bool, List, [], ◌∷◌, length, filter, sym, subst, expr_of, stands-within, AreBelow, has_nonempty_image, inl, inr, cases_Bool}
+use Rattle.verify.proofs.LongHypothesesLemmas.{places-of}
 use Rattle.verify.proofs.results.Results.shorten.Goals as goal
 
 -- the places are those of the numbers of the expression
-places-of : (names : List Name) (e : List ℕ) (x : Expr) (groups : SymbolGroups) → AreDistinct names → AreBelow (length names) e → decode names e ≡ x → AreExprPlaces names x groups → ArePlacesOf e groups
-places-of names e x groups distinct below same p =
-    subst (λ c. ArePlacesOf c groups) (decode-injective names p.codes e distinct p.below below (p.named ∙ sym same)) p.places
-
--- a filtered list of numbers with names has only numbers with names
 some-below : (n : ℕ) (keep : ℕ → Bool) (e : List ℕ) → AreBelow n e → AreBelow n (filter keep e)
 some-below n keep [] b = tt
 some-below n keep (x ∷ e) b = elim (cases_Bool (keep x)) [ inl h ↦ rw h (b.0, some-below n keep e b.1) | inr h ↦ rw h (some-below n keep e b.1) ]
@@ -18,7 +14,7 @@ pub of-requires : goal.of-requires
 of-requires c =
     let s = c.requires.stands.0 in
     let is = c.requires.stands.1 in
-    places-of c.args.frames.now.names c.args.expr.now (expr_of s) _ c.requires.distinct c.requires.below is.same (rw c.in-Some.is at (c.places.ensures s is.stands))
+    places-of c.args.frames.now.names c.args.expr.now (expr_of s) _ c.requires.distinct c.requires.below is.same (rw c.in-Some.is at (c.places.ensures.places s is.stands))
 
 pub returns-in-Some-found-clause-same : goal.returns-in-Some-found-clause-same
 returns-in-Some-found-clause-same c = rw (← c.self.view_is) ((rw (c.in-Ok.is, c.in-Some-found.is) at c.of.ensures.same) c.self.inside.symbols)

@@ -1,0 +1,33 @@
+-- What a citation knows of long `$e`: which have a variable whose image is not empty, and what is left of one without the others.
+-- Metamath, 4.2.6: the result for a `$e` is its expression under the images, and an image may be empty.
+-- The code lists each such variable for each long `$e` that has it, in place of a look at each symbol of each `$e`.
+use Rattle.std.specs.Prelude.{◌≡◌, ℕ, ◌<◌, ◌≤◌, ◌^◌, List, [], length, slice_get, Some}
+use Rattle.verify.specs.Words.{Name, Stmt, Database, before, stmt_at, Hypothesis, Float, hypotheses, CodeImages, code_image}
+use Rattle.names.specs.Codes.{decode, name_at}
+use Rattle.entries.specs.PositionSets.{Ascends}
+use Rattle.entries.specs.Stored.Keys.{key_of}
+use Rattle.frame.specs.AssertionView.{AreRequired}
+use Rattle.frame.specs.LongEssentials.{HasConstants, long_essentials}
+use Rattle.frame.specs.Stored.Hypotheses.{In}
+use Rattle.frame.specs.declared.stored_entries.TheConstants.{LONG_EXPRESSION}
+use Rattle.subst.specs.Vanishing.{HasListed}
+
+-- the hypotheses are those of the assertion at a
+abbrev pub AreThoseOf : Database → List Name → ℕ → List Hypothesis → Type 0
+AreThoseOf S names a hs = (s : Stmt) → stmt_at S a ≡ Some s → (typecodes : List ℕ) × AreRequired S names (hypotheses (before S a) s) typecodes hs
+
+-- the symbol is listed for each long `$e` of the assertion at a that has it
+abbrev pub IsListed : Database → List Name → ℕ → ℕ → List ℕ → Type 0
+IsListed S names a x keys = (s : Stmt) → stmt_at S a ≡ Some s → (q : ℕ) → In q (long_essentials S a s (name_at names x)) → (x < 2 ^ 32) × In (key_of q x) keys
+
+-- so is each variable whose image is not empty, and the list is in order
+pub record AreListed (S : Database) (names : List Name) (a : ℕ) (hs : List Hypothesis) (σ : CodeImages) (keys : List ℕ) : Type 0 where
+  pub each : (k x : ℕ) → slice_get hs k ≡ Some (Float x) → (code_image σ x ≡ [] → ⊥) → IsListed S names a x keys
+  pub ordered : Ascends keys
+
+-- what is left of the long expression of the `$e` at a position has its constants and the symbols that are listed for it
+pub record IsLeftOf (S : Database) (names : List Name) (position : ℕ) (codes keys left : List ℕ) : Type 0 where
+  pub constants : List ℕ
+  pub long : LONG_EXPRESSION ≤ length codes
+  pub has_constants : HasConstants (before S position) names (decode names codes) constants
+  pub has_listed : HasListed keys position constants codes left
