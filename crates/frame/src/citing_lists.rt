@@ -1,5 +1,5 @@
 //! The lists by which an assertion is cited if the active `$d` are many.
-ghost use Rattle.std.specs.Prelude.{◌≡◌, ◌==◌, ◌≤◌, ◌<◌, ◌||◌, ◌∷◌, ℕ, [], length, map, OnOk, IfOk};
+ghost use Rattle.std.specs.Prelude.{◌≡◌, ◌==◌, ◌≤◌, ◌<◌, ◌||◌, ◌∷◌, ℕ, [], get_or, length, map, OnOk, IfOk};
 ghost use Rattle.std.specs.List.{list_any};
 ghost use Rattle.frame.specs.Below.{AreBelow};
 ghost use Rattle.frame.specs.PairFacts.{AreFacts};
@@ -12,7 +12,7 @@ ghost use Rattle.frame.specs.Stored.Whole.{AreStored};
 use crate::at_position::last_active_at;
 use crate::frame_buffers::FrameBuffers;
 use crate::make::{describe, fill_from_hypotheses, hypothesis};
-use crate::pair_facts::{PairFacts, search_by_facts};
+use crate::pair_facts::{PairFacts, SoughtPair, search_by_facts};
 use crate::storage::Storage;
 use entries::Hypothesis;
 use std::alloc::{AllocError, Global};
@@ -44,8 +44,9 @@ pub fn fill_for_citation(
     ensures filled { OnOk result (IsFilledForCitation storage.now at buffers.old.hypotheses buffers.new) }
 {
     let variables = variables(alloc, storage, &buffers.hypotheses)?;
-    if search_all_pairs(storage, kept, at, facts, &variables) {
-        fill_by_pairs(storage, kept, at, facts, buffers, &variables)
+    let counts = counts(alloc, storage, at, &variables)?;
+    if search_all_pairs(storage, kept, at, facts, &variables, &counts) {
+        fill_by_pairs(storage, kept, at, facts, buffers, &variables, &counts)
     } else {
         fill_from_hypotheses(storage, at, buffers)
     }
@@ -77,6 +78,44 @@ fn add_variable(hypothesis: Hypothesis, list: &mut Vec<u32>) -> Result<(), Alloc
     Ok(())
 }
 
+/// Returns how many active `$d` have each of the variables.
+///
+/// Errors: an allocation fails.
+fn counts(
+    alloc: Global,
+    storage: &Storage,
+    at: usize,
+    variables: &[u32],
+) -> Result<Vec<usize>, AllocError> {
+    let mut counts = Vec::new(alloc);
+    for variable in variables {
+        counts.push(storage.disjoints.stack(*variable, at).len())?;
+    }
+    Ok(counts)
+}
+
+/// Returns the pair of a variable, which stands right after some others, and the one at an index of these.
+fn sought_pair(x: u32, others: &[u32], index: usize, counts: &[usize]) -> SoughtPair
+    requires { index < length others.now }
+    ensures x { result.x ≡ x }
+    ensures y { result.y ≡ get_or others.now index 0 }
+{
+    SoughtPair {
+        x,
+        y: others[index],
+        with_x: count_at(counts, others.len()),
+        with_y: count_at(counts, index),
+    }
+}
+
+/// Returns the count at an index, or 0.
+fn count_at(counts: &[usize], index: usize) -> usize {
+    match counts.get(index) {
+        Some(count) => *count,
+        None => 0,
+    }
+}
+
 /// Searches for each pair of the variables, and returns whether that took no longer than going through the active `$d`.
 ///
 /// Cost: at most a constant times that of the cheaper one.
@@ -86,6 +125,7 @@ fn search_all_pairs(
     at: usize,
     facts: &mut PairFacts,
     variables: &[u32],
+    counts: &[usize],
 ) -> bool
     requires place { IsSearchPosition storage.now at }
     requires kept { AreFacts (numbered storage.now) kept.now }
@@ -100,7 +140,7 @@ fn search_all_pairs(
         if !has_more_symbols(storage, at, most) {
             return false;
         }
-        if search_pairs(storage, kept, at, facts, variables, most) {
+        if search_pairs(storage, kept, at, facts, variables, counts, most) {
             return true;
         }
         most = most.saturating_mul(4);
@@ -136,6 +176,7 @@ fn search_pairs(
     at: usize,
     facts: &mut PairFacts,
     variables: &[u32],
+    counts: &[usize],
     most: usize,
 ) -> bool
     requires place { IsSearchPosition storage.now at }
@@ -146,7 +187,15 @@ fn search_pairs(
 {
     facts.allow(most);
     for i in 0..variables.len() {
-        if !search_pairs_of(storage, kept, at, facts, variables[i], &variables[..i]) {
+        if !search_pairs_of(
+            storage,
+            kept,
+            at,
+            facts,
+            variables[i],
+            &variables[..i],
+            counts,
+        ) {
             return false;
         }
     }
@@ -162,6 +211,7 @@ fn search_pairs_of(
     facts: &mut PairFacts,
     x: u32,
     others: &[u32],
+    counts: &[usize],
 ) -> bool
     requires place { IsSearchPosition storage.now at }
     requires kept { AreFacts (numbered storage.now) kept.now }
@@ -169,11 +219,12 @@ fn search_pairs_of(
     requires below { (x < length (names_in storage.now)) × AreBelow (length (names_in storage.now)) others.now }
     ensures { AreFacts (numbered storage.now) facts.new }
 {
-    for y in others {
+    for index in 0..others.len() {
         if facts.is_spent() {
             return false;
         }
-        search_pair(storage, kept, at, facts, x, *y);
+        let pair = sought_pair(x, others, index, counts);
+        search_pair(storage, kept, at, facts, pair);
     }
     true
 }
@@ -184,17 +235,17 @@ fn search_pair(
     kept: &PairFacts,
     at: usize,
     facts: &mut PairFacts,
-    x: u32,
-    y: u32,
+    pair: SoughtPair,
 )
     requires place { IsSearchPosition storage.now at }
     requires kept { AreFacts (numbered storage.now) kept.now }
     requires facts { AreFacts (numbered storage.now) facts.old }
-    requires below { (x < length (names_in storage.now)) × (y < length (names_in storage.now)) }
+    requires below { (pair.x < length (names_in storage.now)) × (pair.y < length (names_in storage.now)) }
     ensures { AreFacts (numbered storage.now) facts.new }
 {
+    let SoughtPair { x, y, .. } = pair;
     if x != y {
-        let _found = search_by_facts(storage, kept, at, facts, x, y);
+        let _found = search_by_facts(storage, kept, at, facts, pair);
     }
 }
 
@@ -209,6 +260,7 @@ fn fill_by_pairs(
     facts: &mut PairFacts,
     buffers: &mut FrameBuffers,
     variables: &[u32],
+    counts: &[usize],
 ) -> Result<(), AllocError>
     requires place { IsSearchPosition storage.now at }
     requires kept { AreFacts (numbered storage.now) kept.now }
@@ -225,7 +277,7 @@ fn fill_by_pairs(
         &mut buffers.required,
         &mut buffers.typecodes,
     )?;
-    add_pairs(storage, kept, at, facts, buffers, variables)
+    add_pairs(storage, kept, at, facts, buffers, variables, counts)
 }
 
 /// Appends a group for each two of the variables that are disjoint.
@@ -236,6 +288,7 @@ fn add_pairs(
     facts: &mut PairFacts,
     buffers: &mut FrameBuffers,
     variables: &[u32],
+    counts: &[usize],
 ) -> Result<(), AllocError>
     requires place { IsSearchPosition storage.now at }
     requires kept { AreFacts (numbered storage.now) kept.now }
@@ -253,6 +306,7 @@ fn add_pairs(
             buffers,
             variables[i],
             &variables[..i],
+            counts,
         )?;
     }
     Ok(())
@@ -267,6 +321,7 @@ fn add_pairs_of(
     buffers: &mut FrameBuffers,
     x: u32,
     others: &[u32],
+    counts: &[usize],
 ) -> Result<(), AllocError>
     requires place { IsSearchPosition storage.now at }
     requires kept { AreFacts (numbered storage.now) kept.now }
@@ -275,8 +330,9 @@ fn add_pairs_of(
     ensures facts { AreFacts (numbered storage.now) facts.new }
     ensures pairs { OnOk result (HasPairs storage.now at (is_beside x others.now) buffers.old buffers.new) }
 {
-    for y in others {
-        add_if_pair(storage, kept, at, facts, buffers, x, *y)?;
+    for index in 0..others.len() {
+        let pair = sought_pair(x, others, index, counts);
+        add_if_pair(storage, kept, at, facts, buffers, pair)?;
     }
     Ok(())
 }
@@ -288,20 +344,20 @@ fn add_if_pair(
     at: usize,
     facts: &mut PairFacts,
     buffers: &mut FrameBuffers,
-    x: u32,
-    y: u32,
+    pair: SoughtPair,
 ) -> Result<(), AllocError>
     requires place { IsSearchPosition storage.now at }
     requires kept { AreFacts (numbered storage.now) kept.now }
     requires facts { AreFacts (numbered storage.now) facts.old }
-    requires below { (x < length (names_in storage.now)) × (y < length (names_in storage.now)) }
+    requires below { (pair.x < length (names_in storage.now)) × (pair.y < length (names_in storage.now)) }
     ensures facts { AreFacts (numbered storage.now) facts.new }
-    ensures pairs { OnOk result (HasPairs storage.now at (is_beside x (y ∷ [])) buffers.old buffers.new) }
+    ensures pairs { OnOk result (HasPairs storage.now at (is_beside pair.x (pair.y ∷ [])) buffers.old buffers.new) }
 {
+    let SoughtPair { x, y, .. } = pair;
     if x == y {
         return Ok(());
     }
-    if search_by_facts(storage, kept, at, facts, x, y) {
+    if search_by_facts(storage, kept, at, facts, pair) {
         buffers.add_pair(x, y)
     } else {
         Ok(())

@@ -40,7 +40,7 @@ pub struct PairFact {
     pub found: bool,
 }
 
-/// The answers of long searches, as facts, and the longest of these searches.
+/// The answers of long searches, as facts, and the longest of these searches, at most 64.
 ///
 /// Contracts see the list of the facts. A fact holds for one database and for those of which its statements are a prefix.
 #[derive(Drop)]
@@ -80,9 +80,16 @@ impl PairFacts {
     pub fn clear(&mut self)
         ensures { self.new ≡ [] }
     {
+        self.remove_facts();
+        self.searches.clear();
+    }
+
+    /// Discards all facts.
+    fn remove_facts(&mut self)
+        ensures { self.new ≡ [] }
+    {
         remove_all(&self.facts, &mut self.slots);
         self.facts.clear();
-        self.searches.clear();
     }
 
     /// Returns the fact that is recorded for a position and two variables, if there is one.
@@ -157,7 +164,7 @@ impl PairFacts {
         ensures { (v : Numbered) → AreFacts v self.old → AreFacts v self.new }
     {
         if self.facts.len() > MOST_FACTS / 2 {
-            self.clear();
+            self.remove_facts();
         }
     }
 
@@ -214,6 +221,15 @@ fn key(fact: PairFact) -> FactKey {
     }
 }
 
+/// Two different variables, and how many active `$d` have each. The counts only say where to search, so they may be wrong.
+#[derive(Clone, Copy, Drop)]
+pub struct SoughtPair {
+    pub x: u32,
+    pub y: u32,
+    pub with_x: usize,
+    pub with_y: usize,
+}
+
 /// Returns whether two variables are disjoint at a position, with the facts of earlier searches, and with others that are
 /// kept.
 ///
@@ -224,17 +240,20 @@ pub fn search_by_facts(
     kept: &PairFacts,
     at: usize,
     facts: &mut PairFacts,
-    x: u32,
-    y: u32,
+    pair: SoughtPair,
 ) -> bool
-    requires sought { AreSearched storage.now at x y }
+    requires sought { AreSearched storage.now at pair.x pair.y }
     requires kept { AreFacts (numbered storage.now) kept.now }
     requires facts { AreFacts (numbered storage.now) facts.old }
-    ensures found { result ≡ are_pair storage.now at x y }
+    ensures found { result ≡ are_pair storage.now at pair.x pair.y }
     ensures facts { AreFacts (numbered storage.now) facts.new }
 {
-    let with_x = storage.disjoints.stack(x, at).len();
-    let with_y = storage.disjoints.stack(y, at).len();
+    let SoughtPair {
+        x,
+        y,
+        with_x,
+        with_y,
+    } = pair;
     if is_first(with_x, with_y, x, y) {
         search_row(storage, kept, at, facts, x, y)
     } else {
@@ -300,9 +319,6 @@ fn walk(
         let Some(position) = row.pop() else {
             unreachable!();
         };
-        if has_symbol(storage, position, y) {
-            return Walked { steps, found: true };
-        }
         if is_looked_up(steps, row.len()) {
             if let Some(fact) = known_in(facts, kept, position, x, y) {
                 return Walked {
@@ -310,6 +326,9 @@ fn walk(
                     found: fact.found,
                 };
             }
+        }
+        if has_symbol(storage, position, y) {
+            return Walked { steps, found: true };
         }
     }
     Walked {

@@ -9,7 +9,7 @@ typed c = subst (λ ps. (d : ℕ) → list_any (λ n. n == d) c.in_ok-variables.
 pub search_all_pairs-requires-clause-below : goal.search_all_pairs-requires-clause-below
 search_all_pairs-requires-clause-below c =
     let k = c.args.storage.now in
-    subst (AreBelow (length (names_in k))) (sym c.deref-2.ensures.value)
+    subst (AreBelow (length (names_in k))) (sym c.deref-3.ensures.value)
     (all-below (length (names_in k)) (length (labels_in k)) k.entries c.args.buffers.now.hypotheses c.in_ok-variables.variables.items c.requires.place.stored.kept.coded c.requires.hypotheses
     (typed (goal.at.search_all_pairs-requires-clause-below c).In_ok-variables))
 

@@ -1,6 +1,10 @@
-use Rattle.frame.proofs.Words.{arith, length, names_in}
+use Rattle.frame.proofs.Words.{◌<◌, sym, subst, length, names_in}
 use Rattle.frame.proofs.ActiveDisjointLemmas.{below-at}
 use Rattle.frame.proofs.citing_lists.search_pairs_of.Goals as goal
 
 pub search_pair-requires-clause-below : goal.search_pair-requires-clause-below
-search_pair-requires-clause-below c = (c.requires.below.0, below-at (length (names_in c.args.storage.now)) c.args.others.now c.loop-y.y-index 0 c.requires.below.1 (omega arith))
+search_pair-requires-clause-below c =
+    let n = length (names_in c.args.storage.now) in (
+      subst (λ v. v < n) (sym c.sought_pair-pair.ensures.x) c.requires.below.0,
+      subst (λ v. v < n) (sym c.sought_pair-pair.ensures.y) (below-at n c.args.others.now c.loop-index.index 0 c.requires.below.1 c.loop-index-test.true),
+    )
