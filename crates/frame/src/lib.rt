@@ -6,7 +6,7 @@
 //!
 //! Reading order: `storage`, `stored_entries`, `shape`, `frame_buffers`; `symbol_numbers`, `at_position`, `stacks`, `declare`,
 //! `mandatory`, `essential_sets`, `make`, `extend` (appending and truncating); `meaning`, `frames`, `mandatory_view`, `row`,
-//! `long_searches`, `pair_memo`, `fact_slots`, `pair_facts`, `kept_facts`, `learning`, `pairs`, `active_disjoint`, `citing_lists` (queries); `assertion`, `one_frame`; `laws`.
+//! `long_searches`, `pair_memo`, `fact_slots`, `pair_facts`, `kept_facts`, `repeated_searches`, `pairs`, `active_disjoint`, `citing_lists` (queries); `assertion`, `one_frame`; `laws`.
 #![tactic(auto)]
 
 mod active_disjoint;
@@ -21,7 +21,6 @@ mod frame_buffers;
 mod frames;
 mod kept_facts;
 mod laws;
-mod learning;
 mod long_searches;
 mod make;
 mod mandatory;
@@ -31,6 +30,7 @@ mod one_frame;
 mod pair_facts;
 mod pair_memo;
 mod pairs;
+mod repeated_searches;
 mod row;
 mod shape;
 mod stacks;

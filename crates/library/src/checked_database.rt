@@ -173,7 +173,7 @@ fn append_all(statements: &mut Vec<Stmt>, mut more: Vec<Stmt>) -> Result<(), All
 /// Adds the statements after the first `front` to the tables, which have taken these first ones. Before, the frames take over
 /// what the checkers found when they judged the text before.
 ///
-/// Cost: that of `add`, and of `Checkers::teach`.
+/// Cost: that of `add`, and of `Checkers::repeat_searches`.
 fn add_after<E: Fn(&[Stmt], &mut Tables, &mut StepCounts, &mut Checkers) -> Added>(
     statements: &[Stmt],
     front: usize,
@@ -190,7 +190,7 @@ fn add_after<E: Fn(&[Stmt], &mut Tables, &mut StepCounts, &mut Checkers) -> Adde
     ensures rises { count_of steps.old ≤ count_of steps.new }
     ensures counted { count_of steps.new ≤ count_of steps.old + 2 * (length statements.now - front) }
 {
-    checkers.teach(&mut tables.frames);
+    checkers.repeat_searches(&mut tables.frames);
     add(&statements[front..], tables, steps, checkers)
 }
 

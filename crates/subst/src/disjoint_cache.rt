@@ -74,12 +74,12 @@ impl DisjointCache {
 
     /// Has the frames make the longest searches for pairs again that proofs made, so that they keep the answers.
     ///
-    /// Cost: that of `PairMemo::teach`.
-    pub fn teach(&mut self, frames: &mut Frames)
+    /// Cost: that of `PairMemo::repeat_searches`.
+    pub fn repeat_searches(&mut self, frames: &mut Frames)
         ensures cache { self.new ≡ self.old }
         ensures frames { frames.new ≡ frames.old }
     {
-        self.tables.teach(frames);
+        self.tables.repeat_searches(frames);
     }
 
     /// Returns whether the images of each two variables of each group are disjoint at the statement of the pairs: no variable

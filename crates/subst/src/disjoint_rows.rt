@@ -86,12 +86,12 @@ impl DisjointRows {
         self.one_list.release(alloc);
     }
 
-    /// Has the frames make the longest searches for pairs again, as `PairMemo::teach`.
-    pub fn teach(&mut self, frames: &mut Frames)
+    /// Has the frames make the longest searches for pairs again, as `PairMemo::repeat_searches`.
+    pub fn repeat_searches(&mut self, frames: &mut Frames)
         ensures facts { self.new ≡ self.old }
         ensures frames { frames.new ≡ frames.old }
     {
-        self.memo.teach(frames);
+        self.memo.repeat_searches(frames);
     }
 
     /// Returns the position of the word for a place and for the 64 other places of an index, if there is one.

@@ -70,12 +70,12 @@ impl DisjointTables {
         self.found.release(alloc);
     }
 
-    /// Has the frames make the longest searches for pairs again, as `PairMemo::teach`.
-    pub fn teach(&mut self, frames: &mut Frames)
+    /// Has the frames make the longest searches for pairs again, as `PairMemo::repeat_searches`.
+    pub fn repeat_searches(&mut self, frames: &mut Frames)
         ensures tables { self.new ≡ self.old }
         ensures frames { frames.new ≡ frames.old }
     {
-        self.rows.teach(frames);
+        self.rows.repeat_searches(frames);
     }
 
     /// Returns whether the images of two variables are disjoint, by comparing their variables.

@@ -86,12 +86,12 @@ impl Checker {
     /// the answers, so that later searches for these pairs, by any checker, are short.
     ///
     /// Cost: that of the searches, of which there are at most 128.
-    pub fn teach(&mut self, frames: &mut Frames)
+    pub fn repeat_searches(&mut self, frames: &mut Frames)
         ensures checker { self.new ≡ self.old }
         ensures frames { frames.new ≡ frames.old }
     {
-        self.buffers.kept.teach(frames);
-        self.buffers.results.teach(frames);
+        self.buffers.kept.repeat_searches(frames);
+        self.buffers.results.repeat_searches(frames);
     }
 
     /// Limits the buffer of results to `symbols` symbols; at first the limit is `SYMBOLS_LIMIT`. The check of a proof that

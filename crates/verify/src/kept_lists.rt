@@ -273,12 +273,12 @@ impl KeptLists {
 
     /// Has the frames make the longest searches for pairs again that were made since `begin`, so that they keep the answers.
     ///
-    /// Cost: that of `PairFacts::teach`.
-    pub fn teach(&mut self, frames: &mut Frames)
+    /// Cost: that of `PairFacts::repeat_searches`.
+    pub fn repeat_searches(&mut self, frames: &mut Frames)
         ensures kept { self.new ≡ self.old }
         ensures frames { frames.new ≡ frames.old }
     {
-        self.facts.teach(frames);
+        self.facts.repeat_searches(frames);
     }
 
     /// Returns how many citations of the assertion at a position were counted.

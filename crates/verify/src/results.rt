@@ -86,12 +86,12 @@ impl Results {
 
     /// Has the frames make the longest searches for pairs again that proofs made, so that they keep the answers.
     ///
-    /// Cost: that of `DisjointCache::teach`.
-    pub fn teach(&mut self, frames: &mut Frames)
+    /// Cost: that of `DisjointCache::repeat_searches`.
+    pub fn repeat_searches(&mut self, frames: &mut Frames)
         ensures results { self.new ≡ self.old }
         ensures frames { frames.new ≡ frames.old }
     {
-        self.cache.teach(frames);
+        self.cache.repeat_searches(frames);
     }
 
     /// Begins a proof under the pairs that are active at its statement: removes all results and images, and adds an empty

@@ -58,12 +58,12 @@ impl Checkers {
     /// They keep the answers, so that later searches for these pairs are short.
     ///
     /// Cost: that of the searches, of which there are at most 128 for each checker.
-    pub fn teach(&mut self, frames: &mut Frames)
+    pub fn repeat_searches(&mut self, frames: &mut Frames)
         ensures { frames.new ≡ frames.old }
     {
-        self.calling.teach(frames);
+        self.calling.repeat_searches(frames);
         for worker in &mut self.workers {
-            worker.checker.teach(frames);
+            worker.checker.repeat_searches(frames);
         }
     }
 

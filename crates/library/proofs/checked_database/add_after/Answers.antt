@@ -6,12 +6,12 @@ pub returns-clause-added : goal.returns-clause-added
 returns-clause-added g c =
     let told = c.requires.adds.1 _ _ _ _ _ _ _ _ c.add.ensures in
     let old = c.requires.checked in
-    let checked : IsChecked (take c.args.front c.args.statements.now) (record { rules = c.args.tables.now.rules; frames = c.teach.new.frames }) = record {
+    let checked : IsChecked (take c.args.front c.args.statements.now) (record { rules = c.args.tables.now.rules; frames = c.repeat_searches.new.frames }) = record {
       shaped = old.shaped;
       good = old.good;
       rules_are = old.rules_are;
       marked_is = old.marked_is;
-      frames_are = ap (λ f. f.statements) c.teach.ensures ∙ old.frames_are;
+      frames_are = ap (λ f. f.statements) c.repeat_searches.ensures ∙ old.frames_are;
     } in
     added-after c.args.statements.now c.args.front checked c.requires.within c.add.result told.0
 

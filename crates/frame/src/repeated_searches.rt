@@ -13,7 +13,7 @@ impl Frames {
     /// there is left out.
     ///
     /// Cost: that of the searches.
-    pub(crate) fn learn(&mut self, searches: &mut LongSearches)
+    pub(crate) fn repeat_all(&mut self, searches: &mut LongSearches)
         ensures { self.new ≡ self.old }
     {
         for index in 0..searches.len() {
@@ -42,11 +42,11 @@ impl PairFacts {
     /// Has the frames make the longest searches again, whose answers they keep, and forgets these searches.
     ///
     /// Cost: that of the searches, of which there are at most 64.
-    pub fn teach(&mut self, frames: &mut Frames)
+    pub fn repeat_searches(&mut self, frames: &mut Frames)
         ensures facts { self.new ≡ self.old }
         ensures frames { frames.new ≡ frames.old }
     {
-        frames.learn(&mut self.searches);
+        frames.repeat_all(&mut self.searches);
     }
 }
 
@@ -54,9 +54,9 @@ impl PairMemo {
     /// Has the frames make the longest searches again, whose answers they keep, and forgets these searches.
     ///
     /// Cost: that of the searches, of which there are at most 64.
-    pub fn teach(&mut self, frames: &mut Frames)
+    pub fn repeat_searches(&mut self, frames: &mut Frames)
         ensures { frames.new ≡ frames.old }
     {
-        frames.learn(&mut self.searches);
+        frames.repeat_all(&mut self.searches);
     }
 }

@@ -1,5 +1,5 @@
 use Rattle.verify_pool.proofs.Words.{◌≡◌}
-use Rattle.verify_pool.proofs.checkers.Checkers.teach.Given as goal
+use Rattle.verify_pool.proofs.checkers.Checkers.repeat_searches.Given as goal
 
 -- the frames have the same statements and names
 abbrev pub invariant-loop-worker : goal.invariant-loop-worker
