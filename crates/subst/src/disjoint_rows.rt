@@ -40,7 +40,7 @@ pub struct DisjointRows {
     hints: Hints,
     words: Vec<RowWord>,
     /// Whether the last active `$d` were read.
-    learned: bool,
+    has_read_active: bool,
     /// The pairs that long searches found, in all proofs.
     memo: PairMemo,
     one_list: OneDisjointList,
@@ -63,7 +63,7 @@ impl DisjointRows {
         DisjointRows {
             hints: Hints::new(alloc),
             words: Vec::new(alloc),
-            learned: false,
+            has_read_active: false,
             memo: PairMemo::new(alloc),
             one_list: OneDisjointList::new(alloc),
         }
@@ -74,7 +74,7 @@ impl DisjointRows {
         ensures { self.new ≡ [] }
     {
         self.words.clear();
-        self.learned = false;
+        self.has_read_active = false;
     }
 
     /// Removes all facts, and frees the memory of the marks.
@@ -82,7 +82,7 @@ impl DisjointRows {
         ensures { self.new ≡ [] }
     {
         self.words.clear();
-        self.learned = false;
+        self.has_read_active = false;
         self.one_list.release(alloc);
     }
 
@@ -144,7 +144,7 @@ impl DisjointRows {
     ///
     /// Errors: an allocation fails. Cost: a constant: at most 16 `$d` of at most 16 symbols are read.
     #[inline(always)]
-    pub fn learn(
+    pub fn read_active(
         &mut self,
         pairs: &Pairs<'_>,
         variables: &mut VariablePlaces,
@@ -155,17 +155,17 @@ impl DisjointRows {
         ensures grows { Grows variables.old variables.new }
         ensures facts { AreFacts pairs.now variables.new self.new }
     {
-        if self.learned {
+        if self.has_read_active {
             return Ok(());
         }
-        self.learned = true;
-        self.learn_last(pairs, variables)
+        self.has_read_active = true;
+        self.read_last_active(pairs, variables)
     }
 
     /// Reads the last active `$d`.
     #[cold]
     #[inline(never)]
-    fn learn_last(
+    fn read_last_active(
         &mut self,
         pairs: &Pairs<'_>,
         variables: &mut VariablePlaces,
@@ -179,7 +179,7 @@ impl DisjointRows {
         let mut before = pairs.copy();
         let mut left = READ_LISTS;
         while let Some(list) = before.pop_disjoint() {
-            self.learn_list(pairs, variables, list)?;
+            self.read_active_list(pairs, variables, list)?;
             left = left.saturating_sub(1);
             if left == 0 {
                 return Ok(());
@@ -189,7 +189,7 @@ impl DisjointRows {
     }
 
     /// Records that the variables of an active `$d` are disjoint.
-    fn learn_list(
+    fn read_active_list(
         &mut self,
         pairs: &Pairs<'_>,
         variables: &mut VariablePlaces,

@@ -285,7 +285,7 @@ impl DisjointTables {
         ensures tables { AreTables pairs.now symbols.now self.new }
         ensures disjoint { IfOk result (λ ok. ok ≡ list_all (are_numbers_disjoint pairs.now.statements (image_named pairs.now.names (images_at symbols.now images.now))) groups.now) }
     {
-        self.rows.learn(pairs, &mut self.variables)?;
+        self.rows.read_active(pairs, &mut self.variables)?;
         self.images.begin();
         for i in 0..groups.len() {
             if is_repeated(groups, i) {

@@ -3,20 +3,20 @@ use Rattle.subst.proofs.ImageVariableLemmas.{most-own, recorded-begin, recorded-
 use Rattle.subst.proofs.GroupLemmas.{below-group, group-goes_on, group-repeated, group-stops}
 use Rattle.subst.proofs.disjoint_tables.DisjointTables.are_groups_disjoint.Goals as goal
 
-pub returns-in_err-learn-clause-tables : goal.returns-in_err-learn-clause-tables
-returns-in_err-learn-clause-tables c =
+pub returns-in_err-read_active-clause-tables : goal.returns-in_err-read_active-clause-tables
+returns-in_err-read_active-clause-tables c =
     let t = c.requires.tables in
     let n = c.args.self.now.images in
-    record { placed = c.learn.ensures.placed; recorded = recorded-most c.args.pairs.now c.args.self.now.variables c.learn.new.variables c.args.symbols.now n n c.learn.ensures.grows (most-own n) t.recorded; facts = c.learn.ensures.facts; found = t.found }
+    record { placed = c.read_active.ensures.placed; recorded = recorded-most c.args.pairs.now c.args.self.now.variables c.read_active.new.variables c.args.symbols.now n n c.read_active.ensures.grows (most-own n) t.recorded; facts = c.read_active.ensures.facts; found = t.found }
 
 pub loop-i-init : goal.loop-i-init
 loop-i-init c =
     let t = c.requires.tables in
     let v = c.args.pairs.now in
     let n = c.args.self.now.images in
-    let f = c.learn.new.variables in
-    let recorded = recorded-most v c.args.self.now.variables f c.args.symbols.now n n c.learn.ensures.grows (most-own n) t.recorded in (
-      record { placed = c.learn.ensures.placed; recorded = rw c.begin.ensures (recorded-begin v f c.args.symbols.now n recorded); facts = c.learn.ensures.facts; found = t.found },
+    let f = c.read_active.new.variables in
+    let recorded = recorded-most v c.args.self.now.variables f c.args.symbols.now n n c.read_active.ensures.grows (most-own n) t.recorded in (
+      record { placed = c.read_active.ensures.placed; recorded = rw c.begin.ensures (recorded-begin v f c.args.symbols.now n recorded); facts = c.read_active.ensures.facts; found = t.found },
       rw c.begin.ensures (read-none v f c.args.symbols.now c.args.images.now _ refl),
       refl,
     )

@@ -1,5 +1,5 @@
 use Rattle.subst.proofs.Words.{ℕ, ◌≡◌, bit_at, AreFacts}
-use Rattle.subst.proofs.disjoint_rows.DisjointRows.learn_list.Given as goal
+use Rattle.subst.proofs.disjoint_rows.DisjointRows.read_active_list.Given as goal
 
 -- each bit that is left is one of the list
 abbrev pub invariant-loop-rest : goal.invariant-loop-rest

@@ -1,6 +1,6 @@
 use Rattle.subst.proofs.DisjointRowLemmas.{facts-grown}
 use Rattle.subst.proofs.ActivePairLemmas.{listed-facts}
-use Rattle.subst.proofs.disjoint_rows.DisjointRows.learn_list.Goals as goal
+use Rattle.subst.proofs.disjoint_rows.DisjointRows.read_active_list.Goals as goal
 
 pub loop-rest-init : goal.loop-rest-init
 loop-rest-init c = (facts-grown c.args.pairs.now c.args.variables.now c.bits_of.new.self c.args.self.now c.bits_of.ensures.grows c.requires.facts, λ j b. b)

@@ -1,6 +1,6 @@
 use Rattle.subst.proofs.Words.{length, AreFacts, ArePlaced, Grows}
 use Rattle.subst.proofs.ActivePairLemmas.{ArePairsOf}
-use Rattle.subst.proofs.disjoint_rows.DisjointRows.learn_last.Given as goal
+use Rattle.subst.proofs.disjoint_rows.DisjointRows.read_last_active.Given as goal
 
 -- each pair of the `$d` that are left is a pair of all of them
 abbrev pub invariant-loop-list : goal.invariant-loop-list
