@@ -211,7 +211,7 @@ groups-count e [] (g ∷ gs) low h = absurd h
 groups-count e (s ∷ ss) [] low h = absurd h
 groups-count e (s ∷ ss) (g ∷ gs) low h = ap suc (groups-count e ss gs (suc s) h.2)
 
-group-at : (e ss : List ℕ) (gs : List (List ℕ)) (low at : ℕ) → AreGroupsFrom e low ss gs → at < length ss → IsGroupOf e (get_or ss at 0) (get_or gs at [])
+pub group-at : (e ss : List ℕ) (gs : List (List ℕ)) (low at : ℕ) → AreGroupsFrom e low ss gs → at < length ss → IsGroupOf e (get_or ss at 0) (get_or gs at [])
 group-at e [] gs low at h l = absurd (omega (arith, l))
 group-at e (s ∷ ss) [] low at h l = absurd h
 group-at e (s ∷ ss) (g ∷ gs) low zero h l = h.1
@@ -233,7 +233,7 @@ symbols-up e (s ∷ ss) (g ∷ gs) low (suc i) zero h le l = absurd (omega (arit
 symbols-up e (s ∷ ss) (g ∷ gs) low (suc i) (suc j) h le l = symbols-up e ss gs (suc s) i j h.2 (omega (arith, le)) (omega (arith, l))
 
 -- an index that is in a group is that of the group's symbol
-group-of : (e ss : List ℕ) (gs : List (List ℕ)) (low i : ℕ) → AreGroupsFrom e low ss gs → IsGrouped i gs → (k : ℕ) × (k < length ss) × (slice_get e i ≡ Some (get_or ss k 0))
+pub group-of : (e ss : List ℕ) (gs : List (List ℕ)) (low i : ℕ) → AreGroupsFrom e low ss gs → IsGrouped i gs → (k : ℕ) × (k < length ss) × (slice_get e i ≡ Some (get_or ss k 0))
 group-of e ss [] low i h in_one = absurd in_one
 group-of e [] (g ∷ gs) low i h in_one = absurd h
 group-of e (s ∷ ss) (g ∷ gs) low i h (inl here) = (0, omega arith, All-contains (λ k. slice_get e k ≡ Some s) g i h.1.only here)

@@ -1,12 +1,11 @@
 -- The long `$e` that have a symbol, by their stacks, and the constants of a long `$e`.
 use Rattle.std.specs.Prelude.{reverse}
-use Rattle.std.proofs.Common.{eq-eqb}
+use Rattle.std.proofs.Common.{eq-eqb, get_or}
 use Rattle.std.proofs.lemmas.List.{reverse-append}
 use Rattle.std.proofs.lemmas.Map.Views.{any-filter_same}
-use Rattle.std.proofs.lemmas.Map.Keys.{any_passes_from_place}
-use Rattle.std.proofs.lemmas.List.Elements.{All-contains}
+use Rattle.std.proofs.lemmas.List.Folds.{list_any_at}
+use Rattle.entries.proofs.SymbolPlacesLemmas.{group-of}
 use Rattle.frame.proofs.Words.{◌≡◌, ◌∙◌, ap, sym, subst, arith, refl, and-false, inl, inr, ℕ, zero, suc, ◌+◌, ◌-◌, ◌<◌, Bool, true, false, cond, not, ◌||◌, ◌&&◌, nat_eq, nat_le, List, [], ◌∷◌, ◌++◌, length, length-map, map, filter, take, take-append-drop, drop, take-get, slice_get, slice_get_within, Option, Some, None, IfSome, list_any, list_any-map, append_assoc, length-append, cases_Bool, eqb-true, true≢false, append-nil, has_parts, false_from_ne_true, Name, has_name, name_at, decode, Stmt, Database, stays_open, active_from, active, stmt_at, before, expr_of, is_essential, is_variable, is_hypothesis, HasAssertion, Kind, Ess, Float, Entry, Hypothesis, Storage, stmt_by, stmt_of, names_in, labels_in, statements_of, AreStored, kept_with, is_typed, is_typed_by, required_at, option_required, history, stack_at, has_code, having_after, long_codes, long_entry, without_float, SymbolGroups, ArePlacesOf, In}
-use Rattle.entries.specs.SymbolPlaces.{AreGroupsFrom, IsGrouped}
 use Rattle.entries.specs.SymbolPlaces as entry
 use Rattle.entries.specs.declared.assertion_view.Hypothesis.TheVariants as hypothesis
 use Rattle.frame.specs.LongEssentials.{is_long_with, is_one_long_with, long_essentials, HasConstants}
@@ -147,13 +146,6 @@ typed-float [] c = refl
 typed-float (hypothesis.Float x ∷ hs) c = ap (λ b. nat_eq c x || b) (typed-float hs c)
 typed-float (hypothesis.Essential p ∷ hs) c = typed-float hs c
 
--- each symbol of the expression has a group
-symbol-of : (e ss : List ℕ) (gs : List (List ℕ)) (low i : ℕ) → AreGroupsFrom e low ss gs → IsGrouped i gs → (k : ℕ) × (s : ℕ) × (slice_get ss k ≡ Some s) × (slice_get e i ≡ Some s)
-symbol-of e ss [] low i h in_one = absurd in_one
-symbol-of e [] (g ∷ gs) low i h in_one = absurd h
-symbol-of e (s ∷ ss) (g ∷ gs) low i h (inl here) = (0, s, refl, All-contains (λ k. slice_get e k ≡ Some s) g i h.1.only here)
-symbol-of e (s ∷ ss) (g ∷ gs) low i h (inr there) = let r = symbol-of e ss gs (suc s) i h.2 there in (suc r.0, r.1, r.2, r.3)
-
 any-place : (c : ℕ) (xs : List ℕ) → list_any (λ y. nat_eq c y) xs ≡ true → (i : ℕ) × (slice_get xs i ≡ Some c)
 any-place c [] h = absurd (true≢false (sym h))
 any-place c (x ∷ xs) h = elim (cases_Bool (nat_eq c x)) [
@@ -164,10 +156,10 @@ any-place c (x ∷ xs) h = elim (cases_Bool (nat_eq c x)) [
 symbol-listed : (e : List ℕ) (gs : SymbolGroups) (c : ℕ) → ArePlacesOf e gs → list_any (λ y. nat_eq c y) e ≡ true → list_any (λ y. nat_eq c y) gs.symbols ≡ true
 symbol-listed e gs c places h =
     let r = any-place c e h in
-    let g = symbol-of e gs.symbols gs.groups 0 r.0 places.each (places.all r.0 (slice_get_within e r.0 c r.1)) in
-    let two : Some g.1 ≡ Some c = sym g.3 ∙ r.1 in
-    let same : g.1 ≡ c = cc in
-    any_passes_from_place (λ y. nat_eq c y) gs.symbols g.0 c (g.2 ∙ ap Some same) (eq-eqb c c refl)
+    let g = group-of e gs.symbols gs.groups 0 r.0 places.each (places.all r.0 (slice_get_within e r.0 c r.1)) in
+    let two : Some (get_or gs.symbols g.0 0) ≡ Some c = sym g.2 ∙ r.1 in
+    let same : get_or gs.symbols g.0 0 ≡ c = cc in
+    list_any_at (λ y. nat_eq c y) gs.symbols g.0 0 g.1 (eq-eqb c (get_or gs.symbols g.0 0) (sym same))
 
 -- a symbol of a `$e` that is no variable is among its constants
 pub constants-are : (k : Storage) (stored : AreStored k) (i : ℕ) (e : Entry) (gs : SymbolGroups) → slice_get k.entries i ≡ Some e → e.kind ≡ Ess → ArePlacesOf e.symbols gs → gs.constants ≡ without_float e.assertion.required gs.symbols

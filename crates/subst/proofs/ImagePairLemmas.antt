@@ -1,5 +1,5 @@
 -- Pairs of images that were found to be disjoint.
-use Rattle.subst.proofs.Words.{◌≡◌, ℕ, true, List, [], ◌∷◌, ◌++◌, length, refl, sym, ◌∙◌, arith, inl, inr, length-append, decode, are_disjoint, Numbered, SymbolRange, symbols_in, AreInside, Some, nat_eq, lookup, ImagePair, IsInside, IsDisjointPair, AreDisjointPairs, RecordsPair, are_named_disjoint, Contains, All-nil, All-push, All-weaker, All-contains}
+use Rattle.subst.proofs.Words.{◌≡◌, ℕ, true, List, [], ◌++◌, length, refl, sym, ◌∙◌, arith, inl, inr, length-append, decode, are_disjoint, Numbered, SymbolRange, symbols_in, AreInside, Some, nat_eq, lookup, ImagePair, IsInside, IsDisjointPair, AreDisjointPairs, RecordsPair, are_named_disjoint, Contains, All-nil, All-push, All-weaker, All-contains}
 use Rattle.subst.proofs.SymbolRangeLemmas.{seen-more}
 use Rattle.subst.proofs.ImageRangesLemmas.{image-some}
 

@@ -1,6 +1,7 @@
 -- An expression without the symbols whose images are empty has the same result.
 use Rattle.subst.proofs.Words.{append-nil, ◌≡◌, ℕ, zero, suc, ◌+◌, ◌-◌, ◌<◌, ◌≤◌, Bool, true, false, true≢false, inl, inr, cond, nat_eq, List, [], ◌∷◌, ◌++◌, length, take, take_all, drop, slice_get, Option, Some, None, refl, lookup, sym, ◌∙◌, ap, subst, arith, code_image, code_apply, SymbolRange, images_at, ⊎_elim, get_or, cases_lt, ltb-false, Contains, cons_option, filter, filter_map, flat_map, All-contains, Contains-append_cases, Contains-append_left, Contains-append_right, filter_map-append, flat_map_more, take_more, get_or_from_slice_get, slice_get-get_or, slice_get_within, IsGroupOf, AreGroupsFrom, IsGrouped, AreAbove, Ascends, In, AreThose, contains-in, in-contains, has_nonempty_image, is_range_nonempty, is_symbol_left, is_group_left, group_left, remaining}
 use Rattle.entries.specs.SymbolPlaces.{ArePlacesOf, SymbolGroups}
+use Rattle.entries.proofs.SymbolPlacesLemmas.{group-at, groups-count}
 use Rattle.subst.proofs.ImageRangesLemmas.{image-some}
 use Rattle.std.specs.List.{list_any}
 use Rattle.std.specs.Prelude.{map, slice_range, ◌||◌, ◌^◌}
@@ -82,19 +83,6 @@ collect-kept ps e gs at g old new here is kept more = collect-more (group_left p
 
 collect-passed : (ps : List (ℕ × SymbolRange)) (e : List ℕ) (gs : List (List ℕ)) (at : ℕ) (g old : List ℕ) → slice_get gs at ≡ Some g → old ≡ flat_map (group_left ps e) (take at gs) → is_group_left ps e g ≡ false → old ≡ flat_map (group_left ps e) (take (at + 1) gs)
 collect-passed ps e gs at g old here is passed = collect-more (group_left ps e) gs at g old old here is (sym (append-nil old) ∙ ap (λ b. old ++ cond b g []) (sym passed))
-
--- there are as many groups as symbols
-pub groups-count : (e ss : List ℕ) (gs : List (List ℕ)) (low : ℕ) → AreGroupsFrom e low ss gs → length gs ≡ length ss
-groups-count e [] [] low h = refl
-groups-count e [] (g ∷ gs) low h = absurd h
-groups-count e (s ∷ ss) [] low h = absurd h
-groups-count e (s ∷ ss) (g ∷ gs) low h = ap suc (groups-count e ss gs (suc s) h.2)
-
-group-at : (e ss : List ℕ) (gs : List (List ℕ)) (low at : ℕ) → AreGroupsFrom e low ss gs → at < length ss → IsGroupOf e (get_or ss at 0) (get_or gs at [])
-group-at e [] gs low at h l = absurd (omega (arith, l))
-group-at e (s ∷ ss) [] low at h l = absurd h
-group-at e (s ∷ ss) (g ∷ gs) low zero h l = h.1
-group-at e (s ∷ ss) (g ∷ gs) low (suc at) h l = group-at e ss gs (suc s) at h.2 (omega (arith, l))
 
 -- a group is left exactly if its symbol is
 module _ (ps : List (ℕ × SymbolRange)) (e : List ℕ) (gs : SymbolGroups) (places : ArePlacesOf e gs) where

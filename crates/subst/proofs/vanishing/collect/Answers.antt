@@ -1,6 +1,7 @@
-use Rattle.std.proofs.Common.{◌≡◌, ℕ, ◌<◌, ◌≤◌, slice_get, arith, ap, sym, ◌∙◌, length, length-append}
+use Rattle.std.proofs.Common.{ℕ, slice_get, arith, ap, sym, ◌∙◌, length, length-append}
 use Rattle.subst.proofs.Words.{refl, get_or, has_nonempty_image, ◌+◌, ◌-◌}
-use Rattle.subst.proofs.VanishingLemmas.{all-groups, groups-count, symbol-kept, symbols-passed}
+use Rattle.entries.proofs.SymbolPlacesLemmas.{groups-count}
+use Rattle.subst.proofs.VanishingLemmas.{all-groups, symbol-kept, symbols-passed}
 use Rattle.subst.proofs.vanishing.collect.Goals as goal
 
 pub loop-at-init : goal.loop-at-init

@@ -1,4 +1,4 @@
-use Rattle.subst.proofs.Words.{◌<◌, ◌*◌, ◌+◌, ◌^◌, length, get_or, true, rules, refl, arith, ap, subst, HasPlace, no_word, DecidesWord}
+use Rattle.subst.proofs.Words.{◌<◌, ◌^◌, get_or, rules, refl, no_word}
 use Rattle.subst.proofs.BitsLemmas.{zero-none}
 use Rattle.subst.proofs.DisjointRowLemmas.{missing-bit, told-word, told-more, told-all}
 use Rattle.subst.proofs.disjoint_rows.DisjointRows.is_disjoint.Goals as goal

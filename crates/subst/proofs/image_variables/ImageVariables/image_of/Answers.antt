@@ -1,4 +1,4 @@
-use Rattle.subst.proofs.ImageVariableLemmas.{recorded-most, read-most, recorded-image, read-image, words-kept, words-most, words-own}
+use Rattle.subst.proofs.ImageVariableLemmas.{recorded-most, read-most, recorded-image, read-image, words-kept, words-most}
 use Rattle.subst.proofs.image_variables.ImageVariables.image_of.Goals as goal
 
 pub returns-in_err-range-clause-recorded : goal.returns-in_err-range-clause-recorded

@@ -1,4 +1,4 @@
-use Rattle.subst.proofs.Words.{[], ◌∷◌, near_word, IfOk-weaker}
+use Rattle.subst.proofs.Words.{near_word, IfOk-weaker}
 use Rattle.subst.proofs.ImageVariableLemmas.{word-range}
 use Rattle.subst.proofs.image_variables.ImageVariables.read.Goals as goal
 
