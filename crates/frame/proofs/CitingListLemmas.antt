@@ -1,7 +1,7 @@
 -- Lists that have the mandatory pairs of an assertion: the groups of its frame, or a list of two for each pair.
 use Rattle.frame.proofs.Words.{◌≡◌, ◌∙◌, ap, sym, subst, arith, refl, true≢false, inl, inr, or_cases, or_right, ℕ, zero, suc, ◌+◌, ◌-◌, ◌<◌, ◌==◌, nat_eq, Bool, true, false, not, ◌&&◌, ◌||◌, or-false, and-false, and-or_distrib_left, List, [], ◌∷◌, ◌++◌, length, map, take, get_or, list_any, list_any_more, list_any-append, list_any-map, Name, name_eq, has_name, name_at, AreDistinct, Stmt, Database, before, decode, expr_of, is_assertion, hypotheses, is_mandatory, mandatory_groups, AreBelow, AllBelow, AreRequired, AreListsOf, IsKeptAs, is_typed, groups_by, symbols_at, required_at, required_by, option_required, typecode_at, is_typed_by, AreHypotheses, AreNumbered, HasTwo, Kind, Float, AreSearched, slice_get_within, ◌⊎◌, actives, is_disj, Assertion, AssertionView, Entry, Storage, AreStored, names_in, labels_in, statements_of, are_pair, IsFilledFrom}
 use Rattle.frame.specs.AssertionView.{AreCitingListsOf, AreMandatoryPairs, IsCited, has_both}
-use Rattle.frame.specs.Stored.PairLists.{HasPairs, IsFilledByPairs, IsFilledForCitation, IsSearchPosition, are_among, is_beside}
+use Rattle.frame.specs.Stored.PairLists.{HasPairs, HasSameHypotheses, IsFilledByPairs, IsFilledForCitation, IsSearchPosition, are_among, is_beside}
 use Rattle.frame.proofs.AssertionLemmas.{filled-kept}
 use Rattle.frame.proofs.AssertionViewLemmas.{IsThere}
 use Rattle.frame.proofs.BufferedHypotheses.{filled-lists}
@@ -221,6 +221,27 @@ module _ (k : Storage) (at : ℕ) where
       grouped : (a b c : Bool) → (a && (b && c)) ≡ ((a && b) && c)
       grouped true b c = refl
       grouped false b c = refl
+
+  -- the groups were found before the hypotheses were described
+  pub described-pairs : (ps vs : List ℕ) (old mid new : Assertion) → HasPairs k at (are_among vs) old mid → old.groups ≡ [] → old.hypotheses ≡ ps → new.hypotheses ≡ mid.hypotheses → new.groups ≡ mid.groups
+      → new.required ≡ map (required_at k.entries) mid.hypotheses → new.typecodes ≡ map (typecode_at k.entries) mid.hypotheses
+      → ((c : ℕ) → list_any (λ n. n == c) vs ≡ is_typed (map (required_at k.entries) ps) c) → IsFilledByPairs k at ps new
+  described-pairs ps vs old mid new h none hs same groups rs ts typed =
+      let whole : mid.hypotheses ≡ ps = h.hypotheses ∙ hs in
+      let start : Assertion = record { whole = new.whole; hypotheses = ps; required = map (required_at k.entries) ps; typecodes = map (typecode_at k.entries) ps; groups = [] } in
+      let found : HasPairs k at (are_among vs) start new = record {
+        hypotheses = same ∙ whole;
+        required = rs ∙ ap (map (required_at k.entries)) whole;
+        typecodes = ts ∙ ap (map (typecode_at k.entries)) whole;
+        pairs = λ u v first second differ.
+            ap (list_any (has_both u v)) groups
+            ∙ (h.pairs u v first second differ ∙ ap (λ gs. list_any (has_both u v) gs || (are_pair k at u v && are_among vs u v)) none);
+        below = λ b. subst (AllBelow (length (names_in k))) (sym groups) (h.below (subst (AllBelow (length (names_in k))) (sym none) tt));
+      } in
+      by-pairs ps vs start new found refl refl refl refl typed
+
+  pub same-start : (a : Assertion) → HasSameHypotheses a a
+  same-start a = record { hypotheses = refl; required = refl; typecodes = refl }
 
 -- ---- the variables of the hypotheses
 

@@ -1,12 +1,12 @@
 //! The lists by which an assertion is cited if the active `$d` are many.
-ghost use Rattle.std.specs.Prelude.{◌≡◌, ◌==◌, ◌≤◌, ◌<◌, ◌||◌, ◌∷◌, ℕ, [], get_or, length, map, OnOk, IfOk};
+ghost use Rattle.std.specs.Prelude.{◌≡◌, ◌==◌, ◌≤◌, ◌<◌, ◌||◌, ◌∷◌, ℕ, [], false, true, get_or, length, map, OnOk, IfOk};
 ghost use Rattle.std.specs.List.{list_any};
 ghost use Rattle.frame.specs.Below.{AreBelow};
 ghost use Rattle.frame.specs.PairFacts.{AreFacts};
-ghost use Rattle.frame.specs.Stored.AssertionParts.{is_typed, is_typed_by, required_at};
+ghost use Rattle.frame.specs.Stored.AssertionParts.{is_typed, is_typed_by, required_at, typecode_at};
 ghost use Rattle.frame.specs.Stored.EntryMeanings.{names_in, numbered, statements_of};
 ghost use Rattle.frame.specs.Stored.Hypotheses.{AreHypotheses};
-ghost use Rattle.frame.specs.Stored.PairLists.{HasPairs, IsFilledByPairs, IsFilledForCitation, IsSearchPosition, are_among, is_beside};
+ghost use Rattle.frame.specs.Stored.PairLists.{HasPairs, HasSameHypotheses, IsFilledForCitation, IsSearchPosition, are_among, is_beside};
 ghost use Rattle.frame.specs.Stored.Whole.{AreStored};
 
 use crate::at_position::last_active_at;
@@ -45,8 +45,8 @@ pub fn fill_for_citation(
 {
     let variables = variables(alloc, storage, &buffers.hypotheses)?;
     let counts = counts(alloc, storage, at, &variables)?;
-    if search_all_pairs(storage, kept, at, facts, &variables, &counts) {
-        fill_by_pairs(storage, kept, at, facts, buffers, &variables, &counts)
+    if find_pairs(storage, kept, at, facts, buffers, &variables, &counts)? {
+        describe_all(storage, buffers)
     } else {
         fill_from_hypotheses(storage, at, buffers)
     }
@@ -116,36 +116,44 @@ fn count_at(counts: &[usize], index: usize) -> usize {
     }
 }
 
-/// Searches for each pair of the variables, and returns whether that took no longer than going through the active `$d`.
+/// Appends a group for each two of the variables that are disjoint, and returns `true`, if that takes no longer than going
+/// through the active `$d`; else appends none.
 ///
 /// Cost: at most a constant times that of the cheaper one.
-fn search_all_pairs(
+fn find_pairs(
     storage: &Storage,
     kept: &PairFacts,
     at: usize,
     facts: &mut PairFacts,
+    buffers: &mut FrameBuffers,
     variables: &[u32],
     counts: &[usize],
-) -> bool
+) -> Result<bool, AllocError>
     requires place { IsSearchPosition storage.now at }
     requires kept { AreFacts (numbered storage.now) kept.now }
     requires facts { AreFacts (numbered storage.now) facts.old }
     requires below { AreBelow (length (names_in storage.now)) variables.now }
-    ensures { AreFacts (numbered storage.now) facts.new }
+    requires none { buffers.old.groups ≡ [] }
+    ensures facts { AreFacts (numbered storage.now) facts.new }
+    ensures pairs { IfOk result (λ all. all ≡ true → HasPairs storage.now at (are_among variables.now) buffers.old buffers.new) }
+    ensures same { IfOk result (λ all. HasSameHypotheses buffers.old buffers.new) }
+    ensures none { IfOk result (λ all. all ≡ false → buffers.new.groups ≡ []) }
 {
     facts.make_room();
     let squared = variables.len().saturating_mul(variables.len());
     let mut most = squared.saturating_mul(PAIR_COST);
     for _ in 0..MOST_TRIES {
         if !has_more_symbols(storage, at, most) {
-            return false;
+            return Ok(false);
         }
-        if search_pairs(storage, kept, at, facts, variables, counts, most) {
-            return true;
+        facts.allow(most);
+        if add_pairs(storage, kept, at, facts, buffers, variables, counts)? {
+            return Ok(true);
         }
+        buffers.clear_groups();
         most = most.saturating_mul(4);
     }
-    false
+    Ok(false)
 }
 
 /// Returns whether the `$d` that are active at a position have more symbols than `most`.
@@ -168,119 +176,26 @@ fn has_more_symbols(storage: &Storage, at: usize, most: usize) -> bool
     symbols > most
 }
 
-/// Searches for each pair of the variables, until the searches have passed `most` `$d`. Returns whether all were
-/// searched for.
-fn search_pairs(
-    storage: &Storage,
-    kept: &PairFacts,
-    at: usize,
-    facts: &mut PairFacts,
-    variables: &[u32],
-    counts: &[usize],
-    most: usize,
-) -> bool
-    requires place { IsSearchPosition storage.now at }
-    requires kept { AreFacts (numbered storage.now) kept.now }
-    requires facts { AreFacts (numbered storage.now) facts.old }
-    requires below { AreBelow (length (names_in storage.now)) variables.now }
-    ensures { AreFacts (numbered storage.now) facts.new }
-{
-    facts.allow(most);
-    for i in 0..variables.len() {
-        if !search_pairs_of(
-            storage,
-            kept,
-            at,
-            facts,
-            variables[i],
-            &variables[..i],
-            counts,
-        ) {
-            return false;
-        }
-    }
-    true
-}
-
-/// Searches for the pairs of a variable and each of some others, until the searches have passed as many `$d` as they may.
-/// Returns whether all were searched for.
-fn search_pairs_of(
-    storage: &Storage,
-    kept: &PairFacts,
-    at: usize,
-    facts: &mut PairFacts,
-    x: u32,
-    others: &[u32],
-    counts: &[usize],
-) -> bool
-    requires place { IsSearchPosition storage.now at }
-    requires kept { AreFacts (numbered storage.now) kept.now }
-    requires facts { AreFacts (numbered storage.now) facts.old }
-    requires below { (x < length (names_in storage.now)) × AreBelow (length (names_in storage.now)) others.now }
-    ensures { AreFacts (numbered storage.now) facts.new }
-{
-    for index in 0..others.len() {
-        if facts.is_spent() {
-            return false;
-        }
-        let pair = sought_pair(x, others, index, counts);
-        search_pair(storage, kept, at, facts, pair);
-    }
-    true
-}
-
-/// Searches for a pair of variables, to record facts about it.
-fn search_pair(
-    storage: &Storage,
-    kept: &PairFacts,
-    at: usize,
-    facts: &mut PairFacts,
-    pair: SoughtPair,
-)
-    requires place { IsSearchPosition storage.now at }
-    requires kept { AreFacts (numbered storage.now) kept.now }
-    requires facts { AreFacts (numbered storage.now) facts.old }
-    requires below { (pair.x < length (names_in storage.now)) × (pair.y < length (names_in storage.now)) }
-    ensures { AreFacts (numbered storage.now) facts.new }
-{
-    let SoughtPair { x, y, .. } = pair;
-    if x != y {
-        let _found = search_by_facts(storage, kept, at, facts, pair);
-    }
-}
-
-/// Appends the hypotheses of an assertion at `at`, each as one number, and a group for each two of their variables that are
-/// disjoint there.
-///
-/// Cost: the size of the hypotheses, and that of `search_by_facts` for each two variables.
-fn fill_by_pairs(
-    storage: &Storage,
-    kept: &PairFacts,
-    at: usize,
-    facts: &mut PairFacts,
-    buffers: &mut FrameBuffers,
-    variables: &[u32],
-    counts: &[usize],
-) -> Result<(), AllocError>
-    requires place { IsSearchPosition storage.now at }
-    requires kept { AreFacts (numbered storage.now) kept.now }
-    requires facts { AreFacts (numbered storage.now) facts.old }
+/// Appends the hypotheses, each as one number, and their typecodes.
+fn describe_all(storage: &Storage, buffers: &mut FrameBuffers) -> Result<(), AllocError>
+    requires stored { AreStored storage.now }
     requires hypotheses { AreHypotheses storage.now.entries buffers.old.hypotheses }
-    requires undescribed { (buffers.old.required ≡ []) × (buffers.old.typecodes ≡ []) × (buffers.old.groups ≡ []) }
-    requires variables { (c : ℕ) → list_any (λ n. n == c) variables.now ≡ is_typed (map (required_at storage.now.entries) buffers.old.hypotheses) c }
-    ensures facts { AreFacts (numbered storage.now) facts.new }
-    ensures filled { OnOk result (IsFilledByPairs storage.now at buffers.old.hypotheses buffers.new) }
+    requires undescribed { (buffers.old.required ≡ []) × (buffers.old.typecodes ≡ []) }
+    ensures hypotheses { buffers.new.hypotheses ≡ buffers.old.hypotheses }
+    ensures groups { buffers.new.groups ≡ buffers.old.groups }
+    ensures required { OnOk result (buffers.new.required ≡ map (required_at storage.now.entries) buffers.old.hypotheses) }
+    ensures typecodes { OnOk result (buffers.new.typecodes ≡ map (typecode_at storage.now.entries) buffers.old.hypotheses) }
 {
     describe(
         storage,
         &buffers.hypotheses,
         &mut buffers.required,
         &mut buffers.typecodes,
-    )?;
-    add_pairs(storage, kept, at, facts, buffers, variables, counts)
+    )
 }
 
-/// Appends a group for each two of the variables that are disjoint.
+/// Appends a group for each two of the variables that are disjoint, until the searches have passed as many `$d` as they may.
+/// Returns whether all were searched for.
 fn add_pairs(
     storage: &Storage,
     kept: &PairFacts,
@@ -289,30 +204,26 @@ fn add_pairs(
     buffers: &mut FrameBuffers,
     variables: &[u32],
     counts: &[usize],
-) -> Result<(), AllocError>
+) -> Result<bool, AllocError>
     requires place { IsSearchPosition storage.now at }
     requires kept { AreFacts (numbered storage.now) kept.now }
     requires facts { AreFacts (numbered storage.now) facts.old }
     requires below { AreBelow (length (names_in storage.now)) variables.now }
     ensures facts { AreFacts (numbered storage.now) facts.new }
-    ensures pairs { OnOk result (HasPairs storage.now at (are_among variables.now) buffers.old buffers.new) }
+    ensures pairs { IfOk result (λ all. all ≡ true → HasPairs storage.now at (are_among variables.now) buffers.old buffers.new) }
+    ensures same { IfOk result (λ all. HasSameHypotheses buffers.old buffers.new) }
 {
     for i in 0..variables.len() {
-        add_pairs_of(
-            storage,
-            kept,
-            at,
-            facts,
-            buffers,
-            variables[i],
-            &variables[..i],
-            counts,
-        )?;
+        let (x, others) = (variables[i], &variables[..i]);
+        if !add_pairs_of(storage, kept, at, facts, buffers, x, others, counts)? {
+            return Ok(false);
+        }
     }
-    Ok(())
+    Ok(true)
 }
 
-/// Appends a group of two for a variable and each of some others from which it is disjoint.
+/// Appends a group of two for a variable and each of some others from which it is disjoint, until the searches have passed as
+/// many `$d` as they may. Returns whether all were searched for.
 fn add_pairs_of(
     storage: &Storage,
     kept: &PairFacts,
@@ -322,19 +233,23 @@ fn add_pairs_of(
     x: u32,
     others: &[u32],
     counts: &[usize],
-) -> Result<(), AllocError>
+) -> Result<bool, AllocError>
     requires place { IsSearchPosition storage.now at }
     requires kept { AreFacts (numbered storage.now) kept.now }
     requires facts { AreFacts (numbered storage.now) facts.old }
     requires below { (x < length (names_in storage.now)) × AreBelow (length (names_in storage.now)) others.now }
     ensures facts { AreFacts (numbered storage.now) facts.new }
-    ensures pairs { OnOk result (HasPairs storage.now at (is_beside x others.now) buffers.old buffers.new) }
+    ensures pairs { IfOk result (λ all. all ≡ true → HasPairs storage.now at (is_beside x others.now) buffers.old buffers.new) }
+    ensures same { IfOk result (λ all. HasSameHypotheses buffers.old buffers.new) }
 {
     for index in 0..others.len() {
+        if facts.is_spent() {
+            return Ok(false);
+        }
         let pair = sought_pair(x, others, index, counts);
         add_if_pair(storage, kept, at, facts, buffers, pair)?;
     }
-    Ok(())
+    Ok(true)
 }
 
 /// Appends a group of two variables, if they are disjoint.

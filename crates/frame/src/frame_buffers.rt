@@ -97,6 +97,17 @@ impl FrameBuffers {
         Ok(())
     }
 
+    /// Removes the groups.
+    pub(crate) fn clear_groups(&mut self)
+        ensures groups { self.new.groups ≡ [] }
+        ensures hypotheses { self.new.hypotheses ≡ self.old.hypotheses }
+        ensures required { self.new.required ≡ self.old.required }
+        ensures typecodes { self.new.typecodes ≡ self.old.typecodes }
+    {
+        self.places.clear();
+        self.groups.clear();
+    }
+
     /// Empties the buffers, which keep their capacity.
     pub(crate) fn clear(&mut self)
         ensures { self.new ≡ partless false }

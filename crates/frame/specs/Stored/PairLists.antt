@@ -46,6 +46,12 @@ is_beside x ys u v = x == u && list_any (λ c. c == v) ys || x == v && list_any 
 abbrev pub are_among : List ℕ → ℕ → ℕ → Bool
 are_among vs u v = list_any (λ c. c == u) vs && list_any (λ c. c == v) vs
 
+-- the hypotheses, as they are described, are the same
+pub record HasSameHypotheses (old new : Assertion) : Type 0 where
+  pub hypotheses : new.hypotheses ≡ old.hypotheses
+  pub required : new.required ≡ old.required
+  pub typecodes : new.typecodes ≡ old.typecodes
+
 -- the pairs of disjoint variables that pass the test were added to the groups
 pub record HasPairs (k : Storage) (at : ℕ) (test : ℕ → ℕ → Bool) (old new : Assertion) : Type 0 where
   pub hypotheses : new.hypotheses ≡ old.hypotheses

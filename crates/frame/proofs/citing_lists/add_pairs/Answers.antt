@@ -15,9 +15,9 @@ add_pairs_of-requires-clause-below c =
 pub loop-i-preserved : goal.loop-i-preserved
 loop-i-preserved c = record {
   facts = c.add_pairs_of.ensures.facts;
-  pairs = among-more c.args.storage.now c.args.at c.args.variables.now c.loop-i.i c.args.buffers.now c.loop-i.buffers c.add_pairs_of.new.buffers c.loop-i-test.true c.loop-i.invariant.pairs c.in_ok-add_pairs_of.ensures.pairs;
+  pairs = among-more c.args.storage.now c.args.at c.args.variables.now c.loop-i.i c.args.buffers.now c.loop-i.buffers c.add_pairs_of.new.buffers c.loop-i-test.true c.loop-i.invariant.pairs (c.in_ok-add_pairs_of.ensures.pairs c.if-not-branch.false);
 }
 
 pub returns-clause-pairs : goal.returns-clause-pairs
-returns-clause-pairs c =
+returns-clause-pairs c = λ all.
     subst (λ vs. HasPairs c.args.storage.now c.args.at (are_among vs) c.args.buffers.now c.loop-i.buffers) (take_all c.loop-i.i c.args.variables.now (omega arith)) c.loop-i.invariant.pairs

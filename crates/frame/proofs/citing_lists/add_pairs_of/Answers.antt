@@ -1,4 +1,4 @@
-use Rattle.frame.proofs.Words.{◌<◌, ◌∷◌, [], arith, sym, subst, length, take_all, names_in}
+use Rattle.frame.proofs.Words.{◌<◌, arith, sym, subst, length, take_all, names_in}
 use Rattle.frame.specs.Stored.PairLists.{HasPairs, is_beside}
 use Rattle.frame.proofs.ActiveDisjointLemmas.{below-at}
 use Rattle.frame.proofs.CitingListLemmas.{beside-more, beside-start}
@@ -25,5 +25,5 @@ loop-index-preserved c =
     }
 
 pub returns-clause-pairs : goal.returns-clause-pairs
-returns-clause-pairs c =
+returns-clause-pairs c = λ all.
     subst (λ ys. HasPairs c.args.storage.now c.args.at (is_beside c.args.x ys) c.args.buffers.now c.loop-index.buffers) (take_all c.loop-index.index c.args.others.now (omega (arith, c.loop-index-test.false))) c.loop-index.invariant.pairs
