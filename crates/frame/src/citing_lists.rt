@@ -18,7 +18,7 @@ use entries::Hypothesis;
 use std::alloc::{AllocError, Global};
 
 /// The number of symbols of `$d` that take about as long to go through as a search for a pair with known facts.
-const PAIR_COST: usize = 8;
+const PAIR_COST: usize = 2;
 
 /// The largest number of attempts to search for all pairs, each up to four times as long as the one before it.
 const MOST_TRIES: usize = 16;
