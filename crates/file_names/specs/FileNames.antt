@@ -1,6 +1,6 @@
--- The names of files that are made of labels.
+-- The names of the files of assertions, made from their labels.
 -- Source: this project's own form; the names of devices are those of Windows.
--- The code adds byte by byte.
+-- The code appends a name byte by byte; here it is a list.
 use Rattle.std.specs.Prelude.{ℕ, ◌+◌, ◌==◌, nat_le, Bool, ◌&&◌, if◌then◌else◌, List, [], ◌∷◌, ◌++◌, length, codes, decimal, flat_map}
 use Rattle.std.specs.Char.{is_ascii_uppercase}
 use Rattle.mm_lex.specs.Alphabet.{Name, has_name, is_label}
@@ -9,10 +9,11 @@ use Rattle.mm_lex.specs.Alphabet.{Name, has_name, is_label}
 abbrev pub escaped_byte : ℕ → List ℕ
 escaped_byte b = if is_ascii_uppercase b then 43 ∷ (b + 32) ∷ [] else if b == 46 then 43 ∷ b ∷ [] else b ∷ []
 
+-- the label with each byte escaped
 abbrev pub escaped : Name → List ℕ
 escaped label = flat_map escaped_byte label
 
--- labels whose names stand for something else: the list of all assertions, and devices
+-- the labels that, followed by `.html`, would name the list of all assertions or a device of Windows
 abbrev pub reserved : List Name
 reserved = codes "index" ∷ codes "con" ∷ codes "prn" ∷ codes "aux" ∷ codes "nul" ∷ codes "com0" ∷ codes "com1" ∷ codes "com2" ∷ codes "com3" ∷ codes "com4"
     ∷ codes "com5" ∷ codes "com6" ∷ codes "com7" ∷ codes "com8" ∷ codes "com9" ∷ codes "lpt0" ∷ codes "lpt1" ∷ codes "lpt2" ∷ codes "lpt3" ∷ codes "lpt4"
@@ -22,13 +23,15 @@ reserved = codes "index" ∷ codes "con" ∷ codes "prn" ∷ codes "aux" ∷ cod
 abbrev pub plus_if_reserved : Name → List ℕ
 plus_if_reserved label = if has_name label reserved then codes "+" else []
 
--- the name spells it: a label of at most 100 bytes
+-- it is a label of at most 100 bytes, which its file name spells
 abbrev pub is_spelled : Name → Bool
 is_spelled label = nat_le (length label) 100 && is_label label
 
+-- the stem that spells the label
 abbrev pub spelled : Name → List ℕ
 spelled label = escaped label ++ plus_if_reserved label
 
+-- the stem made from the position
 abbrev pub numbered : ℕ → List ℕ
 numbered position = codes "+" ++ decimal position
 

@@ -1,6 +1,6 @@
-//! The names of the files of a site: one for each assertion, made of its label.
+//! Names the files of a site: one for each assertion, made from its label.
 //!
-//! Reading order: `name` (`push_file_name`), `laws`.
+//! Reading order: `specs/FileNames` (the names), `name` (`push_file_name`), `laws`.
 #![tactic(auto)]
 
 mod laws;

@@ -1,4 +1,4 @@
-//! The name of the file of an assertion.
+//! The name of the file of an assertion, and of the two other files of a site.
 ghost use Rattle.std.specs.Prelude.{◌≡◌, ◌++◌, if◌then◌else◌, OnOk};
 ghost use Rattle.std.specs.List.{list_any};
 ghost use Rattle.mm_lex.specs.Alphabet.{has_name, name_eq};
@@ -14,19 +14,21 @@ pub const INDEX: &str = "index.html";
 /// The name of the style sheet.
 pub const STYLE: &str = "style.css";
 
-/// The largest length in bytes of a label that a name spells; a longer one is named by its position.
+/// The greatest length in bytes of a label that is spelled in its file name. The file of a longer one is
+/// named by its position. Since a byte becomes two at most, a file name has at most 205 bytes.
 const MAX_SPELLED_LEN: usize = 100;
 
-/// The labels that would name a device of Windows or the index.
+/// The labels that, followed by `.html`, would name a device of Windows or the index.
 const RESERVED: [&[u8]; 25] = [
     b"index", b"con", b"prn", b"aux", b"nul", b"com0", b"com1", b"com2", b"com3", b"com4", b"com5",
     b"com6", b"com7", b"com8", b"com9", b"lpt0", b"lpt1", b"lpt2", b"lpt3", b"lpt4", b"lpt5",
     b"lpt6", b"lpt7", b"lpt8", b"lpt9",
 ];
 
-/// Appends the name of the file of the assertion with a label at a position. A label of at most 100
-/// bytes is spelled: `+` stands before each dot, each uppercase letter becomes `+` and its lowercase
-/// letter, and `+` follows a reserved label. Anything else is named by `+` and the position.
+/// Appends the name of the file of the assertion that has this label and this position. A label of at
+/// most 100 bytes is spelled: each dot becomes `+.`, each uppercase letter becomes `+` and its lowercase
+/// letter, and a reserved label gets a `+` at its end. For any other, the name is `+` and the position.
+/// The name ends with `.html`.
 ///
 /// Errors: an allocation fails; the text is then unspecified. Cost: the length of the
 /// label. Source: this project's own form; the names of devices are those of Windows.
@@ -37,7 +39,7 @@ pub fn push_file_name(text: &mut Vec<u8>, label: &[u8], position: usize) -> Resu
     text.extend_from_slice(b".html")
 }
 
-/// Appends the stem of a name: the name without `.html`.
+/// Appends the stem of the file name: the name without `.html`.
 fn push_stem(text: &mut Vec<u8>, label: &[u8], position: usize) -> Result<(), AllocError>
     ensures { OnOk result (text.new.items
         ≡ text.old.items ++ (if is_spelled label.now then spelled label.now else numbered position)) }
@@ -49,14 +51,14 @@ fn push_stem(text: &mut Vec<u8>, label: &[u8], position: usize) -> Result<(), Al
     }
 }
 
-/// Returns whether the name spells the label.
+/// Returns whether the label is spelled in its file name: it is a label of at most 100 bytes.
 fn is_spelled(label: &[u8]) -> bool
     ensures { result ≡ is_spelled label.now }
 {
     label.len() <= MAX_SPELLED_LEN && is_label(label)
 }
 
-/// Appends the name that spells a label.
+/// Appends the stem that spells a label.
 fn push_spelled(text: &mut Vec<u8>, label: &[u8]) -> Result<(), AllocError>
     ensures { OnOk result (text.new.items ≡ text.old.items ++ spelled label.now) }
 {
@@ -64,6 +66,7 @@ fn push_spelled(text: &mut Vec<u8>, label: &[u8]) -> Result<(), AllocError>
     push_plus_if_reserved(text, label)
 }
 
+/// Appends the bytes of a label, with dots and uppercase letters escaped.
 fn push_escaped(text: &mut Vec<u8>, label: &[u8]) -> Result<(), AllocError>
     ensures { OnOk result (text.new.items ≡ text.old.items ++ escaped label.now) }
 {
@@ -73,6 +76,7 @@ fn push_escaped(text: &mut Vec<u8>, label: &[u8]) -> Result<(), AllocError>
     Ok(())
 }
 
+/// Appends a byte of a label, escaped if it is a dot or an uppercase letter.
 fn push_escaped_byte(text: &mut Vec<u8>, byte: u8) -> Result<(), AllocError>
     ensures { OnOk result (text.new.items ≡ text.old.items ++ escaped_byte byte) }
 {
@@ -85,6 +89,7 @@ fn push_escaped_byte(text: &mut Vec<u8>, byte: u8) -> Result<(), AllocError>
     }
 }
 
+/// Appends `+` if the label is reserved.
 fn push_plus_if_reserved(text: &mut Vec<u8>, label: &[u8]) -> Result<(), AllocError>
     ensures { OnOk result (text.new.items ≡ text.old.items ++ plus_if_reserved label.now) }
 {
@@ -95,6 +100,7 @@ fn push_plus_if_reserved(text: &mut Vec<u8>, label: &[u8]) -> Result<(), AllocEr
     }
 }
 
+/// Returns whether the label is reserved.
 fn is_reserved(label: &[u8]) -> bool
     ensures { result ≡ has_name label.now reserved }
 {
@@ -108,7 +114,7 @@ fn is_one_of(label: &[u8], names: &[&[u8]]) -> bool
     names.iter().any(|name| label == *name)
 }
 
-/// Appends the name of a position.
+/// Appends the stem that is made from a position.
 fn push_numbered(text: &mut Vec<u8>, position: usize) -> Result<(), AllocError>
     ensures { OnOk result (text.new.items ≡ text.old.items ++ numbered position) }
 {
