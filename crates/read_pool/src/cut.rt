@@ -1,13 +1,15 @@
-//! Finds cuts of a text: places where it may be cut in two.
+//! Finds cuts of a text: offsets at which it may be cut in two.
 ghost use Rattle.std.specs.Prelude.{◌+◌, ◌<◌, ◌≤◌, drop, length, IfSome, IsTrue};
 ghost use Rattle.mm_lex.specs.Alphabet.{starts_white};
 ghost use Rattle.read_pool.specs.Cut.{IsCut};
 
-/// The least number of bytes that make a part, and how many bytes are searched for a cut.
+/// The least average length of the parts of a text, and the length that is searched for a cut, both in bytes. A part
+/// may be shorter, even empty, since a cut is where a statement seems to end.
 pub(crate) const MIN_PART_BYTES: usize = 1 << 20;
 
-/// Returns a cut at or after `near`, a place that no word crosses: the end of a `$.` that seems to stand outside of
-/// comments, since no `$)` follows it before a `$(`. If none is found, it is the end of the text.
+/// Returns a cut: an offset that no word of the text crosses. It is the end of the first `$.` at or after `near` that
+/// seems to be outside comments, since no `$)` follows it before a `$(` or the end of the bytes searched. If there is
+/// no such `$.`, it is the end of the text.
 pub(crate) fn cut_near(text: &[u8], near: usize) -> usize
     ensures { IsCut text.now result }
 {
@@ -31,7 +33,7 @@ pub(crate) fn cut_near(text: &[u8], near: usize) -> usize
     found.unwrap_or(text.len())
 }
 
-/// Returns this place as a cut, if a white byte stands there.
+/// Returns the offset `at` as a cut, or `None` if the byte at it is not white.
 fn end_at(text: &[u8], at: usize) -> Option<usize>
     requires { at < length text.now }
     ensures { IfSome result (IsCut text.now) }
