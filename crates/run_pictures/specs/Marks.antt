@@ -1,4 +1,4 @@
--- The marks of a picture: what it shows of some steps of a run, and nothing else.
+-- The marks of a picture: all that it shows of some steps of a run.
 -- Source: this project's own form; arrows between lines of processes are Lamport's space-time diagrams
 -- (Time, Clocks, and the Ordering of Events, 1978).
 -- The code looks packets up in the world; here they are a list.
@@ -13,10 +13,11 @@ use Rattle.run_pictures.specs.declared.mark.Mark.{Mark}
 use Rattle.run_pictures.specs.declared.mark.Mark.TheVariants.{Point, Break, Learned, Arrow, Stump}
 use Rattle.run_pictures.specs.declared.mark.Spot.{Spot}
 
+-- packets by number, from 0
 abbrev pub Packets : Type 0
 Packets = List (Packet Carried)
 
--- the shown steps: a number of steps, from an index on
+-- the shown steps: at most count of them, from an index on
 abbrev pub shown_of : List Step → ℕ → ℕ → List Step
 shown_of steps from count = take count (drop from steps)
 
@@ -24,6 +25,7 @@ shown_of steps from count = take count (drop from steps)
 abbrev pub posts : ℕ → Step → Bool
 posts n s = nat_le s.first_post n && nat_lt n s.end_post
 
+-- the act is the delivery of packet n
 abbrev pub delivers_act : ℕ → Act → Bool
 delivers_act n (Deliver number) = number == n
 delivers_act n (Offer event) = false
@@ -35,6 +37,7 @@ delivers_act n (Apply slot verdict) = false
 abbrev pub delivers : ℕ → Step → Bool
 delivers n s = delivers_act n s.act
 
+-- the point of a step in a row
 abbrev pub spot : ℕ → Step → Spot
 spot row s = record { row = row; node = s.node }
 
@@ -46,16 +49,16 @@ breaks row s Begin = []
 breaks row s (Deliver number) = []
 breaks row s (Apply slot verdict) = []
 
--- the slots that its node learned
+-- the mark of the slots that its node learned in the step, if there are any
 abbrev pub learned_marks : ℕ → Step → List Mark
 learned_marks row s = if nat_lt s.learned_before s.learned then Learned (spot row s) s.learned_before s.learned ∷ [] else []
 
--- the arrow of a packet, from the shown step that posted it, if there is one
+-- the arrow of packet n, delivered in a row: from the row of the shown step that posted it, or from no row if that step is not shown
 abbrev pub arrow : List Step → ℕ → ℕ → Option (Packet Carried) → List Mark
 arrow shown row n None = []
 arrow shown row n (Some p) = Arrow n (record { row = position_from (posts n) 0 shown; node = p.from }) (record { row = row; node = p.to }) ∷ []
 
--- the packet that the step delivers
+-- the arrow of the packet that an act delivers, if it is a delivery
 abbrev pub arrows : Packets → List Step → ℕ → Act → List Mark
 arrows packets shown row (Deliver n) = arrow shown row n (slice_get packets n)
 arrows packets shown row (Offer event) = []
@@ -63,19 +66,21 @@ arrows packets shown row Begin = []
 arrows packets shown row Restart = []
 arrows packets shown row (Apply slot verdict) = []
 
--- the stump of a packet that the step posted, if no shown step delivers it
+-- the stump of packet n, posted at a spot
 abbrev pub undelivered : Spot → ℕ → Option (Packet Carried) → List Mark
 undelivered from n None = []
 undelivered from n (Some p) = Stump n from p.to ∷ []
 
+-- the stump of packet n, which the step in a row posted, if no shown step delivers it
 abbrev pub stump : Packets → List Step → ℕ → Step → ℕ → List Mark
 stump packets shown row s n = if list_any (delivers n) shown then [] else undelivered (spot row s) n (slice_get packets n)
 
--- the stumps of a number of packets, from packet n on
+-- the stumps of the packets from n on, as many as the last argument says
 abbrev pub stumps_from : Packets → List Step → ℕ → Step → ℕ → ℕ → List Mark
 stumps_from packets shown row s n zero = []
 stumps_from packets shown row s n (suc count) = stump packets shown row s n ++ stumps_from packets shown row s (n + 1) count
 
+-- the stumps of the packets that the step in a row posted
 abbrev pub stumps : Packets → List Step → ℕ → Step → List Mark
 stumps packets shown row s = stumps_from packets shown row s s.first_post (s.end_post - s.first_post)
 
@@ -87,6 +92,7 @@ point_marks row s = Point (spot row s) ∷ [] ++ breaks row s s.act
 abbrev pub step_marks : Packets → List Step → ℕ → Step → List Mark
 step_marks packets shown row s = point_marks row s ++ arrows packets shown row s.act ++ learned_marks row s ++ stumps packets shown row s
 
+-- the marks of the last argument, the shown steps from a row on
 abbrev pub marks_from : Packets → List Step → ℕ → List Step → List Mark
 marks_from packets shown row [] = []
 marks_from packets shown row (s ∷ ss) = step_marks packets shown row s ++ marks_from packets shown (row + 1) ss

@@ -1,4 +1,4 @@
--- A run as contracts see it: its world, and the steps that led there.
+-- A run as contracts see it: its world, and its recorded steps.
 -- Source: this project's own form.
 -- The code also keeps how many packets have been posted.
 use Rattle.std.specs.Prelude.{◌≡◌, ℕ, List, length, filter}
@@ -14,11 +14,11 @@ pub record RunView : Type 0 where
   pub world : WorldView
   pub steps : List Step
 
--- all packets of a world
+-- all packets ever posted in a world, by number
 abbrev pub packets_of : WorldView → Packets
 packets_of world = packets_after (world_of carried_size world.history)
 
--- the steps are those of the history, in order, with applications of entries between them
+-- the steps that are events are those of the history, in order; `posted` is the number of packets posted
 pub record IsRecorded (world : WorldView) (steps : List Step) (posted : ℕ) : Type 0 where
   pub events : filter is_event steps ≡ steps_of world.history
   pub count : posted ≡ length (packets_of world)

@@ -5,7 +5,7 @@ use Rattle.std.specs.Prelude.{ℕ}
 use Rattle.run_pictures.specs.declared.step.Step.{Step}
 use Rattle.run_pictures.specs.declared.step.StepStart.{StepStart}
 
--- the step, given how many packets were posted when it ended, and how many entries its node's log had then
+-- the step, given the number of packets posted and the number of entries of its node's log after it
 abbrev pub ended_of : StepStart → ℕ → ℕ → Step
 ended_of start end_post learned = record {
   node = start.node;

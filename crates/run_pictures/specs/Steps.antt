@@ -1,6 +1,7 @@
 -- The steps of the events of a history.
--- Source: Lamport, Paxos Made Simple, section 3: a run is a list of events, each at one node.
--- The code records a step as the world takes its event; here they are read off the history.
+-- Source: this project's own form; each event is at one node, as in Lamport's space-time diagrams
+-- (Time, Clocks, and the Ordering of Events, 1978).
+-- The code records a step as the world takes its event; here the steps are computed from the history.
 use Rattle.std.specs.Prelude.{ℕ, suc, Bool, true, false, List, [], ◌∷◌, Option, Some, None, Result, length, slice_get}
 use Rattle.synod.specs.declared.node.state.NodeState.{NodeState}
 use Rattle.synod.specs.declared.packet.Packet.{Packet}
@@ -38,11 +39,12 @@ node_in r (Begin k) = k
 node_in r (Deliver number) = receiver_of (slice_get (packets_after r) number)
 node_in r (Restart k) = k
 
+-- the number of entries of the log of a node in a state, or 0 if there is no node
 abbrev pub learned_of : Option NodeState → ℕ
 learned_of None = 0
 learned_of (Some state) = state.learned
 
--- how many entries the log of node k has
+-- the number of entries of the log of node k
 abbrev pub learned_in : Reached → ℕ → ℕ
 learned_in r k = learned_of (state_after r k)
 
@@ -53,7 +55,7 @@ act_of index (Begin k) = Beginning
 act_of index (Deliver number) = Delivering number
 act_of index (Restart k) = Restarting
 
--- the step of the event at an index, from one world to the next
+-- the fields of the step of the event at an index that are known in the world before it
 abbrev pub step_start_of : ℕ → Reached → Event Carried → StepStart
 step_start_of index before e = record {
   node = node_in before e;
@@ -62,9 +64,11 @@ step_start_of index before e = record {
   learned_before = learned_in before (node_in before e);
 }
 
+-- the step of the event at an index, from the world before it to the world reached by it
 abbrev pub step_of : ℕ → Reached → Event Carried → Reached → Step
 step_of index before e reached = ended_of (step_start_of index before e) (length (packets_after reached)) (learned_in reached (node_in before e))
 
+-- the steps of some events, the first of which is at an index, after a world
 abbrev pub steps_from : ℕ → Reached → List (Event Carried) → List Step
 steps_from index r [] = []
 steps_from index r (e ∷ es) = step_of index r e (reached_after r e) ∷ steps_from (suc index) (reached_after r e) es
@@ -73,7 +77,7 @@ steps_from index r (e ∷ es) = step_of index r e (reached_after r e) ∷ steps_
 abbrev pub steps_of : History Carried → List Step
 steps_of history = steps_from 0 (after carried_size history.weights []) history.events
 
--- the act is an event of the history, not the application of an entry
+-- the act is that of an event, not the application of an entry
 abbrev pub is_event_act : Act → Bool
 is_event_act (Offering index) = true
 is_event_act Beginning = true
@@ -81,5 +85,6 @@ is_event_act (Delivering number) = true
 is_event_act Restarting = true
 is_event_act (Applying slot verdict) = false
 
+-- the step is that of an event
 abbrev pub is_event : Step → Bool
 is_event s = is_event_act s.act

@@ -32,17 +32,17 @@ impl From<AllocError> for PictureFault {
     }
 }
 
-/// The steps to draw, and the world after the run.
+/// The shown steps, and the world after the run.
 #[derive(Clone, Copy)]
 struct ShownSteps<'a> {
     world: &'a World,
     shown: &'a [Step],
-    /// The number of the first step.
+    /// The index in the run of the first shown step.
     from: usize,
 }
 
-/// Returns an SVG picture of the marks of a part of a run. `weights` are the weights with which the run
-/// was made.
+/// Returns a picture, in SVG, of the marks of a part of a run. `weights` are those with which the run was
+/// made.
 ///
 /// Errors: `TooLarge` if more than `MOST_ROWS` steps are to be shown, else `Memory` if an allocation
 /// fails. Cost: that of `Run::marks`, and the size of the picture.
@@ -106,7 +106,7 @@ fn draw_mark(
     }
 }
 
-/// Draws the point of a step, with its name.
+/// Draws the point of a step, with its label.
 fn draw_point(
     alloc: Global,
     timeline: &mut Timeline,
@@ -121,7 +121,7 @@ fn draw_point(
     timeline.push_row(at.node, style(step.act), number, label.as_slice())
 }
 
-/// Writes which slots a node learned.
+/// Writes the note of the slots that a node learned.
 fn draw_learned(
     alloc: Global,
     timeline: &mut Timeline,
@@ -179,12 +179,13 @@ fn origin(from: Origin) -> GridPoint {
     }
 }
 
-/// Returns a row as it is drawn.
+/// Returns a row as a row of the timeline.
 fn grid_row(row: usize) -> u32 {
     u32::try_from(row).unwrap_or(u32::MAX)
 }
 
-/// Returns how the point of an act looks: green if an entry is added, red if it is refused.
+/// Returns the style of the point of an act: `Good` (green) if an entry is applied and added, `Bad` (red) if
+/// it is refused, else `Plain`.
 fn style(act: Act) -> PointStyle {
     match act {
         Act::Apply { verdict, .. } => verdict_style(verdict),
@@ -192,7 +193,7 @@ fn style(act: Act) -> PointStyle {
     }
 }
 
-/// Returns how the application of an entry looks.
+/// Returns the style of the point of an application with a verdict.
 fn verdict_style(verdict: Verdict) -> PointStyle {
     match verdict {
         Verdict::Added => PointStyle::Good,

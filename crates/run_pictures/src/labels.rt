@@ -1,4 +1,4 @@
-//! The labels of a picture, with their markup escaped.
+//! The labels of a picture, as XML text with `&`, `<`, `>` and `"` escaped.
 ghost use Rattle.std.specs.Prelude.{◌≡◌, IfOk};
 ghost use Rattle.markup.specs.Escapes.{html_text};
 
@@ -12,14 +12,15 @@ use std::alloc::{AllocError, Global};
 use synod::Packet;
 use world::{Carried, World};
 
-/// The most bytes of a packet's printed form, or of a text, that a label shows.
+/// The greatest number of bytes that a label shows of a packet's printed form or of an offered text.
 const MOST_SHOWN: usize = 48;
 
 /// The byte that replaces one that is not printable ASCII.
 const REPLACEMENT: u8 = b'?';
 
-/// Returns the name of a step: its kind; for an offer with the author, the serial and the start of the
-/// text, for a delivery with the number of the packet, for an application with the slot and the verdict.
+/// Returns the label of a step: its kind, followed by the author, the serial number and the start of the
+/// text for an offer, the number of the packet for a delivery, the slot and the verdict for an application.
+/// The offer of a charter is labelled `charter`, with its author and serial number.
 pub(crate) fn step_label(alloc: Global, world: &World, act: Act) -> Result<Vec<u8>, AllocError> {
     let mut name = Vec::new(alloc);
     match act {
@@ -36,7 +37,7 @@ pub(crate) fn step_label(alloc: Global, world: &World, act: Act) -> Result<Vec<u
     escaped(alloc, name.as_slice())
 }
 
-/// Appends the name of the offer that is the event of the history at an index.
+/// Appends the label of the offer that is the event at an index of the history.
 fn push_offer(name: &mut Vec<u8>, world: &World, index: u64) -> Result<(), AllocError> {
     match world.history().get(index as usize) {
         Some(Event::Offer(_, Carried(entry))) => push_entry(name, entry),
@@ -44,7 +45,7 @@ fn push_offer(name: &mut Vec<u8>, world: &World, index: u64) -> Result<(), Alloc
     }
 }
 
-/// Appends the name of the offer of an entry, with the start of its text.
+/// Appends the label of the offer of an entry: with the start of its text, unless it is a charter.
 fn push_entry(name: &mut Vec<u8>, entry: &Entry) -> Result<(), AllocError> {
     match entry {
         Entry::Text(submission) => {
@@ -66,7 +67,7 @@ fn push_numbered(name: &mut Vec<u8>, before: &[u8], number: u64) -> Result<(), A
     push_number(name, number)
 }
 
-/// Appends the start of some bytes, with `?` for each byte that is not printable ASCII.
+/// Appends at most `MOST_SHOWN` bytes, with `?` for each that is not printable ASCII, and ` ..` if there are more.
 fn push_start(name: &mut Vec<u8>, bytes: &[u8]) -> Result<(), AllocError> {
     for byte in bytes.iter().take(MOST_SHOWN) {
         name.push(printable(*byte))?;
@@ -77,7 +78,7 @@ fn push_start(name: &mut Vec<u8>, bytes: &[u8]) -> Result<(), AllocError> {
     Ok(())
 }
 
-/// Returns the byte as a label shows it.
+/// Returns the byte if it is printable ASCII, else `REPLACEMENT`.
 fn printable(byte: u8) -> u8 {
     if b' ' <= byte && byte <= b'~' {
         byte
@@ -86,7 +87,7 @@ fn printable(byte: u8) -> u8 {
     }
 }
 
-/// Returns the start of the printed form of a packet.
+/// Returns the start of the printed form of a packet, as the label of its arrow.
 pub(crate) fn packet_label(alloc: Global, packet: &Packet<Carried>) -> Result<Vec<u8>, AllocError> {
     let mut form = Vec::new(alloc);
     push_packet(&mut form, packet)?;
@@ -95,14 +96,14 @@ pub(crate) fn packet_label(alloc: Global, packet: &Packet<Carried>) -> Result<Ve
     escaped(alloc, start.as_slice())
 }
 
-/// Returns the printed form of a packet.
+/// Returns the whole printed form of a packet, as the title of its stump.
 pub(crate) fn packet_title(alloc: Global, packet: &Packet<Carried>) -> Result<Vec<u8>, AllocError> {
     let mut form = Vec::new(alloc);
     push_packet(&mut form, packet)?;
     escaped(alloc, form.as_slice())
 }
 
-/// Returns which slots a node learned.
+/// Returns the note that says which slots, `first..end`, a node learned.
 pub(crate) fn learned_label(alloc: Global, first: u32, end: u32) -> Result<Vec<u8>, AllocError> {
     let last = end.saturating_sub(1);
     let mut note = Vec::new(alloc);

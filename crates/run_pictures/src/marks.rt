@@ -26,7 +26,7 @@ pub(crate) fn marks_of(
     Ok(marks)
 }
 
-/// Appends the marks of the steps from a row on.
+/// Appends the marks of `rest`, the shown steps from `row` on.
 fn push_rows(
     marks: &mut Vec<Mark>,
     world: &World,
@@ -112,7 +112,7 @@ fn push_break(marks: &mut Vec<Mark>, row: usize, step: Step) -> Result<(), Alloc
     }
 }
 
-/// Appends the slots that the node learned, if there are any.
+/// Appends the mark of the slots that the node learned in the step, if there are any.
 fn push_learned(marks: &mut Vec<Mark>, row: usize, step: Step) -> Result<(), AllocError>
     ensures { OnOk result (marks.new.items ≡ marks.old.items ++ learned_marks row step) }
 {

@@ -9,7 +9,7 @@ use crate::step::Step;
 pub struct Part {
     /// The index of the first step of the part, from 0.
     pub from: usize,
-    /// How many steps the part has; fewer if the run ends before.
+    /// The number of steps of the part; it has fewer if the run ends before.
     pub count: usize,
 }
 

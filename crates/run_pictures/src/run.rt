@@ -19,13 +19,13 @@ use std::marker::Model;
 use synod::Weights;
 use world::World;
 
-/// A world of nodes and their libraries that records its steps: the events taken, and the entries
-/// applied between them. Contracts see the world and the steps.
+/// A world of nodes and their libraries with a record of its steps: the events that it took and the
+/// applications of entries, in order. Contracts see the world and the steps.
 #[derive(Drop)]
 pub struct Run {
     world: World,
     steps: Vec<Step>,
-    /// How many packets were posted so far.
+    /// The number of packets posted so far.
     posted: u64,
 }
 
@@ -79,7 +79,8 @@ impl Run {
         Ok(())
     }
 
-    /// Applies the next entry of the log of node `k`, if there is one, and records the step.
+    /// Applies the next entry of the log of node `k` to its library and records the step. Does nothing if
+    /// there is no next entry.
     ///
     /// Errors: those of `World::apply_next`, or `Memory`; the run is then unchanged.
     #[tactic(auto, using(crate::proofs::RunLemmas::application_recorded, crate::proofs::RunLemmas::same_recorded))]
@@ -111,11 +112,11 @@ impl Run {
         shown(self.steps.as_slice(), part)
     }
 
-    /// Returns the marks of a part, which are all that a picture shows of it. The recorded steps that are
-    /// events are exactly those of the history, in order.
+    /// Returns the marks of a part, which are all that a picture shows of it. The recorded steps of events
+    /// are exactly those of the events in the history, in order (`events`).
     ///
-    /// Errors: an allocation fails. Cost: the number of shown steps, for each packet that a shown step
-    /// posted or delivers.
+    /// Errors: an allocation fails. Cost: a scan of the shown steps for each packet that one of them posts
+    /// or delivers.
     pub fn marks(&self, alloc: Global, part: Part) -> Result<Vec<Mark>, AllocError>
         requires { length (shown_of self.now.steps part.from part.count) ≤ MOST_ROWS }
         ensures marks { IfOk result (λ marks. marks.items ≡ marks_shown
@@ -126,7 +127,7 @@ impl Run {
     }
 }
 
-/// Returns the fields of the step of an event that are known before the event.
+/// Returns the fields of an event's step that are known before the world takes the event.
 ///
 /// Errors: `NoNode` if there is no such node.
 fn step_start(world: &World, posted: u64, event: &Event<Entry>) -> Result<StepStart, StepFault>
@@ -167,7 +168,7 @@ fn receiver(world: &World, number: u64) -> u8
     }
 }
 
-/// Returns the act of an event at an index of the history.
+/// Returns the act of the event that is at an index of the history.
 fn act(event: &Event<Entry>, index: u64) -> Act
     ensures { result ≡ act_of index (value_event event.now) }
 {
@@ -179,7 +180,7 @@ fn act(event: &Event<Entry>, index: u64) -> Act
     }
 }
 
-/// Returns how many entries the log of node `k` has.
+/// Returns the number of entries of node `k`'s log.
 fn learned_at(world: &World, k: u8) -> u32
     requires { k < length world.now.history.weights }
     ensures { result ≡ learned_in (world_of carried_size world.now.history) k }
@@ -190,7 +191,7 @@ fn learned_at(world: &World, k: u8) -> u32
     }
 }
 
-/// Applies the next entry of the log of node `k`, if there is one.
+/// Calls `World::apply_next`, with only those of its clauses that `Run::apply_next` needs.
 fn apply_on(world: &mut World, k: u8) -> Result<Option<Verdict>, StepFault>
     ensures taken { world.new.history ≡ world.old.history }
     ensures same { OnErr result (world.new ≡ world.old) }
@@ -198,7 +199,7 @@ fn apply_on(world: &mut World, k: u8) -> Result<Option<Verdict>, StepFault>
     world.apply_next(k)
 }
 
-/// Returns the step in which the entry of a slot is applied.
+/// Returns the step in which a node, whose log has `learned` entries, applies the entry of a slot.
 fn application_step(node: u8, learned: u32, slot: u32, verdict: Verdict) -> Step
     ensures { is_event result ≡ false }
 {

@@ -4,19 +4,21 @@ ghost use Rattle.run_pictures.specs.StepStart.{ended_of};
 
 use library::Verdict;
 
-/// A step of a run: an event that the world took, or an entry that a node applied.
+/// A step of a run: an event that the world took, or the application of an entry by a node.
 #[derive(Clone, Copy, PartialEq, Eq)]
 pub struct Step {
-    /// The node at which it happened.
+    /// The node at which it happened; for a delivery, the receiver of the packet.
     pub node: u8,
     pub act: Act,
-    /// The number of the first packet that it posted; 0 for an application.
+    /// The number of packets posted before it, which is the number of the first packet that it posted, if any; 0 for an
+    /// application.
     pub first_post: u64,
-    /// One more than the number of the last packet that it posted; 0 for an application.
+    /// One more than the number of the last packet that it posted, or `first_post` if it posted none; 0 for an
+    /// application.
     pub end_post: u64,
-    /// How many entries the log of the node had before the step.
+    /// The number of entries of the node's log before the step.
     pub learned_before: u32,
-    /// How many entries the log of the node has after the step.
+    /// The number of entries of the node's log after the step.
     pub learned: u32,
 }
 
