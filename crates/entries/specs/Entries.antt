@@ -12,8 +12,9 @@ use Rattle.entries.specs.declared.entry_header.EntryRef.{EntryRef}
 use Rattle.entries.specs.Hypotheses.{told}
 use Rattle.entries.specs.Stored.Spans.{cut, AreSpansIn}
 
--- hypotheses by position, the kind and number of each, its typecode, and groups of variables; for most statements all lists
--- are empty. `whole`: whether these are all, or only those that the statement adds to the active ones
+-- the positions of hypotheses, each hypothesis as a `$f` with its variable or a `$e` with its position, the typecode of
+-- each, and groups of variables; `frame` fills the lists of assertions and `$e` alone. `whole`: whether these are all
+-- mandatory hypotheses and groups of an assertion, or only the `$f` of the statement's own variables
 pub record Assertion : Type 0 where
   pub whole : Bool
   pub hypotheses : List ℕ
@@ -21,8 +22,8 @@ pub record Assertion : Type 0 where
   pub typecodes : List ℕ
   pub groups : List (List ℕ)
 
--- its kind, the counts of labels and of declared symbols before it, the last active statements before it, the numbers of its
--- symbols, and its parts
+-- a statement: its kind, the counts of labels and of declared symbols before it, the last active statements before it,
+-- the numbers of its symbols, and its parts
 pub record Entry : Type 0 where
   pub kind : Kind
   pub label : ℕ
@@ -31,7 +32,7 @@ pub record Entry : Type 0 where
   pub symbols : List ℕ
   pub assertion : Assertion
 
--- the parts of an assertion that is appended
+-- the parts of a statement that is appended
 abbrev pub assertion_of : AssertionParts → Assertion
 assertion_of p = record { whole = p.whole; hypotheses = p.hypotheses.now; required = map told p.required.now; typecodes = p.typecodes.now; groups = cut p.places.now p.groups.now }
 
@@ -49,7 +50,7 @@ made h codes a = record { kind = h.kind; label = h.before.label; names = h.befor
 abbrev pub partless : Bool → Assertion
 partless whole = record { whole = whole; hypotheses = []; required = []; typecodes = []; groups = [] }
 
--- the statement of which a call of `entry` returned x, with these parts
+-- the statement of which `entry` returns x, with these parts
 abbrev pub seen : EntryRef → Assertion → Entry
 seen x a = record { kind = x.kind; label = x.before.label; names = x.before.names; last_active = x.before.last_active; symbols = x.symbols.now; assertion = a }
 
@@ -61,5 +62,6 @@ pub record AreWhole (e : Entry) (c : AssertionView) : Type 0 where
   pub conclusion : c.conclusion.now ≡ e.symbols
   pub groups : c.groups ≡ e.assertion.groups
 
+-- x is the statement at index i, without its parts
 abbrev pub IsEntry : List Entry → ℕ → EntryRef → Type 0
 IsEntry es i x = (a : Assertion) × (slice_get es i ≡ Some (seen x a))

@@ -8,21 +8,22 @@ pub record StackVersion : Type 0 where
   pub since : ℕ
   pub stack : List ℕ
 
--- the stack of the last version that was made before `at`
+-- the stack of the last version that was made before `at`, or `found` if there is none
 abbrev pub stack_from : List ℕ → List StackVersion → ℕ → List ℕ
 stack_from found [] at = found
 stack_from found (v ∷ vs) at = stack_from (if nat_lt v.since at then v.stack else found) vs at
 
+-- the stack as it was at `at`: that of the last version that was made before, or the empty stack
 abbrev pub stack_at : List StackVersion → ℕ → List ℕ
 stack_at vs at = stack_from [] vs at
 
--- the last version was made at `at`
+-- whether the last version was made at `at`
 abbrev pub is_changed : ℕ → List StackVersion → Bool
 is_changed at [] = false
 is_changed at (v ∷ []) = v.since == at
 is_changed at (v ∷ w ∷ vs) = is_changed at (w ∷ vs)
 
--- the versions with one more made at `at`, unless there is one
+-- the versions with one more, made at `at` with this stack, unless the last one was made at `at`
 abbrev pub changed : ℕ → List ℕ → List StackVersion → List StackVersion
 changed at stack vs = if is_changed at vs then vs else vs ++ record { since = at; stack = stack } ∷ []
 
@@ -47,6 +48,7 @@ IsUntil at (v ∷ vs) = (v.since ≤ at) × IsUntil at vs
 abbrev pub history : List (List StackVersion) → ℕ → List StackVersion
 history hs c = get_or hs c []
 
+-- no version of any number was made after `at`
 abbrev pub AreUntil : ℕ → List (List StackVersion) → Type 0
 AreUntil at hs = (c : ℕ) → IsUntil at (history hs c)
 
@@ -54,6 +56,7 @@ AreUntil at hs = (c : ℕ) → IsUntil at (history hs c)
 abbrev pub AreWith : List (List StackVersion) → ℕ → List StackVersion → List (List StackVersion) → Type 0
 AreWith old c vs new = (d : ℕ) → history new d ≡ (if d == c then vs else history old d)
 
+-- each number has the versions that it had
 abbrev pub AreSame : List (List StackVersion) → List (List StackVersion) → Type 0
 AreSame old new = (d : ℕ) → history new d ≡ history old d
 

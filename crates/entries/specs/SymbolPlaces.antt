@@ -37,17 +37,17 @@ pub record ArePlacesOf (expr : List ℕ) (places : SymbolGroups) : Type 0 where
   pub each : AreGroupsFrom expr 0 places.symbols places.groups
   pub all : (i : ℕ) → i < length expr → IsGrouped i places.groups
 
--- the symbol is s
+-- whether the symbol is s
 abbrev pub is_symbol : ℕ → Option ℕ → Bool
 is_symbol s None = false
 is_symbol s (Some x) = x == s
 
--- the symbol is the variable of that `$f`
+-- whether the hypothesis is a `$f` and the symbol its variable
 abbrev pub is_float_of : ℕ → Hypothesis → Bool
 is_float_of c (Float x) = c == x
 is_float_of c (Essential p) = false
 
--- the symbol is the variable of one of the `$f`
+-- whether the symbol is the variable of a `$f` among the hypotheses
 abbrev pub has_float : List Hypothesis → ℕ → Bool
 has_float hs c = list_any (is_float_of c) hs
 

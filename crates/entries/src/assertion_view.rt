@@ -10,7 +10,8 @@ use std::marker::Model;
 /// The typecode of an expression that has no symbols. No symbol has this number.
 pub const NO_TYPECODE: u32 = u32::MAX;
 
-/// The least number of a `$e`: this plus its position. A lower number is that of a `$f`: the number of its variable.
+/// The least number that encodes a `$e`: a `$e` is encoded as this plus its position, a `$f` as the number of its
+/// variable, which is lower.
 pub const ESSENTIALS: u32 = 0x8000_0000;
 
 /// A mandatory hypothesis: a `$f` by its variable, a `$e` by its position.
@@ -87,15 +88,15 @@ fn hypothesis_of(number: u32) -> Hypothesis
     }
 }
 
-/// An assertion as a verifier reads it, with its symbols as numbers.
+/// An assertion as a verifier reads it, with its symbols as numbers. Its parts are whole.
 #[derive(Drop)]
 pub struct AssertionView<'a> {
     /// The typecode of each mandatory hypothesis, in order.
     pub typecodes: &'a [u32],
     /// The hypotheses, in order.
     pub hypotheses: Hypotheses<'a>,
-    /// The symbols of its expression.
+    /// The symbols of the assertion's expression.
     pub conclusion: &'a [u32],
-    /// Groups of variables: any two different ones of a group must have disjoint images.
+    /// Groups of variables: any two different variables of a group must have disjoint images.
     pub groups: Groups<'a>,
 }

@@ -90,7 +90,7 @@ impl Entries {
         }
     }
 
-    /// Returns the positions of the hypotheses of the assertion at an index.
+    /// Returns the positions of the hypotheses of the statement at an index.
     pub fn hypotheses(&self, index: usize) -> &[u32]
         requires { index < length self.now }
         ensures { (e : Entry) → slice_get self.now index ≡ Some e → result.now ≡ e.assertion.hypotheses }
@@ -99,7 +99,7 @@ impl Entries {
         part(numbers, at.hypotheses, at.places)
     }
 
-    /// Returns whether the parts of the assertion at an index are whole.
+    /// Returns whether the parts of the statement at an index are whole, as `AssertionParts` says.
     pub fn is_whole(&self, index: usize) -> bool
         requires { index < length self.now }
         ensures { (e : Entry) → slice_get self.now index ≡ Some e → result ≡ e.assertion.whole }
@@ -107,7 +107,8 @@ impl Entries {
         self.stored(index).kept.whole
     }
 
-    /// Returns the parts of the assertion at an index, or `None` if they are not whole.
+    /// Returns the symbols and the parts of the statement at an index, without the positions of its hypotheses, or
+    /// `None` if its parts are not whole.
     pub fn cited(&self, index: usize) -> Option<AssertionView<'_>>
         requires { index < length self.now }
         ensures parts { (e : Entry) → slice_get self.now index ≡ Some e → IfSome result (AreWhole e) }
@@ -235,7 +236,8 @@ fn run_at<'a>(
     (part(numbers, from, end), lay(0, 0, end - from, 0, 0))
 }
 
-/// Appends a statement's parts, and its record.
+/// Appends a statement's groups, numbers, state before it and record. If it fails, `records` is unchanged, but the
+/// other buffers may have more items.
 fn add(
     records: &mut Vec<StatementRecord>,
     states_before: &mut Vec<StateBefore>,
@@ -271,7 +273,7 @@ fn add(
     )
 }
 
-/// Appends the numbers of an assertion with its parts, or the symbols alone.
+/// Appends the numbers of a statement: its counts, parts and symbols if it has parts, else its symbols alone.
 fn add_numbers(
     numbers: &mut Vec<u32>,
     parts: &AssertionParts<'_>,
@@ -315,8 +317,8 @@ fn append<T: Copy>(buffer: &mut Vec<T>, items: &[T]) -> Result<(), AllocError>
     Ok(())
 }
 
-/// Reserves room for fifteen times as many items again, so that a growing buffer is seldom copied. Unused room is not written.
-/// If that allocation fails, the buffer keeps its room.
+/// Reserves room for fifteen times as many items as the buffer has, so that a growing buffer is seldom copied. Unused
+/// room is not written. If that allocation fails, the buffer keeps its room.
 #[cold]
 fn widen<T>(buffer: &mut Vec<T>)
     ensures { buffer.new.items ≡ buffer.old.items }

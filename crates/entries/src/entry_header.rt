@@ -20,7 +20,7 @@ pub struct EntryHeader {
     pub before: StateBefore,
 }
 
-/// A stored statement: its kind, the state before it, and the numbers of its symbols.
+/// A stored statement without its parts: its kind, the state before it, and the numbers of its symbols.
 #[derive(Clone, Copy, Drop)]
 pub struct EntryRef<'a> {
     pub kind: Kind,

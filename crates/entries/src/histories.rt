@@ -16,7 +16,7 @@ use std::marker::Model;
 pub struct Histories {
     alloc: Global,
     histories: Vec<History>,
-    /// The number of each version, in the order in which they were added.
+    /// For each version of any stack, in the order in which they were made, the number that the stack is of.
     log: Vec<u32>,
 }
 
@@ -63,7 +63,7 @@ impl Histories {
         pushed
     }
 
-    /// Restores the stack of a number as it was at `before`, unless that stack changed at `at` already.
+    /// Restores at `at` the stack of a number as it was at `before`, unless that stack changed at `at` already.
     ///
     /// Errors: an allocation fails; the stacks are then unchanged. Cost: a binary search.
     pub fn go_back(&mut self, number: u32, at: u32, before: u32) -> Result<(), AllocError>
@@ -108,7 +108,7 @@ impl Histories {
         give_back(&mut self.log);
     }
 
-    /// Returns the stack of a number as it was at `at`.
+    /// Returns the stack of a number as it was at `at`: that of the last version made before `at`.
     ///
     /// Cost: a binary search.
     pub fn stack(&self, number: u32, at: usize) -> PositionStack<'_>

@@ -9,14 +9,14 @@ use crate::room::give_back;
 use std::alloc::{AllocError, Global};
 use std::marker::Model;
 
-/// A version of a stack: the stack as it was after a position.
+/// A version of a stack: the stack as it is from just after one position on, up to the next version.
 #[derive(Clone, Copy, Drop)]
 pub struct Version {
     /// The position at which this version was made.
     pub since: u32,
     /// The position on top, or 0 if there is none.
     pub top: u32,
-    /// The index of the version that is this one without its top.
+    /// The index of an earlier version, whose stack is this one without its top. Read only if the height is 2 or more.
     pub below: u32,
     /// How many positions the stack has.
     pub height: u32,
@@ -89,7 +89,7 @@ impl History {
         Ok(())
     }
 
-    /// Restores the stack as it was at `before`, unless the last version was made at `at`.
+    /// Restores at `at` the stack as it was at `before`, unless the last version was made at `at`.
     ///
     /// Errors: an allocation fails; the history is then unchanged. Cost: a binary search.
     pub fn go_back(&mut self, at: u32, before: u32) -> Result<(), AllocError>
@@ -185,7 +185,7 @@ fn again(versions: &[Version], at: u32, before: u32) -> Version
     }
 }
 
-/// Returns the index of the last version that was made before `at`.
+/// Returns the index of the last version that was made before `at`, or `None` if there is none.
 fn version_before(versions: &[Version], at: usize) -> Option<usize>
     requires { IsNonDecreasingBy (λ v. v.since) versions.now }
     ensures { IsFound versions.now at result }

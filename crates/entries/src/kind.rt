@@ -1,6 +1,6 @@
 //! The kinds of statements.
 
-/// The kind of an entry's statement.
+/// The kind of a statement: one of the nine shapes that `mm_read::Stmt` has.
 #[derive(Clone, Copy, Debug, Drop, PartialEq, Eq)]
 pub enum Kind {
     Open,

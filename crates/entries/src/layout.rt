@@ -9,7 +9,8 @@ use std::alloc::AllocError;
 /// How many numbers precede the parts of an assertion: its counts of hypotheses, symbols, groups and variables of groups.
 pub const COUNTS: usize = 4;
 
-/// Where each part of a statement begins among its numbers, one after the other, and where the last one ends.
+/// Where each part of a statement begins among its numbers, and where the last part ends. Each part ends where the
+/// next one begins.
 #[derive(Clone, Copy, Drop)]
 pub struct Layout {
     /// The typecodes of its hypotheses.
@@ -22,6 +23,7 @@ pub struct Layout {
     pub hypotheses: usize,
     /// The variables of its groups.
     pub places: usize,
+    /// Where the variables of its groups end.
     pub end: usize,
     /// How many groups it has.
     pub groups: usize,

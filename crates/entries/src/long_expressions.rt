@@ -1,4 +1,4 @@
-//! The indexes of each symbol of long expressions, by the index of their statement.
+//! The indexes at which each symbol of long expressions occurs, by the index of the statement of each.
 ghost use Rattle.std.specs.Prelude.{◌≡◌, ◌<◌, ◌++◌, ◌∷◌, [], ℕ, List, nat_eq, nat_lt, Some, None, IfSome, IfNone, OnOk, OnErr};
 ghost use Rattle.std.specs.{List.All, List.filter, Map.lookup};
 ghost use Rattle.entries.specs.SymbolPlaces.{ArePlacesOf, SymbolGroups, without_float};
@@ -9,8 +9,9 @@ use crate::symbol_places::SymbolPlaces;
 use std::alloc::{AllocError, Global};
 use std::marker::Model;
 
-/// The places of the symbols of long expressions, by the index of their statement. Contracts see the list of the indexes,
-/// in ascending order, each with the symbols of its expression and their groups.
+/// The places of the symbols of long expressions, by the index of the statement of each; the caller decides which are
+/// long. Contracts see the list of the indexes, in ascending order, each with the symbols of the statement's
+/// expression, their groups, and the constants among them.
 #[derive(Drop)]
 pub struct LongExpressions {
     alloc: Global,
@@ -42,7 +43,8 @@ impl LongExpressions {
         }
     }
 
-    /// Returns the places of the symbols of the expression at an index, or `None` if the list has none for it.
+    /// Returns the places of the symbols of the expression of the statement at an index, or `None` if the list has none
+    /// for it.
     ///
     /// Cost: log n for n expressions.
     pub fn get(&self, index: usize) -> Option<&SymbolPlaces>
@@ -55,8 +57,8 @@ impl LongExpressions {
         }
     }
 
-    /// Appends the places of the symbols of the expression at an index, which is greater than the earlier ones. Its constants
-    /// are the symbols that are the variable of no `$f` among the hypotheses.
+    /// Appends the places of the symbols of the expression of the statement at an index, which is greater than the
+    /// earlier ones. Its constants are the symbols that are the variable of no `$f` among the hypotheses.
     ///
     /// Errors: an allocation fails, or the expression has 2^32 symbols or more; the list is then unchanged.
     /// Cost: n log n for n symbols and hypotheses.

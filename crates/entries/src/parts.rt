@@ -1,10 +1,12 @@
 //! The parts of a statement to be appended.
 use crate::buffer_part::BufferPart;
 
-/// A statement's symbols, and its parts: those of an assertion. Most other statements have no parts.
+/// The symbols of a statement to be appended, and its parts: hypotheses, their typecodes, and groups of variables.
+/// `frame` gives parts to assertions and `$e` alone.
 #[derive(Clone, Copy, Drop)]
 pub struct AssertionParts<'a> {
-    /// Whether these are all of its hypotheses and groups, or only those that it adds to the active ones.
+    /// Whether these are all mandatory hypotheses and groups of an assertion, or only the `$f` of the statement's own
+    /// variables, if any.
     pub whole: bool,
     /// The numbers of its symbols.
     pub symbols: &'a [u32],

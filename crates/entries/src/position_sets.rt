@@ -36,7 +36,7 @@ struct Node {
 /// A set is known by its number; 0 is the empty set, and a number that no set has is read as the empty set.
 /// Contracts see the list of the sets by number, each as the list of its positions in ascending order.
 ///
-/// Inside, a set is a weight-balanced tree: its height is at most 2.5 times the binary logarithm of its size,
+/// Inside, a set is a weight-balanced tree: its height is at most 2.5 times the binary logarithm of its size plus one,
 /// whatever positions are inserted, and in whatever order.
 /// Source: Y. Hirai and K. Yamamoto, "Balancing weight-balanced trees", Journal of Functional Programming 21, 2011.
 #[derive(Drop)]
@@ -87,7 +87,7 @@ impl PositionSets {
         }
     }
 
-    /// Returns the position of a set at an index, from 0, in ascending order, or `None` if there are fewer.
+    /// Returns the position at an index, from 0, among those of a set in ascending order, or `None` if there are fewer.
     ///
     /// Cost: the logarithm of the set's size.
     pub fn get(&self, set: u32, index: usize) -> Option<u32>
@@ -214,7 +214,8 @@ impl PositionSets {
         Some(item(nodes, set as usize - 1))
     }
 
-    /// Makes the set with one more position, copying the nodes on the path to it.
+    /// Makes the set with one more position, copying the nodes on the path to it. If it fails, sets may have been
+    /// appended, as in the functions below.
     fn insert_node(&mut self, set: u32, position: u32) -> Result<u32, AllocError>
         ensures made { IfOk result (IsSet self.new (with_position position (set_at self.old set))) }
         ensures more { Extends self.old self.new }
@@ -235,7 +236,8 @@ impl PositionSets {
         }
     }
 
-    /// Makes the set of these positions, as the sets of their halves around the middle one.
+    /// Makes the set of these positions: the middle one, with the sets of the positions below and above it on its
+    /// sides.
     fn halve(&mut self, positions: &[u32]) -> Result<u32, AllocError>
         requires empty { IsSet self.old [] 0 }
         requires ascends { Ascends positions.now }

@@ -5,7 +5,7 @@ ghost use Rattle.{entries.specs.Stored.Versions.IsReadable, entries.specs.Stored
 use crate::history::{Version, no_positions};
 use std::marker::Model;
 
-/// A stack of positions, as it was at some position. Contracts see the list of its positions, the last one first.
+/// A stack of positions, as it was at some position. Contracts see the list of its positions from the top down.
 #[derive(Drop)]
 pub struct PositionStack<'a> {
     before: &'a [Version],
@@ -56,7 +56,7 @@ impl<'a> PositionStack<'a> {
         self.version.height == 0
     }
 
-    /// Returns the last position, or `None` if there is none.
+    /// Returns the position on top, or `None` if there is none.
     pub fn last(&self) -> Option<u32>
         ensures { result ≡ slice_get self.now 0 }
     {
@@ -67,7 +67,7 @@ impl<'a> PositionStack<'a> {
         }
     }
 
-    /// Removes the last position and returns it, or `None` if there is none.
+    /// Removes the position on top and returns it, or returns `None` if there is none.
     ///
     /// Cost: one look-up.
     pub fn pop(&mut self) -> Option<u32>

@@ -1,4 +1,4 @@
-//! How a statement is stored.
+//! The record by which a stored statement is found.
 
 use crate::kind::Kind;
 
@@ -8,7 +8,7 @@ use crate::kind::Kind;
 pub struct StatementRecord {
     /// Where its numbers begin.
     pub from: u32,
-    /// How many groups earlier statements have.
+    /// Where its groups begin: how many groups earlier statements have.
     pub groups: u32,
     pub kind: Kind,
     /// Whether its numbers are those of an assertion with its parts; else they are its symbols alone.

@@ -17,7 +17,8 @@ const INDEXES: u64 = 4_294_967_296;
 /// symbols, the list of their groups, each the ascending list of the indexes at which one symbol occurs, and the list of the
 /// constants among them.
 ///
-/// Memory: four bytes for each symbol of the expression, twelve for each distinct one, and four for each distinct constant.
+/// Memory, besides unused room: four bytes for each symbol of the expression, twelve for each distinct one, and four
+/// for each distinct constant.
 #[derive(Drop)]
 pub struct SymbolPlaces {
     symbols: Vec<u32>,
@@ -152,7 +153,7 @@ fn runs_of(alloc: Global, keys: &[u64]) -> Result<Vec<BufferPart>, AllocError>
     Ok(runs)
 }
 
-/// Returns the symbol of the first key of a part.
+/// Returns the symbol of the first key of a part, or 0 if the part begins past the keys.
 fn symbol_of_part(keys: &[u64], part: BufferPart) -> u32
     ensures { result ≡ symbol_at keys.now part }
 {
@@ -162,7 +163,7 @@ fn symbol_of_part(keys: &[u64], part: BufferPart) -> u32
     }
 }
 
-/// Returns the symbol of each part.
+/// Returns the symbol of the first key of each part.
 fn symbols_of(alloc: Global, keys: &[u64], parts: &[BufferPart]) -> Result<Vec<u32>, AllocError>
     ensures { IfOk result (λ symbols. symbols.items ≡ map (symbol_at keys.now) parts.now) }
 {

@@ -1,4 +1,5 @@
--- The next statement after an offset of a text, by the tokens from there to its end, or why there is none.
+-- The next statement after an offset into a text, by the tokens from there to the statement's end, or why there is
+-- none.
 -- Source: Metamath, 4.1.
 -- The functions that read one statement cite these; `Reads` defines reading for a whole text.
 use Rattle.std.specs.Prelude.{◌≡◌, ℕ, ◌<◌, List, [], ◌∷◌, ◌++◌, Option, Some, None}
@@ -16,7 +17,7 @@ pub record IsNext (text : List ℕ) (at : ℕ) (s : Stmt) (next : ℕ) : Type 0 
   pub later : at < next
   pub between : HasBetween text at next (stmt_tokens s)
 
--- the statement s begins with the tokens `before`, which end at `at`, and s ends at `next`
+-- if the tokens from an earlier offset up to `at` are `before`, those from there up to `next` are the tokens of s
 abbrev pub IsNextAfter : List ℕ → List Name → ℕ → Stmt → ℕ → Type 0
 IsNextAfter text before at s next = (from : ℕ) → from < at → HasBetween text from at before → IsNext text from s next
 
@@ -33,7 +34,7 @@ pub record IsOneMore (text : List ℕ) (at next : ℕ) (old new : Database) : Ty
   pub whole : new ≡ old ++ statement ∷ []
   pub next_is : IsNext text at statement next
 
--- the list has one more statement, which ends at `next`; or None, and no token is left
+-- the list has one more statement, which ends at `next`; or for None, the list is unchanged and no token is left
 abbrev pub IsNextStep : List ℕ → ℕ → Database → Database → Option ℕ → Type 0
 IsNextStep text at old new (Some next) = IsOneMore text at next old new
 IsNextStep text at old new None = AreAfter text at [] × (new ≡ old)

@@ -1,7 +1,7 @@
--- The statements that a text reads as, or the token at which it has a shape fault. A text or a list of tokens reads as
--- statements; statements are written as tokens (`tokens_of`).
+-- The statements that a text reads as, or the token at which it has a shape fault. A text, or a list of tokens, reads
+-- as well-shaped statements if its tokens are those that the statements are written as (`tokens_of`).
 -- Source: Metamath, 4.1 and appendix E.
--- The code reads once from the left; here reading is the inverse of writing.
+-- The code reads the text once, left to right; here reading is the inverse of writing.
 use Rattle.std.specs.Prelude.{◌≡◌, ◌≢◌, ℕ, ◌+◌, ◌-◌, ◌⊎◌, List, ◌++◌, length, take}
 use Rattle.mm_lex.specs.declared.span.Span.{Span}
 use Rattle.mm_lex.specs.declared.fault.LexFault.{LexFault}
@@ -40,7 +40,7 @@ pub record IsShapeFault (tokens : List Name) (token : ℕ) : Type 0 where
   pub before : IsStatementsPrefix (take (token - 1) tokens)
   pub here : (IsStatementsPrefix (take token tokens) → ⊥) ⊎ (token ≡ length tokens + 1)
 
--- the text has tokens, and this is their shape fault
+-- the text can be split into tokens, and this is their shape fault
 abbrev pub HasShapeFault : List ℕ → ℕ → Type 0
 HasShapeFault text token = (tokens : List Name) × HasTokens text tokens × IsShapeFault tokens token
 

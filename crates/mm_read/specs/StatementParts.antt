@@ -1,4 +1,5 @@
--- The parts of a statement that can follow an offset of the text: a keyword, a list of symbols, one token; and their faults.
+-- The parts of a statement that can follow an offset into the text: a keyword, a list of symbols, one token; and their
+-- faults.
 -- Source: Metamath, 4.1 and appendix E.
 -- The functions that read parts of a statement cite these; `Reads` defines reading for a whole text.
 use Rattle.std.specs.Prelude.{◌≡◌, ℕ, Bool, ◌+◌, ◌<◌, ◌≤◌, ◌⊎◌, IsTrue, IsFalse, List, [], ◌∷◌, ◌++◌, length, codes}
@@ -43,7 +44,7 @@ pub record BeginsBrokenList (tokens : List Name) (number least : ℕ) (end : Nam
   pub place : token ≡ number + length ws
   pub stop : BreaksList least end ws rest
 
--- the tokens after an offset begin with such a list
+-- the tokens after an offset begin with such a list; `few` bounds the token's number by the bytes that are left
 pub record HasBrokenList (text : List ℕ) (at number least : ℕ) (end : Name) (token : ℕ) : Type 0 where
   pub few : token + at ≤ number + length text
   pub stops : (tokens : List Name) → AreAfter text at tokens → BeginsBrokenList tokens number least end token

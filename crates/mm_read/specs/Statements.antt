@@ -1,6 +1,6 @@
 -- Statements: the words that each of the nine shapes may have, and the tokens that it is written as.
 -- Source: Metamath, 4.1 and appendix E.
--- The code reads tokens from the left; here a statement is written out as its tokens.
+-- The code reads the tokens left to right; here a statement is written out as its tokens.
 use Rattle.std.specs.Prelude.{Bool, true, false, not, ◌&&◌, IsTrue, List, [], ◌∷◌, ◌++◌, flat_map, codes}
 use Rattle.std.specs.List.{list_all}
 use Rattle.mm_lex.specs.Alphabet.{Name, is_empty, is_symbol, is_label}
@@ -15,16 +15,16 @@ Expr = List Name
 abbrev pub Database : Type 0
 Database = List Stmt
 
--- one or more symbols
+-- whether the words are one or more symbols
 abbrev pub are_symbols : List Name → Bool
 are_symbols ws = not (is_empty ws) && list_all is_symbol ws
 
--- two or more words
+-- whether there are two or more words
 abbrev pub has_two : List Name → Bool
 has_two [] = false
 has_two (w ∷ ws) = not (is_empty ws)
 
--- whether the statement is well shaped: its words are such as its shape may have
+-- whether the statement is well shaped: its words are those that its shape may have
 abbrev pub is_shaped : Stmt → Bool
 is_shaped Open = true
 is_shaped Close = true

@@ -12,7 +12,7 @@ use std::alloc::{AllocError, Global};
 
 /// Returns the export form of the statements: the tokens of each, separated by single spaces, and a line feed.
 ///
-/// Errors: an allocation fails. Cost: the text's own size.
+/// Errors: an allocation fails. Cost: the size of the text returned.
 /// Source: Metamath, 4.1; single spaces and line feeds are this project's choice.
 pub fn spell(alloc: Global, statements: &[Stmt]) -> Result<Vec<u8>, AllocError>
     requires { AreShaped statements.now }
@@ -26,9 +26,9 @@ pub fn spell(alloc: Global, statements: &[Stmt]) -> Result<Vec<u8>, AllocError>
     Ok(text)
 }
 
-/// Appends the statement's line.
+/// Appends the statement's line in the export form.
 ///
-/// Errors: an allocation fails; the text is then unchanged. Cost: the line's own size.
+/// Errors: an allocation fails; the text is then unchanged. Cost: the size of the line.
 pub fn push_line(text: &mut Vec<u8>, statement: &Stmt) -> Result<(), AllocError>
     requires { IsShaped statement.now }
     ensures line { OnOk result (text.new.items ≡ text.old.items ++ line_of statement.now) }
@@ -51,9 +51,10 @@ pub fn push_line(text: &mut Vec<u8>, statement: &Stmt) -> Result<(), AllocError>
     }
 }
 
-/// Appends the statement's line. If the statement has a proof, the line has this word in place of it.
+/// Appends the statement's line in the export form. If the statement has a proof, the line has the word `proof` in its
+/// place.
 ///
-/// Errors: an allocation fails; the text is then unchanged. Cost: the line's own size.
+/// Errors: an allocation fails; the text is then unchanged. Cost: the size of the line.
 pub fn push_line_with_proof(
     text: &mut Vec<u8>,
     statement: &Stmt,

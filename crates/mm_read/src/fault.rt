@@ -1,16 +1,16 @@
-//! Why a text does not read as statements.
+//! Why a text is not read.
 ghost use Rattle.std.specs.Prelude.{◌≡◌};
 
 use mm_lex::LexFault;
 use std::alloc::{AllocError, AllocFailed};
 
-/// Why a text does not read as statements.
+/// Why a text is not read: it reads as no statements, or an allocation failed.
 #[derive(Clone, Copy, Debug, Drop, PartialEq, Eq)]
 pub enum ReadFault {
     /// The text cannot be split into tokens. The fault is `LexFault::Text` or `LexFault::Comment`.
     Text(LexFault),
-    /// The number of the first misplaced token, from 1 and without comments: no list of statements begins with the tokens up
-    /// to it. If the text ends within a statement, the number of tokens plus 1.
+    /// The number of the first misplaced token, counted from 1 without comments: no list of statements begins with the
+    /// tokens up to and including it. If the text ends within a statement, the number of tokens plus 1.
     Shape { token: usize },
     /// An allocation failed.
     Memory,

@@ -6,7 +6,7 @@ ghost use Rattle.mm_read.specs.StatementParts.{IsKeyword};
 
 use mm_lex::Span;
 
-/// A keyword that decides the shape of a statement, or `Other` for any other token.
+/// A keyword that decides the shape of a statement, or `Other` for any other token, also for `$=` and `$.`.
 #[derive(Clone, Copy)]
 pub enum Keyword {
     Open,

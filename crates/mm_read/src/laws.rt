@@ -21,8 +21,8 @@ pub fn export_reads()
     ensures { ExportReads }
 {}
 
-/// States that two joined texts read as the statements of the first followed by those of the second, if joining them does
-/// not make one word of two.
+/// States that two joined texts read as the statements of the first followed by those of the second, if each of them
+/// reads as statements and joining them does not make one word of two.
 pub fn joined_reads()
     ensures { JoinedReads }
 {}

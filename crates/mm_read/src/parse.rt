@@ -13,26 +13,28 @@ use crate::stmt::Stmt;
 use mm_lex::{LexFault, count_tokens, first_bad_byte, next_token};
 use std::alloc::Global;
 
-/// The number of bytes of text between two allocations of `grow_heap`.
+/// How many bytes of text are read between two allocations of `grow_heap`.
 const BYTES_BETWEEN_RESERVES: usize = 90_000;
 
-/// The number of bytes that it allocates: more than the statements of so much text usually take.
+/// How many bytes `grow_heap` allocates: more than the statements of `BYTES_BETWEEN_RESERVES` bytes of text usually
+/// take.
 const RESERVE_BYTES: usize = 120_000;
 
 /// Returns the statements that the text reads as.
 ///
-/// Errors: `Text`, the first bad byte or else the comment fault, even if every allocation fails; else `Shape`, the first
-/// misplaced token; or `Memory` instead of `Shape` or of the statements. Cost: the size of the text.
+/// Errors: `Text`, with the first byte that is not allowed or else the comment fault, even if every allocation fails;
+/// else `Shape`, with the first misplaced token. If an allocation fails, `Memory` may be returned in place of `Shape`
+/// or of the statements. Cost: the size of the text.
 /// Source: Metamath, 4.1 and appendix E.
 pub fn read(alloc: Global, text: &[u8]) -> Result<Vec<Stmt>, ReadFault>
     ensures found { IfOk result (λ statements. Reads text.now statements.items) }
     ensures fault { IfErr result (IsReadFault text.now) }
 
-    // The statements are those that the text reads as, or an allocation failed.
+    // If the text reads as statements, these are returned, or `Memory`.
     ensures statements { (S : Database) → Reads text.now S
         → MatchResult result (λ statements. statements.items ≡ S) (λ fault. fault ≡ ReadFault.Memory) }
 
-    // A fault of the tokens is returned even if every allocation fails.
+    // A bad byte or a comment fault is returned even if every allocation fails; a shape fault, or else `Memory`.
     ensures text_fault { (offset : ℕ) → IsFirstBadByte text.now offset
         → result ≡ Err (ReadFault.Text (LexFault.Text offset)) }
     ensures comment_fault { (offset : ℕ) → IsCommentFault text.now offset
@@ -63,7 +65,9 @@ fn statements(alloc: Global, text: &[u8]) -> Result<Vec<Stmt>, ReadFault>
     }
 }
 
-/// Appends the next statement; returns the offset after it, or `None` if no token is left.
+/// Appends the next statement after `at`; returns the offset after the statement, or `None` if no token is left.
+///
+/// Errors: those of `statement`, and `Text`, if a comment before the statement is malformed.
 fn add_next(
     alloc: Global,
     statements: &mut Vec<Stmt>,
@@ -92,9 +96,10 @@ fn grow_heap(alloc: Global, at: usize, next: usize) {
     }
 }
 
-/// Returns why the whole text is refused. Its statements up to `at` are read, and `fault` is why none can be read there.
+/// Returns why the whole text is refused. Its statements up to `at` are read, and `fault` is why no statement can be
+/// read there; a `Shape` fault counts from `at`, the one returned from the start of the text.
 ///
-/// Errors: the comment fault after `at`, if there is one: it takes precedence over `fault`.
+/// Errors: the comment fault of the text, if there is one: it takes precedence over `fault`.
 fn first_fault(text: &[u8], at: usize, fault: ReadFault) -> Result<ReadFault, LexFault>
     requires clean { IsClean text.now }
     requires place { at ≤ length text.now }

@@ -1,4 +1,4 @@
-//! Reads the parts of a statement, each from an offset of the text on.
+//! Reads the parts of a statement, each from an offset into the text.
 ghost use Rattle.std.specs.Prelude.{◌≡◌, ◌<◌, ◌≤◌, ◌∷◌, ◌++◌, [], length, nat_le, IsTrue, IfOk, IfErr};
 ghost use Rattle.std.specs.List.{list_all};
 ghost use Rattle.mm_lex.specs.Alphabet.{name_eq, is_symbol};
@@ -13,8 +13,9 @@ use std::alloc::Global;
 
 /// Returns the symbols after `at`, at least `least` of them, up to the token `end`, and the offset after that token.
 ///
-/// `number` is the number of the first token after `at`, from 1 within its statement. Errors: `Text`, if a comment
-/// before the end of the list is malformed; `Shape`, the number of the token that does not fit; `Memory`.
+/// `number` is the number that `Shape` gives to the first token after `at`. Errors: `Text`, if a comment before the end
+/// of the list is malformed; `Shape`, with the number of the token that does not fit, or one past the last if the text
+/// ends first; `Memory`, if an allocation fails.
 pub fn symbols_until(
     alloc: Global,
     text: &[u8],
@@ -56,8 +57,8 @@ fn has_least(words: &Words, least: usize) -> bool
 
 /// Returns the next token, which has to be a symbol, and the offset after it.
 ///
-/// `number` is the number of that token in its statement. Errors: `Text`, if a comment before it is malformed; `Shape`, its
-/// number, if it is no symbol or no token is left; `Memory`.
+/// `number` is the number of that token in its statement. Errors: `Text`, if a comment before it is malformed; `Shape`,
+/// with that number, if it is no symbol or no token is left; `Memory`, if an allocation fails.
 pub fn next_symbol(
     alloc: Global,
     text: &[u8],
@@ -82,8 +83,8 @@ pub fn next_symbol(
 
 /// Returns the offset after the next token, which has to be `end`.
 ///
-/// `number` is the number of that token in its statement. Errors: `Text`, if a comment before it is malformed; `Shape`, its
-/// number, if it is not `end` or no token is left.
+/// `number` is the number of that token in its statement. Errors: `Text`, if a comment before it is malformed; `Shape`,
+/// with that number, if it is not `end` or no token is left.
 pub fn expect_token(text: &[u8], at: usize, number: usize, end: &[u8]) -> Result<usize, ReadFault>
     requires clean { IsClean text.now }
     requires place { at ≤ length text.now }

@@ -14,8 +14,10 @@ use std::alloc::Global;
 
 /// Returns the statement whose first token is at `first`, and the offset after the statement.
 ///
-/// Errors: `Text`, if a comment in it is malformed; `Shape`, the number of its misplaced token, from 1 within the statement;
-/// `Memory`. Cost: the statement's own size.
+/// Errors: `Text`, if a comment in the statement is malformed; `Shape`, with the number of the first misplaced token,
+/// counted from 1 at `first`, or one past the last token if the text ends within the statement; `Memory`, if an
+/// allocation fails.
+/// Cost: the size of the statement with its comments.
 pub fn statement(alloc: Global, text: &[u8], first: Span) -> Result<(Stmt, usize), ReadFault>
     requires clean { IsClean text.now }
     requires token { IsWordAt text.now first }
@@ -104,6 +106,7 @@ fn provable(alloc: Global, text: &[u8], label: &[u8], at: usize) -> Result<(Stmt
     ensures fault { IfErr result (IsFaultAfter text.now (label.now ∷ codes "$p" ∷ []) at) }
 {
     let (expr, after) = symbols_until(alloc, text, at, 3, 1, b"$=")?;
+    // Here `Shape` counts from 1 after the `$=`, which is token 3 + expr.len() of the statement.
     match symbols_until(alloc, text, after, 1, 0, b"$.") {
         Ok((proof, next)) => {
             let label = Word::new(alloc, label)?;

@@ -1,6 +1,6 @@
 -- Sets of positions as trees: a set is a position between those of two earlier sets.
--- The code's own form: no public clause cites it.
 -- So appending sets changes no earlier one, and the last ones can be removed.
+-- The code's own form: no public clause cites it.
 use Rattle.std.specs.Prelude.{◌≡◌, ℕ, ◌+◌, ◌<◌, ◌≤◌, ◌^◌, List, [], ◌∷◌, ◌++◌, length}
 use Rattle.entries.specs.declared.position_sets.Node.{Node}
 use Rattle.entries.specs.PositionSets.{set_at, Ascends}

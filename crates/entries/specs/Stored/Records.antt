@@ -1,6 +1,6 @@
 -- Statements in shared buffers: each has the items from where it begins up to where the next one begins.
--- The code's own form: no public clause cites it.
 -- So appending to the buffers changes no statement, and the buffers can be truncated where a statement begins.
+-- The code's own form: no public clause cites it.
 use Rattle.std.specs.Prelude.{◌≡◌, ℕ, ◌+◌, ◌-◌, ◌<◌, ◌≤◌, ◌^◌, Bool, true, false, List, [], ◌∷◌, ◌++◌, length, map, slice_get, slice_range, get_or, nat_lt, Option, Some, None}
 use Rattle.entries.specs.declared.layout.Layout.{Layout}
 use Rattle.entries.specs.declared.layout.TheConstants.{COUNTS}
@@ -16,7 +16,7 @@ use Rattle.entries.specs.Stored.Spans.{cut, AreSpansIn}
 
 -- ---- the numbers of one statement
 
--- the parts of h hypotheses, s symbols, g groups and p variables of groups, one after the other
+-- the layout, from an index on, of the parts of h hypotheses, s symbols, g groups and p variables of groups
 abbrev pub laid : ℕ → ℕ → ℕ → ℕ → ℕ → Layout
 laid from h s g p = record {
   typecodes = from;

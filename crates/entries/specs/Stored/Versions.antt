@@ -39,7 +39,8 @@ pub record IsReadable (before : List Version) (v : Version) : Type 0 where
   pub versions : AreVersions before
   pub height : v.height ≡ length (stack_of (versions_of before) v)
 
--- the version at the index found is the last one that was made before `at`
+-- the version at the index found has the stack of the last one that was made before `at`; if none is found, that is
+-- empty
 abbrev pub IsFound : List Version → ℕ → Option ℕ → Type 0
 IsFound vs at (Some i) = (i < length vs) × (stack_at (versions_of vs) at ≡ (get_or (versions_of vs) i no_version).stack)
 IsFound vs at None = stack_at (versions_of vs) at ≡ []
