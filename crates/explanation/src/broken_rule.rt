@@ -7,7 +7,7 @@ use rule_violation::{RuleViolation, never_closed, violation_of};
 use scope::Rule;
 use std::alloc::Global;
 
-/// A rule that a statement of a text breaks.
+/// A statement of a text, and the rule that it breaks.
 #[derive(Clone, Copy)]
 struct RuleContext<'a> {
     tokens: &'a TextTokens<'a>,
@@ -17,8 +17,8 @@ struct RuleContext<'a> {
     rule: Rule,
 }
 
-/// Writes the rule that the statement breaks, and, if there are any, the symbol or label that breaks it and the place of the
-/// other declaration.
+/// Writes the rule that the statement breaks; if a symbol or label breaks it, also that one; and if it does so because of
+/// another use of the same name, the place of that use.
 pub(crate) fn explain_rule(
     alloc: Global,
     lines: &mut Lines<'_>,

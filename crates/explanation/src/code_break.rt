@@ -1,4 +1,4 @@
-//! Explains which rule of proof code the tokens of a proof break.
+//! Explains why the tokens of a proof cannot be read as citations, recalls and marks: which rule of proof code they break.
 
 use crate::item_spots::{Spot, letter_spot};
 use crate::statement_symbols::token_at;

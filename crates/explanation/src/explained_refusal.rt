@@ -30,7 +30,7 @@ pub enum DatabaseFault {
 }
 
 /// Returns the lines that explain why the text is refused, at most 65,536 bytes. They are unspecified if
-/// it does not have this fault. The name of its file, if given, is written before each place.
+/// the text does not have this fault. The name of its file, if given, is written before each place.
 ///
 /// Errors: an allocation fails, or those of `explain::explain`. Cost: a few passes over the text, the cost
 /// of adding its statements again, and for a proof that of `explain::explain`.
@@ -65,8 +65,9 @@ pub fn explain_after(
     lines.into_bytes()
 }
 
-/// Returns the lines that explain why the proof of the `$p` at a position is wrong, at most 65,536 bytes;
-/// none if it is correct, or if there is no `$p`. The statements are those of the text.
+/// Returns the lines that explain why the proof of the `$p` at a position is wrong or unfinished, at most
+/// 65,536 bytes; none if it is correct, or if there is no `$p` at the position. `database` has the statements
+/// of the text whose tokens are given.
 ///
 /// Errors: those of `explain::explain`. Cost: that of `explain::explain`, and a pass over the text.
 pub fn explain_unproved(

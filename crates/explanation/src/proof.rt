@@ -1,4 +1,7 @@
 //! Explains why a proof is wrong or unfinished.
+//!
+//! Either its tokens break a rule of proof code, so that they cannot be read as items; or the run, in which the verifier
+//! goes through the items with a stack of results, fails at one of them or does not end with the theorem alone.
 ghost use Rattle.mm_read.specs.declared.stmt.Stmt.{Stmt as Statement};
 ghost use Rattle.mm_read.specs.Statements.{AreShaped};
 ghost use Rattle.verify.specs.Right.{IsProvable};
@@ -107,7 +110,7 @@ fn explain_reason(
     }
 }
 
-/// Writes that an item fails.
+/// Writes at which item the run fails, and why.
 fn explain_step(
     lines: &mut Lines<'_>,
     frames: &Frames,

@@ -66,7 +66,8 @@ fn explain_token(lines: &mut Lines<'_>, text: &[u8], spans: &[Span], index: usiz
     lines.push(b"\n");
 }
 
-/// Writes that a token is not allowed where it is, and which tokens are.
+/// Writes that a token is not allowed where it is, and which tokens are; for `$[`, that files are not included; and for a
+/// word in place of a label, which characters a label has.
 fn push_misfit(lines: &mut Lines<'_>, expected: &[u8], token: &[u8], begins: bool) {
     if token == b"$[".as_slice() {
         lines.push(
@@ -97,7 +98,7 @@ fn allowed_tokens(text: &[u8], before: &[Span]) -> &'static [u8] {
     }
 }
 
-/// Returns the part of the message that names a symbol, and also the end of the statement if there are enough tokens.
+/// Returns the part of the message that names a symbol, and also `$.` if `len` tokens are enough for a statement.
 fn symbols_or_end(len: usize, enough: usize) -> &'static [u8] {
     if len < enough {
         b"a symbol"

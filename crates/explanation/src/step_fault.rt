@@ -6,7 +6,7 @@ use crate::written_lines::Lines;
 use explain::Fault;
 use frame::Frames;
 
-/// Writes the fault of the step.
+/// Writes the fault of the step, each line indented by two spaces.
 pub(crate) fn push_fault(
     lines: &mut Lines<'_>,
     theorem: &Theorem<'_>,

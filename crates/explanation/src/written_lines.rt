@@ -13,7 +13,8 @@ pub const MOST_BYTES: usize = 65_536;
 /// The last line of a truncated explanation.
 const TRUNCATED_LINE: &[u8] = b"\n  the explanation is cut here: it has more than 65536 bytes\n";
 
-/// The lines of an explanation, or none after a failure. Keeps at most `MOST_BYTES` + 1 bytes, and drops the rest.
+/// The lines of an explanation, or none after a failure. Keeps at most `MOST_BYTES` + 1 bytes, the last of which shows that
+/// there were too many, and drops the rest.
 #[derive(Drop)]
 pub(crate) struct Lines<'a> {
     bytes: Vec<u8>,
@@ -21,7 +22,8 @@ pub(crate) struct Lines<'a> {
     name: Option<&'a str>,
     /// Whether an allocation failed, or a call that the explanation needs returned an error.
     has_failed: bool,
-    /// The number of bytes at the start of the text that are the statements of a library, a line each; the rest is explained.
+    /// The number of bytes at the start of the text that are the statements of a library, one on each line; only the rest is
+    /// explained.
     before: usize,
 }
 
@@ -37,7 +39,7 @@ impl<'a> Lines<'a> {
 
     /// Returns the lines, at most 65,536 bytes. If more were pushed, the last line says that they are truncated.
     ///
-    /// Errors: the explanation has failed.
+    /// Errors: a failure was recorded, or an allocation fails.
     pub(crate) fn into_bytes(self) -> Result<Vec<u8>, AllocError>
         ensures { IfOk result (λ bytes. length bytes.items ≤ MOST_BYTES) }
     {

@@ -12,14 +12,15 @@ abbrev pub is_long_with : Name → Stmt → Bool
 is_long_with x (Ess label expr) = nat_le LONG_EXPRESSION (length expr) && has_name x expr
 is_long_with x s = false
 
+-- the same, if there is a statement
 abbrev pub is_one_long_with : Name → Option Stmt → Bool
 is_one_long_with x None = false
 is_one_long_with x (Some s) = is_long_with x s
 
--- the mandatory `$e` of the assertion s at `a` of which this is so, by position, from the last one back
+-- the positions of the mandatory hypotheses of the assertion s at `a` that are such `$e`, from the last one back
 abbrev pub long_essentials : Database → ℕ → Stmt → Name → List ℕ
 long_essentials S a s x = reverse (filter (λ p. is_one_long_with x (stmt_at S p)) (hypotheses (before S a) s))
 
--- each symbol of the expression that is no variable is among the constants
+-- each symbol of the expression that is no active variable after the statements of S is among the constants
 abbrev pub HasConstants : Database → List Name → Expr → List ℕ → Type 0
 HasConstants S names e constants = (c : ℕ) → c < length names → has_name (name_at names c) e ≡ true → is_variable S (name_at names c) ≡ false → list_any (λ k. c == k) constants ≡ true

@@ -1,4 +1,4 @@
--- Facts about pairs of variables that searches found.
+-- Facts about pairs of variables: the answers of searches.
 -- Metamath, 4.2.4: two variables are disjoint if they stand together in an active `$d`.
 -- The code records them so that a later search need not go through the same `$d`.
 use Rattle.std.specs.Prelude.{◌≡◌, ◌+◌, ◌<◌, ◌≤◌, List, [], ◌∷◌, length}
@@ -15,6 +15,7 @@ pub record IsFact (v : Numbered) (f : PairFact) : Type 0 where
   pub second : f.y < length v.names
   pub is : is_pair (before v.statements (f.position + 1)) (name_at v.names f.x) (name_at v.names f.y) ≡ f.found
 
+-- each of the facts is true
 abbrev pub AreFacts : Numbered → List PairFact → Type 0
 AreFacts v [] = Unit {0}
 AreFacts v (f ∷ fs) = IsFact v f × AreFacts v fs

@@ -1,4 +1,4 @@
-//! The lists by which an assertion is cited if the active `$d` are many.
+//! Makes the lists by which an assertion is cited if the active `$d` are many.
 ghost use Rattle.std.specs.Prelude.{◌≡◌, ◌==◌, ◌≤◌, ◌<◌, ◌||◌, ◌∷◌, ℕ, [], false, true, get_or, length, map, OnOk, IfOk};
 ghost use Rattle.std.specs.List.{list_any};
 ghost use Rattle.frame.specs.Below.{AreBelow};
@@ -23,8 +23,9 @@ const PAIR_COST: usize = 2;
 /// The largest number of attempts to search for all pairs, each up to four times as long as the one before it.
 const MOST_TRIES: usize = 16;
 
-/// Appends the hypotheses of an assertion at `at`, each as one number, and groups that have its pairs of disjoint variables:
-/// one for each pair if that costs less, else one for each `$d`.
+/// Appends, for the positions in `buffers` of the mandatory hypotheses of an assertion at `at`, each hypothesis as one
+/// number, its typecode, and groups that have the pairs of disjoint variables: one for each pair if that costs less, else
+/// one for each `$d`.
 ///
 /// Errors: an allocation fails.
 pub fn fill_for_citation(
@@ -94,7 +95,8 @@ fn counts(
     Ok(counts)
 }
 
-/// Returns the pair of a variable, which stands right after some others, and the one at an index of these.
+/// Returns the pair of x and the variable at an index of `others`, given the counts of the variables in the list in which x
+/// comes right after `others`.
 fn sought_pair(x: u32, others: &[u32], index: usize, counts: &[usize]) -> SoughtPair
     requires { index < length others.now }
     ensures x { result.x ≡ x }
@@ -117,9 +119,9 @@ fn count_at(counts: &[usize], index: usize) -> usize {
 }
 
 /// Appends a group for each two of the variables that are disjoint, and returns `true`, if that takes no longer than going
-/// through the active `$d`; else appends none.
+/// through the active `$d`; else appends none, and returns `false`.
 ///
-/// Cost: at most a constant times that of the cheaper one.
+/// Errors: an allocation fails. Cost: at most a constant times that of the cheaper of the two.
 fn find_pairs(
     storage: &Storage,
     kept: &PairFacts,
@@ -156,7 +158,7 @@ fn find_pairs(
     Ok(false)
 }
 
-/// Returns whether the `$d` that are active at a position have more symbols than `most`.
+/// Returns whether the `$d` that are active at a position have more than `most` symbols together.
 ///
 /// Cost: `most`.
 fn has_more_symbols(storage: &Storage, at: usize, most: usize) -> bool

@@ -1,4 +1,4 @@
-//! Guesses at the index of a fact in a list.
+//! Guesses the index of a fact in a list by a hash table.
 
 use std::alloc::Global;
 use std::collections::BTreeMap;
@@ -9,10 +9,10 @@ pub(crate) const PROBES: usize = 8;
 /// The smallest number of slots of a table that is not empty: a power of two.
 const FEWEST: usize = 1_024;
 
-/// An odd multiplier whose bits are spread evenly.
+/// 2^64 divided by the golden ratio: an odd multiplier that spreads keys evenly.
 const MULTIPLIER: u64 = 0x9E37_79B9_7F4A_7C15;
 
-/// What a fact is about: a position and two variables.
+/// A position and two variables, which a fact is about.
 #[derive(Clone, Copy, Drop)]
 pub struct FactKey {
     pub position: u32,
@@ -20,13 +20,13 @@ pub struct FactKey {
     pub y: u32,
 }
 
-/// A hash table of the indexes of facts. A guess may be wrong, so the list of facts is always checked, and contracts see
-/// nothing of the table.
+/// A hash table of the indexes of facts, with `PROBES` slots for each hash. An index in it is only a guess: it may be that
+/// of another fact, so the list of facts is always checked, and contracts see nothing of the table.
 #[derive(Drop)]
 pub struct FactSlots {
     /// The index of a fact plus 1, or 0 in an empty slot. Their number is a power of two, or 0.
     slots: Vec<u32>,
-    /// The indexes of facts whose slots were all taken.
+    /// The indexes of facts whose slots were all taken, by position and variables.
     crowded: BTreeMap<(u64, u64), usize>,
 }
 
@@ -39,7 +39,7 @@ impl FactSlots {
         }
     }
 
-    /// Returns how many guesses the table has room for.
+    /// Returns how many facts the table has room for: half of its slots.
     pub(crate) fn room(&self) -> usize {
         self.slots.len() / 2
     }
@@ -65,7 +65,7 @@ impl FactSlots {
         }
     }
 
-    /// Returns a slot that belongs to a hash, by its number among these.
+    /// Returns the index of the slot with number `probe`, from 0, among those that belong to a hash.
     #[inline(always)]
     fn slot(&self, hash: usize, probe: usize) -> usize {
         let last = self.slots.len().saturating_sub(1);
@@ -97,7 +97,7 @@ impl FactSlots {
         is_empty
     }
 
-    /// Empties the slots that have the guess for a fact.
+    /// Empties the slots that have the guess for a fact. A look-up ends at an empty slot, so facts are removed all together.
     pub(crate) fn remove(&mut self, key: FactKey, index: usize) {
         let hash = hash_of(key);
         let guess = u32::try_from(index.saturating_add(1)).unwrap_or(0);
@@ -111,7 +111,7 @@ impl FactSlots {
         }
     }
 
-    /// Discards the guesses that are in no slot.
+    /// Discards the indexes of facts whose slots were all taken.
     pub(crate) fn clear_crowded(&mut self) {
         self.crowded.clear();
     }

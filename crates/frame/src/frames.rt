@@ -24,7 +24,7 @@ use scope::{Numbering, SymbolNumbers};
 use std::alloc::{AllocError, Global};
 use std::marker::Model;
 
-/// If the active `$e` bring along more mandatory hypotheses than this, these are many.
+/// The largest number of mandatory hypotheses that the active `$e` bring along without a view of them being made.
 const LONG: usize = 64;
 
 /// The statements of a database by position, without their proofs, with their symbols as numbers.
@@ -35,9 +35,12 @@ const LONG: usize = 64;
 pub struct Frames {
     pub(crate) alloc: Global,
     pub(crate) storage: Storage,
+    /// The mandatory hypotheses that the active `$e` up to each `$e` bring along, as sets.
     pub(crate) given: EssentialSets,
     pub(crate) facts: KeptFacts,
+    /// Buffers for the parts of the next assertion.
     pub(crate) buffers: FrameBuffers,
+    /// A buffer for the numbers of the symbols of the next statement.
     pub(crate) recorded: SymbolNumbers,
 }
 
@@ -83,7 +86,7 @@ impl Frames {
         }
     }
 
-    /// Returns how many statements there are.
+    /// Returns the number of statements.
     pub fn len(&self) -> usize
         ensures { result ≡ length self.now.statements }
     {
@@ -135,8 +138,8 @@ impl Frames {
         }
     }
 
-    /// Returns where each symbol of the expression of the statement at a position stands, or `None` if the expression has
-    /// fewer than `LONG_EXPRESSION` symbols.
+    /// Returns where each symbol of the expression of the statement at a position stands, or `None` if the statement has no
+    /// expression or one of fewer than `LONG_EXPRESSION` symbols.
     ///
     /// Cost: log n for n such expressions.
     pub fn places(&self, at: usize) -> Option<&SymbolPlaces>
@@ -236,9 +239,9 @@ impl Frames {
     /// Fills the buffers with lists by which the assertion at a position can be cited. Its disjoint variables are searched
     /// for pair by pair if that costs less than going through the active `$d`.
     ///
-    /// Errors: an allocation fails. Cost: the size of its hypotheses, which are sorted; and, times a constant, the symbols of
-    /// the active `$d`, or for each two of its variables the `$d` that neither earlier calls with the same facts nor searches
-    /// whose answers are kept have passed and about 64 more, whichever are fewer.
+    /// Errors: an allocation fails. Cost: the size of its hypotheses, which are sorted; and a constant times the smaller of two
+    /// numbers: that of the symbols of the active `$d`, and the sum, over the pairs of its variables, of about 64 and the `$d`
+    /// that no search for the pair has passed yet, in an earlier call with the same facts or for an answer that is kept.
     pub fn fill_for_citing(
         &self,
         a: usize,
@@ -277,6 +280,8 @@ impl Frames {
     }
 
     /// Appends the positions of the mandatory hypotheses of the assertion at a position, in order, to an empty list.
+    ///
+    /// Errors: an allocation fails.
     pub fn mandatory(&self, a: usize, list: &mut Vec<u32>) -> Result<(), AllocError>
         requires assertion { (s : Statement) × HasAssertion self.now.statements a s }
         requires empty { list.old.items ≡ [] }
@@ -291,8 +296,8 @@ impl Frames {
         }
     }
 
-    /// Returns the mandatory hypotheses of the assertion at a position without making a list of them, or `None` if they are
-    /// few.
+    /// Returns the mandatory hypotheses of the assertion at a position without making a list of them, or `None` if the active
+    /// `$e` bring along at most 64 of them or the parts of the assertion are kept whole.
     ///
     /// Errors: an allocation fails. Cost: the `$f` of the assertion's own variables, times a logarithm.
     pub fn mandatory_view(&self, a: usize) -> Result<Option<MandatoryView<'_>>, AllocError>

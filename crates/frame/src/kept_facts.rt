@@ -13,7 +13,7 @@ use std::alloc::Global;
 #[derive(Drop)]
 pub struct KeptFacts {
     pub facts: PairFacts,
-    /// The number of the first statements that the facts are about.
+    /// How many of the first statements the facts are about.
     pub count: usize,
 }
 
@@ -28,9 +28,9 @@ impl KeptFacts {
         }
     }
 
-    /// Prepares for the removal of all but the first `len` statements.
+    /// Discards the facts if they are about more than the first `len` statements; the others are about to be removed.
     ///
-    /// Cost: a constant; if facts are about one that is removed, the facts.
+    /// Cost: a constant; if the facts are discarded, their number.
     pub(crate) fn truncate(&mut self, len: usize)
         ensures { (S : Database) → AreKeptFacts S self.old → AreKeptFacts (take len S) self.new }
     {
@@ -40,9 +40,10 @@ impl KeptFacts {
         }
     }
 
-    /// Searches for the `$d` of x, active at a position, that have y, too, and keeps the answer.
+    /// Searches for a `$d` that has x and y, among those of x that are active at a position, and keeps the answer. A table that
+    /// is more than half full is emptied first.
     ///
-    /// Cost: that of `search_by_facts`.
+    /// Cost: the active `$d` that have x, times a binary search.
     pub(crate) fn search(&mut self, alloc: Global, storage: &Storage, at: usize, x: u32, y: u32)
         requires sought { AreSearched storage.now at x y }
         requires kept { AreKeptFacts (statements_of storage.now) self.old }

@@ -1,4 +1,4 @@
-//! The long searches for pairs of variables that were made, to be made again elsewhere.
+//! Lists long searches for pairs of variables, so that they can be made again and their answers kept with the statements.
 
 use std::alloc::Global;
 
@@ -16,8 +16,8 @@ pub struct LongSearch {
     pub y: u32,
 }
 
-/// Long searches in the order in which they were made. They only say what to search for again, so contracts see nothing of
-/// them.
+/// At most 64 long searches, in the order in which they were made. They only say for which pairs to search again, so
+/// contracts see nothing of them.
 #[derive(Drop)]
 pub struct LongSearches {
     list: Vec<LongSearch>,

@@ -17,10 +17,11 @@ use std::marker::Model;
 /// The largest number of facts in a table.
 const MOST_FACTS: usize = 262_144;
 
-/// The largest number of `$d` that a search passes without recording facts.
+/// The largest number of `$d` that a search passes without recording facts. A search that passes more is long.
 const SHORT: usize = 16;
 
-/// A search that passes more `$d` than this is made again for the statements, which then keep its answer.
+/// A search that passes more `$d` than this is listed, so that `repeat_searches` makes it again and its answer is kept with
+/// the statements.
 pub(crate) const LONG: usize = 256;
 
 /// A search looks up a fact at each of its first `SHORT` `$d`, and at each `$d` that has a multiple of this many `$d` left,
@@ -40,15 +41,15 @@ pub struct PairFact {
     pub found: bool,
 }
 
-/// The answers of long searches, as facts, and the longest of these searches, at most 64.
+/// The answers of long searches, as facts, and the first 64 of these searches that passed more than 256 `$d`.
 ///
-/// Contracts see the list of the facts. A fact holds for one database and for those of which its statements are a prefix.
+/// Contracts see the list of the facts. A fact that is true of a database is true of all that begin with its statements.
 #[derive(Drop)]
 pub struct PairFacts {
     facts: Vec<PairFact>,
     slots: FactSlots,
     pub(crate) searches: LongSearches,
-    /// How many more `$d` searches may pass before they are abandoned.
+    /// How many more `$d` searches may pass. At 0 the caller makes no further one; a search is never broken off.
     left: usize,
 }
 
@@ -76,7 +77,7 @@ impl PairFacts {
 
     /// Discards all facts and searches.
     ///
-    /// Cost: the facts.
+    /// Cost: the number of facts.
     pub fn clear(&mut self)
         ensures { self.new ≡ [] }
     {
@@ -94,7 +95,7 @@ impl PairFacts {
 
     /// Returns the fact that is recorded for a position and two variables, if there is one.
     ///
-    /// Cost: a constant, and log n for n facts whose slots were taken.
+    /// Cost: a constant; if all slots of the fact are taken by others, log n for n facts that are in no slot.
     #[inline(always)]
     pub(crate) fn known(&self, position: u32, x: u32, y: u32) -> Option<PairFact>
         ensures fact { (v : Numbered) → AreFacts v self.now → IfSome result (IsFact v) }
@@ -144,9 +145,9 @@ impl PairFacts {
         }
     }
 
-    /// Records the index of the last fact in the slots, which grow if they are few.
+    /// Records the index of the last fact in the slots, which grow if more than half of them would be filled.
     ///
-    /// Cost: a constant; if the slots grow, the facts.
+    /// Cost: a constant; if the slots grow, the number of facts.
     fn record_last(&mut self)
         ensures { self.new ≡ self.old }
     {
@@ -159,7 +160,7 @@ impl PairFacts {
         }
     }
 
-    /// Discards all facts if more than half of the table is filled.
+    /// Discards all facts if the table is more than half full.
     pub(crate) fn make_room(&mut self)
         ensures { (v : Numbered) → AreFacts v self.old → AreFacts v self.new }
     {
@@ -168,7 +169,7 @@ impl PairFacts {
         }
     }
 
-    /// Records that a search was made, if it passed many `$d`.
+    /// Lists a search, if it passed more than `LONG` `$d`.
     fn record_search(&mut self, steps: usize, search: LongSearch)
         ensures { self.new ≡ self.old }
     {
@@ -177,7 +178,7 @@ impl PairFacts {
         }
     }
 
-    /// Lets the searches that follow pass `count` `$d`.
+    /// Lets the searches that follow pass `count` `$d` together.
     pub(crate) fn allow(&mut self, count: usize)
         ensures { self.new ≡ self.old }
     {
@@ -221,7 +222,8 @@ fn key(fact: PairFact) -> FactKey {
     }
 }
 
-/// Two different variables, and how many active `$d` have each. The counts only say where to search, so they may be wrong.
+/// Two variables that are sought in an active `$d`, and how many active `$d` have each. The counts only say whose `$d` to
+/// go through, so they may be wrong.
 #[derive(Clone, Copy, Drop)]
 pub struct SoughtPair {
     pub x: u32,
@@ -230,11 +232,12 @@ pub struct SoughtPair {
     pub with_y: usize,
 }
 
-/// Returns whether two variables are disjoint at a position, with the facts of earlier searches, and with others that are
-/// kept.
+/// Returns whether two variables are disjoint at a position, by the facts of earlier searches and those that are kept with
+/// the statements, and records the answer as facts if the search is long.
 ///
-/// Cost: the smaller count of active `$d` that have x or that have y, times a binary search; if an earlier search for the
-/// two began at the same `$d` or an earlier one, only the `$d` after that one and at most 64 more.
+/// Cost: the smaller count of active `$d` that have x or that have y, times a binary search; if an earlier search went
+/// through the `$d` of the same variable for the other one, from the same `$d` or an earlier one back, and its facts are
+/// recorded, only the `$d` after that one and at most 64 more.
 pub fn search_by_facts(
     storage: &Storage,
     kept: &PairFacts,
@@ -266,7 +269,7 @@ pub(crate) fn is_first(with_x: usize, with_y: usize, x: u32, y: u32) -> bool {
     with_x < with_y || (with_x == with_y && x <= y)
 }
 
-/// Returns whether two variables are disjoint at a position, by the `$d` that have the first.
+/// Returns whether two variables are disjoint at a position, by going through the `$d` that have the first.
 pub(crate) fn search_row(
     storage: &Storage,
     kept: &PairFacts,
@@ -354,7 +357,7 @@ fn known_in(
     }
 }
 
-/// Records the answer of a long search at the `$d` that it passed.
+/// Records the answer of a long search at some of the `$d` that it passed: those of `is_recorded`.
 fn record_passed(
     storage: &Storage,
     facts: &mut PairFacts,
@@ -386,15 +389,15 @@ fn record_passed(
     }
 }
 
-/// Returns whether a search looks up a fact at a `$d`, after having passed `passed` others and with `below` more to go. No
-/// fact is recorded at the last `SHORT` ones.
+/// Returns whether a search looks up a fact at a `$d`, having passed `passed` others and with `below` more to go after it.
+/// No fact is recorded at the last `SHORT` ones.
 pub(crate) fn is_looked_up(passed: usize, below: usize) -> bool {
     below >= SHORT && (passed < SHORT || below % STRIDE == STRIDE - 1)
 }
 
-/// Returns whether a long search that began with `top` `$d` to go records its answer at the `$d` with `height` to go: at its
-/// first one, and at the first one with a multiple of 64, of 128, of 256 and so on to go. So it records few facts, and a
-/// later search that begins a little further on usually meets one of them soon.
+/// Returns whether a long search that began with `top` `$d` to go records its answer at the `$d` with `height` to go,
+/// itself included: at its first one, and at the first one with a multiple of 64, of 128, of 256 and so on to go. So it
+/// records few facts, and a later search that begins at a somewhat later position usually meets one of them soon.
 fn is_recorded(top: usize, height: usize) -> bool {
     let multiple = height & !height.saturating_sub(1);
     height == top || (height % STRIDE == 0 && top.saturating_sub(height) < multiple)

@@ -19,7 +19,8 @@ const MOST_PAIRS: usize = 65_536;
 /// A search that goes through more `$d` than this is long.
 const SHORT: usize = 16;
 
-/// The positions of the `$d` in which long searches found pairs of variables, and the longest of the other searches.
+/// The positions of the `$d` in which long searches found pairs of variables; and the first 64 of the other searches, which
+/// found none or were ended by a fact, that passed more than 256 `$d` after the first 16.
 ///
 /// A position only says where to look first, so one memo serves at all positions and for all databases.
 #[derive(Drop)]
@@ -53,7 +54,7 @@ impl PairMemo {
         let _recorded = self.found.insert(key(x, y), position);
     }
 
-    /// Records that a search was made, if it passed many `$d`.
+    /// Lists a search, if it passed more than `LONG` `$d`.
     fn record_search(&mut self, steps: usize, search: LongSearch) {
         if steps > LONG {
             self.searches.add(search);
@@ -68,8 +69,8 @@ fn key(x: u32, y: u32) -> u64 {
 
 /// Returns whether two variables are disjoint, given the `$d` that are left to search, all of which have the first variable.
 ///
-/// Cost: the number of these `$d`, times a binary search; if they are many and the pair is in the memo, log n for n pairs
-/// there; and if facts tell the answer, only the `$d` after the first of these facts.
+/// Cost: the number of these `$d`, times a binary search; if the memo has an active `$d` for the pair, the first `SHORT` of
+/// them, and log n for n pairs in the memo; if facts tell the answer, only the `$d` up to the first such fact.
 pub fn search(
     storage: &Storage,
     facts: &PairFacts,
@@ -94,7 +95,7 @@ pub fn search(
     search_on(storage, facts, at, memo, left, x, y)
 }
 
-/// Continues a search that is long.
+/// Continues a search after its first `SHORT` `$d`: first by the memo, then through the other `$d`.
 #[cold]
 #[inline(never)]
 fn search_on(

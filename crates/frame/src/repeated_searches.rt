@@ -9,8 +9,8 @@ use crate::pair_memo::PairMemo;
 impl Frames {
     /// Makes the searches again, keeps their answers, and removes them from the list.
     ///
-    /// A search at a position that is no longer there is made at the last one, and one for a variable that is no longer
-    /// there is left out.
+    /// A search at a position that is no longer there is made at the last position, and a search for a variable that is no
+    /// longer there is left out.
     ///
     /// Cost: that of the searches.
     pub(crate) fn repeat_all(&mut self, searches: &mut LongSearches)
@@ -39,7 +39,8 @@ impl Frames {
 }
 
 impl PairFacts {
-    /// Has the frames make the longest searches again, whose answers they keep, and forgets these searches.
+    /// Has the frames make the recorded searches again, whose answers they keep, and forgets these searches. They are the first
+    /// that passed more than 256 `$d`.
     ///
     /// Cost: that of the searches, of which there are at most 64.
     pub fn repeat_searches(&mut self, frames: &mut Frames)
@@ -51,7 +52,8 @@ impl PairFacts {
 }
 
 impl PairMemo {
-    /// Has the frames make the longest searches again, whose answers they keep, and forgets these searches.
+    /// Has the frames make the recorded searches again, whose answers they keep, and forgets these searches. They are the first
+    /// that passed more than 256 `$d` without finding one that has both variables.
     ///
     /// Cost: that of the searches, of which there are at most 64.
     pub fn repeat_searches(&mut self, frames: &mut Frames)

@@ -1,4 +1,6 @@
-//! The active `$d`, `$v` and long `$e` that have a symbol, as stacks by number.
+//! The active `$d`, `$v` and long `$e` that have a symbol: a stack for the number of each symbol.
+//!
+//! A `$e` is long if it has `LONG_EXPRESSION` symbols or more.
 ghost use Rattle.std.specs.Prelude.{◌≡◌, ◌+◌, ◌-◌, ◌<◌, ℕ, length, OnOk};
 ghost use Rattle.entries.specs.Histories.{AreUntil, gone_back, history, pushed, stack_at};
 ghost use Rattle.entries.specs.declared.kind.Kind.TheVariants.{Disj, Ess, Var};
@@ -17,14 +19,16 @@ pub struct NextStatement<'a> {
     pub codes: &'a [u32],
     /// Its position.
     pub at: u32,
-    /// The last statements that are active before it.
+    /// The last statements of each kind that are active before it.
     pub last_active: LastActive,
 }
 
-/// Records the next statement if it is a `$d`, a `$v` or a long `$e`, or restores what is active after it if it is a `$}`.
+/// Pushes the next statement onto the stacks of its symbols if it is a `$d`, a `$v` or a long `$e`; if it is a `$}`,
+/// restores the stacks to what they were at its `${`.
 ///
-/// Cost: the symbols of a `$d`, `$v` or long `$e`; for a `$}` those of the `$d`, `$v` and long `$e` that it makes inactive, for
-/// each of these symbols a binary search, and a constant for each short `$e` that it makes inactive.
+/// Errors: an allocation fails; the stacks at earlier positions are then the same. Cost: the symbols of a `$d`, `$v` or
+/// long `$e`; for a `$}` those of the `$d`, `$v` and long `$e` that it makes inactive, for each of these symbols a binary
+/// search, and a constant for each short `$e` that it makes inactive.
 pub fn record_active(
     disjoints: &mut Histories,
     variables: &mut Histories,
@@ -80,7 +84,7 @@ fn long_codes(codes: &[u32]) -> &[u32]
     }
 }
 
-/// Returns the symbols for whose stacks a statement of a kind counts.
+/// Returns the symbols onto whose stacks a statement of a kind is pushed.
 fn codes_of_kind(codes: &[u32], of: Kind) -> &[u32]
     ensures { result.now ≡ codes_by of codes.now }
 {
@@ -90,8 +94,8 @@ fn codes_of_kind(codes: &[u32], of: Kind) -> &[u32]
     }
 }
 
-/// Restores the stack of each symbol of the active statements of a kind in the last block to the stack that it was when that
-/// block opened.
+/// Restores the stack of each symbol of the active statements of a kind in the innermost open block to what it was when
+/// that block opened.
 fn go_back_all(
     histories: &mut Histories,
     entries: &Entries,
@@ -114,7 +118,7 @@ fn go_back_all(
     Ok(())
 }
 
-/// Restores the stack of each of the symbols to the stack that it was at `before`.
+/// Restores the stack of each of the symbols to what it was at `before`.
 fn go_back_each(
     histories: &mut Histories,
     codes: &[u32],

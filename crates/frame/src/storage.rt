@@ -17,18 +17,20 @@ pub struct Symbol {
 #[derive(Drop)]
 pub struct Storage {
     pub numbering: Numbering,
+    /// For each label, by its number, the position of its statement.
     pub positions: Vec<u32>,
+    /// For each symbol, by its number, its last declarations.
     pub symbols: Vec<Symbol>,
     /// The positions that each `$f`, and each symbol of each `$v`, replaced in `symbols`, in order.
     pub replaced: Vec<usize>,
     /// For each `${` the position of its `$}`, or 0 while its block is open; for another statement 0.
     pub ends: Vec<u32>,
     pub entries: StoredEntries,
-    /// For each symbol, by its number, the active `$d` that have it.
+    /// For each symbol, by its number, the active `$d` that have it, at each position.
     pub disjoints: Histories,
-    /// For each symbol, by its number, the active `$v` that have it.
+    /// For each symbol, by its number, the active `$v` that have it, at each position.
     pub variables: Histories,
-    /// For each symbol, by its number, the active `$e` of `LONG_EXPRESSION` symbols or more that have it.
+    /// For each symbol, by its number, the active `$e` of `LONG_EXPRESSION` symbols or more that have it, at each position.
     pub essentials: Histories,
     pub last_active: LastActive,
 }

@@ -1,7 +1,8 @@
 -- The symbols of an expression whose images are not empty.
 -- Metamath, 4.2.6: an image may be the empty sequence of symbols, and then nothing replaces the variable.
--- The code goes over the distinct symbols of an expression, each with its group of indexes, and skips those with an empty image;
--- or it takes only the groups of the constants and of symbols that were listed for the expression.
+-- The code goes over the distinct symbols of an expression, each with the group of the indexes at which it stands, and
+-- skips those with an empty image; or it takes only the groups of the constants and of symbols that were listed for the
+-- expression.
 use Rattle.std.specs.Prelude.{◌≡◌, ◌<◌, ◌^◌, ◌==◌, ℕ, Bool, true, false, nat_eq, nat_lt, List, [], Option, Some, None, slice_get, option_and_then, if◌then◌else◌}
 use Rattle.subst.specs.Words.{filter, list_any, lookup, code_apply}
 use Rattle.entries.specs.Stored.Keys.{key_of}
@@ -9,6 +10,7 @@ use Rattle.frame.specs.Stored.Hypotheses.{In}
 use Rattle.subst.specs.SymbolRanges.{images_at}
 use Rattle.subst.specs.declared.symbol_range.SymbolRange.{SymbolRange}
 
+-- the range is not empty; without one the symbol is its own image
 abbrev pub is_range_nonempty : Option SymbolRange → Bool
 is_range_nonempty None = true
 is_range_nonempty (Some p) = nat_lt p.start p.end
@@ -29,11 +31,12 @@ HaveSameResult images left expr = (symbols : List ℕ) → code_apply (images_at
 abbrev pub first_symbol : List ℕ → List ℕ → Option ℕ
 first_symbol expr group = option_and_then (slice_get expr) (slice_get group 0)
 
+-- there is a symbol, and its image is not empty
 abbrev pub is_symbol_left : List (ℕ × SymbolRange) → Option ℕ → Bool
 is_symbol_left images None = false
 is_symbol_left images (Some x) = has_nonempty_image images x
 
--- the image of that symbol is not empty
+-- the image of the symbol at the first index of the group is not empty
 abbrev pub is_group_left : List (ℕ × SymbolRange) → List ℕ → List ℕ → Bool
 is_group_left images expr group = is_symbol_left images (first_symbol expr group)
 
@@ -48,7 +51,7 @@ pub record Remainder : Type 0 where
   pub keys : List ℕ
   pub left : List ℕ
 
--- one of the symbols
+-- there is a symbol, and it is one of these
 abbrev pub is_among : List ℕ → Option ℕ → Bool
 is_among symbols None = false
 is_among symbols (Some x) = list_any (λ s. x == s) symbols

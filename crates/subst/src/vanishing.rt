@@ -18,13 +18,18 @@ const PART: usize = 4;
 /// A key is a position times this, plus a symbol.
 const SYMBOLS: u64 = 4_294_967_296;
 
-/// Buffers for the symbols that are left of an expression, and a list of symbols that may be left of the expressions of
-/// statements. Contracts see both lists, the second one of pairs of a position and a symbol, each as one number.
+/// Buffers for the symbols that are left of an expression, and a list of symbols, each for the statement at a position,
+/// that `find_listed` leaves. Contracts see the listed pairs of a position and a symbol, each as one number, as `keys`, and
+/// the symbols that were found last as `left`.
 #[derive(Drop)]
 pub struct Remaining {
+    /// The indexes of the symbols that are left of the expression.
     indexes: Vec<u32>,
+    /// The symbols that are left of it.
     symbols: Vec<u32>,
+    /// The listed pairs of a position and a symbol.
     keys: Vec<u64>,
+    /// The symbols that are listed for one position.
     listed: Vec<u32>,
 }
 
@@ -47,7 +52,7 @@ impl Remaining {
         }
     }
 
-    /// Empties the list of symbols.
+    /// Empties the list of positions and symbols.
     pub fn forget(&mut self)
         ensures { self.new.keys ≡ [] }
     {
@@ -64,7 +69,7 @@ impl Remaining {
         Ok(())
     }
 
-    /// Puts the list of symbols in the order of positions.
+    /// Puts the list of symbols in the order of positions, each pair once.
     ///
     /// Cost: n log n for n symbols.
     pub fn order(&mut self)
@@ -75,7 +80,8 @@ impl Remaining {
     }
 
     /// Finds the occurrences of those symbols of an expression that are constants or are listed for the statement at a
-    /// position, in order, or returns `false` if they are more than a quarter of the expression.
+    /// position, in order, or returns `false` if they are more than a quarter of the expression. Contracts say only that these
+    /// are among the symbols that are found, and that all occurrences of each symbol are found or none.
     ///
     /// Errors: an allocation fails.
     /// Cost: the occurrences that are found, times a logarithm.
@@ -232,7 +238,8 @@ fn read(symbols: &mut Vec<u32>, expr: &[u32], indexes: &[u32]) -> Result<(), All
     Ok(())
 }
 
-/// Adds the indexes of each of the symbols, group by group, or returns `false` if there would be more than `most` indexes.
+/// Adds the indexes of the occurrences of each of the symbols, or returns `false` if there would be more than `most`
+/// indexes.
 fn add_groups(
     indexes: &mut Vec<u32>,
     places: &SymbolPlaces,

@@ -1,4 +1,4 @@
--- Lists of two disjoint variables each, in place of the groups of an assertion. The code's own form: no public clause cites it.
+-- Groups of two disjoint variables each, in place of those by active `$d`. The code's own form: no public clause cites it.
 -- Metamath, 4.2.7: the mandatory `$d` of an assertion are pairs of its mandatory variables.
 -- The code makes them pair by pair if the active `$d` are many.
 use Rattle.std.specs.Prelude.{◌≡◌, ℕ, ◌<◌, ◌≤◌, ◌-◌, ◌==◌, ◌⊎◌, Bool, false, ◌&&◌, ◌||◌, List, length, map, take, drop}
@@ -25,11 +25,11 @@ pub record IsSearchedIn (k : Storage) (x y : ℕ) (row : List ℕ) : Type 0 wher
   pub differ : (x == y) ≡ false
   pub row_of : IsRowOf k x row
 
--- the answer is the same for the rows from each of the passed `$d` on, and from the next one on
+-- the answer of the search holds for the whole row, and for what is left of it after each of the passed `$d`
 abbrev pub AreAnswered : Storage → ℕ → List ℕ → Walked → Type 0
 AreAnswered k y row walked = (i : ℕ) → i ≤ walked.steps → list_any (has_code k.entries y) (drop i row) ≡ walked.found
 
--- ---- the lists of two variables
+-- ---- the groups of two variables
 
 -- pairs can be searched for at the position
 pub record IsSearchPosition (k : Storage) (at : ℕ) : Type 0 where

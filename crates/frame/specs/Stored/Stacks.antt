@@ -11,6 +11,7 @@ use Rattle.frame.specs.declared.stored_entries.TheConstants.{LONG_EXPRESSION}
 abbrev pub has_code : List Entry → ℕ → ℕ → Bool
 has_code es c p = list_any (λ x. c == x) (symbols_at es p)
 
+-- the positions of those statements that have the symbol c, from the last one back, before those that were found earlier
 abbrev pub having_after : List ℕ → List Entry → ℕ → List (ℕ × Stmt) → List ℕ
 having_after found es c [] = found
 having_after found es c (p ∷ ps) = having_after (if has_code es c p.0 then p.0 ∷ found else found) es c ps
@@ -42,7 +43,7 @@ long_codes codes = if nat_le LONG_EXPRESSION (length codes) then codes else []
 abbrev pub long_entry : Entry → Entry
 long_entry e = record { kind = e.kind; label = e.label; names = e.names; last_active = e.last_active; symbols = long_codes e.symbols; assertion = e.assertion }
 
--- the symbols, and the statements, by which the stacks of a kind are made: those of `$e` have only the long ones
+-- the symbols, and the statements, by which the stacks of a kind are made; a short `$e` counts as one without symbols
 abbrev pub codes_by : Kind → List ℕ → List ℕ
 codes_by Ess codes = long_codes codes
 codes_by kind codes = codes
@@ -64,11 +65,12 @@ last_by_kind Disj l = l.disjoint
 last_by_kind Ess l = l.essential
 last_by_kind kind l = l.variable
 
--- the position to whose stacks a `$}` goes back: that of its `${`
+-- the position to whose stacks a `$}` goes back: that of its `${`, or 1 for 0, which stands for no block
 abbrev pub opening : ℕ → ℕ
 opening zero = 1
 opening (suc b) = suc b
 
+-- the stack of the symbol c at `at`, with `at` on top if c is among the symbols
 abbrev pub with_top : List ℕ → ℕ → List (List StackVersion) → ℕ → List ℕ
 with_top codes at hs c = if list_any (λ x. c == x) codes then at ∷ stack_at (history hs c) at else stack_at (history hs c) at
 

@@ -28,6 +28,7 @@ pub record AreKept (names labels : List Name) (positions : List ℕ) (symbols : 
   pub few : length names < 2 ^ 31
   pub parts_kept : (i : ℕ) (e : Entry) → slice_get entries i ≡ Some e → has_parts e.kind ≡ true → IsKeptAs entries (take i (map (stmt_of names labels) entries)) (stmt_of names labels e) e.assertion
 
+-- the storage is that of its statements, with the stacks of each symbol
 pub record AreStored (k : Storage) : Type 0 where
   pub kept : AreKept (names_in k) (labels_in k) k.positions.items k.symbols.items k.replaced.items k.entries k.last_active
   pub numbered : k.numbering ≡ naming_of (statements_of k)
@@ -51,6 +52,7 @@ pub record IsEntryHeader (k : Storage) (s : Stmt) (h : EntryHeader) : Type 0 whe
   pub names : h.before.names ≡ length (names_in k)
   pub last_active : h.before.last_active ≡ k.last_active
 
+-- the parts are kept as those of the next statement s
 abbrev pub IsKeptOf : Storage → Stmt → Assertion → Type 0
 IsKeptOf k s d = IsKeptAs k.entries (statements_of k) s d
 
