@@ -72,7 +72,7 @@ impl DisjointCache {
         self.subject = Subject::none();
     }
 
-    /// Has the frames make the longest searches for pairs again that proofs made, so that they keep the answers.
+    /// Has the frames make long searches for pairs again that proofs made, so that they keep the answers.
     ///
     /// Cost: that of `PairMemo::repeat_searches`.
     pub fn repeat_searches(&mut self, frames: &mut Frames)

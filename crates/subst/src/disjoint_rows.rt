@@ -86,7 +86,7 @@ impl DisjointRows {
         self.one_list.release(alloc);
     }
 
-    /// Has the frames make the longest searches for pairs again, as `PairMemo::repeat_searches`.
+    /// Has the frames make long searches for pairs again, as `PairMemo::repeat_searches`.
     pub fn repeat_searches(&mut self, frames: &mut Frames)
         ensures facts { self.new ≡ self.old }
         ensures frames { frames.new ≡ frames.old }

@@ -82,7 +82,7 @@ impl Checker {
         self.buffers.kept.begin();
     }
 
-    /// Has the frames make the longest searches for pairs of disjoint variables again that were made since `begin`. They keep
+    /// Has the frames make long searches for pairs of disjoint variables again that were made since `begin`. They keep
     /// the answers, so that later searches for these pairs, by any checker, are short.
     ///
     /// Cost: that of the searches, of which there are at most 128.

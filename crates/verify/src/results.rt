@@ -84,7 +84,7 @@ impl Results {
         self.share = share;
     }
 
-    /// Has the frames make the longest searches for pairs again that proofs made, so that they keep the answers.
+    /// Has the frames make long searches for pairs again that proofs made, so that they keep the answers.
     ///
     /// Cost: that of `DisjointCache::repeat_searches`.
     pub fn repeat_searches(&mut self, frames: &mut Frames)

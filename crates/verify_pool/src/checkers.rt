@@ -54,7 +54,7 @@ impl Checkers {
         });
     }
 
-    /// Has the frames make the longest searches for pairs of disjoint variables again that the checkers made for the last jobs.
+    /// Has the frames make long searches for pairs of disjoint variables again that the checkers made for the last jobs.
     /// They keep the answers, so that later searches for these pairs are short.
     ///
     /// Cost: that of the searches, of which there are at most 128 for each checker.
