@@ -1,7 +1,7 @@
 //! A scenario with a gap in the log, by the calls that borrow the locked values. Each cell fills the gap, and cells compare as
 //! their statements do, even if the first node's keep fails at any call and the node restarts after any event.
 
-use crate::failing_keep::{FailingKeep, entry, make_three, restart_first};
+use crate::fuse::{Fuse, entry, make_three, restart_first};
 use cluster::{
     Ahead, NodeCell, Switch, apply_on, begin_on, belongs, compare_on, deliver_on, list_on,
     offer_on, take_on,
@@ -45,7 +45,7 @@ fn each_cell_fills_the_gap(rt: HostRuntime) {
 }
 
 fn fills_each_cell(alloc: Global) -> Result<bool, StepFault> {
-    let (mut switch, mut cells) = make_three(alloc, FailingKeep::new(alloc, None, false))?;
+    let (mut switch, mut cells) = make_three(alloc, Fuse::new(alloc, None, false))?;
     let filled = steps_fill_gap(alloc, &mut switch, &mut cells);
     // An explicit `drop` is proved once for each type; a drop at the end of the scope would be proved here.
     drop(cells);
@@ -56,14 +56,14 @@ fn fills_each_cell(alloc: Global) -> Result<bool, StepFault> {
 /// Returns whether all steps succeed, and the cells fill the gap.
 fn steps_fill_gap(
     alloc: Global,
-    switch: &mut Switch<Carried, FailingKeep>,
+    switch: &mut Switch<Carried, Fuse>,
     cells: &mut Vec<NodeCell>,
 ) -> Result<bool, StepFault> {
     Ok(all_steps_succeed(alloc, switch) && fills_gap(switch, cells)?)
 }
 
 /// Returns whether all steps succeed, and no other packet and no other node exists.
-fn all_steps_succeed(alloc: Global, switch: &mut Switch<Carried, FailingKeep>) -> bool {
+fn all_steps_succeed(alloc: Global, switch: &mut Switch<Carried, Fuse>) -> bool {
     for (step, posted) in STEPS {
         if make_step(alloc, switch, step) != Ok(posted) {
             return false;
@@ -74,10 +74,7 @@ fn all_steps_succeed(alloc: Global, switch: &mut Switch<Carried, FailingKeep>) -
 }
 
 /// Returns whether each cell adds as many statements as `expected_added` returns, and all agree.
-fn fills_gap(
-    switch: &Switch<Carried, FailingKeep>,
-    cells: &mut Vec<NodeCell>,
-) -> Result<bool, StepFault> {
+fn fills_gap(switch: &Switch<Carried, Fuse>, cells: &mut Vec<NodeCell>) -> Result<bool, StepFault> {
     for cell in cells.iter_mut() {
         if !adds_statements(cell, switch, expected_added(cell.node()))? {
             return Ok(false);
@@ -98,7 +95,7 @@ fn expected_added(node: u8) -> usize {
 /// Returns whether the cell copies and applies the entries of its log, and then has `added` statements, none with a label.
 fn adds_statements(
     cell: &mut NodeCell,
-    switch: &Switch<Carried, FailingKeep>,
+    switch: &Switch<Carried, Fuse>,
     added: usize,
 ) -> Result<bool, StepFault> {
     let had_entry = apply_on(cell)?.is_some();
@@ -111,7 +108,7 @@ fn adds_statements(
 /// Makes a step of the scenario.
 fn make_step(
     alloc: Global,
-    switch: &mut Switch<Carried, FailingKeep>,
+    switch: &mut Switch<Carried, Fuse>,
     step: Step,
 ) -> Result<u64, StepFault> {
     match step {
@@ -123,10 +120,7 @@ fn make_step(
 }
 
 /// Copies and applies all entries of the cell's log.
-fn copy_and_apply(
-    cell: &mut NodeCell,
-    switch: &Switch<Carried, FailingKeep>,
-) -> Result<(), StepFault> {
+fn copy_and_apply(cell: &mut NodeCell, switch: &Switch<Carried, Fuse>) -> Result<(), StepFault> {
     for _entry in 0..3 {
         if !take_on(cell, switch)? {
             break;
@@ -137,7 +131,7 @@ fn copy_and_apply(
 }
 
 /// Returns whether each cell belongs to the switch, and each two compare as their statements do.
-fn all_agree(switch: &Switch<Carried, FailingKeep>, cells: &[NodeCell]) -> bool {
+fn all_agree(switch: &Switch<Carried, Fuse>, cells: &[NodeCell]) -> bool {
     for one in cells {
         for other in cells {
             if compared(one, other, switch) != Some(ahead_by_count(one, other)) {
@@ -149,11 +143,7 @@ fn all_agree(switch: &Switch<Carried, FailingKeep>, cells: &[NodeCell]) -> bool 
 }
 
 /// Returns which of two cells is ahead, if both belong to the switch.
-fn compared(
-    one: &NodeCell,
-    other: &NodeCell,
-    switch: &Switch<Carried, FailingKeep>,
-) -> Option<Ahead> {
+fn compared(one: &NodeCell, other: &NodeCell, switch: &Switch<Carried, Fuse>) -> Option<Ahead> {
     if belongs(one, switch) && belongs(other, switch) {
         Some(compare_on(one, other, switch))
     } else {
@@ -175,7 +165,7 @@ fn ahead_by_count(one: &NodeCell, other: &NodeCell) -> Ahead {
 }
 
 #[test]
-fn restart_after_each(rt: HostRuntime) {
+fn stop_at_each(rt: HostRuntime) {
     for restart in 0..STEPS.len() {
         for calls in 0..18 {
             let old = agrees(rt.alloc(), Some(calls), false, restart);
@@ -196,10 +186,7 @@ fn agrees(
     leaves_new: bool,
     restart: usize,
 ) -> Result<bool, StepFault> {
-    let (mut switch, mut cells) = make_three(
-        alloc,
-        FailingKeep::new(alloc, calls_left, leaves_new),
-    )?;
+    let (mut switch, mut cells) = make_three(alloc, Fuse::new(alloc, calls_left, leaves_new))?;
     let agreed = run_with_restart(alloc, &mut switch, &mut cells, restart);
     drop(cells);
     drop(switch);
@@ -208,7 +195,7 @@ fn agrees(
 
 fn run_with_restart(
     alloc: Global,
-    switch: &mut Switch<Carried, FailingKeep>,
+    switch: &mut Switch<Carried, Fuse>,
     cells: &mut Vec<NodeCell>,
     restart: usize,
 ) -> Result<bool, StepFault> {
@@ -224,7 +211,7 @@ fn run_with_restart(
 
 fn copy_and_apply_each(
     cells: &mut Vec<NodeCell>,
-    switch: &Switch<Carried, FailingKeep>,
+    switch: &Switch<Carried, Fuse>,
 ) -> Result<(), StepFault> {
     for cell in cells.iter_mut() {
         copy_and_apply(cell, switch)?;

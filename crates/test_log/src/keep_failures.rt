@@ -1,5 +1,5 @@
 //! A node whose keep fails is down until it restarts.
-use crate::failing_keep::{FailingKeep, make_three, restart_first};
+use crate::fuse::{Fuse, make_three, restart_first};
 use cluster::{MemoryKeep, NodeCell, Switch, begin_on};
 use net::{Event, StepFault};
 use slots::SLOTS;
@@ -20,7 +20,7 @@ fn a_store_fails(rt: HostRuntime) {
 /// Returns whether the first node is down after its first store fails, and up again after it restarts. The failed store leaves
 /// the new record or the old one.
 fn store_fails(alloc: Global, leaves_new: bool) -> Result<bool, StepFault> {
-    let (mut switch, mut cells) = make_three(alloc, FailingKeep::new(alloc, Some(0), leaves_new))?;
+    let (mut switch, mut cells) = make_three(alloc, Fuse::new(alloc, Some(0), leaves_new))?;
     let down = goes_down(&mut switch, &mut cells);
     // An explicit `drop` is proved once for each type; a drop at the end of the scope would be proved here.
     drop(cells);
@@ -29,7 +29,7 @@ fn store_fails(alloc: Global, leaves_new: bool) -> Result<bool, StepFault> {
 }
 
 fn goes_down(
-    switch: &mut Switch<Carried, FailingKeep>,
+    switch: &mut Switch<Carried, Fuse>,
     cells: &mut Vec<NodeCell>,
 ) -> Result<bool, StepFault> {
     Ok(
@@ -41,7 +41,7 @@ fn goes_down(
 }
 
 /// Returns whether the node asked both others when it restarted, and its next ballot is its second.
-fn is_up_again(switch: &mut Switch<Carried, FailingKeep>) -> Result<bool, StepFault> {
+fn is_up_again(switch: &mut Switch<Carried, Fuse>) -> Result<bool, StepFault> {
     let asked = matches!(switch.history(), [Event::Begin(0), Event::Restart(0)])
         && is_ask_for_first(switch, 3, 1)?
         && is_ask_for_first(switch, 4, 2)?;
@@ -50,7 +50,7 @@ fn is_up_again(switch: &mut Switch<Carried, FailingKeep>) -> Result<bool, StepFa
 
 /// Returns whether in this packet node 0 asks node `to` for the first entry.
 fn is_ask_for_first(
-    switch: &Switch<Carried, FailingKeep>,
+    switch: &Switch<Carried, Fuse>,
     number: u64,
     to: u8,
 ) -> Result<bool, StepFault> {
@@ -63,10 +63,7 @@ fn is_ask_for_first(
 }
 
 /// Returns whether the packet is a prepare request to node 1 for the ballot of round 2 and node 0.
-fn is_second_prepare(
-    switch: &Switch<Carried, FailingKeep>,
-    number: u64,
-) -> Result<bool, StepFault> {
+fn is_second_prepare(switch: &Switch<Carried, Fuse>, number: u64) -> Result<bool, StepFault> {
     let packet = switch.packet(number)?;
     let is_second = match &packet.body {
         Body::Prepare { ballot, first } => *first == 0 && ballot.round == 2 && ballot.node == 0,
@@ -81,14 +78,14 @@ fn a_load_fails(rt: HostRuntime) {
 }
 
 fn load_fails(alloc: Global) -> Result<bool, StepFault> {
-    let (mut switch, mut cells) = make_three(alloc, FailingKeep::new(alloc, Some(0), false))?;
+    let (mut switch, mut cells) = make_three(alloc, Fuse::new(alloc, Some(0), false))?;
     let restarted = restarts_twice(&mut switch, &mut cells);
     drop(cells);
     drop(switch);
     Ok(restarted)
 }
 
-fn restarts_twice(switch: &mut Switch<Carried, FailingKeep>, cells: &mut Vec<NodeCell>) -> bool {
+fn restarts_twice(switch: &mut Switch<Carried, Fuse>, cells: &mut Vec<NodeCell>) -> bool {
     restart_first(switch, cells) == Err(StepFault::Device)
         && restart_first(switch, cells) == Ok(2)
         && matches!(switch.history(), [Event::Restart(0)])

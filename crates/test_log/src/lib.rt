@@ -3,7 +3,7 @@
 #![tactic(auto)]
 
 #[cfg(test)]
-mod failing_keep;
+mod fuse;
 #[cfg(test)]
 mod gap;
 #[cfg(test)]

@@ -1,5 +1,5 @@
 //! A world of entries: a whole list of events in one call, and an application after a failed allocation.
-use crate::failing_keep::entry;
+use crate::fuse::entry;
 use library::Entry;
 use net::{Event, StepFault};
 use std::alloc::{AllocError, Global};

@@ -23,18 +23,18 @@ pub fn entry(alloc: Global, serial: u64, text: &[u8]) -> Result<Entry, AllocErro
 /// A keep that fails once, after `calls_left` calls, and then works again. A store that fails leaves the new record if
 /// `leaves_new`, else the old one.
 #[derive(Drop)]
-pub struct FailingKeep {
+pub struct Fuse {
     keep: MemoryKeep<Carried>,
     calls_left: Option<u32>,
     leaves_new: bool,
     failures: Steps,
 }
 
-impl FailingKeep {
+impl Fuse {
     pub fn new(alloc: Global, calls_left: Option<u32>, leaves_new: bool) -> Self
         ensures { ⟦<MemoryKeep<Carried> as Keep<Carried>>⟧.kept result.keep ≡ new_kept }
     {
-        FailingKeep {
+        Fuse {
             keep: MemoryKeep::new(alloc),
             calls_left,
             leaves_new,
@@ -43,7 +43,7 @@ impl FailingKeep {
     }
 }
 
-impl Keep<Carried> for FailingKeep {
+impl Keep<Carried> for Fuse {
     ghost kept = { λ s. ⟦<MemoryKeep<Carried> as Keep<Carried>>⟧.kept s.keep };
 
     ghost failures = { λ s. s.failures.count + ⟦<MemoryKeep<Carried> as Keep<Carried>>⟧.failures s.keep };
@@ -86,12 +86,12 @@ fn fails_now(calls_left: &mut Option<u32>) -> bool {
 /// Makes three nodes, of which the first has this keep.
 pub fn make_three(
     alloc: Global,
-    first: FailingKeep,
-) -> Result<(Switch<Carried, FailingKeep>, Vec<NodeCell>), StepFault>
+    first: Fuse,
+) -> Result<(Switch<Carried, Fuse>, Vec<NodeCell>), StepFault>
     requires { ⟦<MemoryKeep<Carried> as Keep<Carried>>⟧.kept first.keep ≡ new_kept }
 {
-    let others = FailingKeep::new(alloc, None, false);
-    let Ok(keeps) = vec![in alloc; first, others, FailingKeep::new(alloc, None, false)] else {
+    let others = Fuse::new(alloc, None, false);
+    let Ok(keeps) = vec![in alloc; first, others, Fuse::new(alloc, None, false)] else {
         return Err(StepFault::Memory);
     };
     cells(alloc, Weights::equal(3), keeps)
@@ -99,7 +99,7 @@ pub fn make_three(
 
 /// Restarts the first node.
 pub fn restart_first(
-    switch: &mut Switch<Carried, FailingKeep>,
+    switch: &mut Switch<Carried, Fuse>,
     cells: &mut Vec<NodeCell>,
 ) -> Result<u64, StepFault> {
     match cells.get_mut(0) {
