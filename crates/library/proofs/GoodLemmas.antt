@@ -52,7 +52,7 @@ module _ (S T : Database) where
           → Spells S at marked items t after weight → Spells (S ++ T) at marked items t after weight
       spells-later (cites_hypothesis {i = i} {label = label} s e carries active ends) =
           cites_hypothesis s e (carries-later i s label carries) (hypothesis-later i s active) (concludes-later (hyp i) e ends)
-      spells-later (cites_assertion {a = a} {kids = kids} s e label front front_weight carries citable ends all whole weighs) =
+      spells-later (cites_assertion {a = a} {children = kids} s e label front front_weight carries citable ends all whole weighs) =
           cites_assertion s e label front front_weight (carries-later a s label carries)
           (record { earlier = citable.earlier; assertion = citable.assertion }) (concludes-later (apply a kids) e ends) (spells-all-later all) whole weighs
       spells-later {t = t} (recalls e found ends) = recalls e found (concludes-later t e ends)

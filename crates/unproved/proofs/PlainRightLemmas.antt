@@ -117,7 +117,7 @@ module _ (S T : Database) (same : plains S ≡ plains T) where
       spells-same (cites_hypothesis {i = i} {label = label} s e carries active ends) =
           let w = stands-same S T same i s carries.stands in
           cites_hypothesis w.0 e (carries-same i s label w carries) (hypothesis-same i s w active) (concludes-same (hyp i) e ends)
-      spells-same (cites_assertion {a = a} {kids = kids} s e label front front_weight carries citable ends all whole weighs) =
+      spells-same (cites_assertion {a = a} {children = kids} s e label front front_weight carries citable ends all whole weighs) =
           let w = stands-same S T same a s carries.stands in
           cites_assertion w.0 e label front front_weight (carries-same a s label w carries)
           (record { earlier = citable.earlier; assertion = subst IsTrue (alike is_assertion (plain-same is_assertion (λ l e p. refl)) w.0 s w.2) citable.assertion })
