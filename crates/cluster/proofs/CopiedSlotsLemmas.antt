@@ -54,4 +54,4 @@ stays_whole {V} old new change is whole = subst (λ (k : Kept V). trimmed k.acce
   by_change None = whole
   by_change (Some (Round r)) = whole
   by_change (Some (Promise b)) = whole
-  by_change (Some (Entry s held)) = trimmed-put_at old.accepted s held ∙ ap (λ (xs : List (Option (AcceptedEntry V))). put_at xs s entry) whole
+  by_change (Some (Entry s held)) = trimmed-put_at old.accepted s held ∙ ap (λ (xs : List (Option (AcceptedEntry V))). put_at xs s held) whole
