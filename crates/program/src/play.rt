@@ -94,7 +94,7 @@ fn push_decision(world: &World, at: NodeEntryId, text: &mut Vec<u8>) -> Result<(
 /// Appends the history so far, as lines of `play` after their count.
 fn push_history(world: &World, text: &mut Vec<u8>) -> Result<(), AllocError>
     ensures { OnOk result (text.new.items
-        ≡ text.old.items ++ history_text world.now.taken.events) }
+        ≡ text.old.items ++ history_text world.now.history.events) }
 {
     let alloc = *text.allocator();
     push_events(alloc, text, world.history())
