@@ -3,7 +3,7 @@ use crate::fault::Fault;
 use crate::streams::print;
 use commands::Question;
 use extract::ExtractFault;
-use library::{Library, AskFault};
+use library::{AskFault, Library};
 use mm_read::Stmt;
 use std::io::Write;
 

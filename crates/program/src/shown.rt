@@ -1,7 +1,7 @@
 //! The command `show`: statements as blocks of lines.
 use crate::fault::Fault;
 use crate::named_text::NamedText;
-use library::{Library, AskFault};
+use library::{AskFault, Library};
 use memchr::memchr_iter;
 use mm_lex::{Span, tokens};
 use places::{Position, descriptions, line_and_column};

@@ -8,7 +8,7 @@ use crate::progress::print_progress;
 use cross_references::cross_references;
 use file_names::{INDEX, STYLE, push_file_name};
 use folders::{Folder, FolderFault};
-use library::{Library, AskFault};
+use library::{AskFault, Library};
 use mm_lex::Word;
 use mm_read::Stmt;
 use places::descriptions;
