@@ -165,7 +165,7 @@ const DOT: Argument = Argument {
 const HTML: Argument = Argument {
     name: "html",
     form: Form::Flag,
-    help: "A page that stands last_value",
+    help: "A page that stands alone",
 };
 
 /// A command: its name, its usage, its help, and its arguments.

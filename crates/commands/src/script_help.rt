@@ -6,7 +6,7 @@ use crate::pieces::split_first_piece;
 pub(crate) const PLAY_LINES: &str = "\
 Lines, K a node from 0:
   offer K AUTHOR SERIAL TEXT         offer a text at node K
-  offer-lines K AUTHOR SERIAL WORD   the same, the lines up to WORD last_value
+  offer-lines K AUTHOR SERIAL WORD   the same, the lines up to WORD alone
   offer-bytes K AUTHOR SERIAL N      the same, the N bytes after the line
   charter K AUTHOR SERIAL NAME ..    offer a charter of authors
   begin K                            begin a ballot
@@ -33,10 +33,10 @@ Lines, K a node from 0:
 pub const SERVE_LINES: &str = "\
 Lines, K a node from 0:
   add K AUTHOR SERIAL TEXT           submit a text until it is decided
-  add-lines K AUTHOR SERIAL WORD     the same, the lines up to WORD last_value
+  add-lines K AUTHOR SERIAL WORD     the same, the lines up to WORD alone
   add-bytes K AUTHOR SERIAL N        the same, the N bytes after the line
   submit K AUTHOR SERIAL TEXT        submit a text at node K
-  submit-lines K AUTHOR SERIAL WORD  the same, the lines up to WORD last_value
+  submit-lines K AUTHOR SERIAL WORD  the same, the lines up to WORD alone
   submit-bytes K AUTHOR SERIAL N     the same, the N bytes after the line
   charter K AUTHOR SERIAL NAME ..    submit a charter of authors
   begin K                            begin a ballot
