@@ -12,7 +12,7 @@ from-to none = refl
 from-to (more t children) = ap (λ r. more t r) (from-to children)
 
 module _ (S : Database) (at : ℕ) where
-  -- growth over the first items and growth over the rest make growth over all items
+  -- if the stack grows by the first items, and then by the rest, it grows by all items
   pub grows_append : (front rest : List Item) (st mid end : Trees) → GrowsBy S at st front mid → GrowsBy S at mid rest end → GrowsBy S at st (front ++ rest) end
   grows_append [] rest st mid end p q = subst (λ r. GrowsBy S at r rest end) (sym p) q
   grows_append (item ∷ front) rest st mid end p q = (p.0, p.1, grows_append front rest p.0 mid end p.2 q)
@@ -126,7 +126,7 @@ cite-grows S at labels n k old new r p h g = subst (λ i. IfOk r (λ ok. Grew ok
 
 -- ---- a right proof
 
--- growth over all items continues from the end of growth over the first ones
+-- a stack that grows by all items grows by the first ones, and from there by the rest
 grows-rest : (S : Database) (at : ℕ) → HasLabelsOnce S → (front rest : List Item) (st mid end : Trees) → GrowsBy S at st (front ++ rest) end → GrowsBy S at st front mid → GrowsBy S at mid rest end
 grows-rest S at once [] rest st mid end p q = subst (λ r. GrowsBy S at r rest end) q p
 grows-rest S at once (item ∷ front) rest st mid end p q =
