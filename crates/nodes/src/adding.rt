@@ -16,7 +16,7 @@ use world::Carried;
 /// The greatest number of times that an entry is submitted.
 const MOST_TRIES: u32 = 17;
 
-/// The least number of turns to wait after the first try; it doubles with each further try.
+/// The least number of turns (calls of `yield_now`) to wait after the first try; it doubles with each further try.
 const FIRST_WAIT: u64 = 1024;
 
 /// The greatest number of times that the wait doubles. So all waits together have fewer than 10,000,000 turns.
@@ -25,7 +25,7 @@ const MOST_DOUBLINGS: u32 = 9;
 /// The number of turns from one query for the outcome to the next: each takes the lock that the node needs.
 const TURNS_PER_QUERY: u64 = 64;
 
-/// The golden ratio's fraction of 2^64: the fractions of its multiples are far from one another.
+/// 2^64 divided by the golden ratio: its multiples modulo 2^64 are far from one another.
 const GOLDEN: u64 = 0x9E37_79B9_7F4A_7C15;
 
 impl<G: Gate, K: Keep<Carried>> Desk<G, K> {

@@ -105,7 +105,7 @@ impl<T: Drop> Slots<T> {
         self.front
     }
 
-    /// Returns the front that the map would have with an entry at `slot`.
+    /// Returns the least slot that would be empty if there were an entry at `slot`.
     ///
     /// Cost: constant, unless `slot` is the front: then the number of entries from there to the next gap.
     pub fn front_with(&self, slot: u32) -> u32
@@ -155,7 +155,7 @@ fn first_empty_from<T: Drop>(pages: &Pages<T>, from: u32) -> u32
     slot
 }
 
-/// Returns the top that the map has once there is an entry at `slot`.
+/// Returns the `top` of the map after an entry is put at `slot`.
 fn top_with(top: u32, slot: u32) -> u32
     requires { slot < SLOTS }
     ensures { result ≡ max top (slot + 1) }

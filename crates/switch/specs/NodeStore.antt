@@ -34,7 +34,7 @@ abbrev pub posts_owed : {V : Type 0} → Option (StagedEvent V) → List (Packet
 posts_owed None = []
 posts_owed (Some staged) = posts_of staged.work
 
--- The record of the keep is that of the node, with or without the change that is owed.
+-- The record of the keep is the kept part of the node; while the node is down, it may also have the change that is owed.
 
 -- the old record, or the old record with the change
 abbrev pub IsWithOrWithout : {V : Type 0} → Kept V → Option (Change V) → Kept V → Type 0

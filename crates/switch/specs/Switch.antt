@@ -74,7 +74,7 @@ abbrev pub change_of_owed : {V : Type 0} → (V → ℕ) → World V → Option 
 change_of_owed size w None = None
 change_of_owed size w (Some e) = change_of size w e
 
--- the record of the keep is the kept part of its node; while the node is down, with or without the change whose store failed
+-- the record of the keep is the kept part of its node; while the node is down, it may also have the change whose store failed
 abbrev pub IsRecordIn : {V : Type 0} → (V → ℕ) → World V → Node V → Status (Event V) → Kept V → Type 0
 IsRecordIn size w n up kept = kept ≡ kept_of n
 IsRecordIn size w n (down e) kept = IsWithOrWithout (kept_of n) (change_of_owed size w e) kept
@@ -123,7 +123,7 @@ owed_on_failure (Begin k) = Some (Begin k)
 owed_on_failure (Deliver number) = Some (Deliver number)
 owed_on_failure (Restart k) = None
 
--- a call of the keep of node k failed: it counts one failure more, its record is old or new, the node is left as `left` says, and the rest is as before
+-- a call of the keep of node k failed: it counts one failure more, its record is the old or the new one, and the rest is as before
 pub record FailsAt {V : Type 0} (old new : SwitchView V) (k : ℕ) (view : StoreView V) (change : Option (Change V)) (left : Status (Event V)) : Type 0 where
   pub kept : Kept V
   pub either : IsWithOrWithout view.kept change kept

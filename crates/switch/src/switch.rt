@@ -76,7 +76,7 @@ impl<V: Value, K: Keep<V>> Switch<V, K> {
     /// Returns the events taken, in order.
     ///
     /// The nodes and the packets are those of the world after these events. The record of each keep is the kept part of its
-    /// node; while the node is down, with or without the change whose store failed.
+    /// node; while the node is down, the record may also have the change whose store failed.
     pub fn history(&self) -> &[Event<V>]
         ensures history { result.now ≡ self.now.history }
         ensures few { length result.now ≤ MOST_EVENTS }

@@ -1,6 +1,7 @@
 -- The learner: the votes that it counts, and the values that it learns and tells.
 -- Source: Lamport, Paxos Made Simple, 2.3.
--- The code has the tally of the first ballot at each slot in a map, and all others in a table. A tally is a set of nodes.
+-- The code has the tally of the first ballot at each slot in a map, and all others in a table. A tally is a ballot and the
+-- nodes whose votes under it were counted.
 use Rattle.std.specs.Prelude.{ℕ, Bool, false, true, nat_lt, List, [], ◌∷◌, Option, Some, None, slice_set, slice_index_or, replicate, if◌then◌else◌}
 use Rattle.synod.specs.Words.{SLOTS, entry_at, put_at, MOST_NODES, Ballot, Packet, Ask, Told, Tally}
 use Rattle.synod.specs.Weights.{is_quorum}

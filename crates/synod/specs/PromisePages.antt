@@ -14,7 +14,7 @@ pages_with_room room [] = [] ∷ []
 pages_with_room (suc room) (x ∷ xs) = onto_first x (pages_with_room room xs)
 pages_with_room zero (x ∷ xs) = [] ∷ onto_first x (pages_with_room 255 xs)
 
--- at least one page, and each but the last has 256
+-- the list in pages of 256 elements, of which the last may have fewer; an empty list is one empty page
 abbrev pub pages_of : {T : Type 0} → List T → List (List T)
 pages_of xs = pages_with_room 256 xs
 

@@ -1,6 +1,6 @@
 -- The weights of the nodes, and quorums: sets of nodes with more than half of the total weight.
 -- Source: Lamport, Paxos Made Simple, 2.2, where a majority of the acceptors is such a set.
--- The code stores nine places and a count. Here a set of nodes is a test on their numbers.
+-- The code stores an array of nine and a count. Here a set of nodes is a predicate on their numbers.
 use Rattle.std.specs.Prelude.{ℕ, suc, ◌+◌, ◌*◌, ◌≤◌, Bool, true, nat_lt, List, [], ◌∷◌, length, if◌then◌else◌, All}
 use Rattle.synod.specs.Words.{MOST_NODES, MOST_WEIGHT}
 
@@ -10,11 +10,11 @@ pub record IsWeights (weights : List ℕ) : Type 0 where
   pub few : length weights ≤ MOST_NODES
   pub each : All (λ w. (1 ≤ w) × (w ≤ MOST_WEIGHT)) weights
 
--- the weight of the nodes that a test picks, the nodes being numbered from 0
+-- the weight of the nodes in a set; the weights are those of the nodes from 0 on
 abbrev pub weigh : (ℕ → Bool) → List ℕ → ℕ
 weigh picks [] = 0
 weigh picks (w ∷ ws) = (if picks 0 then w else 0) + weigh (λ k. picks (suc k)) ws
 
--- the nodes that a test picks are a quorum
+-- whether the nodes in a set are a quorum
 abbrev pub is_quorum : List ℕ → (ℕ → Bool) → Bool
 is_quorum weights picks = nat_lt (weigh (λ k. true) weights) (2 * weigh picks weights)

@@ -45,8 +45,8 @@ fn top_of_reports<V>(first: u32, pages: &[&[SlotReport<V>]]) -> u32
     if top == 0 { first } else { top }
 }
 
-/// Enters a report in the table if its ballot is higher than that of the report at its slot. Place `i` of the table is for slot
-/// `first + i`; reports of other slots are ignored.
+/// Enters a report in the table if its ballot is higher than that of the report at its slot. Element `i` of the table is for
+/// slot `first + i`; reports of other slots are ignored.
 fn enter_report<'a, V>(
     table: &mut Vec<Option<&'a SlotReport<V>>>,
     first: u32,

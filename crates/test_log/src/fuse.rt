@@ -31,6 +31,7 @@ pub struct Fuse {
 }
 
 impl Fuse {
+    /// Creates the keep of a new node. If `calls_left` is `None`, it never fails by itself.
     pub fn new(alloc: Global, calls_left: Option<u32>, leaves_new: bool) -> Self
         ensures { ⟦<MemoryKeep<Carried> as Keep<Carried>>⟧.kept result.keep ≡ new_kept }
     {

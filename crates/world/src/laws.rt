@@ -1,3 +1,4 @@
+//! The headline theorem, the contract of a function that does nothing.
 ghost use Rattle.world.specs.Headline.{HeadlineHolds};
 
 /// States the headline: for every history that is taken, the logs agree; of any two libraries, at any two moments, one is a

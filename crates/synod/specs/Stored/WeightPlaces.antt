@@ -1,4 +1,4 @@
--- The nine places that store the weights.
+-- The array of nine elements (places) that stores the weights.
 -- Source: this project's representation.
 -- The places after the last weight are 0, so the list of weights determines all nine.
 use Rattle.std.specs.Prelude.{◌≡◌, ◌≤◌, ◌-◌, ℕ, List, ◌++◌, length, take, replicate}
