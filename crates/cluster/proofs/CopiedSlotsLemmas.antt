@@ -1,5 +1,5 @@
 -- A map that ends in an entry still does so with one more entry, and is copied slot by slot.
-use Rattle.cluster.proofs.Words.{◌≡◌, ℕ, zero, suc, ◌+◌, ◌<◌, List, [], ◌∷◌, Option, Some, None, length, take, refl, ap, sym, ◌∙◌, subst, arith, add-one, le_of_suc-le-suc, entry_at, put_at, trim_head, trimmed, AcceptedEntry, Change, Round, Promise, Kept, changed_by, with_copied_slot}
+use Rattle.cluster.proofs.Words.{◌≡◌, ℕ, zero, suc, ◌+◌, ◌<◌, List, [], ◌∷◌, Option, Some, None, length, take, refl, ap, sym, ◌∙◌, subst, arith, add-one, le_of_suc-le-suc, entry_at, put_at, trim_head, trimmed, AcceptedEntry, Change, Round, Promise, KeptPart, changed_by, with_copied_slot}
 use Rattle.synod.specs.declared.change.Change.TheVariants.{Entry}
 
 -- an empty slot before entries, one of which was put, is not trimmed away
@@ -48,8 +48,8 @@ pub with_next : {T : Type 0} (xs : List (Option T)) (s : ℕ) → s < length xs 
 with_next {T} xs s low = with_suc xs s low ∙ ap (λ (i : ℕ). trimmed (take i xs)) (sym (add-one s))
 
 -- If the entries of a record in memory end in an entry, they still do so after a change.
-pub stays_whole : {V : Type 0} (old new : Kept V) (change : Option (Change V)) → new ≡ changed_by old change → trimmed old.accepted ≡ old.accepted → trimmed new.accepted ≡ new.accepted
-stays_whole {V} old new change is whole = subst (λ (k : Kept V). trimmed k.accepted ≡ k.accepted) (sym is) (by_change change) where
+pub stays_whole : {V : Type 0} (old new : KeptPart V) (change : Option (Change V)) → new ≡ changed_by old change → trimmed old.accepted ≡ old.accepted → trimmed new.accepted ≡ new.accepted
+stays_whole {V} old new change is whole = subst (λ (k : KeptPart V). trimmed k.accepted ≡ k.accepted) (sym is) (by_change change) where
   by_change : (change : Option (Change V)) → trimmed (changed_by old change).accepted ≡ (changed_by old change).accepted
   by_change None = whole
   by_change (Some (Round r)) = whole

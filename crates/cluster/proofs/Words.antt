@@ -20,9 +20,9 @@ pub use Rattle.std.proofs.Common.{Bool, Err, List, None, Ok, Option, Result, Som
 pub use Rattle.std.proofs.lemmas.Bool.Decides.{nat_tests}
 pub use Rattle.std.specs.Borrow.{Bor}
 pub use Rattle.std.specs.Prelude.{IsOk, IsSome, MatchOption, is_err, option_map}
-pub use Rattle.switch.specs.Belonging.{IsLogPrefix}
+pub use Rattle.switch.specs.LogPrefixes.{IsLogPrefix}
 pub use Rattle.switch.specs.Switch.{SwitchView, new_views, world_of}
-pub use Rattle.synod.specs.Record.{Kept, changed_by}
+pub use Rattle.synod.specs.Record.{KeptPart, changed_by}
 pub use Rattle.synod.specs.declared.change.Change.{Change}
 pub use Rattle.synod.specs.declared.change.Change.TheVariants.{Promise, Round}
 pub use Rattle.synod.specs.declared.change.AcceptedEntry.{AcceptedEntry}

@@ -19,12 +19,12 @@ first_with_key entry [] = None
 first_with_key entry (c ∷ cs) = if has_key_of entry c then c else first_with_key entry cs
 
 -- from the verdict and the first entry under that author and number: the verdict if the first is this entry, else a repeat
-abbrev pub IsOutcomeBy : Option Verdict → Option Carried → Entry → Option Verdict → Type 0
-IsOutcomeBy None first entry outcome = outcome ≡ None
-IsOutcomeBy (Some verdict) first entry outcome =
+abbrev pub IsOutcomeGiven : Option Verdict → Option Carried → Entry → Option Verdict → Type 0
+IsOutcomeGiven None first entry outcome = outcome ≡ None
+IsOutcomeGiven (Some verdict) first entry outcome =
     ((first ≡ Some (record { 0 = entry })) × (outcome ≡ Some verdict))
     ⊎ ((first ≡ Some (record { 0 = entry }) → ⊥) × (outcome ≡ Some Repeat))
 
 abbrev pub IsOutcomeOf : Cell → Entry → Option Verdict → Type 0
 IsOutcomeOf cell entry outcome =
-    IsOutcomeBy (status cell.replica.library.decided (author_of entry) (serial_of entry)) (first_with_key entry cell.entries) entry outcome
+    IsOutcomeGiven (status cell.replica.library.decided (author_of entry) (serial_of entry)) (first_with_key entry cell.entries) entry outcome

@@ -6,7 +6,7 @@ pub use Rattle.net.specs.declared.fault.StepFault.{StepFault}
 pub use Rattle.net.specs.declared.fault.StepFault.TheVariants.{Memory}
 pub use Rattle.slots.specs.FiniteMap.{put_at}
 pub use Rattle.slots.specs.declared.slots.TheConstants.{SLOTS}
-pub use Rattle.switch.specs.Belonging.{IsLogPrefix}
+pub use Rattle.switch.specs.LogPrefixes.{IsLogPrefix}
 pub use Rattle.switch.specs.Switch.{SwitchView}
 pub use Rattle.world.specs.Carried.{carried_size, entries_of}
 pub use Rattle.world.specs.WorldView.{IsOfLog, NodeLibrary, new_node_library}

@@ -208,9 +208,9 @@ pub fn cells<K: Keep<Carried>>(
 ) -> Result<(Switch<Carried, K>, Vec<NodeCell>), StepFault>
     requires count { length keeps.items ≡ length weights }
     requires new { AllByRecursion (λ keep. K.kept keep ≡ new_kept) keeps.items }
-    ensures switch { IfOk result (λ made. made.0 ≡ record { weights = weights; history = []; stores = new_views K.failures keeps.items }) }
-    ensures cells { IfOk result (λ made. made.1.items ≡ new_cells 0 weights) }
-    ensures belong { IfOk result (λ made. EachBelongs made.1.items made.0) }
+    ensures switch { IfOk result (λ parts. parts.0 ≡ record { weights = weights; history = []; stores = new_views K.failures keeps.items }) }
+    ensures cells { IfOk result (λ parts. parts.1.items ≡ new_cells 0 weights) }
+    ensures belong { IfOk result (λ parts. EachBelongs parts.1.items parts.0) }
     ensures only_memory { IsOkUnless result Memory }
 {
     let switch = Switch::new(alloc, weights, keeps)?;

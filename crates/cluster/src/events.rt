@@ -2,7 +2,7 @@
 ghost use Rattle.std.specs.Prelude.{◌≡◌, OnOk, OnErr};
 ghost use Rattle.net.specs.declared.event.Event.TheVariants.{Offer, Begin, Deliver, Restart};
 ghost use Rattle.switch.specs.Switch.{Plays};
-ghost use Rattle.switch.specs.Belonging.{KeepsLogs};
+ghost use Rattle.switch.specs.LogPrefixes.{EventKeepsPrefixes};
 ghost use Rattle.world.specs.Carried.{carried_size};
 ghost use Rattle.cluster.specs.Cell.{new_cell};
 ghost use Rattle.cluster.specs.Belongs.{Belongs};
@@ -23,7 +23,7 @@ pub fn offer_on<K: Keep<Carried>>(
     entry: Entry,
 ) -> Result<u64, StepFault>
     ensures plays { Plays carried_size switch.old switch.new (Offer k (record { 0 = entry })) result }
-    ensures logs { KeepsLogs carried_size (Offer k (record { 0 = entry })) switch.old switch.new result }
+    ensures logs { EventKeepsPrefixes carried_size (Offer k (record { 0 = entry })) switch.old switch.new result }
 {
     switch.play(Event::Offer(k, Carried(entry)))
 }
@@ -33,7 +33,7 @@ pub fn offer_on<K: Keep<Carried>>(
 /// Errors and cost: those of `Switch::play`.
 pub fn begin_on<V: Value, K: Keep<V>>(switch: &mut Switch<V, K>, k: u8) -> Result<u64, StepFault>
     ensures plays { Plays V.bytes switch.old switch.new (Begin k) result }
-    ensures logs { KeepsLogs V.bytes (Begin k) switch.old switch.new result }
+    ensures logs { EventKeepsPrefixes V.bytes (Begin k) switch.old switch.new result }
 {
     switch.play(Event::Begin(k))
 }
@@ -46,7 +46,7 @@ pub fn deliver_on<V: Value, K: Keep<V>>(
     number: u64,
 ) -> Result<u64, StepFault>
     ensures plays { Plays V.bytes switch.old switch.new (Deliver number) result }
-    ensures logs { KeepsLogs V.bytes (Deliver number) switch.old switch.new result }
+    ensures logs { EventKeepsPrefixes V.bytes (Deliver number) switch.old switch.new result }
 {
     switch.play(Event::Deliver(number))
 }
@@ -60,7 +60,7 @@ pub fn restart_on<K: Keep<Carried>>(
     switch: &mut Switch<Carried, K>,
 ) -> Result<u64, StepFault>
     ensures plays { Plays carried_size switch.old switch.new (Restart cell.old.node) result }
-    ensures logs { KeepsLogs carried_size (Restart cell.old.node) switch.old switch.new result }
+    ensures logs { EventKeepsPrefixes carried_size (Restart cell.old.node) switch.old switch.new result }
     ensures fresh { OnOk result (cell.new ≡ new_cell cell.old.node) }
     ensures stays { OnErr result (cell.new ≡ cell.old) }
     ensures belongs { Belongs cell.old switch.old → Belongs cell.new switch.new }

@@ -3,7 +3,7 @@ ghost use Rattle.std.specs.Prelude.{◌≡◌, ◌↔◌, ◌≤◌, ◌<◌, So
 ghost use Rattle.slots.specs.declared.slots.TheConstants.{SLOTS};
 ghost use Rattle.net.specs.World.{log_after};
 ghost use Rattle.switch.specs.Switch.{world_of};
-ghost use Rattle.switch.specs.Belonging.{IsLogPrefix};
+ghost use Rattle.switch.specs.LogPrefixes.{IsLogPrefix};
 ghost use Rattle.world.specs.Carried.{carried_size};
 
 use library::{Entry, Submission};

@@ -1,5 +1,5 @@
 -- The result of an event at its node, and staged events while nodes do not change.
-use Rattle.net.proofs.Words.{◌≡◌, ℕ, zero, suc, List, [], ◌∷◌, length, get_or, set, slice_get, Option, Some, None, Ok, refl, ap, sym, ◌∙◌, subst, arith, AllByRecursion, option_map, Packet, Ask, IsPost, to_others, Node, kept_of, Core, HasNoLessRoom, offered, begun, on_packet, restarted, same_room, Offer, Begin, Deliver, Restart, after_step_or_fault, at_node, delivered, change_at, change_delivered, History, nodes_of, StagedWork, steps, restarts, StagedEvent, posts_of, step_of, IsReadyAt, HasResult, NetView, ChangeOnlyRooms, ChangesOnlyRoom, IsStaged}
+use Rattle.net.proofs.Words.{◌≡◌, ℕ, zero, suc, List, [], ◌∷◌, length, get_or, set, slice_get, Option, Some, None, Ok, refl, ap, sym, ◌∙◌, subst, arith, AllByRecursion, option_map, Packet, Ask, IsPost, to_others, Node, kept_of, Core, HasNoLessRoom, offered, begun, on_packet, restarted, same_room, Offer, Begin, Deliver, Restart, after_step_or_fault, at_node, delivered, change_at, change_delivered, History, nodes_of, StagedWork, steps, restarts, StagedEvent, posts_of, step_of, IsReadyAt, HasResult, NetView, EachChangesOnlyRoom, ChangesOnlyRoom, IsStaged}
 use Rattle.net.proofs.GrowingLists.{at_front}
 
 -- The result of an event at its node.
@@ -66,18 +66,18 @@ more_room a b c one two = record {
 }
 
 -- a list of cores differs from itself at most in rooms
-pub still_same : {V : Type 0} (cs : List (Core V)) → ChangeOnlyRooms cs cs
+pub still_same : {V : Type 0} (cs : List (Core V)) → EachChangesOnlyRoom cs cs
 still_same [] = tt
 still_same (c ∷ cs) = (refl, same_room c, still_same cs)
 
 -- if a core is replaced by one with the same node and no less room, only rooms change
-pub still_set : {V : Type 0} (cs : List (Core V)) (k : ℕ) (c d : Core V) → c ≡ get_or cs k c → d.node ≡ c.node → HasNoLessRoom c d → ChangeOnlyRooms cs (set cs k d)
+pub still_set : {V : Type 0} (cs : List (Core V)) (k : ℕ) (c d : Core V) → c ≡ get_or cs k c → d.node ≡ c.node → HasNoLessRoom c d → EachChangesOnlyRoom cs (set cs k d)
 still_set [] k c d is node room = tt
 still_set {V} (x ∷ cs) zero c d is node room = (node ∙ ap (λ (y : Core V). y.node) is, subst (λ (y : Core V). HasNoLessRoom y d) is room, still_same cs)
 still_set (x ∷ cs) (suc k) c d is node room = (refl, same_room x, still_set cs k c d is node room)
 
 -- if only rooms change, the nodes of the cores are the same
-pub nodes_still : {V : Type 0} (cs ds : List (Core V)) → ChangeOnlyRooms cs ds → nodes_of ds ≡ nodes_of cs
+pub nodes_still : {V : Type 0} (cs ds : List (Core V)) → EachChangesOnlyRoom cs ds → nodes_of ds ≡ nodes_of cs
 nodes_still [] [] h = refl
 nodes_still {V} (c ∷ cs) (d ∷ ds) h = ap (λ (n : Node V). n ∷ nodes_of ds) h.0 ∙ ap (λ (ns : List (Node V)). c.node ∷ ns) (nodes_still cs ds h.2)
 nodes_still [] (d ∷ ds) h = elim h [ ]
@@ -90,7 +90,7 @@ nodes_found {V} (x ∷ cs) zero c at = let same : x ≡ c = cc in ap (λ (y : Co
 nodes_found (x ∷ cs) (suc k) c at = nodes_found cs k c at
 
 -- if only rooms change, the core at each index keeps its node and has no less room
-pub still_at : {V : Type 0} (cs ds : List (Core V)) → ChangeOnlyRooms cs ds → (k : ℕ) (c : Core V) → slice_get cs k ≡ Some c → (d : Core V) × (slice_get ds k ≡ Some d) × (d.node ≡ c.node) × HasNoLessRoom c d
+pub still_at : {V : Type 0} (cs ds : List (Core V)) → EachChangesOnlyRoom cs ds → (k : ℕ) (c : Core V) → slice_get cs k ≡ Some c → (d : Core V) × (slice_get ds k ≡ Some d) × (d.node ≡ c.node) × HasNoLessRoom c d
 still_at [] [] h k c at = cc
 still_at {V} (x ∷ cs) (d ∷ ds) h zero c at = let same : x ≡ c = cc in (d, refl, h.0 ∙ ap (λ (y : Core V). y.node) same, subst (λ (y : Core V). HasNoLessRoom y d) same h.1)
 still_at (x ∷ cs) (d ∷ ds) h (suc k) c at = still_at cs ds h.2 k c at

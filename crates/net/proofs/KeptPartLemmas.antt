@@ -1,10 +1,10 @@
 -- The law of the kept part: each step makes its one change to the kept part of its own node only, and a restart makes none.
-use Rattle.net.proofs.Words.{◌≡◌, ◌≢◌, ℕ, ◌==◌, List, [], ◌∷◌, ◌++◌, Option, Some, None, Result, Ok, Err, refl, ap, sym, ◌∙◌, subst, slice_get, option_map, Packet, Change, Refusal, Kept, changed_by, Node, StepResult, kept_of, offered, begun, on_packet, restarted, ChangesKeptOnOk, offered_kept, begun_kept, body_kept, restarted_kept, MOST_EVENTS, Event, Offer, Begin, Deliver, Restart, StepFault, World, after_step, after_step_or_fault, at_node, delivered, event_result_without_limit, event_result, events_result, kept_part, node_of, change_of_result, change_at, change_delivered, change_of, AreOfOthers, KeptPartSurvives}
+use Rattle.net.proofs.Words.{◌≡◌, ◌≢◌, ℕ, ◌==◌, List, [], ◌∷◌, ◌++◌, Option, Some, None, Result, Ok, Err, refl, ap, sym, ◌∙◌, subst, slice_get, option_map, Packet, Change, Refusal, KeptPart, changed_by, Node, StepResult, kept_of, offered, begun, on_packet, restarted, ChangesKeptOnOk, offered_kept, begun_kept, body_kept, restarted_kept, MOST_EVENTS, Event, Offer, Begin, Deliver, Restart, StepFault, World, after_step, after_step_or_fault, at_node, delivered, event_result_without_limit, event_result, events_result, kept_part, node_of, change_of_result, change_at, change_delivered, change_of, AreOfOthers, KeptPartSurvives}
 use Rattle.net.proofs.EveryEvent.{IfTaken, if_taken, spent_or}
 use Rattle.net.proofs.TwoMoments.{events_result-append, later_events}
 use Rattle.net.proofs.GrowingLists.{at_set, at_set_other}
 
-abbrev changed_part : {V : Type 0} → Option (Change V) → Option (Kept V) → Option (Kept V)
+abbrev changed_part : {V : Type 0} → Option (Change V) → Option (KeptPart V) → Option (KeptPart V)
 changed_part change kept = option_map (λ kept. changed_by kept change) kept
 
 -- from world w to world x the kept part of node k gets the change if k is j, else it stays
@@ -17,7 +17,7 @@ module _ {V : Type 0} (w : World V) (j k : ℕ) where
   own_part : (n : Node V) (step : StepResult V) → slice_get w.nodes j ≡ Some n → kept_of step.node ≡ changed_by (kept_of n) step.change → kept_part (after_step w j step) j ≡ changed_part step.change (kept_part w j)
   own_part n step is_node changes =
       ap (λ (o : Option (Node V)). option_map kept_of o) (at_set w.nodes j step.node n is_node)
-      ∙ ap (λ (kept : Kept V). let o : Option (Kept V) = Some kept in o) changes
+      ∙ ap (λ (kept : KeptPart V). let o : Option (KeptPart V) = Some kept in o) changes
       ∙ ap (λ (o : Option (Node V)). changed_part step.change (option_map kept_of o)) (sym is_node)
 
   -- the answer of a node makes its change to the kept part of that node and of no other
@@ -68,10 +68,10 @@ module _ {V : Type 0} (size : V → ℕ) (w : World V) (k : ℕ) where
 
 -- Events of other nodes, and then the restart.
 
-abbrev KeptIs : {V : Type 0} → ℕ → Option (Kept V) → World V → Type 0
+abbrev KeptIs : {V : Type 0} → ℕ → Option (KeptPart V) → World V → Type 0
 KeptIs k kept w = kept_part w k ≡ kept
 
-module _ {V : Type 0} (size : V → ℕ) (k : ℕ) (kept : Option (Kept V)) where
+module _ {V : Type 0} (size : V → ℕ) (k : ℕ) (kept : Option (KeptPart V)) where
   -- an event of another node leaves the kept part of node k
   other_keeps : (w : World V) (e : Event V) → KeptIs k kept w → node_of w e ≢ Some k → (r : Result (World V) StepFault) → IfTaken r (Happens size w k e) → IfTaken r (KeptIs k kept)
   other_keeps w e is other (Ok x) h = h.other other ∙ is
@@ -101,7 +101,7 @@ module _ {V : Type 0} (size : V → ℕ) (k : ℕ) (kept : Option (Kept V)) wher
 -- after an event of a node, events of others and its restart, its kept part is the one before with the event's change
 pub kept_part_survives : {V : Type 0} → KeptPartSurvives V
 kept_part_survives {V} size ws events others e k w x y before made is_of of_others after_all =
-    let kept : Option (Kept V) = changed_part (change_of size w e) (kept_part w k) in
+    let kept : Option (KeptPart V) = changed_part (change_of size w e) (kept_part w k) in
     let moved : KeptIs k kept x = (if_taken (Happens size w k e) (event_result size w e) x made (event_moves size w k e)).own is_of in
     let rest : List (Event V) = others ++ Restart k ∷ [] in
     let from_e = later_events size ws events (e ∷ rest) w (Ok y) before after_all in

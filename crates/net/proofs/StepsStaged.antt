@@ -1,5 +1,5 @@
 -- A step that a node has readied, in the view of the whole net.
-use Rattle.net.proofs.Words.{◌≡◌, ℕ, ◌<◌, ◌≤◌, List, [], ◌∷◌, length, get_or, set, slice_get, Option, Some, None, Result, Ok, Err, refl, ap, sym, ◌∙◌, subst, arith, append-nil, slice_get_within, slice_get_read, AllByRecursion, Packet, Refusal, IsPost, Node, StepResult, Core, HasNoLessRoom, ReadyView, offered, begun, on_packet, restarted, same_room, MOST_EVENTS, Event, Offer, Begin, Deliver, Restart, StepFault, NoNode, NoPacket, World, after_step_or_fault, at_node, delivered, event_result_without_limit, node_of_event, History, AreOfWorld, world_of, with_event, steps, StagedEvent, posts_of, step_of, IsOfEvent, HasResult, IsStagedAt, IsStagingResultAt, IsStagingResultOfEvent, NetView, ChangeOnlyRooms, ChangesOnlyRoom, IsStaged, IsStagingResultInNet}
+use Rattle.net.proofs.Words.{◌≡◌, ℕ, ◌<◌, ◌≤◌, List, [], ◌∷◌, length, get_or, set, slice_get, Option, Some, None, Result, Ok, Err, refl, ap, sym, ◌∙◌, subst, arith, append-nil, slice_get_within, slice_get_read, AllByRecursion, Packet, Refusal, IsPost, Node, StepResult, Core, HasNoLessRoom, ReadyView, offered, begun, on_packet, restarted, same_room, MOST_EVENTS, Event, Offer, Begin, Deliver, Restart, StepFault, NoNode, NoPacket, World, after_step_or_fault, at_node, delivered, event_result_without_limit, node_of_event, History, AreOfWorld, world_of, with_event, steps, StagedEvent, posts_of, step_of, IsOfEvent, HasResult, IsStagedAt, IsStagingResultAt, IsStagingResultOfEvent, NetView, EachChangesOnlyRoom, ChangesOnlyRoom, IsStaged, IsStagingResultInNet}
 use Rattle.synod.specs.Ready.{IsStagingResult as ReadiesStep}
 use Rattle.net.proofs.GrowingLists.{at_set}
 use Rattle.net.proofs.HistoryLemmas.{next_is, node_shown, no_node_shown, own_weights, rooms_stay}
@@ -158,7 +158,7 @@ still_more a b c one two = record {
   packet_room = let x = one.packet_room in let y = two.packet_room in omega (arith, x, y);
   event_room = let x = one.event_room in let y = two.event_room in omega (arith, x, y);
 } where
-  cores_more : {V : Type 0} (xs ys zs : List (Core V)) → ChangeOnlyRooms xs ys → ChangeOnlyRooms ys zs → ChangeOnlyRooms xs zs
+  cores_more : {V : Type 0} (xs ys zs : List (Core V)) → EachChangesOnlyRoom xs ys → EachChangesOnlyRoom ys zs → EachChangesOnlyRoom xs zs
   cores_more [] [] [] h k = tt
   cores_more (x ∷ xs) (y ∷ ys) (z ∷ zs) h k = (k.0 ∙ h.0, more_room x y z h.1 k.1, cores_more xs ys zs h.2 k.2)
   cores_more [] (y ∷ ys) zs h k = elim h [ ]

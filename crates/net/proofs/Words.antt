@@ -4,7 +4,7 @@ pub use Rattle.net.specs.Chosen.{IsChosen, IsChosenAt, Vote, vote}
 pub use Rattle.net.specs.Agreement.{Agreement, IsMetOrMemory, IsMoment, RunStopsAt}
 pub use Rattle.net.specs.KeptPart.{AreOfOthers, node_of_event, change_of_result, change_at, change_delivered, change_of, kept_part, node_of}
 pub use Rattle.net.specs.Laws.{BallotsHaveOneValue, ChosenValuesAgree, KeptPartSurvives, ChosenValuesPersist, LogEntriesAreChosen, LogEntriesWereOffered, LogsOfNodesAgree, LogsOnlyGrow, RestartEmptiesLog}
-pub use Rattle.net.specs.Staged.{ChangeOnlyRooms, HasResult, IsStagingResultInNet, IsOfEvent, IsReadyAt, IsStaged, IsStagedAt, ChangesOnlyRoom, IsTaken, NetView, IsStagingResultAt, IsStagingResultOfEvent, StagedEvent, StagedWork, posts_of, restarts, step_of, steps, work_of}
+pub use Rattle.net.specs.Staged.{EachChangesOnlyRoom, HasResult, IsStagingResultInNet, IsOfEvent, IsReadyAt, IsStaged, IsStagedAt, ChangesOnlyRoom, IsTaken, NetView, IsStagingResultAt, IsStagingResultOfEvent, StagedEvent, StagedWork, posts_of, restarts, step_of, steps, work_of}
 pub use Rattle.net.specs.History.{AreOfWorld, History, nodes_of, with_event, world_of}
 pub use Rattle.net.specs.World.{World, after, events_result, after_step_or_fault, at_node, delivered, event_result, event_result_without_limit, log, log_after, log_at, nodes_from, offers_of, packets_after, start, after_step, votes_after}
 pub use Rattle.net.specs.declared.event.Event.{Event}
@@ -49,7 +49,7 @@ pub use Rattle.synod.specs.Packets.{IsPost, accept_posts, packet, to_all, to_all
 pub use Rattle.synod.specs.PromisePages.{are_received, joined_pages, pages_of}
 pub use Rattle.synod.specs.Proposer.{all_reports, begins, begun, proposed_values, on_promise_page, on_complete_promise, highest_at, idles, is_at, adds_page, completes_promise, leads, next_ballot, next_round, offer_as, offer_waits, offered, on_nack, on_promise, on_promise_as, reported_value, proposes_value, top_or_first, waits}
 pub use Rattle.synod.specs.Ready.{ReadyView}
-pub use Rattle.synod.specs.Record.{Kept, changed_by}
+pub use Rattle.synod.specs.Record.{KeptPart, changed_by}
 pub use Rattle.synod.specs.Rooms.{HasNoLessRoom}
 pub use Rattle.synod.specs.Step.{on_body, on_packet, restarted}
 pub use Rattle.synod.specs.Weights.{IsWeights, is_quorum}

@@ -2,11 +2,11 @@
 -- Source: Lamport, Paxos Made Simple, section 2.5: an acceptor must remember in stable storage what it promised and accepted.
 -- The code stores the change before it posts anything; here both are in one step.
 use Rattle.std.specs.Prelude.{◌≢◌, ℕ, List, [], ◌∷◌, Option, Some, None, Result, Ok, Err, slice_get}
-use Rattle.net.specs.Words.{option_map, Packet, Change, Refusal, Kept, Node, StepResult, kept_of, offered, begun, on_packet, restarted, Event, Offer, Begin, Deliver, Restart, StepFault}
+use Rattle.net.specs.Words.{option_map, Packet, Change, Refusal, KeptPart, Node, StepResult, kept_of, offered, begun, on_packet, restarted, Event, Offer, Begin, Deliver, Restart, StepFault}
 use Rattle.net.specs.World.{World, event_result}
 
 -- promise, round and accepted entries of node k
-abbrev pub kept_part : {V : Type 0} → World V → ℕ → Option (Kept V)
+abbrev pub kept_part : {V : Type 0} → World V → ℕ → Option (KeptPart V)
 kept_part w k = option_map kept_of (slice_get w.nodes k)
 
 -- the node at which an event happens; for a Deliver the receiver of the packet, or None if there is no such packet
@@ -25,8 +25,8 @@ change_of_result (Ok step) = step.change
 change_of_result (Err refusal) = None
 
 abbrev pub change_at : {V : Type 0} → (Node V → Result (StepResult V) Refusal) → Option (Node V) → Option (Change V)
-change_at make None = None
-change_at make (Some n) = change_of_result (make n)
+change_at take_step None = None
+change_at take_step (Some n) = change_of_result (take_step n)
 
 abbrev pub change_delivered : {V : Type 0} → World V → Option (Packet V) → Option (Change V)
 change_delivered w None = None

@@ -2,7 +2,7 @@
 -- Source: this project's choice, so that a change can be stored before its effects are visible.
 -- The code holds the step that the node staged; for a restart, its posts and, once it is loaded, the record.
 use Rattle.std.specs.Prelude.{◌≡◌, ◌≤◌, ◌+◌, ℕ, List, [], ◌∷◌, ◌++◌, Option, Some, None, Result, Ok, Err, length, slice_get, slice_set}
-use Rattle.net.specs.Words.{AllByRecursion, Packet, Ask, Change, Refusal, IsPost, to_others, Kept, RecordView, Node, StepResult, kept_of, Core, HasNoLessRoom, ReadyView, offered, begun, on_packet, reloaded, restarted, Event, Offer, Begin, Deliver, Restart, StepFault, Memory}
+use Rattle.net.specs.Words.{AllByRecursion, Packet, Ask, Change, Refusal, IsPost, to_others, KeptPart, RecordView, Node, StepResult, kept_of, Core, HasNoLessRoom, ReadyView, offered, begun, on_packet, reloaded, restarted, Event, Offer, Begin, Deliver, Restart, StepFault, Memory}
 use Rattle.net.specs.declared.staged.StagedWork.{StagedWork as RustWork}
 use Rattle.net.specs.declared.staged.StagedWork.TheVariants.{Step, Restart as RestartWork}
 use Rattle.net.specs.World.{World, fault_of, after_step_or_fault, event_result_without_limit}
@@ -12,14 +12,14 @@ use Rattle.net.specs.History.{History, with_event}
 -- the work of a node: a step, or a restart with its posts and the record that was loaded, if one was
 pub data StagedWork (V : Type 0) : Type 0 where
   steps : ReadyView V → StagedWork V
-  restarts : List (Packet V) → Option (Kept V) → StagedWork V
+  restarts : List (Packet V) → Option (KeptPart V) → StagedWork V
 
 pub record StagedEvent (V : Type 0) : Type 0 where
   pub at : ℕ  -- the node
   pub event : Event V
   pub work : StagedWork V
 
-abbrev loaded_of : {V : Type 0} → Option (RecordView V) → Option (Kept V)
+abbrev loaded_of : {V : Type 0} → Option (RecordView V) → Option (KeptPart V)
 loaded_of None = None
 loaded_of (Some r) = Some r.kept
 
@@ -28,40 +28,40 @@ work_of (Step ready) = steps ready
 work_of (RestartWork posts loaded) = restarts posts.items (loaded_of loaded)
 
 abbrev pub posts_of : {V : Type 0} → StagedWork V → List (Packet V)
-posts_of (steps made) = made.step.posts
+posts_of (steps ready) = ready.step.posts
 posts_of (restarts posts loaded) = posts
 
 abbrev pub change_in : {V : Type 0} → StagedWork V → Option (Change V)
-change_in (steps made) = made.step.change
+change_in (steps ready) = ready.step.change
 change_in (restarts posts loaded) = None
 
 -- the work with this record loaded, if it is a restart
-abbrev pub with_loaded : {V : Type 0} → StagedWork V → Kept V → StagedWork V
-with_loaded (steps made) kept = steps made
+abbrev pub with_loaded : {V : Type 0} → StagedWork V → KeptPart V → StagedWork V
+with_loaded (steps ready) kept = steps ready
 with_loaded (restarts posts loaded) kept = restarts posts (Some kept)
 
-abbrev pub with_record : {V : Type 0} → StagedEvent V → Kept V → StagedEvent V
+abbrev pub with_record : {V : Type 0} → StagedEvent V → KeptPart V → StagedEvent V
 with_record d kept = record { at = d.at; event = d.event; work = with_loaded d.work kept }
 
 -- the step that the work makes at a node in state n
 abbrev pub step_of : {V : Type 0} → StagedWork V → Node V → StepResult V
-step_of (steps made) n = made.step
+step_of (steps ready) n = ready.step
 step_of (restarts posts None) n = restarted n
 step_of (restarts posts (Some kept)) n = reloaded n kept
 
 -- the work can be committed: for a step, the node is as it was when it staged the step, with at least that room; for a restart,
 -- the posts ask all other nodes, and a loaded record is the kept part of the node
 abbrev pub IsReadyAt : {V : Type 0} → Core V → StagedWork V → Type 0
-IsReadyAt c (steps made) = (c.node ≡ made.before.node) × HasNoLessRoom made.before c
+IsReadyAt c (steps ready) = (c.node ≡ ready.before.node) × HasNoLessRoom ready.before c
 IsReadyAt c (restarts posts None) = posts ≡ to_others c.node.me c.node.weights (Ask 0)
 IsReadyAt c (restarts posts (Some kept)) = (posts ≡ to_others c.node.me c.node.weights (Ask 0)) × (kept ≡ kept_of c.node)
 
 -- the work is of the kind of the event: a restart without a record yet for a restart, a step for every other event
 abbrev pub IsOfEvent : {V : Type 0} → Event V → StagedWork V → Type 0
-IsOfEvent (Offer k v) (steps made) = Unit {0}
-IsOfEvent (Begin k) (steps made) = Unit {0}
-IsOfEvent (Deliver number) (steps made) = Unit {0}
-IsOfEvent (Restart k) (steps made) = ⊥
+IsOfEvent (Offer k v) (steps ready) = Unit {0}
+IsOfEvent (Begin k) (steps ready) = Unit {0}
+IsOfEvent (Deliver number) (steps ready) = Unit {0}
+IsOfEvent (Restart k) (steps ready) = ⊥
 IsOfEvent (Offer k v) (restarts posts loaded) = ⊥
 IsOfEvent (Begin k) (restarts posts loaded) = ⊥
 IsOfEvent (Deliver number) (restarts posts loaded) = ⊥
@@ -115,16 +115,16 @@ pub record NetView (V : Type 0) : Type 0 where
   pub event_room : ℕ
 
 -- each node is unchanged, with at least the room that it had
-abbrev pub ChangeOnlyRooms : {V : Type 0} → List (Core V) → List (Core V) → Type 0
-ChangeOnlyRooms [] [] = Unit {0}
-ChangeOnlyRooms (c ∷ cs) (d ∷ ds) = (d.node ≡ c.node) × HasNoLessRoom c d × ChangeOnlyRooms cs ds
-ChangeOnlyRooms [] (d ∷ ds) = ⊥
-ChangeOnlyRooms (c ∷ cs) [] = ⊥
+abbrev pub EachChangesOnlyRoom : {V : Type 0} → List (Core V) → List (Core V) → Type 0
+EachChangesOnlyRoom [] [] = Unit {0}
+EachChangesOnlyRoom (c ∷ cs) (d ∷ ds) = (d.node ≡ c.node) × HasNoLessRoom c d × EachChangesOnlyRoom cs ds
+EachChangesOnlyRoom [] (d ∷ ds) = ⊥
+EachChangesOnlyRoom (c ∷ cs) [] = ⊥
 
 -- nothing but the reserved room has changed
 pub record ChangesOnlyRoom {V : Type 0} (old new : NetView V) : Type 0 where
   pub history : new.history ≡ old.history
-  pub cores : ChangeOnlyRooms old.cores new.cores
+  pub cores : EachChangesOnlyRoom old.cores new.cores
   pub packets : new.packets ≡ old.packets
   pub packet_room : old.packet_room ≤ new.packet_room
   pub event_room : old.event_room ≤ new.event_room

@@ -13,7 +13,7 @@ pub use Rattle.synod.specs.Node.{Node, StepResult, kept_of, new_node}
 pub use Rattle.synod.specs.Packets.{IsPost, to_others}
 pub use Rattle.synod.specs.Proposer.{begun, offered}
 pub use Rattle.synod.specs.Ready.{ReadyView}
-pub use Rattle.synod.specs.Record.{Kept, RecordView, changed_by}
+pub use Rattle.synod.specs.Record.{KeptPart, RecordView, changed_by}
 pub use Rattle.synod.specs.Rooms.{HasNoLessRoom}
 pub use Rattle.synod.specs.Step.{on_packet, reloaded, restarted}
 pub use Rattle.synod.specs.Weights.{IsWeights, is_quorum}

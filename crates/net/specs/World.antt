@@ -54,8 +54,8 @@ after_step_or_fault w k (Err refusal) = Err (fault_of refusal)
 
 -- the world after the step that node k makes, or a fault if there is no node k or it refuses
 abbrev pub at_node : {V : Type 0} → World V → ℕ → (Node V → Result (StepResult V) Refusal) → Option (Node V) → Result (World V) StepFault
-at_node w k make None = Err NoNode
-at_node w k make (Some n) = after_step_or_fault w k (make n)
+at_node w k take_step None = Err NoNode
+at_node w k take_step (Some n) = after_step_or_fault w k (take_step n)
 
 -- the world after the packet is delivered to its receiver, or NoPacket if there is none
 abbrev pub delivered : {V : Type 0} → World V → Option (Packet V) → Result (World V) StepFault

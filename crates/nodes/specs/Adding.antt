@@ -17,11 +17,11 @@ pub record IsOutcome (k : ℕ) (entry : Entry) (outcome : Option Verdict) : Type
   pub is : IsOutcomeOf cell entry outcome
 
 -- the fault of a question at a node
-abbrev pub IsAskFault : StepFault → Type 0
-IsAskFault fault = (fault ≡ Apart) ⊎ (fault ≡ NoNode)
+abbrev pub IsQuestionFault : StepFault → Type 0
+IsQuestionFault fault = (fault ≡ Apart) ⊎ (fault ≡ NoNode)
 
 -- the fault of one of the steps by which an entry is added
 abbrev pub IsAddFault : ℕ → Entry → StepFault → Type 0
 IsAddFault k entry fault =
-    (fault ≡ Memory) ⊎ IsAskFault fault
+    (fault ≡ Memory) ⊎ IsQuestionFault fault
     ⊎ IsPlayFault (Offer k (record { 0 = entry })) fault ⊎ IsPlayFault (Begin k) fault

@@ -39,7 +39,7 @@ IsResultOf old new e (Err fault) = Plays carried_size old new e (Err fault)
 -- packets are delivered one after another, whatever the result of each delivery
 abbrev pub DeliversAll : SwitchView Carried → SwitchView Carried → List ℕ → Type 0
 DeliversAll old new [] = new ≡ old
-DeliversAll old new (number ∷ numbers) = (mid : SwitchView Carried) × (answer : Result ℕ StepFault) × Plays carried_size old mid (Deliver number) answer × DeliversAll mid new numbers
+DeliversAll old new (number ∷ numbers) = (between : SwitchView Carried) × (answer : Result ℕ StepFault) × Plays carried_size old between (Deliver number) answer × DeliversAll between new numbers
 
 -- the event has this result at some switch
 pub record IsPlayed (e : Event Carried) (answer : Result ℕ StepFault) : Type 0 where

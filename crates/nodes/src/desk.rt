@@ -81,7 +81,7 @@ impl<G: Gate, K: Keep<Carried>> Desk<G, K> {
         if self.shared.is_stopped(rt) {
             return Err(StepFault::Stopped);
         }
-        let others = self.shared.cells.len().saturating_sub(1) as u64;
+        let other_count = self.shared.cells.len().saturating_sub(1) as u64;
         let hints = {
             let Ok(lock) = self.shared.cell(k) else {
                 return Err(self.shared.switch.lock(rt).missing_node_fault());
@@ -92,7 +92,7 @@ impl<G: Gate, K: Keep<Carried>> Desk<G, K> {
             }
             node.clear_postponement();
             let mut switch = self.shared.switch.lock(rt);
-            switch.restart(self.shared.alloc, &mut node.cell, others)?
+            switch.restart(self.shared.alloc, &mut node.cell, other_count)?
         };
         self.shared.send(rt, &hints);
         Ok(())

@@ -27,7 +27,7 @@ impl SharedCell {
     }
 
     /// Counts packets, and returns whether the next entry is to be tried.
-    pub fn is_due(&mut self, packets: usize) -> bool
+    pub fn is_due_after(&mut self, packets: usize) -> bool
         ensures { self.new.cell ≡ self.old.cell }
     {
         if self.next_try > 0 {

@@ -79,7 +79,7 @@ impl<G: Gate, K: Keep<Carried>> SharedNodes<G, K> {
             hints
         };
         self.send(rt, &hints);
-        if node.is_due(packets.len()) {
+        if node.is_due_after(packets.len()) {
             self.apply_all(rt, &mut node, k);
         }
     }

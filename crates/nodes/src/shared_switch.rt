@@ -42,7 +42,7 @@ impl<K: Keep<Carried>> SharedSwitch<K> {
         Ok(self.hints(alloc, before, count))
     }
 
-    /// Restarts the cell's node. Returns the hints of the packets by which it asks the other nodes, `others` in number.
+    /// Restarts the cell's node. Returns the hints of the `other_count` packets by which it asks the other nodes.
     /// If the node was down, the packets of the event that it owed have no hint: they are lost.
     ///
     /// Errors and cost: those of `cluster::restart_on`.
@@ -50,13 +50,13 @@ impl<K: Keep<Carried>> SharedSwitch<K> {
         &mut self,
         alloc: Global,
         cell: &mut NodeCell,
-        others: u64,
+        other_count: u64,
     ) -> Result<Vec<Hint>, StepFault>
         ensures { IsResultOf self.old.switch self.new.switch (Restart cell.old.node) result }
     {
         let count = restart_on(cell, &mut self.switch)?;
         self.posted = count;
-        Ok(self.hints(alloc, count.saturating_sub(others), count))
+        Ok(self.hints(alloc, count.saturating_sub(other_count), count))
     }
 
     /// Delivers packets one after another. Returns the hints of the packets that these deliveries post. A refused

@@ -1,5 +1,5 @@
 -- A prefix of a node's log remains one after any event other than a restart of that node.
-use Rattle.switch.proofs.Words.{◌≡◌, ◌≢◌, ℕ, ◌<◌, ◌==◌, Bool, true, false, List, [], ◌∷◌, ◌++◌, length, slice_get, inl, inr, Option, Some, None, Result, Ok, Err, refl, ap, sym, ◌∙◌, subst, arith, nat_lt, ◌+◌, IsSome, OnErr, option_map, nat_tests, length-set, Packet, Change, Refusal, Node, StepResult, offered, begun, on_packet, restarted, MOST_EVENTS, Event, Offer, Begin, Deliver, Restart, StepFault, World, at_node, delivered, event_result_without_limit, event_result, log, log_after, events_result, start, IsAfter, IsPrefixOf, node_of, change_of, IfTaken, if_taken, spent_or, events_result-append, after-push, log_grows, then_begins, Status, up, down, StoreView, SwitchView, world_of, with_store, IsViewOf, AreStores, is_down, is_down_view, is_down_at, owed_on_failure, change_of_owed, owed_events, FailsAt, TakesAt, IsEffectAtUpNode, RevivesAt, Revives, IsEffectAtDownNode, IsEffect, IsLogPrefix, StaysBelonging, KeepsLogs, append-nil}
+use Rattle.switch.proofs.Words.{◌≡◌, ◌≢◌, ℕ, ◌<◌, ◌==◌, Bool, true, false, List, [], ◌∷◌, ◌++◌, length, slice_get, inl, inr, Option, Some, None, Result, Ok, Err, refl, ap, sym, ◌∙◌, subst, arith, nat_lt, ◌+◌, IsSome, OnErr, option_map, nat_tests, length-set, Packet, Change, Refusal, Node, StepResult, offered, begun, on_packet, restarted, MOST_EVENTS, Event, Offer, Begin, Deliver, Restart, StepFault, World, at_node, delivered, event_result_without_limit, event_result, log, log_after, events_result, start, IsAfter, IsPrefixOf, node_of, change_of, IfTaken, if_taken, spent_or, events_result-append, after-push, log_grows, then_begins, Status, up, down, StoreView, SwitchView, world_of, with_store, IsViewOf, AreStores, is_down, is_down_view, is_down_at, owed_on_failure, change_of_owed, owed_events, FailsAt, TakesAt, IsEffectAtUpNode, RecoversAt, Recovers, IsEffectAtDownNode, IsEffect, IsLogPrefix, KeepsPrefixes, EventKeepsPrefixes, append-nil}
 use Rattle.switch.specs.Switch.{with_event}
 
 -- The node of an event that is taken exists.
@@ -42,11 +42,11 @@ log_goes_on {V} size w e x happened j other = if_taken (λ (y : World V). IsPref
 
 module _ {V : Type 0} (size : V → ℕ) (old : SwitchView V) where
   -- if nothing changes, each prefix of a log remains one
-  pub same_stays : (new : SwitchView V) → new ≡ old → StaysBelonging size old new
+  pub same_stays : (new : SwitchView V) → new ≡ old → KeepsPrefixes size old new
   same_stays new is k entries h = subst (λ (s : SwitchView V). IsLogPrefix size s k entries) (sym is) h
 
   -- if only a store changes, each prefix of a log remains one
-  view_stays : (new : SwitchView V) (k : ℕ) (view : StoreView V) → new ≡ with_store old k view → StaysBelonging size old new
+  view_stays : (new : SwitchView V) (k : ℕ) (view : StoreView V) → new ≡ with_store old k view → KeepsPrefixes size old new
   view_stays new k view is j entries h = subst (λ (s : SwitchView V). IsLogPrefix size s j entries) (sym is) record {
     node = subst (λ (n : ℕ). j < n) (sym (length-set old.stores k view)) h.node;
     begins = h.begins;
@@ -103,7 +103,7 @@ before {V} size ws es e x is = from (events_result size es (Ok (start ws))) refl
 
 module _ {V : Type 0} (size : V → ℕ) (old : SwitchView V) (e : Event V) (new : SwitchView V) (result : Result ℕ StepFault) where
   -- an event that changes nothing keeps the logs
-  logs_same : new ≡ old → KeepsLogs size e old new result
+  logs_same : new ≡ old → EventKeepsPrefixes size e old new result
   logs_same is = record {
     others = λ k entries other b. same_stays size old new is k entries b;
     refused = on_err result (same_stays size old new is);
@@ -111,7 +111,7 @@ module _ {V : Type 0} (size : V → ℕ) (old : SwitchView V) (e : Event V) (new
   }
 
   -- an event that changes only one store keeps the logs
-  logs_store : (j : ℕ) (view : StoreView V) → new ≡ with_store old j view → KeepsLogs size e old new result
+  logs_store : (j : ℕ) (view : StoreView V) → new ≡ with_store old j view → EventKeepsPrefixes size e old new result
   logs_store j view is = record {
     others = λ k entries other b. view_stays size old new j view is k entries b;
     refused = on_err result (view_stays size old new j view is);
@@ -119,12 +119,12 @@ module _ {V : Type 0} (size : V → ℕ) (old : SwitchView V) (e : Event V) (new
   }
 
   -- an event at which a call of the keep fails keeps the logs
-  logs_fail : (j : ℕ) (view : StoreView V) (change : Option (Change V)) (left : Status (Event V)) → FailsAt old new j view change left → KeepsLogs size e old new result
+  logs_fail : (j : ℕ) (view : StoreView V) (change : Option (Change V)) (left : Status (Event V)) → FailsAt old new j view change left → EventKeepsPrefixes size e old new result
   logs_fail j view change left h = logs_store j (record { kept = h.kept; failures = view.failures + 1; status = left }) h.rest
 
 module _ {V : Type 0} (size : V → ℕ) (old : SwitchView V) (w : World V) (was : world_of size old ≡ Ok w) (stores : AreStores size w old.stores) (new : SwitchView V) where
   -- an event that happens at a node that is up keeps the logs
-  takes_logs : (e : Event V) (x : World V) → event_result size w e ≡ Ok x → (k : ℕ) (view : StoreView V) (r : Result ℕ StepFault) → TakesAt old new e k view (change_of size w e) x r → KeepsLogs size e old new r
+  takes_logs : (e : Event V) (x : World V) → event_result size w e ≡ Ok x → (k : ℕ) (view : StoreView V) (r : Result ℕ StepFault) → TakesAt old new e k view (change_of size w e) x r → EventKeepsPrefixes size e old new r
   takes_logs e x happened k view (Ok count) h = record {
     others = λ i entries other b. taken_stays size old w was new k view (change_of size w e) e x happened h.0 i entries other b;
     refused = tt;
@@ -134,9 +134,9 @@ module _ {V : Type 0} (size : V → ℕ) (old : SwitchView V) (w : World V) (was
   takes_logs e x happened k view (Err fault) (inr h) = logs_fail size old e new (Err fault) k view (change_of size w e) (down (owed_on_failure e)) h.1
 
   -- an event whose node is up keeps the logs, whether it happens or meets a fault
-  up_logs : (e : Event V) (result : Result ℕ StepFault) → IsEffectAtUpNode size w old new e result → KeepsLogs size e old new result
+  up_logs : (e : Event V) (result : Result ℕ StepFault) → IsEffectAtUpNode size w old new e result → EventKeepsPrefixes size e old new result
   up_logs e result effect = by_world (event_result size w e) refl where
-    by_world : (r : Result (World V) StepFault) → event_result size w e ≡ r → KeepsLogs size e old new result
+    by_world : (r : Result (World V) StepFault) → event_result size w e ≡ r → EventKeepsPrefixes size e old new result
     by_world (Err fault) meets = logs_same size old e new result (effect.refused fault meets).1
     by_world (Ok x) happened =
         let of = node_there size w e x happened in
@@ -155,8 +155,8 @@ module _ {V : Type 0} (size : V → ℕ) (old : SwitchView V) (w : World V) (was
       log_goes_on size w ev m happened k not
 
   -- a restart of a node that is down keeps the logs, whether it takes the owed event first or finds no memory or a failing keep
-  revived_logs : (j : ℕ) (view : StoreView V) (e : Option (Event V)) → ((ev : Event V) → e ≡ Some ev → node_of w ev ≡ Some j) → (r : Result ℕ StepFault) → RevivesAt size w old new j view e r → KeepsLogs size (Restart j) old new r
-  revived_logs j view e owed (Ok count) h = record {
+  recovered_logs : (j : ℕ) (view : StoreView V) (e : Option (Event V)) → ((ev : Event V) → e ≡ Some ev → node_of w ev ≡ Some j) → (r : Result ℕ StepFault) → RecoversAt size w old new j view e r → EventKeepsPrefixes size (Restart j) old new r
+  recovered_logs j view e owed (Ok count) h = record {
     others = λ k entries other b.
         (let apart : k ≢ j = λ same. other (ap (λ (i : ℕ). let r : Event V = Restart i in r) (sym same)) in
         let mid = before size old.weights (old.history ++ owed_events e) (Restart j) h.world h.is_after in
@@ -167,33 +167,33 @@ module _ {V : Type 0} (size : V → ℕ) (old : SwitchView V) (w : World V) (was
   } where
     counted : length new.stores ≡ length old.stores
     counted = ap (λ (s : SwitchView V). length s.stores) h.rest ∙ length-set old.stores j _
-  revived_logs j view e owed (Err fault) (inl h) = logs_store size old (Restart j) new (Err fault) j (record { kept = h.1.kept; failures = view.failures; status = view.status }) h.1.rest
-  revived_logs j view e owed (Err fault) (inr h) = logs_fail size old (Restart j) new (Err fault) j view (change_of_owed size w e) view.status h.1
+  recovered_logs j view e owed (Err fault) (inl h) = logs_store size old (Restart j) new (Err fault) j (record { kept = h.1.kept; failures = view.failures; status = view.status }) h.1.rest
+  recovered_logs j view e owed (Err fault) (inr h) = logs_fail size old (Restart j) new (Err fault) j view (change_of_owed size w e) view.status h.1
 
   -- An event that a node owes is one of its own events.
   module _ (owed : (j : ℕ) (view : StoreView V) → slice_get old.stores j ≡ Some view → (ev : Event V) → view.status ≡ down (Some ev) → node_of w ev ≡ Some j) where
     -- an event whose node is down keeps the logs
-    down_logs : (e : Event V) (result : Result ℕ StepFault) → is_down_at old.stores (node_of w e) ≡ true → IsEffectAtDownNode size w old new e result → KeepsLogs size e old new result
+    down_logs : (e : Event V) (result : Result ℕ StepFault) → is_down_at old.stores (node_of w e) ≡ true → IsEffectAtDownNode size w old new e result → EventKeepsPrefixes size e old new result
     down_logs (Offer k v) result test effect = logs_same size old (Offer k v) new result effect.1
     down_logs (Begin k) result test effect = logs_same size old (Begin k) new result effect.1
     down_logs (Deliver number) result test effect = logs_same size old (Deliver number) new result effect.1
     down_logs (Restart j) result test effect = by_view (slice_get old.stores j) refl where
-      by_room : (view : StoreView V) (e : Option (Event V)) → ((ev : Event V) → e ≡ Some ev → node_of w ev ≡ Some j) → Revives size w old new j view e result → (t : Bool) → nat_lt MOST_EVENTS (length old.history + 2) ≡ t → KeepsLogs size (Restart j) old new result
-      by_room view e own revives true test = logs_same size old (Restart j) new result (revives.spent (grind (arith, nat_tests))).1
-      by_room view e own revives false test = revived_logs j view e own result (revives.revived (grind (arith, nat_tests)))
+      by_room : (view : StoreView V) (e : Option (Event V)) → ((ev : Event V) → e ≡ Some ev → node_of w ev ≡ Some j) → Recovers size w old new j view e result → (t : Bool) → nat_lt MOST_EVENTS (length old.history + 2) ≡ t → EventKeepsPrefixes size (Restart j) old new result
+      by_room view e own recovers true test = logs_same size old (Restart j) new result (recovers.spent (grind (arith, nat_tests))).1
+      by_room view e own recovers false test = recovered_logs j view e own result (recovers.recovered (grind (arith, nat_tests)))
 
-      by_standing : (view : StoreView V) → slice_get old.stores j ≡ Some view → (s : Status (Event V)) → view.status ≡ s → KeepsLogs size (Restart j) old new result
+      by_standing : (view : StoreView V) → slice_get old.stores j ≡ Some view → (s : Status (Event V)) → view.status ≡ s → EventKeepsPrefixes size (Restart j) old new result
       by_standing view at up stands =
           let no : false ≡ true = sym (ap (λ (o : Option (StoreView V)). is_down_view o) at ∙ ap (λ (s : Status (Event V)). is_down s) stands) ∙ test in cc
       by_standing view at (down e) stands = by_room view e (λ ev is. owed j view at ev (stands ∙ ap (λ (o : Option (Event V)). let s : Status (Event V) = down o in s) is)) (effect view at e stands) (nat_lt MOST_EVENTS (length old.history + 2)) refl
 
-      by_view : (o : Option (StoreView V)) → slice_get old.stores j ≡ o → KeepsLogs size (Restart j) old new result
+      by_view : (o : Option (StoreView V)) → slice_get old.stores j ≡ o → EventKeepsPrefixes size (Restart j) old new result
       by_view None none = let no : false ≡ true = sym (ap (λ (o : Option (StoreView V)). is_down_view o) none) ∙ test in cc
       by_view (Some view) at = by_standing view at view.status refl
 
     -- each event keeps the logs
-    pub acts_logs : (e : Event V) (result : Result ℕ StepFault) → IsEffect size w old new e result → KeepsLogs size e old new result
+    pub acts_logs : (e : Event V) (result : Result ℕ StepFault) → IsEffect size w old new e result → EventKeepsPrefixes size e old new result
     acts_logs e result effect = by_test (is_down_at old.stores (node_of w e)) refl where
-      by_test : (t : Bool) → is_down_at old.stores (node_of w e) ≡ t → KeepsLogs size e old new result
+      by_test : (t : Bool) → is_down_at old.stores (node_of w e) ≡ t → EventKeepsPrefixes size e old new result
       by_test true test = down_logs e result test (effect.is_down test)
       by_test false test = up_logs e result (effect.is_up test)

@@ -1,5 +1,5 @@
 -- The answer of a call on one node, in the world after the history; contracts see only the fields.
-use Rattle.switch.proofs.Words.{◌≡◌, ℕ, ◌+◌, ◌<◌, false, List, [], ◌∷◌, ◌++◌, length, set, slice_get, inl, inr, Option, Some, None, Result, Ok, Err, refl, ap, sym, ◌∙◌, subst, arith, IfErr, OnOk, IsOkUnless, ForOk, slice_get_within, Packet, Change, Kept, changed_by, Node, StepResult, kept_of, MOST_EVENTS, Event, StepFault, Memory, Device, World, after_step, event_result, packets_after, History, world_of_taken, node_of_event, node_of, change_of, StagedEvent, NetView, IsStaged, IsEventAt, ChangesOnlyRoom, IsTaken, change_in, step_of, after-push, length-nodes_of, Status, up, down, StoreState, IsRecordOf, IsWithOrWithout, Fails, change_owed, StoreView, SwitchView, event_owed, status_seen, view_of, views_of, IsOwing, IsSwitch, world_of, IsRecordIn, IsViewOf, AreStores, is_down_at, with_store, owed_on_failure, TakesAt, IsEffectAtUpNode, with_event}
+use Rattle.switch.proofs.Words.{◌≡◌, ℕ, ◌+◌, ◌<◌, false, List, [], ◌∷◌, ◌++◌, length, set, slice_get, inl, inr, Option, Some, None, Result, Ok, Err, refl, ap, sym, ◌∙◌, subst, arith, IfErr, OnOk, IsOkUnless, ForOk, slice_get_within, Packet, Change, KeptPart, changed_by, Node, StepResult, kept_of, MOST_EVENTS, Event, StepFault, Memory, Device, World, after_step, event_result, packets_after, History, world_of_taken, node_of_event, node_of, change_of, StagedEvent, NetView, IsStaged, IsEventAt, ChangesOnlyRoom, IsTaken, change_in, step_of, after-push, length-nodes_of, Status, up, down, StoreState, IsRecordOf, IsWithOrWithout, Fails, change_owed, StoreView, SwitchView, event_owed, status_seen, view_of, views_of, IsOwing, IsSwitch, world_of, IsRecordIn, IsViewOf, AreStores, is_down_at, with_store, owed_on_failure, TakesAt, IsEffectAtUpNode, with_event}
 use Rattle.switch.proofs.StoresLemmas.{views_of-set, view_at, view_past, item_at, up_at}
 use Rattle.switch.proofs.SwitchLemmas.{switch_view, other_store, committed, node_is, at, happens_is, change_is, change_told, changes}
 
@@ -59,7 +59,7 @@ module _ {V : Type 0} (size : V → ℕ) (net : NetView V) (stores : List (Store
       omega (arith, low, count, nodes, cores))
 
   -- if the record of a keep fits its node, it also fits by the change that the world gives for the owed event
-  record_in : (n : Node V) (k : ℕ) (s : Status (StagedEvent V)) (kept : Kept V) → IsRecordOf n s kept → IsOwing size net k s → IsRecordIn size w n (status_seen s) kept
+  record_in : (n : Node V) (k : ℕ) (s : Status (StagedEvent V)) (kept : KeptPart V) → IsRecordOf n s kept → IsOwing size net k s → IsRecordIn size w n (status_seen s) kept
   record_in n k up kept fits owing = fits
   record_in n k (down None) kept fits owing = fits
   record_in n k (down (Some o)) kept fits owing = subst (λ (c : Option (Change V)). IsWithOrWithout (kept_of n) c kept) (change_told size net stores h o owing.1) fits
@@ -150,7 +150,7 @@ module _ {V : Type 0} (size : V → ℕ) (net : NetView V) (stores : List (Store
         pub failed : IsSwitch size net (set stores d1.at new)
         failed = other_store size net stores h d1.at d.core.node store new (node_is size net stores h d1 d) is record {
           fits = subst (λ (s : Status (StagedEvent V)). IsRecordOf d.core.node s new.kept) (sym (ap (λ (s : StoreState V). s.status) fails.rest))
-              (subst (λ (c : Option (Change V)). IsWithOrWithout (kept_of d.core.node) c new.kept) (sym owes) (subst (λ (k : Kept V). IsWithOrWithout k change new.kept) kept_up fails.kept));
+              (subst (λ (c : Option (Change V)). IsWithOrWithout (kept_of d.core.node) c new.kept) (sym owes) (subst (λ (k : KeptPart V). IsWithOrWithout k change new.kept) kept_up fails.kept));
           owing = subst (λ (s : Status (StagedEvent V)). IsOwing size net d1.at s) (sym (ap (λ (s : StoreState V). s.status) fails.rest)) owing;
         }
 
@@ -172,7 +172,7 @@ module _ {V : Type 0} (size : V → ℕ) (net : NetView V) (stores : List (Store
         -- the net and the stores are a switch again
         pub played : IsSwitch size b (set stores d1.at new)
         played = committed size net stores h d1 d low b t store new is
-            (ap (λ (s : StoreState V). s.kept) stored ∙ ap (λ (k : Kept V). changed_by k (change_in d1.work)) kept_up ∙ sym (changes size net stores h d1 d low))
+            (ap (λ (s : StoreState V). s.kept) stored ∙ ap (λ (k : KeptPart V). changed_by k (change_in d1.work)) kept_up ∙ sym (changes size net stores h d1 d low))
             (ap (λ (s : StoreState V). s.status) stored ∙ is_up)
 
         -- the world is the one before with the step made

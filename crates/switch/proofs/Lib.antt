@@ -6,7 +6,7 @@ mod CallLemmas
 mod DispatchLemmas
 mod LoadLemmas
 mod OwedLemmas
-mod ReviveLemmas
-mod ReviveRefused
+mod RecoveryLemmas
+mod RecoveryRefused
 mod BelongsLemmas
 mod TieLemmas

@@ -1,5 +1,5 @@
 -- The event that a node owes while it is down: it can be taken, and then the net and the stores are a switch.
-use Rattle.switch.proofs.Words.{◌≡◌, ℕ, ◌+◌, ◌<◌, ◌≤◌, List, ◌++◌, length, set, slice_get, Option, Some, None, refl, ap, sym, ◌∙◌, subst, arith, changed_by, Node, kept_of, MOST_EVENTS, World, History, StagedEvent, NetView, HasRoom, step_of, Status, up, down, StoreState, change_owed, posts_owed, IsRecordOf, event_owed, IsOwing, IsSwitch, CanTakeOwed, TakesOwed, change_of_owed, owed_events, append-nil}
+use Rattle.switch.proofs.Words.{◌≡◌, ℕ, ◌+◌, ◌<◌, ◌≤◌, List, ◌++◌, length, set, slice_get, Option, Some, None, refl, ap, sym, ◌∙◌, subst, arith, changed_by, Node, kept_of, MOST_EVENTS, World, History, StagedEvent, NetView, HasRoom, step_of, Status, up, down, StoreState, change_owed, posts_owed, IsRecordOf, event_owed, IsOwing, IsSwitch, CanCommitOwed, CommitsOwed, change_of_owed, owed_events, append-nil}
 use Rattle.switch.proofs.KeepLemmas.{with_either}
 use Rattle.switch.proofs.SwitchLemmas.{other_store, node_is, committed, change_told, changes}
 
@@ -14,7 +14,7 @@ module _ {V : Type 0} (size : V → ℕ) (net : NetView V) (stores : List (Store
 
   module _ (room : length net.history.events + 2 ≤ MOST_EVENTS) where
     -- the owed event can be taken, if there is room for it and for the restart
-    pub can_take : (o : Option (StagedEvent V)) → IsOwing size net k (down o) → (more : ℕ) → HasRoom net (length (posts_owed o) + more) 2 → CanTakeOwed size net o
+    pub can_take : (o : Option (StagedEvent V)) → IsOwing size net k (down o) → (more : ℕ) → HasRoom net (length (posts_owed o) + more) 2 → CanCommitOwed size net o
     can_take None q more r = tt
     can_take (Some staged) q more r = (
       q.1,
@@ -24,7 +24,7 @@ module _ {V : Type 0} (size : V → ℕ) (net : NetView V) (stores : List (Store
 
   module _ (n : Node V) (store new : StoreState V) (node_k : slice_get w.nodes k ≡ Some n) (found : slice_get stores k ≡ Some store) (new_up : new.status ≡ up) (room : length net.history.events + 2 ≤ MOST_EVENTS) (m : NetView V) where
     -- once the keep has made its change and the owed event is taken, the net and the stores are a switch, and the net has the event and its posts
-    pub owed_taken : (p : Option (StagedEvent V)) → IsOwing size net k (down p) → IsRecordOf n (down p) store.kept → new.kept ≡ changed_by store.kept (change_owed p) → TakesOwed net m p
+    pub owed_taken : (p : Option (StagedEvent V)) → IsOwing size net k (down p) → IsRecordOf n (down p) store.kept → new.kept ≡ changed_by store.kept (change_owed p) → CommitsOwed net m p
         → (switch : IsSwitch size m (set stores k new)) × (m.history.weights ≡ net.history.weights) × (m.history.events ≡ net.history.events ++ owed_events (event_owed p)) × (m.packets ≡ net.packets ++ posts_owed p)
         × (net.packet_room ≤ m.packet_room) × (net.event_room ≤ m.event_room)
     owed_taken None q f kept same =

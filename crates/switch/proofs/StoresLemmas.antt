@@ -1,5 +1,5 @@
 -- Stores and their views, as lists and one by one.
-use Rattle.switch.proofs.Words.{◌≡◌, ◌≢◌, ℕ, zero, suc, ◌+◌, ◌<◌, ◌≤◌, ◌==◌, Bool, true, false, List, [], ◌∷◌, ◌++◌, length, get_or, set, slice_get, Option, Some, None, refl, ap, sym, ◌∙◌, subst, arith, le_of_suc-le-suc, AllByRecursion, nat_tests, Kept, new_kept, Node, Event, StagedEvent, at_set, at_set_other, Status, up, down, StoreState, StoreView, status_seen, view_of, views_of, new_views, new_stores, is_down, is_down_view, is_down_at, owed_events}
+use Rattle.switch.proofs.Words.{◌≡◌, ◌≢◌, ℕ, zero, suc, ◌+◌, ◌<◌, ◌≤◌, ◌==◌, Bool, true, false, List, [], ◌∷◌, ◌++◌, length, get_or, set, slice_get, Option, Some, None, refl, ap, sym, ◌∙◌, subst, arith, le_of_suc-le-suc, AllByRecursion, nat_tests, KeptPart, new_kept, Node, Event, StagedEvent, at_set, at_set_other, Status, up, down, StoreState, StoreView, status_seen, view_of, views_of, new_views, new_stores, is_down, is_down_view, is_down_at, owed_events}
 
 pub views_of-set : {V : Type 0} (stores : List (StoreState V)) (k : ℕ) (store : StoreState V) → views_of (set stores k store) ≡ set (views_of stores) k (view_of store)
 views_of-set [] k store = refl
@@ -72,24 +72,24 @@ down_at stores k store is e = down_owing store.status (sym (ap (λ o. is_down_vi
 -- New stores.
 
 -- the new stores for keeps with one more are those for the keeps and the one for that keep
-pub new_stores-push : {V K : Type 0} (kept : K → Kept V) (failures : K → ℕ) (keeps : List K) (keep : K) → new_stores kept failures (keeps ++ keep ∷ []) ≡ new_stores kept failures keeps ++ new_stores kept failures (keep ∷ [])
+pub new_stores-push : {V K : Type 0} (kept : K → KeptPart V) (failures : K → ℕ) (keeps : List K) (keep : K) → new_stores kept failures (keeps ++ keep ∷ []) ≡ new_stores kept failures keeps ++ new_stores kept failures (keep ∷ [])
 new_stores-push kept failures [] keep = refl
 new_stores-push {V} kept failures (k ∷ keeps) keep = ap (λ (ss : List (StoreState V)). (let s : StoreState V = record { kept = kept k; failures = failures k; status = up } in s) ∷ ss) (new_stores-push kept failures keeps keep)
 
 -- if each keep has the record of a new node, the views of the new stores are new views
-pub views_new : {V K : Type 0} (kept : K → Kept V) (failures : K → ℕ) (keeps : List K) → AllByRecursion (λ keep. kept keep ≡ new_kept) keeps → views_of (new_stores kept failures keeps) ≡ new_views failures keeps
+pub views_new : {V K : Type 0} (kept : K → KeptPart V) (failures : K → ℕ) (keeps : List K) → AllByRecursion (λ keep. kept keep ≡ new_kept) keeps → views_of (new_stores kept failures keeps) ≡ new_views failures keeps
 views_new kept failures [] h = refl
 views_new {V} kept failures (keep ∷ keeps) h =
-    ap (λ (x : Kept V). let p : StoreView V = record { kept = x; failures = failures keep; status = up } in p ∷ views_of (new_stores kept failures keeps)) h.0
+    ap (λ (x : KeptPart V). let p : StoreView V = record { kept = x; failures = failures keep; status = up } in p ∷ views_of (new_stores kept failures keeps)) h.0
     ∙ ap (λ (ps : List (StoreView V)). let p : StoreView V = record { kept = new_kept; failures = failures keep; status = up } in p ∷ ps) (views_new kept failures keeps h.1)
 
 -- there are as many new stores as keeps
-pub count_stores : {V K : Type 0} (kept : K → Kept V) (failures : K → ℕ) (keeps : List K) → length (new_stores kept failures keeps) ≡ length keeps
+pub count_stores : {V K : Type 0} (kept : K → KeptPart V) (failures : K → ℕ) (keeps : List K) → length (new_stores kept failures keeps) ≡ length keeps
 count_stores kept failures [] = refl
 count_stores kept failures (keep ∷ keeps) = ap suc (count_stores kept failures keeps)
 
 -- each new store is up, and its keep has the record of a new node
-pub new_at : {V K : Type 0} (kept : K → Kept V) (failures : K → ℕ) (keeps : List K) → AllByRecursion (λ keep. kept keep ≡ new_kept) keeps → (k : ℕ) (store : StoreState V) → slice_get (new_stores kept failures keeps) k ≡ Some store
+pub new_at : {V K : Type 0} (kept : K → KeptPart V) (failures : K → ℕ) (keeps : List K) → AllByRecursion (λ keep. kept keep ≡ new_kept) keeps → (k : ℕ) (store : StoreState V) → slice_get (new_stores kept failures keeps) k ≡ Some store
     → (store.kept ≡ new_kept) × (store.status ≡ up)
 new_at kept failures [] h k store at = cc
 new_at {V} kept failures (keep ∷ keeps) h zero store at =

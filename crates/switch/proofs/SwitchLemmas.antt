@@ -1,5 +1,5 @@
 -- A switch after its net or one of its stores has changed.
-use Rattle.switch.proofs.Words.{◌≡◌, ◌≢◌, ℕ, zero, suc, ◌<◌, List, [], ◌∷◌, ◌++◌, length, set, slice_get, Option, Some, None, Ok, refl, ap, sym, ◌∙◌, subst, arith, append_assoc, AllByRecursion, option_map, length-set, Packet, Change, IsPost, Kept, changed_by, new_kept, Node, StepResult, kept_of, new_node, Core, MOST_EVENTS, Event, World, start, nodes_from, after_step, event_result, event_result_without_limit, after, offers_of, IsAfter, History, nodes_of, AreOfWorld, change_of, kept_part, StagedWork, steps, restarts, StagedEvent, change_in, posts_of, step_of, IsEventAt, NetView, ChangeOnlyRooms, ChangesOnlyRoom, IsStaged, IsTaken, at_set, at_set_other, if_taken, node_at, holds_after, world_lasts, Happens, event_moves, taken_count, event_result-not_spent, rooms_stay, makes, nodes_of-set, nodes_found, nodes_still, staged_still, posts_same, Status, up, down, StoreState, IsRecordOf, SwitchView, views_of, new_stores, IsOwing, IsStore, IsSwitch, all_append, append-nil, with_event}
+use Rattle.switch.proofs.Words.{◌≡◌, ◌≢◌, ℕ, zero, suc, ◌<◌, List, [], ◌∷◌, ◌++◌, length, set, slice_get, Option, Some, None, Ok, refl, ap, sym, ◌∙◌, subst, arith, append_assoc, AllByRecursion, option_map, length-set, Packet, Change, IsPost, KeptPart, changed_by, new_kept, Node, StepResult, kept_of, new_node, Core, MOST_EVENTS, Event, World, start, nodes_from, after_step, event_result, event_result_without_limit, after, offers_of, IsAfter, History, nodes_of, AreOfWorld, change_of, kept_part, StagedWork, steps, restarts, StagedEvent, change_in, posts_of, step_of, IsEventAt, NetView, EachChangesOnlyRoom, ChangesOnlyRoom, IsStaged, IsTaken, at_set, at_set_other, if_taken, node_at, holds_after, world_lasts, Happens, event_moves, taken_count, event_result-not_spent, rooms_stay, makes, nodes_of-set, nodes_found, nodes_still, staged_still, posts_same, Status, up, down, StoreState, IsRecordOf, SwitchView, views_of, new_stores, IsOwing, IsStore, IsSwitch, all_append, append-nil, with_event}
 use Rattle.switch.proofs.StoresLemmas.{each_after, new_at, count_stores}
 
 abbrev pub switch_view : {V : Type 0} → NetView V → List (StoreState V) → SwitchView V
@@ -12,7 +12,7 @@ still_world {V} size a b only_room h =
     (subst (λ (ps : List (Packet V)). AreOfWorld size a.history b.cores ps) (sym only_room.packets) (rooms_stay size a.history a.cores a.packets h b.cores (nodes_still a.cores b.cores only_room.cores)))
 
 -- if only rooms change, there are as many cores as before
-still_count : {V : Type 0} (cs ds : List (Core V)) → ChangeOnlyRooms cs ds → length ds ≡ length cs
+still_count : {V : Type 0} (cs ds : List (Core V)) → EachChangesOnlyRoom cs ds → length ds ≡ length cs
 still_count [] [] h = refl
 still_count (c ∷ cs) (d ∷ ds) h = ap suc (still_count cs ds h.2)
 still_count [] (d ∷ ds) h = elim h [ ]
@@ -25,7 +25,7 @@ new_node_at {V} weights j zero (w ∷ ws) n at = let same : new_node j weights �
 new_node_at weights j (suc k) (w ∷ ws) n at = new_node_at weights (suc j) k ws n at
 
 -- a net of new nodes and their new stores are a switch
-pub starts : {V K : Type 0} (size : V → ℕ) (kept : K → Kept V) (failures : K → ℕ) (net : NetView V) (weights : List ℕ) (keeps : List K) (stores : List (StoreState V)) → AreOfWorld size net.history net.cores net.packets
+pub starts : {V K : Type 0} (size : V → ℕ) (kept : K → KeptPart V) (failures : K → ℕ) (net : NetView V) (weights : List ℕ) (keeps : List K) (stores : List (StoreState V)) → AreOfWorld size net.history net.cores net.packets
     → net.history ≡ record { weights = weights; events = [] } → length net.cores ≡ length net.history.weights → length keeps ≡ length weights → AllByRecursion (λ keep. kept keep ≡ new_kept) keeps → stores ≡ new_stores kept failures keeps → IsSwitch size net stores
 starts {V} size kept failures net weights keeps stores h is cores count new are = subst (λ (us : List (StoreState V)). IsSwitch size net us) (sym are) record {
   world = h;
@@ -149,7 +149,7 @@ module _ {V : Type 0} (size : V → ℕ) (net : NetView V) (stores : List (Store
           let left : kept_part (after_step w k step) k ≡ Some (kept_of step.node) = ap (λ (o : Option (Node V)). option_map kept_of o) (at_set w.nodes k step.node d.core.node node_is) in
           let right : option_map (λ kept. changed_by kept (change_of size w staged.event)) (kept_part w k) ≡ Some (changed_by (kept_of d.core.node) (change_in staged.work)) =
           ap (λ (o : Option (Node V)). option_map (λ kept. changed_by kept (change_of size w staged.event)) (option_map kept_of o)) node_is
-          ∙ ap (λ (c : Option (Change V)). let o : Option (Kept V) = Some (changed_by (kept_of d.core.node) c) in o) (at.change ∙ sym change_is) in
+          ∙ ap (λ (c : Option (Change V)). let o : Option (KeptPart V) = Some (changed_by (kept_of d.core.node) c) in o) (at.change ∙ sym change_is) in
           let both : Some (kept_of step.node) ≡ Some (changed_by (kept_of d.core.node) (change_in staged.work)) = sym left ∙ moved.own at.node ∙ right in
           cc
 

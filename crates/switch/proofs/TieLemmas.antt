@@ -1,5 +1,5 @@
 -- A call as a whole: its answer in the world after the history, and the logs after it.
-use Rattle.switch.proofs.Words.{◌≡◌, ℕ, true, false, List, Option, Some, None, Result, Ok, Err, refl, ap, sym, ◌∙◌, subst, slice_get, IsErrAnd, ForOk, Event, StepFault, Memory, World, node_of_event, node_of, StagedEvent, NetView, Status, up, down, StoreState, StoreView, SwitchView, status_seen, view_of, views_of, IsOwing, IsSwitch, is_down_at, world_of, IsEffectAtUpNode, IsEffectAtDownNode, Revives, IsEffect, Plays, KeepsLogs}
+use Rattle.switch.proofs.Words.{◌≡◌, ℕ, true, false, List, Option, Some, None, Result, Ok, Err, refl, ap, sym, ◌∙◌, subst, slice_get, IsErrAnd, ForOk, Event, StepFault, Memory, World, node_of_event, node_of, StagedEvent, NetView, Status, up, down, StoreState, StoreView, SwitchView, status_seen, view_of, views_of, IsOwing, IsSwitch, is_down_at, world_of, IsEffectAtUpNode, IsEffectAtDownNode, Recovers, IsEffect, Plays, EventKeepsPrefixes}
 use Rattle.switch.proofs.StoresLemmas.{view_at, view_past}
 use Rattle.switch.proofs.SwitchLemmas.{switch_view, at}
 use Rattle.switch.proofs.CallLemmas.{stores_are, after_is, node_there, node_seen}
@@ -21,7 +21,7 @@ module _ {V : Type 0} (size : V → ℕ) (now new : SwitchView V) (fault : StepF
   up_err e effect = subst (λ (a : Result ℕ StepFault). ForOk (world_of size now) (λ w. IsEffectAtUpNode size w now new e a)) (sym is) effect
 
   abbrev ActsAll : ℕ → Result ℕ StepFault → Type 0
-  ActsAll k a = ForOk (world_of size now) (λ w. (view : StoreView V) → slice_get now.stores k ≡ Some view → (e : Option (Event V)) → view.status ≡ down e → Revives size w now new k view e a)
+  ActsAll k a = ForOk (world_of size now) (λ w. (view : StoreView V) → slice_get now.stores k ≡ Some view → (e : Option (Event V)) → view.status ≡ down e → Recovers size w now new k view e a)
 
   -- an answer to a restart of a node that is down is right for a result that equals the error
   pub down_err : (k : ℕ) → ActsAll k (Err fault) → ActsAll k r
@@ -47,7 +47,7 @@ module _ {V : Type 0} (size : V → ℕ) (net : NetView V) (stores : List (Store
       owed_own k store.status (h.each k n.0 store n.1 some).owing e (ap (λ (p : StoreView V). p.status) same ∙ stands)
 
   -- if an answer is right in the world after the history, the call plays the event and keeps the logs
-  call_plays : (e : Event V) (new : SwitchView V) (result : Result ℕ StepFault) → ForOk (world_of size now) (λ x. IsEffect size x now new e result) → Plays size now new e result × KeepsLogs size e now new result
+  call_plays : (e : Event V) (new : SwitchView V) (result : Result ℕ StepFault) → ForOk (world_of size now) (λ x. IsEffect size x now new e result) → Plays size now new e result × EventKeepsPrefixes size e now new result
   call_plays e new result effect =
       let was = after_is size net stores h now seen in
       let are = stores_are size net stores h now seen h.world.world was in (
@@ -62,9 +62,9 @@ module _ {V : Type 0} (size : V → ℕ) (net : NetView V) (stores : List (Store
     found_at = node_seen size net stores h now seen e o node
 
     -- if the node is down, the call plays the event and keeps the logs
-    pub plays_down : is_down_at now.stores o ≡ true → (new : SwitchView V) (result : Result ℕ StepFault) → ForOk (world_of size now) (λ x. IsEffectAtDownNode size x now new e result) → Plays size now new e result × KeepsLogs size e now new result
+    pub plays_down : is_down_at now.stores o ≡ true → (new : SwitchView V) (result : Result ℕ StepFault) → ForOk (world_of size now) (λ x. IsEffectAtDownNode size x now new e result) → Plays size now new e result × EventKeepsPrefixes size e now new result
     plays_down test new result effect = call_plays e new result (down_acts size now e o found_at new result test effect)
 
     -- if the node is up or does not exist, the call plays the event and keeps the logs
-    pub plays_up : is_down_at now.stores o ≡ false → (new : SwitchView V) (result : Result ℕ StepFault) → ForOk (world_of size now) (λ x. IsEffectAtUpNode size x now new e result) → Plays size now new e result × KeepsLogs size e now new result
+    pub plays_up : is_down_at now.stores o ≡ false → (new : SwitchView V) (result : Result ℕ StepFault) → ForOk (world_of size now) (λ x. IsEffectAtUpNode size x now new e result) → Plays size now new e result × EventKeepsPrefixes size e now new result
     plays_up test new result effect = call_plays e new result (up_acts size now e o found_at new result test effect)

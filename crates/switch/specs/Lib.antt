@@ -1,4 +1,4 @@
 pub mod Words
 pub mod NodeStore
 pub mod Switch
-pub mod Belonging
+pub mod LogPrefixes

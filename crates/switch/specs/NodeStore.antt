@@ -2,7 +2,7 @@
 -- Source: Lamport, Paxos Made Simple, section 2.5: an acceptor records its response in stable storage before sending it.
 -- The code has the keep itself. Contracts see the record that it would load, how often it failed, and the event that the node owes, whose store failed.
 use Rattle.std.specs.Prelude.{◌≡◌, ◌⊎◌, ◌+◌, ℕ, List, [], Option, Some, None}
-use Rattle.switch.specs.Words.{Packet, Change, Kept, changed_by, Node, kept_of, StagedEvent, change_in, posts_of}
+use Rattle.switch.specs.Words.{Packet, Change, KeptPart, changed_by, Node, kept_of, StagedEvent, change_in, posts_of}
 use Rattle.switch.specs.declared.node_store.Status.{Status as RustStatus}
 use Rattle.switch.specs.declared.node_store.Status.TheVariants.{Up, Down}
 
@@ -16,7 +16,7 @@ status_of Up = up
 status_of (Down staged) = down staged
 
 pub record StoreState (V : Type 0) : Type 0 where
-  pub kept : Kept V  -- the record that the keep would load
+  pub kept : KeptPart V  -- the record that the keep would load
   pub failures : ℕ  -- how many calls of the keep failed
   pub status : Status (StagedEvent V)
 
@@ -37,14 +37,14 @@ posts_owed (Some staged) = posts_of staged.work
 -- The record of the keep is the kept part of the node; while the node is down, it may also have the change that is owed.
 
 -- the old record, or the old record with the change
-abbrev pub IsWithOrWithout : {V : Type 0} → Kept V → Option (Change V) → Kept V → Type 0
+abbrev pub IsWithOrWithout : {V : Type 0} → KeptPart V → Option (Change V) → KeptPart V → Type 0
 IsWithOrWithout old change new = (new ≡ old) ⊎ (new ≡ changed_by old change)
 
-abbrev pub IsRecordOf : {V : Type 0} → Node V → Status (StagedEvent V) → Kept V → Type 0
+abbrev pub IsRecordOf : {V : Type 0} → Node V → Status (StagedEvent V) → KeptPart V → Type 0
 IsRecordOf n up kept = kept ≡ kept_of n
 IsRecordOf n (down o) kept = IsWithOrWithout (kept_of n) (change_owed o) kept
 
 -- the effect of a failed call of the keep
-pub record Fails {V : Type 0} (old : StoreState V) (change : Option (Change V)) (left : Status (StagedEvent V)) (new : StoreState V) : Type 0 where
+pub record Fails {V : Type 0} (old : StoreState V) (change : Option (Change V)) (status_after : Status (StagedEvent V)) (new : StoreState V) : Type 0 where
   pub kept : IsWithOrWithout old.kept change new.kept
-  pub rest : new ≡ record { kept = new.kept; failures = old.failures + 1; status = left }
+  pub rest : new ≡ record { kept = new.kept; failures = old.failures + 1; status = status_after }

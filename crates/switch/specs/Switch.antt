@@ -2,7 +2,7 @@
 -- Source: Lamport, Paxos Made Simple, section 3; that a node with a failed store is down is this project's choice.
 -- The code has a net and the keeps; by the invariant of the type, the state of the net is that of the world after the history.
 use Rattle.std.specs.Prelude.{◌≡◌, ◌⊎◌, ◌+◌, ◌≤◌, ◌<◌, ℕ, Bool, true, false, List, [], ◌∷◌, ◌++◌, Option, Some, None, Result, Ok, Err, length, slice_get, slice_set}
-use Rattle.switch.specs.Words.{Change, Kept, changed_by, new_kept, Node, kept_of, MOST_EVENTS, Event, Offer, Begin, Deliver, Restart, StepFault, Memory, Device, Down, EventsSpent, World, event_result, after, IsAfter, AreOfWorld, node_of, change_of, kept_part, StagedEvent, NetView, IsStaged, HasRoom, IsTaken, posts_of}
+use Rattle.switch.specs.Words.{Change, KeptPart, changed_by, new_kept, Node, kept_of, MOST_EVENTS, Event, Offer, Begin, Deliver, Restart, StepFault, Memory, Device, Down, EventsSpent, World, event_result, after, IsAfter, AreOfWorld, node_of, change_of, kept_part, StagedEvent, NetView, IsStaged, HasRoom, IsTaken, posts_of}
 use Rattle.switch.specs.NodeStore.{Status, up, down, StoreState, IsRecordOf, IsWithOrWithout}
 
 -- The switch as contracts see it.
@@ -10,7 +10,7 @@ use Rattle.switch.specs.NodeStore.{Status, up, down, StoreState, IsRecordOf, IsW
 -- the store of a node: the record that its keep would load, how often the keep failed, and whether the node is up, or down
 -- with the event whose store failed, if one did
 pub record StoreView (V : Type 0) : Type 0 where
-  pub kept : Kept V
+  pub kept : KeptPart V
   pub failures : ℕ
   pub status : Status (Event V)
 
@@ -40,7 +40,7 @@ new_views failures [] = []
 new_views failures (keep ∷ keeps) = record { kept = new_kept; failures = failures keep; status = up } ∷ new_views failures keeps
 
 -- the stores of new nodes
-abbrev pub new_stores : {V K : Type 0} → (K → Kept V) → (K → ℕ) → List K → List (StoreState V)
+abbrev pub new_stores : {V K : Type 0} → (K → KeptPart V) → (K → ℕ) → List K → List (StoreState V)
 new_stores kept failures [] = []
 new_stores kept failures (keep ∷ keeps) = record { kept = kept keep; failures = failures keep; status = up } ∷ new_stores kept failures keeps
 
@@ -75,7 +75,7 @@ change_of_owed size w None = None
 change_of_owed size w (Some e) = change_of size w e
 
 -- the record of the keep is the kept part of its node; while the node is down, it may also have the change whose store failed
-abbrev pub IsRecordIn : {V : Type 0} → (V → ℕ) → World V → Node V → Status (Event V) → Kept V → Type 0
+abbrev pub IsRecordIn : {V : Type 0} → (V → ℕ) → World V → Node V → Status (Event V) → KeptPart V → Type 0
 IsRecordIn size w n up kept = kept ≡ kept_of n
 IsRecordIn size w n (down e) kept = IsWithOrWithout (kept_of n) (change_of_owed size w e) kept
 
@@ -124,10 +124,10 @@ owed_on_failure (Deliver number) = Some (Deliver number)
 owed_on_failure (Restart k) = None
 
 -- a call of the keep of node k failed: it counts one failure more, its record is the old or the new one, and the rest is as before
-pub record FailsAt {V : Type 0} (old new : SwitchView V) (k : ℕ) (view : StoreView V) (change : Option (Change V)) (left : Status (Event V)) : Type 0 where
-  pub kept : Kept V
+pub record FailsAt {V : Type 0} (old new : SwitchView V) (k : ℕ) (view : StoreView V) (change : Option (Change V)) (status_after : Status (Event V)) : Type 0 where
+  pub kept : KeptPart V
   pub either : IsWithOrWithout view.kept change kept
-  pub rest : new ≡ with_store old k record { kept = kept; failures = view.failures + 1; status = left }
+  pub rest : new ≡ with_store old k record { kept = kept; failures = view.failures + 1; status = status_after }
 
 -- an event that meets no fault is taken, and x is the world after it; or an allocation failed, or the keep failed
 abbrev pub TakesAt : {V : Type 0} → SwitchView V → SwitchView V → Event V → ℕ → StoreView V → Option (Change V) → World V → Result ℕ StepFault → Type 0
@@ -146,29 +146,29 @@ owed_events None = []
 owed_events (Some e) = e ∷ []
 
 -- node k is up again with the record that its keep loaded: the event whose store failed, if there is one, and then the restart are taken
-pub record IsRevived {V : Type 0} (size : V → ℕ) (old new : SwitchView V) (k : ℕ) (view : StoreView V) (e : Option (Event V)) (count : ℕ) : Type 0 where
+pub record IsRecovered {V : Type 0} (size : V → ℕ) (old new : SwitchView V) (k : ℕ) (view : StoreView V) (e : Option (Event V)) (count : ℕ) : Type 0 where
   pub world : World V
   pub is_after : IsAfter size old.weights (old.history ++ owed_events e ++ Restart k ∷ []) world
   pub counted : count ≡ length world.packets
-  pub kept : Kept V
+  pub kept : KeptPart V
   pub is_kept : kept_part world k ≡ Some kept
   pub rest : new ≡ record { weights = old.weights; history = old.history ++ owed_events e ++ Restart k ∷ []; stores = slice_set old.stores k record { kept = kept; failures = view.failures; status = up } }
 
 -- an allocation failed: everything but the record is as before
 pub record StaysDownAt {V : Type 0} (old new : SwitchView V) (k : ℕ) (view : StoreView V) (change : Option (Change V)) : Type 0 where
-  pub kept : Kept V
+  pub kept : KeptPart V
   pub either : IsWithOrWithout view.kept change kept
   pub rest : new ≡ with_store old k record { kept = kept; failures = view.failures; status = view.status }
 
-abbrev pub RevivesAt : {V : Type 0} → (V → ℕ) → World V → SwitchView V → SwitchView V → ℕ → StoreView V → Option (Event V) → Result ℕ StepFault → Type 0
-RevivesAt size w old new k view e (Ok count) = IsRevived size old new k view e count
-RevivesAt size w old new k view e (Err fault) =
+abbrev pub RecoversAt : {V : Type 0} → (V → ℕ) → World V → SwitchView V → SwitchView V → ℕ → StoreView V → Option (Event V) → Result ℕ StepFault → Type 0
+RecoversAt size w old new k view e (Ok count) = IsRecovered size old new k view e count
+RecoversAt size w old new k view e (Err fault) =
     ((fault ≡ Memory) × StaysDownAt old new k view (change_of_owed size w e)) ⊎ ((fault ≡ Device) × FailsAt old new k view (change_of_owed size w e) view.status)
 
 -- the effect of a restart at a node that is down and owes e
-pub record Revives {V : Type 0} (size : V → ℕ) (w : World V) (old new : SwitchView V) (k : ℕ) (view : StoreView V) (e : Option (Event V)) (result : Result ℕ StepFault) : Type 0 where
+pub record Recovers {V : Type 0} (size : V → ℕ) (w : World V) (old new : SwitchView V) (k : ℕ) (view : StoreView V) (e : Option (Event V)) (result : Result ℕ StepFault) : Type 0 where
   pub spent : MOST_EVENTS < length old.history + 2 → Refuses old new result EventsSpent
-  pub revived : length old.history + 2 ≤ MOST_EVENTS → RevivesAt size w old new k view e result
+  pub recovered : length old.history + 2 ≤ MOST_EVENTS → RecoversAt size w old new k view e result
 
 -- Events in general.
 
@@ -177,7 +177,7 @@ abbrev pub IsEffectAtDownNode : {V : Type 0} → (V → ℕ) → World V → Swi
 IsEffectAtDownNode size w old new (Offer k v) result = Refuses old new result Down
 IsEffectAtDownNode size w old new (Begin k) result = Refuses old new result Down
 IsEffectAtDownNode size w old new (Deliver number) result = Refuses old new result Down
-IsEffectAtDownNode {V} size w old new (Restart k) result = (view : StoreView V) → slice_get old.stores k ≡ Some view → (e : Option (Event V)) → view.status ≡ down e → Revives size w old new k view e result
+IsEffectAtDownNode {V} size w old new (Restart k) result = (view : StoreView V) → slice_get old.stores k ≡ Some view → (e : Option (Event V)) → view.status ≡ down e → Recovers size w old new k view e result
 
 -- the effect of an event; w is the world after the old history
 pub record IsEffect {V : Type 0} (size : V → ℕ) (w : World V) (old new : SwitchView V) (e : Event V) (result : Result ℕ StepFault) : Type 0 where
@@ -193,10 +193,10 @@ pub record Plays {V : Type 0} (size : V → ℕ) (old new : SwitchView V) (e : E
 
 -- At the restart of a node that is down, the event that it owes is taken first.
 
-abbrev pub CanTakeOwed : {V : Type 0} → (V → ℕ) → NetView V → Option (StagedEvent V) → Type 0
-CanTakeOwed size net None = Unit {0}
-CanTakeOwed size net (Some staged) = IsStaged size net staged × HasRoom net (length (posts_of staged.work)) 1 × (length net.history.events < MOST_EVENTS)
+abbrev pub CanCommitOwed : {V : Type 0} → (V → ℕ) → NetView V → Option (StagedEvent V) → Type 0
+CanCommitOwed size net None = Unit {0}
+CanCommitOwed size net (Some staged) = IsStaged size net staged × HasRoom net (length (posts_of staged.work)) 1 × (length net.history.events < MOST_EVENTS)
 
-abbrev pub TakesOwed : {V : Type 0} → NetView V → NetView V → Option (StagedEvent V) → Type 0
-TakesOwed old new None = new ≡ old
-TakesOwed old new (Some staged) = IsTaken old new staged
+abbrev pub CommitsOwed : {V : Type 0} → NetView V → NetView V → Option (StagedEvent V) → Type 0
+CommitsOwed old new None = new ≡ old
+CommitsOwed old new (Some staged) = IsTaken old new staged

@@ -10,6 +10,6 @@ pub use Rattle.net.specs.declared.event.TheConstants.{MOST_EVENTS}
 pub use Rattle.net.specs.declared.fault.StepFault.{StepFault}
 pub use Rattle.net.specs.declared.fault.StepFault.TheVariants.{Device, Down, EventsSpent, Memory}
 pub use Rattle.synod.specs.Node.{Node, kept_of}
-pub use Rattle.synod.specs.Record.{Kept, changed_by, new_kept}
+pub use Rattle.synod.specs.Record.{KeptPart, changed_by, new_kept}
 pub use Rattle.synod.specs.declared.change.Change.{Change}
 pub use Rattle.synod.specs.declared.packet.Packet.{Packet}

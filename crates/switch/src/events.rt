@@ -3,7 +3,7 @@ ghost use Rattle.std.specs.Prelude.{◌≡◌, Some, false};
 ghost use Rattle.std.specs.Result.{ForOk};
 ghost use Rattle.net.specs.KeptPart.{node_of};
 ghost use Rattle.switch.specs.Switch.{IsEffectAtUpNode, Plays, owed_on_failure, is_down_at, world_of};
-ghost use Rattle.switch.specs.Belonging.{KeepsLogs};
+ghost use Rattle.switch.specs.LogPrefixes.{EventKeepsPrefixes};
 
 use crate::switch::Switch;
 use net::{Event, StepFault};
@@ -22,11 +22,11 @@ impl<V: Value, K: Keep<V>> Switch<V, K> {
     /// Cost: the step of the node, looking up one packet and storing one change; at a restart, loading the record once.
     pub fn play(&mut self, event: Event<V>) -> Result<u64, StepFault>
         ensures plays { Plays V.bytes self.old self.new event result }
-        ensures logs { KeepsLogs V.bytes event self.old self.new result }
+        ensures logs { EventKeepsPrefixes V.bytes event self.old self.new result }
     {
         let is_down = self.is_down(self.net.node_of(&event));
         match event {
-            Event::Restart(k) if is_down => self.revive(k),
+            Event::Restart(k) if is_down => self.recover(k),
             Event::Restart(k) => self.reload(k),
             _ if is_down => Err(StepFault::Down),
             _ => self.step(event),

@@ -5,7 +5,7 @@
 //! every switch.
 //!
 //! Reading order: `node_store` and `switch`, then `events`, `restart` and `node_state`; the definitions are in `NodeStore`,
-//! `Switch` and `Belonging` of `specs`.
+//! `Switch` and `LogPrefixes` of `specs`.
 #![tactic(auto)]
 
 mod events;

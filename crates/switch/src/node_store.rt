@@ -97,9 +97,9 @@ impl<V: Value, K: Keep<V>> NodeStore<V, K> {
 
     /// Stores the owed change, if there is one, loads the record, and marks the node as up. Returns the event that the node
     /// owed, and the record. If a call of the keep fails, the node stays down.
-    pub fn repair(&mut self) -> Result<(Option<StagedEvent<V>>, Record<V>), Failed>
-        ensures owed { IfOk result (λ made. made.0 ≡ owed_in self.old.status) }
-        ensures loaded { IfOk result (λ made. made.1.kept ≡ changed_by self.old.kept (change_owed (owed_in self.old.status))) }
+    pub fn bring_up(&mut self) -> Result<(Option<StagedEvent<V>>, Record<V>), Failed>
+        ensures owed { IfOk result (λ parts. parts.0 ≡ owed_in self.old.status) }
+        ensures loaded { IfOk result (λ parts. parts.1.kept ≡ changed_by self.old.kept (change_owed (owed_in self.old.status))) }
         ensures up { OnOk result (self.new ≡ record { kept = changed_by self.old.kept (change_owed (owed_in self.old.status)); failures = self.old.failures; status = up }) }
         ensures failed { OnErr result (Fails self.old (change_owed (owed_in self.old.status)) self.old.status self.new) }
     {

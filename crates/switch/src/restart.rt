@@ -4,7 +4,7 @@ ghost use Rattle.std.specs.Result.{ForOk};
 ghost use Rattle.net.specs.declared.event.Event.{Event};
 ghost use Rattle.net.specs.declared.event.Event.TheVariants.{Restart};
 ghost use Rattle.switch.specs.NodeStore.{down};
-ghost use Rattle.switch.specs.Switch.{StoreView, is_down_at, world_of, IsEffectAtUpNode, Revives, CanTakeOwed, TakesOwed};
+ghost use Rattle.switch.specs.Switch.{StoreView, is_down_at, world_of, IsEffectAtUpNode, Recovers, CanCommitOwed, CommitsOwed};
 
 use crate::switch::Switch;
 use net::{Event, MOST_EVENTS, Net, StagedEvent, StepFault};
@@ -24,9 +24,9 @@ impl<V: Value, K: Keep<V>> Switch<V, K> {
     }
 
     /// Restarts a node that is down: stores the change of the event that it owes, and commits that event before the restart.
-    pub(crate) fn revive(&mut self, k: u8) -> Result<u64, StepFault>
+    pub(crate) fn recover(&mut self, k: u8) -> Result<u64, StepFault>
         requires { is_down_at self.old.stores (Some k) ≡ true }
-        ensures { ForOk (world_of V.bytes self.old) (λ world. (view : StoreView V) → slice_get self.old.stores k ≡ Some view → (e : Option (Event V)) → view.status ≡ down e → Revives V.bytes world self.old self.new k view e result) }
+        ensures { ForOk (world_of V.bytes self.old) (λ world. (view : StoreView V) → slice_get self.old.stores k ≡ Some view → (e : Option (Event V)) → view.status ≡ down e → Recovers V.bytes world self.old self.new k view e result) }
     {
         if self.net.history().len() as u64 + 2 > MOST_EVENTS {
             return Err(StepFault::EventsSpent);
@@ -41,17 +41,17 @@ impl<V: Value, K: Keep<V>> Switch<V, K> {
             return Err(StepFault::Memory);
         };
         self.net.room(room, 2)?;
-        let (owed, record) = self.stores[at].repair()?;
-        take_owed(&mut self.net, owed);
+        let (owed, record) = self.stores[at].bring_up()?;
+        commit_owed(&mut self.net, owed);
         staged.load(record);
         Ok(self.net.commit(staged))
     }
 }
 
 /// Commits the event that was owed, if there is one. Does not allocate.
-fn take_owed<V: Value>(net: &mut Net<V>, owed: Option<StagedEvent<V>>)
-    requires { CanTakeOwed V.bytes net.old owed }
-    ensures { TakesOwed net.old net.new owed }
+fn commit_owed<V: Value>(net: &mut Net<V>, owed: Option<StagedEvent<V>>)
+    requires { CanCommitOwed V.bytes net.old owed }
+    ensures { CommitsOwed net.old net.new owed }
 {
     if let Some(staged) = owed {
         net.commit(staged);

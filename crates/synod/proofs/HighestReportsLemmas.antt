@@ -225,6 +225,6 @@ is_lead {V} me weights b first reports waiting top proposed all none filled post
           ∙ ap (λ (vs : List V). accept_posts me weights b first (proposed_values reports first (top_or_first first reports - first)) ++ accept_posts me weights b top (as_entries vs)) (part.0 ∙ ap (λ (i : ℕ). take i waiting) room)
           ∙ ap (λ (t : ℕ). accept_posts me weights b first (proposed_values reports first (top_or_first first reports - first)) ++ accept_posts me weights b t (as_entries (take (SLOTS - top_or_first first reports) waiting))) is_top;
       next_is = let count = sym part.2 ∙ ap (λ (i : ℕ). length (take i waiting)) room in omega (arith, is_top, count);
-      left = part.1 ∙ ap (λ (i : ℕ). drop i waiting) room;
+      still_waiting = part.1 ∙ ap (λ (i : ℕ). drop i waiting) room;
       within = omega (arith, is_taken);
     }

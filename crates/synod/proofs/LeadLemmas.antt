@@ -5,7 +5,7 @@ use Rattle.synod.proofs.Words.{◌≡◌, ◌∙◌, ℕ, List, [], Option, ap, 
 leads_at : {V : Type 0} (m : Node V) (b : Ballot) (first : ℕ) (pages : List (List (Option (List (SlotReport V))))) (heard : List Heard) (posts : List (Packet V)) (next proposed : ℕ)
     → IsLead m.me m.weights b first (all_reports pages heard) m.waiting posts next proposed → leads_with m b first pages heard ≡ volatile_step (with_proposer_update m (Lead b next proposed)) posts
 leads_at m b first pages heard posts next proposed is =
-    λ i. volatile_step (assembled m.me m.weights (kept_of m) (record { role = Leading b (sym is.next_is i); pages = []; heard = []; waiting = sym is.left i }) (learner_state m)) (sym is.posted i)
+    λ i. volatile_step (assembled m.me m.weights (kept_of m) (record { role = Leading b (sym is.next_is i); pages = []; heard = []; waiting = sym is.still_waiting i }) (learner_state m)) (sym is.posted i)
 
 -- the same when room has been made first, and the pages and the waiting values are given separately
 pub lead_step : {V : Type 0} (m n : Node V) (same : m ≡ n) (had : List (List (Option (List (SlotReport V))))) (pages_are : had ≡ m.pages) (values : List V) (waiting_is : values ≡ m.waiting)

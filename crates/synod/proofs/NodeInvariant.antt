@@ -1,5 +1,5 @@
 -- The invariant of a node and of its posts, for all steps except those on promises.
-use Rattle.synod.proofs.Words.{◌≡◌, ℕ, zero, suc, ◌+◌, ◌^◌, ◌<◌, ◌≤◌, Bool, true, false, ◌&&◌, ◌==◌, nat_lt, List, [], ◌∷◌, ◌++◌, length, Option, Some, None, Result, Ok, Err, refl, arith, set, if◌then◌else◌, nat_tests, AllByRecursion, SLOTS, entry_at, put_at, top_of-put_at, front_of-le, MOST_BYTES, MOST_WAITING, Ballot, SlotReport, Packet, Body, Prepare, Accept, Accepted, Nack, Ask, Told, AcceptedEntry, Heard, Role, Idle, Preparing, Leading, Refusal, Busy, LogFull, RoundsSpent, TooLong, is_below, packet, to_all_from, to_all, to_others_from, to_others, accept_posts, IsBody, IsPost, Kept, Node, StepResult, unchanged, no_pages, log_length, refuses, accepted_entry, accepts_value, on_accept, waits, proposes_value, offer_waits, offer_as, offered, next_round, next_ballot, begins, begun, is_at, idles, on_nack, learns, chooses, on_ask_at, on_ask, on_told_at, on_told, PreservesInvariant, reloaded, IsRole, ArePages, IsNode}
+use Rattle.synod.proofs.Words.{◌≡◌, ℕ, zero, suc, ◌+◌, ◌^◌, ◌<◌, ◌≤◌, Bool, true, false, ◌&&◌, ◌==◌, nat_lt, List, [], ◌∷◌, ◌++◌, length, Option, Some, None, Result, Ok, Err, refl, arith, set, if◌then◌else◌, nat_tests, AllByRecursion, SLOTS, entry_at, put_at, top_of-put_at, front_of-le, MOST_BYTES, MOST_WAITING, Ballot, SlotReport, Packet, Body, Prepare, Accept, Accepted, Nack, Ask, Told, AcceptedEntry, Heard, Role, Idle, Preparing, Leading, Refusal, Busy, LogFull, RoundsSpent, TooLong, is_below, packet, to_all_from, to_all, to_others_from, to_others, accept_posts, IsBody, IsPost, KeptPart, Node, StepResult, unchanged, no_pages, log_length, refuses, accepted_entry, accepts_value, on_accept, waits, proposes_value, offer_waits, offer_as, offered, next_round, next_ballot, begins, begun, is_at, idles, on_nack, learns, chooses, on_ask_at, on_ask, on_told_at, on_told, PreservesInvariant, reloaded, IsRole, ArePages, IsNode}
 use Rattle.std.specs.List.{slice_index_or}
 
 -- the step preserves the invariant, unless it is refused
@@ -199,7 +199,7 @@ module _ {V : Type 0} (n : Node V) (is : IsNode n) where
   -- A restart.
 
   -- a restart from a record preserves the invariant, if the record has accepted entries only below the limit
-  pub keeps_reloaded : (kept : Kept V) → length kept.accepted ≤ SLOTS → PreservesInvariant nodes (reloaded n kept)
+  pub keeps_reloaded : (kept : KeptPart V) → length kept.accepted ≤ SLOTS → PreservesInvariant nodes (reloaded n kept)
   keeps_reloaded kept low = record {
     node = record { weights = is.weights; me = is.me; accepted = low; learned = omega arith; role = tt; pages = tt };
     posts = posts_to_others nodes n.me (Ask 0) is.me (omega arith) 0 n.weights (omega arith);

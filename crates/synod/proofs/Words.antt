@@ -29,7 +29,7 @@ pub use Rattle.synod.specs.Packets.{IsBody, IsPacket, IsPage, IsPost, IsReport, 
 pub use Rattle.synod.specs.PromisePages.{are_received, pages_with_room, joined_pages, onto_first, pages_of}
 pub use Rattle.synod.specs.Proposer.{top_or_zero, all_reports, begins, begun, proposed_values, on_promise_page, on_complete_promise, higher, highest_at, idles, is_at, adds_page, completes_promise, leads, leads_with, next_ballot, next_round, offer_as, offer_waits, offered, on_nack, on_promise, on_promise_as, reported_value, proposes_value, top_or_first, waits}
 pub use Rattle.synod.specs.Ready.{CanCommit, IsReadyFor, ReadyView, IsStagingResult, learner_of, proposer_of, staged_node, with_learner_update, with_proposer_update}
-pub use Rattle.synod.specs.Record.{HasRoomFor, Kept, RecordView, changed_by}
+pub use Rattle.synod.specs.Record.{HasRoomFor, KeptPart, RecordView, changed_by}
 pub use Rattle.synod.specs.Rooms.{HasNoLessRoom, RoomsGrow}
 pub use Rattle.synod.specs.Step.{ArePages, IsNode, IsRole, PreservesInvariant, on_body, on_packet, reloaded, restarted}
 pub use Rattle.synod.specs.Stored.OtherTallies.{IsLearner, other_tallies_at, tallies_from, tally, voters_among}

@@ -3,7 +3,7 @@
 -- The code has a struct for each of the three parts of a node, with its own room.
 use Rattle.std.specs.Prelude.{ℕ, Bool, List, Option}
 use Rattle.synod.specs.Words.{Ballot, SlotReport, Role, Heard, Tally}
-use Rattle.synod.specs.Record.{Kept, RecordView}
+use Rattle.synod.specs.Record.{KeptPart, RecordView}
 use Rattle.synod.specs.Node.{Node}
 
 -- the proposer's part of a node
@@ -42,7 +42,7 @@ abbrev pub learner_state : {V : Type 0} → Node V → LearnerState V
 learner_state n = record { tallies = n.tallies; learned = n.learned }
 
 -- a node assembled from its parts
-abbrev pub assembled : {V : Type 0} → ℕ → List ℕ → Kept V → ProposerState V → LearnerState V → Node V
+abbrev pub assembled : {V : Type 0} → ℕ → List ℕ → KeptPart V → ProposerState V → LearnerState V → Node V
 assembled me weights kept p l = record {
   me = me;
   weights = weights;

@@ -24,5 +24,5 @@ pub record IsLead {V : Type 0} (me : ℕ) (weights : List ℕ) (b : Ballot) (fir
   pub posted : let top = top_or_first first reports in
       posts ≡ accept_posts me weights b first (proposed_values reports first (top - first)) ++ accept_posts me weights b top (as_entries (take (SLOTS - top) waiting))
   pub next_is : next ≡ top_or_first first reports + length (take (SLOTS - top_or_first first reports) waiting)
-  pub left : drop proposed waiting ≡ drop (SLOTS - top_or_first first reports) waiting
+  pub still_waiting : drop proposed waiting ≡ drop (SLOTS - top_or_first first reports) waiting
   pub within : proposed ≤ length waiting

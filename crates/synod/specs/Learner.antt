@@ -50,12 +50,12 @@ learns n s v = record n { learned = put_at n.learned s v }
 abbrev pub asks_below : {V : Type 0} → Node V → ℕ → ℕ → List (Packet V)
 asks_below n s gap = if nat_lt gap s then to_others n.me n.weights (Ask gap) else []
 
-abbrev pub ask_below : {V : Type 0} → Node V → ℕ → List (Packet V)
-ask_below n s = asks_below n s (log_length n)
+abbrev pub asks_for_first_gap : {V : Type 0} → Node V → ℕ → List (Packet V)
+asks_for_first_gap n s = asks_below n s (log_length n)
 
 -- the value is learned, since a quorum accepted it under one ballot
 abbrev pub chooses : {V : Type 0} → Node V → ℕ → Option V → StepResult V
-chooses n s v = volatile_step (learns n s v) (ask_below (learns n s v) s)
+chooses n s v = volatile_step (learns n s v) (asks_for_first_gap (learns n s v) s)
 
 -- the step once the vote is counted: the value is learned if the voters are a quorum
 abbrev pub counts : {V : Type 0} → Node V → Ballot → ℕ → Option V → StepResult V
@@ -81,11 +81,11 @@ on_ask n p s = on_ask_at (entry_at n.learned s) n p s
 abbrev pub asks_for : {V : Type 0} → Node V → ℕ → ℕ → List (Packet V)
 asks_for n p gap = if nat_lt gap SLOTS then (packet n.me p (Ask gap) ∷ []) else []
 
-abbrev pub ask_next : {V : Type 0} → Node V → ℕ → List (Packet V)
-ask_next n p = asks_for n p (log_length n)
+abbrev pub asks_for_next_gap : {V : Type 0} → Node V → ℕ → List (Packet V)
+asks_for_next_gap n p = asks_for n p (log_length n)
 
 abbrev pub learns_told : {V : Type 0} → Node V → ℕ → ℕ → Option V → StepResult V
-learns_told n p s v = volatile_step (learns n s v) (ask_next (learns n s v) p)
+learns_told n p s v = volatile_step (learns n s v) (asks_for_next_gap (learns n s v) p)
 
 abbrev pub on_told_at : {V : Type 0} → Option (Option V) → Node V → ℕ → ℕ → Option V → StepResult V
 on_told_at (Some u) n p s v = unchanged n

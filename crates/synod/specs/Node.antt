@@ -3,7 +3,7 @@
 -- The code also has reserved room, and stores the maps in pages.
 use Rattle.std.specs.Prelude.{ℕ, Bool, false, ◌==◌, ◌||◌, List, [], ◌∷◌, Option, None, is_some, map, slice_set, slice_index_or, if◌then◌else◌}
 use Rattle.synod.specs.Words.{entry_at, put_at, Ballot, SlotReport, Packet, AcceptedEntry, Change, Role, Idle, Heard, Tally}
-use Rattle.synod.specs.Record.{Kept, new_kept}
+use Rattle.synod.specs.Record.{KeptPart, new_kept}
 
 pub record Node (V : Type 0) : Type 0 where
   pub me : ℕ
@@ -19,11 +19,11 @@ pub record Node (V : Type 0) : Type 0 where
   pub waiting : List V  -- the oldest first
 
 -- the part that survives a restart
-abbrev pub kept_of : {V : Type 0} → Node V → Kept V
+abbrev pub kept_of : {V : Type 0} → Node V → KeptPart V
 kept_of n = record { promise = n.promise; round = n.round; accepted = n.accepted }
 
 -- the node after a restart with this kept part
-abbrev pub restarted_node : {V : Type 0} → ℕ → List ℕ → Kept V → Node V
+abbrev pub restarted_node : {V : Type 0} → ℕ → List ℕ → KeptPart V → Node V
 restarted_node me weights kept = record {
   me = me;
   weights = weights;

@@ -37,14 +37,14 @@ pub record CanCommit {V : Type 0} (c : Core V) (staged : StagedStep V) : Type 0 
 
 -- the staged step is this one, of this node
 abbrev pub IsReadyFor : {V : Type 0} → Core V → StepResult V → ReadyView V → Type 0
-IsReadyFor core step made = (made.before ≡ core) × (made.step ≡ step)
+IsReadyFor core step ready = (ready.before ≡ core) × (ready.step ≡ step)
 
 -- the step is staged; or its refusal is returned, or Memory if it meets none
 abbrev pub IsStagingResult : {V : Type 0} → Core V → Result (StepResult V) Refusal → Result (ReadyView V) Refusal → Type 0
-IsStagingResult core (Ok step) (Ok made) = IsReadyFor core step made
+IsStagingResult core (Ok step) (Ok ready) = IsReadyFor core step ready
 IsStagingResult core (Ok step) (Err refusal) = refusal ≡ Memory
 IsStagingResult core (Err met) (Err refusal) = refusal ≡ met
-IsStagingResult core (Err met) (Ok made) = ⊥
+IsStagingResult core (Err met) (Ok ready) = ⊥
 
 -- the node once its learner or its proposer is updated
 abbrev pub with_learner_update : {V : Type 0} → Node V → LearnerUpdate V → Node V

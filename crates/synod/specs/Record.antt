@@ -7,29 +7,29 @@ use Rattle.synod.specs.declared.change.Change.TheVariants.{Promise}
 use Rattle.synod.specs.Ballots.{zero_ballot}
 
 -- promise, round and accepted entries
-pub record Kept (V : Type 0) : Type 0 where
+pub record KeptPart (V : Type 0) : Type 0 where
   pub promise : Ballot
   pub round : ℕ
   pub accepted : List (Option (AcceptedEntry V))
 
 -- the kept part of a new node
-abbrev pub new_kept : {V : Type 0} → Kept V
+abbrev pub new_kept : {V : Type 0} → KeptPart V
 new_kept = record { promise = zero_ballot; round = 0; accepted = [] }
 
 -- the kept part after a change; the ballot of an accepted entry becomes the promise
-abbrev pub changed : {V : Type 0} → Kept V → Change V → Kept V
+abbrev pub changed : {V : Type 0} → KeptPart V → Change V → KeptPart V
 changed kept (Round r) = record kept { round = r }
 changed kept (Promise b) = record kept { promise = b }
 changed kept (Entry s h) = record kept { promise = h.ballot; accepted = put_at kept.accepted s h }
 
 -- an event makes one change or none
-abbrev pub changed_by : {V : Type 0} → Kept V → Option (Change V) → Kept V
+abbrev pub changed_by : {V : Type 0} → KeptPart V → Option (Change V) → KeptPart V
 changed_by kept None = kept
 changed_by kept (Some change) = changed kept change
 
 -- a record as contracts see it: the kept part, and the number of slots, from 0 on, with room for an accepted entry
 pub record RecordView (V : Type 0) : Type 0 where
-  pub kept : Kept V
+  pub kept : KeptPart V
   pub room : ℕ
 
 -- there is room for the change

@@ -5,7 +5,7 @@ use Rattle.std.specs.Prelude.{◌<◌, ◌≤◌, ℕ, List, Option, Some, None,
 use Rattle.synod.specs.Words.{AllByRecursion, SLOTS, SlotReport, Packet, Body, Prepare, Promise, Accept, Accepted, Nack, Ask, Told, Role, Idle, Preparing, Leading}
 use Rattle.synod.specs.Weights.{IsWeights}
 use Rattle.synod.specs.Packets.{IsReport, IsPost, to_others}
-use Rattle.synod.specs.Record.{Kept}
+use Rattle.synod.specs.Record.{KeptPart}
 use Rattle.synod.specs.Node.{Node, StepResult, kept_of, restarted_node}
 use Rattle.synod.specs.Acceptor.{on_prepare, on_accept}
 use Rattle.synod.specs.Proposer.{on_promise, on_nack}
@@ -25,7 +25,7 @@ abbrev pub on_packet : {V : Type 0} → Node V → Packet V → StepResult V
 on_packet n p = on_body n p.from p.body
 
 -- the node restarts with this kept part, and asks all others for the first entry
-abbrev pub reloaded : {V : Type 0} → Node V → Kept V → StepResult V
+abbrev pub reloaded : {V : Type 0} → Node V → KeptPart V → StepResult V
 reloaded n kept = record { node = restarted_node n.me n.weights kept; change = None; posts = to_others n.me n.weights (Ask 0) }
 
 -- the node restarts with its own kept part

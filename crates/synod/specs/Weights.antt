@@ -12,9 +12,9 @@ pub record IsWeights (weights : List ℕ) : Type 0 where
 
 -- the weight of the nodes in a set; the weights are those of the nodes from 0 on
 abbrev pub weigh : (ℕ → Bool) → List ℕ → ℕ
-weigh picks [] = 0
-weigh picks (w ∷ ws) = (if picks 0 then w else 0) + weigh (λ k. picks (suc k)) ws
+weigh is_in [] = 0
+weigh is_in (w ∷ ws) = (if is_in 0 then w else 0) + weigh (λ k. is_in (suc k)) ws
 
 -- whether the nodes in a set are a quorum
 abbrev pub is_quorum : List ℕ → (ℕ → Bool) → Bool
-is_quorum weights picks = nat_lt (weigh (λ k. true) weights) (2 * weigh picks weights)
+is_quorum weights is_in = nat_lt (weigh (λ k. true) weights) (2 * weigh is_in weights)

@@ -12,10 +12,10 @@ pub struct Failed;
 ///
 /// Source: Lamport, Paxos Made Simple, 2.5: an acceptor writes to it before it sends its answer.
 pub trait Keep<V: Drop>: Drop {
-    ghost use Rattle.synod.specs.Record.{Kept, changed};
+    ghost use Rattle.synod.specs.Record.{KeptPart, changed};
 
     /// The record that a load would return.
-    ghost kept: { Self → Kept V };
+    ghost kept: { Self → KeptPart V };
 
     /// The number of failed calls.
     ghost failures: { Self → ℕ };

@@ -221,15 +221,15 @@ fn fills_its_gap<R: Threads + Wait + Clock + Copy + Send + Sync + Drop + 'static
     rt: &R,
     alloc: Global,
 ) -> Result<bool, StepFault> {
-    let (Ok(first), Ok(last)) = (
+    let (Ok(first_two), Ok(third)) = (
         Arc::new(alloc, AtomicU8::new(PASS)),
         Arc::new(alloc, AtomicU8::new(LOSE)),
     ) else {
         return Err(StepFault::Memory);
     };
-    let weathers = all_weathers(alloc, &first, &last)?;
+    let weathers = all_weathers(alloc, &first_two, &third)?;
     let mut cluster = start_three_open(rt, alloc, Weights::equal(3), weathers)?;
-    learns_and_stops(rt, alloc, &mut cluster, &first, &last)
+    learns_and_stops(rt, alloc, &mut cluster, &first_two, &third)
 }
 
 /// Returns whether node 2 of that cluster applies all texts, and stops the cluster.
@@ -237,26 +237,26 @@ fn learns_and_stops<R: Threads + Wait + Clock>(
     rt: &R,
     alloc: Global,
     cluster: &mut Cluster<OpenGate, EntryKeep>,
-    first: &AtomicU8,
-    last: &AtomicU8,
+    first_two: &AtomicU8,
+    third: &AtomicU8,
 ) -> Result<bool, StepFault> {
-    let filled = learns_all(rt, alloc, cluster, first, last);
+    let filled = learns_all(rt, alloc, cluster, first_two, third);
     cluster.stop(rt)?;
     filled
 }
 
-/// Returns three weathers: two share the first setting, and the third has the last.
+/// Returns three weathers: those of the first two nodes share one setting, and the third has its own.
 fn all_weathers(
     alloc: Global,
-    first: &Arc<AtomicU8>,
-    last: &Arc<AtomicU8>,
+    first_two: &Arc<AtomicU8>,
+    third: &Arc<AtomicU8>,
 ) -> Result<Vec<SetWeather>, AllocError>
     ensures { IfOk result (λ weathers. length weathers.items ≡ 3) }
 {
     let mut weathers = Vec::with_capacity(alloc, 3)?;
-    weathers.push_reserved(weather_of(first)?);
-    weathers.push_reserved(weather_of(first)?);
-    weathers.push_reserved(weather_of(last)?);
+    weathers.push_reserved(weather_of(first_two)?);
+    weathers.push_reserved(weather_of(first_two)?);
+    weathers.push_reserved(weather_of(third)?);
     Ok(weathers)
 }
 
@@ -271,31 +271,31 @@ fn learns_all<R: Wait + Clock>(
     rt: &R,
     alloc: Global,
     cluster: &Cluster<OpenGate, EntryKeep>,
-    first: &AtomicU8,
-    last: &AtomicU8,
+    first_two: &AtomicU8,
+    third: &AtomicU8,
 ) -> Result<bool, StepFault> {
     let desk = cluster.desk()?;
-    learns_at(rt, alloc, &desk, first, last)
+    learns_at(rt, alloc, &desk, first_two, third)
 }
 
 fn learns_at<R: Wait + Clock>(
     rt: &R,
     alloc: Global,
     desk: &Desk<OpenGate, EntryKeep>,
-    first: &AtomicU8,
-    last: &AtomicU8,
+    first_two: &AtomicU8,
+    third: &AtomicU8,
 ) -> Result<bool, StepFault> {
     desk.begin(rt, 0)?;
     let decided = decide(rt, alloc, desk, 1)?;
-    last.store(DELAY, Ordering::SeqCst);
+    third.store(DELAY, Ordering::SeqCst);
     let more = decide(rt, alloc, desk, 2)?
         && decide(rt, alloc, desk, 3)?
         && decide(rt, alloc, desk, 4)?
         && decide(rt, alloc, desk, 5)?;
-    first.store(LOSE, Ordering::SeqCst);
-    last.store(PASS, Ordering::SeqCst);
+    first_two.store(LOSE, Ordering::SeqCst);
+    third.store(PASS, Ordering::SeqCst);
     thread::sleep(rt, Duration::from_millis(TRANSIT_MILLIS));
-    first.store(PASS, Ordering::SeqCst);
+    first_two.store(PASS, Ordering::SeqCst);
     let lacks_fifth = desk.status(rt, 2, 7, 5)?.is_none();
     submit_text(rt, alloc, desk, 6, b"$c a $.")?;
     Ok(decided && more && lacks_fifth && is_added_by_all(rt, desk, 6)?)

@@ -28,5 +28,5 @@ pub use Rattle.std.specs.Vec.Iter.{into_iter_items, into_iter_steps}
 pub use Rattle.synod.proofs.LogLemmas.{take_next}
 pub use Rattle.world.specs.Carried.{value_events, value_event, carried_size, entries_of, entry_of}
 pub use Rattle.world.specs.Headline.{Headline, HeadlineHolds}
-pub use Rattle.world.specs.WorldView.{AppliesNext, AreLibrariesOfLogs, IsApplied, IsOfLog, NodeLibrary, WorldView, with_library_reset, log_entries, new_node_libraries, new_node_library, next_entry, next_of, restarts, after_event}
+pub use Rattle.world.specs.WorldView.{AppliesNext, AreLibrariesOfLogs, IsApplied, IsOfLog, NodeLibrary, WorldView, with_library_reset, log_entries, new_node_libraries, new_node_library, next_entry, next_of, node_restarted, after_event}
 pub use Rattle.world.specs.declared.carried.Carried.{Carried}

@@ -1,5 +1,5 @@
 -- The libraries of a world: each is that of its log, after any event and any entry applied.
-use Rattle.world.proofs.Words.{◌≡◌, ◌≢◌, ℕ, zero, suc, ◌+◌, ◌==◌, Bool, true, false, List, [], ◌∷◌, ◌++◌, length, take, replicate, set, slice_get, Option, Some, None, Result, Ok, Err, refl, ap, sym, ◌∙◌, subst, arith, add-one, length-append, IsOk, IfErr, nat_tests, length-set, length-replicate, take-append-le, slice_get_within, take_next, Entry, Verdict, Applies, IsLibraryOf, library-more, Carried, Event, Offer, Begin, Deliver, Restart, StepFault, World, start, event_result, events_result, log, log_after, IsPrefixOf, History, world_of, with_event, carried_size, value_event, value_events, entries_of, NodeLibrary, WorldView, new_node_library, new_node_libraries, restarts, with_library_reset, after_event, log_entries, IsOfLog, AreLibrariesOfLogs, if_taken, events_result-append, after-push, log_grows, at_set_other}
+use Rattle.world.proofs.Words.{◌≡◌, ◌≢◌, ℕ, zero, suc, ◌+◌, ◌==◌, Bool, true, false, List, [], ◌∷◌, ◌++◌, length, take, replicate, set, slice_get, Option, Some, None, Result, Ok, Err, refl, ap, sym, ◌∙◌, subst, arith, add-one, length-append, IsOk, IfErr, nat_tests, length-set, length-replicate, take-append-le, slice_get_within, take_next, Entry, Verdict, Applies, IsLibraryOf, library-more, Carried, Event, Offer, Begin, Deliver, Restart, StepFault, World, start, event_result, events_result, log, log_after, IsPrefixOf, History, world_of, with_event, carried_size, value_event, value_events, entries_of, NodeLibrary, WorldView, new_node_library, new_node_libraries, node_restarted, with_library_reset, after_event, log_entries, IsOfLog, AreLibrariesOfLogs, if_taken, events_result-append, after-push, log_grows, at_set_other}
 use Rattle.world.proofs.EntryLogs.{value_events-append, entries_begin}
 
 -- A library and its log.
@@ -50,14 +50,14 @@ new_are_replicas history nodes count libraries new = subst (λ (ls : List NodeLi
 -- One more event.
 
 -- an event that restarts node n is no restart of another node
-restart_other : (k : ℕ) (e : Event Carried) (n : ℕ) → restarts e ≡ Some n → n ≢ k → e ≢ Restart k
+restart_other : (k : ℕ) (e : Event Carried) (n : ℕ) → node_restarted e ≡ Some n → n ≢ k → e ≢ Restart k
 restart_other k (Offer j v) n is other = cc
 restart_other k (Begin j) n is other = cc
 restart_other k (Deliver number) n is other = cc
 restart_other k (Restart j) n is other = λ same. other (let a : j ≡ n = cc in let b : j ≡ k = cc in sym a ∙ b)
 
 -- an event that restarts no node is no restart of node k
-no_restart : (k : ℕ) (e : Event Carried) → restarts e ≡ None → e ≢ Restart k
+no_restart : (k : ℕ) (e : Event Carried) → node_restarted e ≡ None → e ≢ Restart k
 no_restart k (Offer j v) is = λ same. let no = same in cc
 no_restart k (Begin j) is = λ same. let no = same in cc
 no_restart k (Deliver number) is = λ same. let no = same in cc
@@ -80,7 +80,7 @@ module _ (history : History Carried) (w x : World Carried) (was : world_of carri
   stays_of_log k node other h = of_longer (log_entries history k) (log_entries (with_event history e) k) node (log_longer k other) h
 
   -- if node n restarts, the library at k is that of its log: a new one if k is n, else the old one
-  at_restart : (libraries : List NodeLibrary) (n k : ℕ) → restarts e ≡ Some n → (node old : NodeLibrary) → slice_get (set libraries n new_node_library) k ≡ Some node
+  at_restart : (libraries : List NodeLibrary) (n k : ℕ) → node_restarted e ≡ Some n → (node old : NodeLibrary) → slice_get (set libraries n new_node_library) k ≡ Some node
       → ((other : NodeLibrary) → slice_get libraries k ≡ Some other → IsOfLog (log_entries history k) other) → (t : Bool) → (n == k) ≡ t → IsOfLog (log_entries (with_event history e) k) node
   at_restart libraries n k restart node old got each false test =
       let other : n ≢ k = grind (arith, nat_tests) in
@@ -92,7 +92,7 @@ module _ (history : History Carried) (w x : World Carried) (was : world_of carri
 
   -- after the event each library is that of its log, with the one of a node that restarts reset
   keeps_each : (libraries : List NodeLibrary) → ((k : ℕ) (node : NodeLibrary) → slice_get libraries k ≡ Some node → IsOfLog (log_entries history k) node)
-      → (o : Option ℕ) → restarts e ≡ o → (k : ℕ) (node : NodeLibrary) → slice_get (with_library_reset libraries o) k ≡ Some node → IsOfLog (log_entries (with_event history e) k) node
+      → (o : Option ℕ) → node_restarted e ≡ o → (k : ℕ) (node : NodeLibrary) → slice_get (with_library_reset libraries o) k ≡ Some node → IsOfLog (log_entries (with_event history e) k) node
   keeps_each libraries each None none k node got = stays_of_log k node (no_restart k e none) (each k node got)
   keeps_each libraries each (Some n) restart k node got = at_restart libraries n k restart node node got (each k) (n == k) refl
 
@@ -113,8 +113,8 @@ then_are_replicas : (old : WorldView) (e : Event Carried) → IsOk (world_of car
 then_are_replicas old e is h = both (world_of carried_size old.history) refl (world_of carried_size (with_event old.history e)) refl (ok_before old.history e is) is where
   both : (r : Result (World Carried) StepFault) → world_of carried_size old.history ≡ r → (s : Result (World Carried) StepFault) → world_of carried_size (with_event old.history e) ≡ s → IsOk r → IsOk s → AreLibrariesOfLogs (after_event old e)
   both (Ok w) at (Ok x) then ok done = record {
-    one_each = as_many old.libraries (restarts e) ∙ h.one_each;
-    of_logs = keeps_each old.history w x at e then old.libraries h.of_logs (restarts e) refl;
+    one_each = as_many old.libraries (node_restarted e) ∙ h.one_each;
+    of_logs = keeps_each old.history w x at e then old.libraries h.of_logs (node_restarted e) refl;
   }
   both (Err fault) at s then ok done = let no : false ≡ true = ok in cc
   both (Ok w) at (Err fault) then ok done = let no : false ≡ true = done in cc
@@ -134,10 +134,10 @@ step_taken old new e result answer becomes ok refused = subst (λ (r : WorldView
 
 -- after a step that returns a count each library is that of its log
 pub step_keeps : (old : WorldView) (e : Event Carried) (history : History Carried) (libraries : List NodeLibrary) (restarted : Option ℕ) (count : ℕ) → AreLibrariesOfLogs old
-    → history ≡ with_event old.history e → restarted ≡ restarts e → libraries ≡ with_library_reset old.libraries restarted
+    → history ≡ with_event old.history e → restarted ≡ node_restarted e → libraries ≡ with_library_reset old.libraries restarted
     → IfErr (world_of carried_size (with_event old.history e)) (λ fault. let answer : Result ℕ StepFault = Ok count in answer ≡ Err fault) → AreLibrariesOfLogs (record { history = history; libraries = libraries })
 step_keeps old e history libraries restarted count h is restarts_is given refused =
-    subst AreLibrariesOfLogs (sym (record_is history (with_event old.history e) libraries (with_library_reset old.libraries (restarts e)) is (given ∙ ap (λ (o : Option ℕ). with_library_reset old.libraries o) restarts_is)))
+    subst AreLibrariesOfLogs (sym (record_is history (with_event old.history e) libraries (with_library_reset old.libraries (node_restarted e)) is (given ∙ ap (λ (o : Option ℕ). with_library_reset old.libraries o) restarts_is)))
     (then_are_replicas old e (ok_unless_met (world_of carried_size (with_event old.history e)) count refused) h) where
       record_is : (s t : History Carried) (ls ms : List NodeLibrary) → s ≡ t → ls ≡ ms → let r : WorldView = record { history = s; libraries = ls } in r ≡ record { history = t; libraries = ms }
       record_is s t ls ms a b = ap (λ (u : History Carried). let r : WorldView = record { history = u; libraries = ls } in r) a ∙ ap (λ (ns : List NodeLibrary). let r : WorldView = record { history = t; libraries = ns } in r) b
@@ -175,5 +175,5 @@ pub run_goes_on : (weights : List ℕ) (done : List (Event Entry)) (e : Event En
     → new ≡ after_event old (value_event e) → new ≡ record { history = record { weights = weights; events = value_events (done ++ e ∷ []) }; libraries = new_node_libraries weights }
 run_goes_on weights done e old new was is =
     is ∙ (ap (λ (r : WorldView). after_event r (value_event e)) was
-    ∙ (ap (λ (es : List (Event Carried)). let r : WorldView = record { history = record { weights = weights; events = es }; libraries = with_library_reset (new_node_libraries weights) (restarts (value_event e)) } in r) (sym (value_events-append done (e ∷ [])))
-    ∙ ap (λ (ls : List NodeLibrary). let r : WorldView = record { history = record { weights = weights; events = value_events (done ++ e ∷ []) }; libraries = ls } in r) (new_given_up (length weights) (restarts (value_event e)))))
+    ∙ (ap (λ (es : List (Event Carried)). let r : WorldView = record { history = record { weights = weights; events = es }; libraries = with_library_reset (new_node_libraries weights) (node_restarted (value_event e)) } in r) (sym (value_events-append done (e ∷ [])))
+    ∙ ap (λ (ls : List NodeLibrary). let r : WorldView = record { history = record { weights = weights; events = value_events (done ++ e ∷ []) }; libraries = ls } in r) (new_given_up (length weights) (node_restarted (value_event e)))))

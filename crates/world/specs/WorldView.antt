@@ -26,11 +26,11 @@ abbrev pub new_world : List ℕ → WorldView
 new_world weights = record { history = record { weights = weights; events = [] }; libraries = new_node_libraries weights }
 
 -- the node that the event restarts, if it is a restart
-abbrev pub restarts : {V : Type 0} → Event V → Option ℕ
-restarts (Offer k v) = None
-restarts (Begin k) = None
-restarts (Deliver number) = None
-restarts (Restart k) = Some k
+abbrev pub node_restarted : {V : Type 0} → Event V → Option ℕ
+node_restarted (Offer k v) = None
+node_restarted (Begin k) = None
+node_restarted (Deliver number) = None
+node_restarted (Restart k) = Some k
 
 -- the libraries, with that of this node, if there is one, emptied
 abbrev pub with_library_reset : List NodeLibrary → Option ℕ → List NodeLibrary
@@ -39,7 +39,7 @@ with_library_reset libraries (Some k) = slice_set libraries k new_node_library
 
 -- a world after one more event: the library of a node that restarts is emptied
 abbrev pub after_event : WorldView → Event Carried → WorldView
-after_event r e = record { history = with_event r.history e; libraries = with_library_reset r.libraries (restarts e) }
+after_event r e = record { history = with_event r.history e; libraries = with_library_reset r.libraries (node_restarted e) }
 
 -- the log of node k after the events
 abbrev pub log_entries : History Carried → ℕ → List (Option Entry)

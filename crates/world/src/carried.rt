@@ -1,7 +1,7 @@
 //! An entry of the library as a value that nodes agree on, and events on entries as events on values.
 ghost use Rattle.std.specs.Prelude.{◌≡◌, IfOk};
 ghost use Rattle.world.specs.Carried.{value_event, entry_of, entries_of};
-ghost use Rattle.world.specs.WorldView.{restarts};
+ghost use Rattle.world.specs.WorldView.{node_restarted};
 
 use library::Entry;
 use net::Event;
@@ -64,7 +64,7 @@ pub(crate) fn to_value_event(event: Event<Entry>) -> Event<Carried>
 
 /// Returns the node that the event restarts, if it is a restart.
 pub(crate) fn restarted(event: &Event<Carried>) -> Option<u8>
-    ensures { result ≡ restarts event.now }
+    ensures { result ≡ node_restarted event.now }
 {
     match event {
         Event::Restart(k) => Some(*k),

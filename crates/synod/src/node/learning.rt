@@ -111,7 +111,7 @@ impl<V: Value> NodeCore<V> {
     }
 
     /// Returns Asks to all other nodes for the first gap, if it is below the slot.
-    fn ask_below(&self, slot: u32, gap: u32) -> Result<Vec<Packet<V>>, AllocError>
+    fn asks_for_first_gap(&self, slot: u32, gap: u32) -> Result<Vec<Packet<V>>, AllocError>
         ensures { IfOk result (λ posts. posts.items ≡ asks_below self.now.node slot gap) }
     {
         if gap >= slot {
@@ -132,7 +132,7 @@ impl<V: Value> NodeCore<V> {
         requires node { IsNode (with_learner_update self.now.node update) }
         ensures { IfOk result (IsReadyFor self.now (volatile_step (with_learner_update self.now.node update) (asks_below self.now.node slot gap))) }
     {
-        let posts = self.ask_below(slot, gap)?;
+        let posts = self.asks_for_first_gap(slot, gap)?;
         Ok(self.stage_learner_update(update, posts))
     }
 
@@ -147,7 +147,7 @@ impl<V: Value> NodeCore<V> {
         requires node { IsNode (with_learner_update self.now.node update) }
         ensures { IfOk result (IsReadyFor self.now (volatile_step (with_learner_update self.now.node update) (asks_for self.now.node from gap))) }
     {
-        let posts = self.ask_next(from, gap)?;
+        let posts = self.asks_for_next_gap(from, gap)?;
         Ok(self.stage_learner_update(update, posts))
     }
 
@@ -166,7 +166,7 @@ impl<V: Value> NodeCore<V> {
     }
 
     /// Returns the Ask for the next gap, unless the log is full.
-    fn ask_next(&self, from: u8, gap: u32) -> Result<Vec<Packet<V>>, AllocError>
+    fn asks_for_next_gap(&self, from: u8, gap: u32) -> Result<Vec<Packet<V>>, AllocError>
         ensures { IfOk result (λ posts. posts.items ≡ asks_for self.now.node from gap) }
     {
         let mut posts = Vec::new(self.alloc);

@@ -5,8 +5,8 @@ use Rattle.switch.proofs.switch.Switch.play.Goals as goal
 
 pub returns-in-Restart : goal.returns-in-Restart
 returns-in-Restart g c =
-    let p = plays_down g.V.Value.bytes _ _ c.self.invariant _ c.self.view_is c.args.event c.node_of.result c.node_of.ensures (sym c.is_down-is_down.ensures ∙ c.if-is_down.true) c.revive.new.self c.revive.result
-    (subst (λ (e : Event g.row.V.Denot). ForOk (world_of g.V.Value.bytes c.args.self.now) (λ x. IsEffectAtDownNode g.V.Value.bytes x c.args.self.now c.revive.new.self e c.revive.result)) (sym c.in-Restart.is) c.revive.ensures) in
+    let p = plays_down g.V.Value.bytes _ _ c.self.invariant _ c.self.view_is c.args.event c.node_of.result c.node_of.ensures (sym c.is_down-is_down.ensures ∙ c.if-is_down.true) c.recover.new.self c.recover.result
+    (subst (λ (e : Event g.row.V.Denot). ForOk (world_of g.V.Value.bytes c.args.self.now) (λ x. IsEffectAtDownNode g.V.Value.bytes x c.args.self.now c.recover.new.self e c.recover.result)) (sym c.in-Restart.is) c.recover.ensures) in
     record { plays = p.0; logs = p.1 }
 
 pub returns-in-Restart-2 : goal.returns-in-Restart-2

@@ -1,5 +1,5 @@
 -- The restart of a node that is down: the event that it owes is taken first.
-use Rattle.switch.proofs.Words.{◌≡◌, ℕ, ◌+◌, ◌<◌, ◌≤◌, true, List, [], ◌∷◌, ◌++◌, length, get_or, set, slice_get, inl, inr, Option, Some, None, Result, Ok, Err, refl, ap, sym, ◌∙◌, subst, arith, length-append, AllByRecursion, option_map, ForOk, length-set, slice_get_read, Packet, Ask, Change, IsPost, to_others, Kept, changed_by, Node, StepResult, kept_of, Core, reloaded, restarted, MOST_EVENTS, Event, Restart, StepFault, Memory, Device, World, packets_after, IsAfter, History, world_of_taken, kept_part, StagedWork, steps, restarts, StagedEvent, NetView, HasRoom, IsStaged, IsReadyAt, IsOfEvent, IsEventAt, HasResult, IsTaken, posts_of, step_of, with_loaded, with_record, at_set, set_twice, comes_restart, set_same, Status, up, down, StoreState, owed_in, change_owed, posts_owed, IsRecordOf, IsWithOrWithout, Fails, StoreView, SwitchView, event_owed, status_seen, view_of, views_of, IsOwing, IsStore, IsSwitch, CanTakeOwed, TakesOwed, world_of, is_down_at, owed_events, with_store, RevivesAt, Revives}
+use Rattle.switch.proofs.Words.{◌≡◌, ℕ, ◌+◌, ◌<◌, ◌≤◌, true, List, [], ◌∷◌, ◌++◌, length, get_or, set, slice_get, inl, inr, Option, Some, None, Result, Ok, Err, refl, ap, sym, ◌∙◌, subst, arith, length-append, AllByRecursion, option_map, ForOk, length-set, slice_get_read, Packet, Ask, Change, IsPost, to_others, KeptPart, changed_by, Node, StepResult, kept_of, Core, reloaded, restarted, MOST_EVENTS, Event, Restart, StepFault, Memory, Device, World, packets_after, IsAfter, History, world_of_taken, kept_part, StagedWork, steps, restarts, StagedEvent, NetView, HasRoom, IsStaged, IsReadyAt, IsOfEvent, IsEventAt, HasResult, IsTaken, posts_of, step_of, with_loaded, with_record, at_set, set_twice, comes_restart, set_same, Status, up, down, StoreState, owed_in, change_owed, posts_owed, IsRecordOf, IsWithOrWithout, Fails, StoreView, SwitchView, event_owed, status_seen, view_of, views_of, IsOwing, IsStore, IsSwitch, CanCommitOwed, CommitsOwed, world_of, is_down_at, owed_events, with_store, RecoversAt, Recovers}
 use Rattle.switch.proofs.KeepLemmas.{either_twice}
 use Rattle.switch.proofs.StoresLemmas.{views_of-set, view_at, item_at, down_at, few_staged}
 use Rattle.switch.proofs.SwitchLemmas.{switch_view, core_node, own_number, own_weights, other_store, at, node_is, committed}
@@ -56,10 +56,10 @@ module _ {V : Type 0} (size : V → ℕ) (net : NetView V) (stores : List (Store
   owing : IsOwing size net k (down o)
   owing = subst (λ (s : Status (StagedEvent V)). IsOwing size net k s) is_down.1 own.owing
 
-  -- if the restart revives the node in the view of this store, it does so in the view of the switch
-  of_view : (new : SwitchView V) (result : Result ℕ StepFault) → RevivesAt size w old new j (view_of store) (event_owed o) result
-      → ForOk (world_of size now) (λ x. (view : StoreView V) → slice_get now.stores j ≡ Some view → (e : Option (Event V)) → view.status ≡ down e → Revives size x now new j view e result)
-  of_view new result revives = of_world size net stores h now seen (λ s x. (view : StoreView V) → slice_get s.stores j ≡ Some view → (e : Option (Event V)) → view.status ≡ down e → Revives size x s new j view e result)
+  -- if the restart recovers the node in the view of this store, it does so in the view of the switch
+  of_view : (new : SwitchView V) (result : Result ℕ StepFault) → RecoversAt size w old new j (view_of store) (event_owed o) result
+      → ForOk (world_of size now) (λ x. (view : StoreView V) → slice_get now.stores j ≡ Some view → (e : Option (Event V)) → view.status ≡ down e → Recovers size x now new j view e result)
+  of_view new result recovers = of_world size net stores h now seen (λ s x. (view : StoreView V) → slice_get s.stores j ≡ Some view → (e : Option (Event V)) → view.status ≡ down e → Recovers size x s new j view e result)
       (λ view at_j e stands.
       let views : Some (view_of store) ≡ Some view = sym (view_at stores k store found) ∙ ap (λ (i : ℕ). slice_get (views_of stores) i) (sym is_j) ∙ at_j in
       let is_view : view_of store ≡ view = cc in
@@ -67,11 +67,11 @@ module _ {V : Type 0} (size : V → ℕ) (net : NetView V) (stores : List (Store
       let is_f : event_owed o ≡ e = cc in
       record {
         spent = λ spent. absurd (omega (arith, spent, room));
-        revived = λ le. subst (λ (f : Option (Event V)). RevivesAt size w old new j view f result) is_f (subst (λ (p : StoreView V). RevivesAt size w old new j p (event_owed o) result) is_view revives);
+        recovered = λ le. subst (λ (f : Option (Event V)). RecoversAt size w old new j view f result) is_f (subst (λ (p : StoreView V). RecoversAt size w old new j p (event_owed o) result) is_view recovers);
       })
 
   -- if there is no memory, Memory is the right answer
-  pub no_memory : (new : SwitchView V) → new ≡ old → ForOk (world_of size now) (λ x. (view : StoreView V) → slice_get now.stores j ≡ Some view → (e : Option (Event V)) → view.status ≡ down e → Revives size x now new j view e (Err Memory))
+  pub no_memory : (new : SwitchView V) → new ≡ old → ForOk (world_of size now) (λ x. (view : StoreView V) → slice_get now.stores j ≡ Some view → (e : Option (Event V)) → view.status ≡ down e → Recovers size x now new j view e (Err Memory))
   no_memory new same = of_view new (Err Memory) (inl (
     refl,
     record {
@@ -100,7 +100,7 @@ module _ {V : Type 0} (size : V → ℕ) (net : NetView V) (stores : List (Store
     }
 
     -- Device is the right answer to the restart, and the node stays down
-    pub stays_acts : ForOk (world_of size now) (λ x. (view : StoreView V) → slice_get now.stores j ≡ Some view → (e : Option (Event V)) → view.status ≡ down e → Revives size x now (switch_view net (set stores k new)) j view e (Err Device))
+    pub stays_acts : ForOk (world_of size now) (λ x. (view : StoreView V) → slice_get now.stores j ≡ Some view → (e : Option (Event V)) → view.status ≡ down e → Recovers size x now (switch_view net (set stores k new)) j view e (Err Device))
     stays_acts = of_view (switch_view net (set stores k new)) (Err Device) (inr (
       refl,
       record {
@@ -113,14 +113,14 @@ module _ {V : Type 0} (size : V → ℕ) (net : NetView V) (stores : List (Store
     ))
 
   -- the owed event can be taken, if there is room for its posts and two events
-  pub can_take_owed : (owed : Option (StagedEvent V)) → owed ≡ owed_in store.status → (posts more : ℕ) → posts ≡ length (posts_owed (owed_in store.status)) → HasRoom net (posts + more) 2 → CanTakeOwed size net owed
-  can_take_owed owed is_owed posts more count r =
-      subst (λ (p : Option (StagedEvent V)). CanTakeOwed size net p) (sym (is_owed ∙ owed_is))
+  pub can_commit_owed : (owed : Option (StagedEvent V)) → owed ≡ owed_in store.status → (posts more : ℕ) → posts ≡ length (posts_owed (owed_in store.status)) → HasRoom net (posts + more) 2 → CanCommitOwed size net owed
+  can_commit_owed owed is_owed posts more count r =
+      subst (λ (p : Option (StagedEvent V)). CanCommitOwed size net p) (sym (is_owed ∙ owed_is))
       (can_take size net stores h k room o owing more (subst (λ (i : ℕ). HasRoom net (i + more) 2) (count ∙ ap (λ (p : Option (StagedEvent V)). length (posts_owed p)) owed_is) r))
 
   -- The keep has made the change of the owed event, and the event is taken.
   module _ (new : StoreState V) (repaired : new ≡ record { kept = changed_by store.kept (change_owed (owed_in store.status)); failures = store.failures; status = up }) (m : NetView V) (owed : Option (StagedEvent V)) (is_owed : owed ≡ owed_in store.status)
-      (takes : TakesOwed net m owed) where
+      (takes : CommitsOwed net m owed) where
     -- the record of the keep is the one before with the change of the owed event
     new_kept_is : new.kept ≡ changed_by store.kept (change_owed o)
     new_kept_is = ap (λ (s : StoreState V). s.kept) repaired ∙ ap (λ (p : Option (StagedEvent V)). changed_by store.kept (change_owed p)) owed_is
@@ -130,8 +130,8 @@ module _ {V : Type 0} (size : V → ℕ) (net : NetView V) (stores : List (Store
     new_up = ap (λ (s : StoreState V). s.status) repaired
 
     -- the event that was taken is the one that the store owed
-    takes_o : TakesOwed net m o
-    takes_o = subst (λ (p : Option (StagedEvent V)). TakesOwed net m p) (is_owed ∙ owed_is) takes
+    takes_o : CommitsOwed net m o
+    takes_o = subst (λ (p : Option (StagedEvent V)). CommitsOwed net m p) (is_owed ∙ owed_is) takes
 
     abbrev mid : (switch : IsSwitch size m (set stores k new)) × (m.history.weights ≡ net.history.weights) × (m.history.events ≡ net.history.events ++ owed_events (event_owed o)) × (m.packets ≡ net.packets ++ posts_owed o)
         × (net.packet_room ≤ m.packet_room) × (net.event_room ≤ m.event_room)
@@ -173,7 +173,7 @@ module _ {V : Type 0} (size : V → ℕ) (net : NetView V) (stores : List (Store
     asks (restarts posts (Some x)) q r = cc
 
     -- the restart is ready at this node with the record of its keep loaded
-    ready_then : (work : StagedWork V) (kept : Kept V) → IsOfEvent (Restart j) work → posts_of work ≡ to_others k m.history.weights (Ask 0) → kept ≡ new.kept → IsReadyAt core_m.0 (with_loaded work kept)
+    ready_then : (work : StagedWork V) (kept : KeptPart V) → IsOfEvent (Restart j) work → posts_of work ≡ to_others k m.history.weights (Ask 0) → kept ≡ new.kept → IsReadyAt core_m.0 (with_loaded work kept)
     ready_then (steps made) kept q r same = elim q [ ]
     ready_then (restarts posts loaded) kept q r same = (
       r ∙ ap (λ (i : ℕ). to_others i m.history.weights (Ask 0)) (sym (own_number size m (set stores k new) hm k core_m.0.node node_m))
@@ -182,11 +182,11 @@ module _ {V : Type 0} (size : V → ℕ) (net : NetView V) (stores : List (Store
     )
 
     -- the step is that of a restart of this node
-    step_then : (work : StagedWork V) (kept : Kept V) → IsOfEvent (Restart j) work → kept ≡ new.kept → restarted core_m.0.node ≡ step_of (with_loaded work kept) core_m.0.node
+    step_then : (work : StagedWork V) (kept : KeptPart V) → IsOfEvent (Restart j) work → kept ≡ new.kept → restarted core_m.0.node ≡ step_of (with_loaded work kept) core_m.0.node
     step_then (steps made) kept q same = elim q [ ]
-    step_then (restarts posts loaded) kept q same = ap (λ (x : Kept V). reloaded core_m.0.node x) (sym (same ∙ kept_m))
+    step_then (restarts posts loaded) kept q same = ap (λ (x : KeptPart V). reloaded core_m.0.node x) (sym (same ∙ kept_m))
 
-    module _ (kept : Kept V) (same_kept : kept ≡ changed_by store.kept (change_owed (owed_in store.status))) where
+    module _ (kept : KeptPart V) (same_kept : kept ≡ changed_by store.kept (change_owed (owed_in store.status))) where
       -- the loaded record is the one of the keep
       is_new_kept : kept ≡ new.kept
       is_new_kept = same_kept ∙ sym (ap (λ (s : StoreState V). s.kept) repaired)
@@ -233,28 +233,28 @@ module _ {V : Type 0} (size : V → ℕ) (net : NetView V) (stores : List (Store
         stores_same = ap (λ (i : ℕ). set (set stores k new) i new) (sym is_at) ∙ set_twice stores k new new
 
         -- once the restart is taken too, the net and the stores are a switch
-        pub revived : IsSwitch size z (set stores k new)
-        revived = subst (λ (us : List (StoreState V)). IsSwitch size z us) stores_same
+        pub recovered : IsSwitch size z (set stores k new)
+        recovered = subst (λ (us : List (StoreState V)). IsSwitch size z us) stores_same
             (committed size m (set stores k new) hm d2 staged_m low_m z t new new (ap (λ (i : ℕ). slice_get (set stores k new) i) (sym is_at) ∙ new_at) (kept_then d1.work staged_m.core.node kind) new_up)
 
         -- the count of packets is the right answer to the restart, and the node is up
-        pub revived_acts : (count : ℕ) → count ≡ length (packets_after (world_of_taken size z.history))
-            → ForOk (world_of size now) (λ x. (view : StoreView V) → slice_get now.stores j ≡ Some view → (e : Option (Event V)) → view.status ≡ down e → Revives size x now (switch_view z (set stores k new)) j view e (Ok count))
-        revived_acts count counted =
-            let x = revived.world.world in
+        pub recovered_acts : (count : ℕ) → count ≡ length (packets_after (world_of_taken size z.history))
+            → ForOk (world_of size now) (λ x. (view : StoreView V) → slice_get now.stores j ≡ Some view → (e : Option (Event V)) → view.status ≡ down e → Recovers size x now (switch_view z (set stores k new)) j view e (Ok count))
+        recovered_acts count counted =
+            let x = recovered.world.world in
             let weights : z.history.weights ≡ net.history.weights = ap (λ (y : History V). y.weights) t.history ∙ mid.1 in
             let history : z.history.events ≡ net.history.events ++ owed_events (event_owed o) ++ Restart j ∷ [] =
             ap (λ (y : History V). y.events) t.history ∙ ap (λ (es : List (Event V)). es ++ d1.event ∷ []) mid.2 ∙ ap (λ (f : Event V). net.history.events ++ owed_events (event_owed o) ++ f ∷ []) is_e in
-            let low_z : k < length z.cores = (let c = revived.count in let l = length-set stores k new in let low = low_k in omega (arith, c, l, low)) in
+            let low_z : k < length z.cores = (let c = recovered.count in let l = length-set stores k new in let low = low_k in omega (arith, c, l, low)) in
             let c = item_at z.cores k low_z in
-            let node_z = core_node size z (set stores k new) revived k c.0 c.1 in
-            let fits_z : new.kept ≡ kept_of c.0.node = subst (λ (s : Status (StagedEvent V)). IsRecordOf c.0.node s new.kept) new_up (revived.each k c.0.node new node_z new_at).fits in
+            let node_z = core_node size z (set stores k new) recovered k c.0 c.1 in
+            let fits_z : new.kept ≡ kept_of c.0.node = subst (λ (s : Status (StagedEvent V)). IsRecordOf c.0.node s new.kept) new_up (recovered.each k c.0.node new node_z new_at).fits in
             of_view (switch_view z (set stores k new)) (Ok count) record {
               world = x;
-              is_after = subst (λ (us : List ℕ). IsAfter size us (net.history.events ++ owed_events (event_owed o) ++ Restart j ∷ []) x) weights (subst (λ (es : List (Event V)). IsAfter size z.history.weights es x) history revived.world.is_after);
-              counted = counted ∙ ap (λ (r : Result (World V) StepFault). length (packets_after r)) revived.world.is_after;
+              is_after = subst (λ (us : List ℕ). IsAfter size us (net.history.events ++ owed_events (event_owed o) ++ Restart j ∷ []) x) weights (subst (λ (es : List (Event V)). IsAfter size z.history.weights es x) history recovered.world.is_after);
+              counted = counted ∙ ap (λ (r : Result (World V) StepFault). length (packets_after r)) recovered.world.is_after;
               kept = new.kept;
-              is_kept = ap (λ (i : ℕ). kept_part x i) is_j ∙ ap (λ (n : Option (Node V)). option_map kept_of n) node_z ∙ ap (λ (y : Kept V). let p : Option (Kept V) = Some y in p) (sym fits_z);
+              is_kept = ap (λ (i : ℕ). kept_part x i) is_j ∙ ap (λ (n : Option (Node V)). option_map kept_of n) node_z ∙ ap (λ (y : KeptPart V). let p : Option (KeptPart V) = Some y in p) (sym fits_z);
               rest = view_is_same _ _ _ _ _ _ weights history
                   (views_of-set stores k new ∙ ap (λ (i : ℕ). set (views_of stores) i (view_of new)) (sym is_j)
                   ∙ ap (λ (i : ℕ). set (views_of stores) j (let p : StoreView V = record { kept = new.kept; failures = i; status = status_seen new.status } in p)) (ap (λ (s : StoreState V). s.failures) repaired)
