@@ -1,4 +1,4 @@
 -- How a node stores tallies, received pages and weights. No public clause cites it.
 pub mod OtherTallies
 pub mod ReceivedPages
-pub mod WeightPlaces
+pub mod PaddedWeights

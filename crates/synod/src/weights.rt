@@ -15,23 +15,23 @@ pub const MOST_WEIGHT: u8 = 100;
 /// Source: Lamport, Paxos Made Simple, 2.2; a majority is more than half of the total weight.
 #[derive(Clone, Copy)]
 pub struct Weights {
-    places: [u8; MOST_NODES],
+    padded_weights: [u8; MOST_NODES],
     count: usize,
 }
 
 impl Model for Weights {
     ghost use Rattle.std.specs.Prelude.{List, ℕ, take, length};
-    ghost use Rattle.synod.specs.Stored.WeightPlaces.{padded, ArePlaces};
+    ghost use Rattle.synod.specs.Stored.PaddedWeights.{padded, ArePadded};
 
     ghost Value = { List ℕ };
 
-    ghost view = { λ w. take w.count w.places };
+    ghost view = { λ w. take w.count w.padded_weights };
 
-    ghost invariant = { λ w. ArePlaces w.count w.places };
+    ghost invariant = { λ w. ArePadded w.count w.padded_weights };
 
-    ghost inverse = { λ ws. record { places = padded ws; count = length ws } };
+    ghost inverse = { λ ws. record { padded_weights = padded ws; count = length ws } };
 
-    ghost inverse_ok = { λ w h i. record { places = h.padding i; count = h.length_is i } };
+    ghost inverse_ok = { λ w h i. record { padded_weights = h.padding i; count = h.length_is i } };
 }
 
 impl Weights {
@@ -45,15 +45,15 @@ impl Weights {
         if numbers.is_empty() || numbers.len() > MOST_NODES {
             return None;
         }
-        let mut places = [0; MOST_NODES];
+        let mut padded_weights = [0; MOST_NODES];
         for (i, number) in numbers.iter().enumerate() {
             if *number == 0 || *number > MOST_WEIGHT {
                 return None;
             }
-            places[i] = *number;
+            padded_weights[i] = *number;
         }
         Some(Weights {
-            places,
+            padded_weights,
             count: numbers.len(),
         })
     }
@@ -64,12 +64,12 @@ impl Weights {
         requires few { nodes ≤ MOST_NODES }
         ensures { result ≡ replicate nodes 1 }
     {
-        let mut places = [0; MOST_NODES];
+        let mut padded_weights = [0; MOST_NODES];
         for i in 0..nodes {
-            places[i as usize] = 1;
+            padded_weights[i as usize] = 1;
         }
         Weights {
-            places,
+            padded_weights,
             count: nodes as usize,
         }
     }
@@ -87,7 +87,7 @@ impl Weights {
         ensures weights { result.now ≡ self.now }
         ensures few { length self.now ≤ MOST_NODES }
     {
-        &self.places[..self.count]
+        &self.padded_weights[..self.count]
     }
 
     /// Returns whether the marked nodes are a quorum: whether their weight is more than half of the total.
