@@ -70,7 +70,7 @@ pub fn parse_script<L: Line>(alloc: Global, script: &[u8]) -> Result<Vec<L>, Scr
     Ok(lines)
 }
 
-/// Appends a line, and returns whether allocation succeeded.
+/// Appends a line. Returns whether the allocation succeeded.
 fn is_pushed<L: Drop>(lines: &mut Vec<L>, line: L) -> bool
     ensures { IsTrue result → lines.new.items ≡ lines.old.items ++ line ∷ [] }
 {

@@ -23,11 +23,11 @@ reserved = codes "index" ∷ codes "con" ∷ codes "prn" ∷ codes "aux" ∷ cod
 abbrev pub plus_if_reserved : Name → List ℕ
 plus_if_reserved label = if has_name label reserved then codes "+" else []
 
--- it is a label of at most 100 bytes, which its file name spells
+-- it is a label of at most 100 bytes: its file name spells the label
 abbrev pub is_spelled : Name → Bool
 is_spelled label = nat_le (length label) 100 && is_label label
 
--- the stem that spells the label
+-- the stem (the name without `.html`) that spells the label
 abbrev pub spelled : Name → List ℕ
 spelled label = escaped label ++ plus_if_reserved label
 

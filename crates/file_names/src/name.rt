@@ -1,4 +1,4 @@
-//! The name of the file of an assertion, and of the two other files of a site.
+//! The name of the file of an assertion, and the names of the two other files of a site.
 ghost use Rattle.std.specs.Prelude.{◌≡◌, ◌++◌, if◌then◌else◌, OnOk};
 ghost use Rattle.std.specs.List.{list_any};
 ghost use Rattle.mm_lex.specs.Alphabet.{has_name, name_eq};
@@ -25,10 +25,10 @@ const RESERVED: [&[u8]; 25] = [
     b"lpt6", b"lpt7", b"lpt8", b"lpt9",
 ];
 
-/// Appends the name of the file of the assertion that has this label and this position. A label of at
-/// most 100 bytes is spelled: each dot becomes `+.`, each uppercase letter becomes `+` and its lowercase
-/// letter, and a reserved label gets a `+` at its end. For any other, the name is `+` and the position.
-/// The name ends with `.html`.
+/// Appends the name of the file of the assertion that has this label and whose statement has this
+/// position. A label of at most 100 bytes is spelled: each dot becomes `+.`, each uppercase letter
+/// becomes `+` and its lowercase letter, and a reserved label gets a `+` at its end. For any other,
+/// the name is `+` and the position. The name ends with `.html`.
 ///
 /// Errors: an allocation fails; the text is then unspecified. Cost: the length of the
 /// label. Source: this project's own form; the names of devices are those of Windows.

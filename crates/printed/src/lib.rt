@@ -4,7 +4,8 @@
 //! specified.
 //!
 //! Crates above use the clause of each call: the appended text is exactly that of a definition in
-//! `specs`.
+//! `specs`. `C1` to `C7` are the causes of a refusal (`library::Cause`), `G1` to `G10` the rules of a
+//! database (`scope::Rule`).
 //!
 //! Reading order: `verdict_text`, `packets`, `answers` (logs, lists and exports), `counted`,
 //! `states`, `tree_text`; `broken_rules` (the first statement of a database that breaks a rule) and

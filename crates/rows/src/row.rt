@@ -56,7 +56,7 @@ pub enum Mode {
     FailingWrites,
 }
 
-/// The output for the input truncated here, before or after the line feed.
+/// The output for the input truncated at the end of a line, before or after its line feed.
 #[derive(Drop)]
 pub struct Truncation {
     pub before_line_feed: usize,

@@ -1,7 +1,7 @@
 -- The marks of a picture: all that it shows of some steps of a run.
 -- Source: this project's own form; arrows between lines of processes are Lamport's space-time diagrams
 -- (Time, Clocks, and the Ordering of Events, 1978).
--- The code looks packets up in the world; here they are a list.
+-- The code looks packets up in the world; here they are a list. A stump is the beginning of an arrow whose end is not shown.
 use Rattle.std.specs.Prelude.{ℕ, suc, zero, ◌+◌, ◌-◌, ◌==◌, Bool, true, false, ◌&&◌, List, [], ◌∷◌, ◌++◌, Option, Some, None, nat_lt, nat_le, slice_get, drop, take, if◌then◌else◌}
 use Rattle.std.specs.List.{list_any, position_from}
 use Rattle.synod.specs.declared.packet.Packet.{Packet}
@@ -71,7 +71,7 @@ abbrev pub undelivered : Spot → ℕ → Option (Packet Carried) → List Mark
 undelivered from n None = []
 undelivered from n (Some p) = Stump n from p.to ∷ []
 
--- the stump of packet n, which the step in a row posted, if no shown step delivers it
+-- the stump of packet n, which the step in a row posted, unless a shown step delivers the packet
 abbrev pub stump : Packets → List Step → ℕ → Step → ℕ → List Mark
 stump packets shown row s n = if list_any (delivers n) shown then [] else undelivered (spot row s) n (slice_get packets n)
 

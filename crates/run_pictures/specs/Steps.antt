@@ -32,7 +32,7 @@ abbrev pub receiver_of : Option (Packet Carried) → ℕ
 receiver_of None = 0
 receiver_of (Some p) = p.to
 
--- the node of an event that is taken; for a delivery, the receiver of the packet
+-- the node of an event; for a delivery, the receiver of the packet
 abbrev pub node_in : Reached → Event Carried → ℕ
 node_in r (Offer k entry) = k
 node_in r (Begin k) = k

@@ -179,7 +179,7 @@ fn origin(from: Origin) -> GridPoint {
     }
 }
 
-/// Returns a row in the form in which a timeline is drawn.
+/// Returns a row as a `GridPoint` has it.
 fn grid_row(row: usize) -> u32 {
     u32::try_from(row).unwrap_or(u32::MAX)
 }

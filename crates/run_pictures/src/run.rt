@@ -19,8 +19,8 @@ use std::marker::Model;
 use synod::Weights;
 use world::World;
 
-/// A world of nodes and their libraries with a record of its steps: the events that it took and the
-/// applications of entries, in order. Contracts see the world and the steps.
+/// A world of nodes and their libraries, with a record of its steps: the events that it took and the
+/// applications of entries, in order. In contracts a run is the world and the steps.
 #[derive(Drop)]
 pub struct Run {
     world: World,

@@ -19,7 +19,7 @@ const ROW_HEIGHT: u64 = 28;
 /// The y coordinate at which the lines of nodes begin, and the arrows from above the first row.
 pub(crate) const TOP_EDGE: u64 = 34;
 
-/// How far a stump goes sideways for each column between its node and its receiver.
+/// How far a stump goes sideways for each column from its node to that of its receiver.
 const STUMP_WIDTH: u64 = 44;
 
 /// How far a stump to its own node goes to the left. A stump to a node at the left goes further by

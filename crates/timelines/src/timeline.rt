@@ -37,8 +37,9 @@ pub struct Timeline {
     lines: Vec<u8>,
     points: Vec<u8>,
     texts: Vec<u8>,
-    /// How many characters the text of the last row shows, and the longest text before it.
+    /// How many characters the text of the last row shows.
     length: u32,
+    /// The greatest `length` of the rows before the last.
     longest: u32,
 }
 
@@ -193,7 +194,7 @@ impl Timeline {
 }
 
 impl Stump {
-    /// Adds a number and a title.
+    /// Appends a number and a title.
     fn append(&mut self, number: u64, title: &[u8]) -> Result<(), AllocError> {
         push_numbered(&mut self.numbers, b",", number)?;
         self.titles.extend_from_slice(b"\n")?;
@@ -201,7 +202,7 @@ impl Stump {
     }
 }
 
-/// Returns the attribute for the look of a point.
+/// Returns the attribute `class` of a point, or no bytes for `Plain`.
 fn class_of(style: PointStyle) -> &'static [u8] {
     match style {
         PointStyle::Plain => b"",
