@@ -3,7 +3,7 @@ ghost use Rattle.std.specs.Prelude.{◌≤◌, IfOk};
 
 use crate::grammar::{commands, matches_of};
 use crate::hints::push_hint;
-use crate::pictured::pictured_steps;
+use crate::picture_options::pictured_steps;
 use crate::request::{
     CommandLineFault, DatabaseQuestion, ProofForm, ProofQuestion, Question, Request, ServeOptions,
     SiteRequest,

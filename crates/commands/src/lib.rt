@@ -7,8 +7,8 @@
 //!
 //! Reading order: `request` (the request of a command line), `weights` (numbers of a command line),
 //! `grammar` (its commands and options) with `script_help`, `hints` (on files among the words),
-//! `pictured` (the options of a picture), `command_line`; `pieces` (a text between separators), `line_words` (the words of a
-//! line), `lines` (the lines of a script), `text_form` (a text on the line or on those that
+//! `picture_options`, `command_line`; `pieces` (a text between separators), `line_words` (the words
+//! of a line), `lines` (the lines of a script), `text_form` (a text on the line or on those that
 //! follow), `offered_entry`, `node_question` (labels), `node_line`, `play_line`, `serve_line`
 //! and `session_line` (the request of a line), `session_texts` (where a text ends), `script` (all
 //! lines).
@@ -22,7 +22,7 @@ mod lines;
 mod node_line;
 mod node_question;
 mod offered_entry;
-mod pictured;
+mod picture_options;
 mod pieces;
 mod play_line;
 mod request;

@@ -22,7 +22,8 @@ mod tree_text;
 mod verdict_text;
 
 pub use answers::{
-    push_assertions, push_export, push_library, push_list, push_log, push_ok, push_verdict_line,
+    push_assertions, push_export, push_library_list, push_list, push_log, push_ok,
+    push_verdict_line,
 };
 pub use broken_rules::first_broken_rule;
 pub use counted::{push_counted, push_learned};

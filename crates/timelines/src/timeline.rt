@@ -82,11 +82,11 @@ impl Timeline {
             node,
             row: Some(self.rows),
         };
-        push_dot(&mut self.points, at, class_of(style))?;
+        push_dot(&mut self.points, at, class_attribute(style))?;
         push_row(&mut self.texts, at, number)?;
         self.texts.extend_from_slice(label)?;
         self.last = at;
-        self.length = count(label);
+        self.length = character_count(label);
         self.rows = self.rows.saturating_add(1);
         Ok(())
     }
@@ -140,7 +140,10 @@ impl Timeline {
     /// Appends words to the text of the last row, with a class for their style.
     fn push_words(&mut self, class: &[u8], words: &[u8]) -> Result<(), AllocError> {
         push_span(&mut self.texts, class, words)?;
-        self.length = self.length.saturating_add(1).saturating_add(count(words));
+        self.length = self
+            .length
+            .saturating_add(1)
+            .saturating_add(character_count(words));
         Ok(())
     }
 
@@ -203,7 +206,7 @@ impl Stump {
 }
 
 /// Returns the attribute `class` of a point, or no bytes for `Plain`.
-fn class_of(style: PointStyle) -> &'static [u8] {
+fn class_attribute(style: PointStyle) -> &'static [u8] {
     match style {
         PointStyle::Plain => b"",
         PointStyle::Good => b" class=\"y\"",
@@ -212,7 +215,7 @@ fn class_of(style: PointStyle) -> &'static [u8] {
 }
 
 /// Returns how many characters a label shows. A character reference counts as one.
-fn count(label: &[u8]) -> u32 {
+fn character_count(label: &[u8]) -> u32 {
     let mut shown = 0u32;
     let mut is_reference = false;
     for byte in label {
