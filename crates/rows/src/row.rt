@@ -9,7 +9,8 @@ pub struct Row {
     pub commands: Vec<Vec<String>>,
     pub input: Vec<u8>,
     pub output: Vec<u8>,
-    /// The endings of the input for which the row holds, each appended to `input`; if there are none, `input` is the whole input.
+    /// The endings of the input for which the row holds, each appended to `input`; if there are none,
+    /// `input` is the whole input.
     pub endings: Vec<Ending>,
     /// The number of lines of the output, if `output` is only its beginning.
     pub lines: Option<u64>,
