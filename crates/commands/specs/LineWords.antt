@@ -18,12 +18,12 @@ Words = List (List ℕ)
 
 -- a line by its first word and the words after it
 abbrev pub by_first_word : {L : Type 0} → (List ℕ → Words → Option L) → Words → Option L
-by_first_word by [] = None
-by_first_word by (verb ∷ ws) = by verb ws
+by_first_word line_of [] = None
+by_first_word line_of (verb ∷ ws) = line_of verb ws
 
 -- a line by its verb, which is its first word, and the words after it, with a space between words
 abbrev pub line_by_first_word : {L : Type 0} → (List ℕ → Words → Option L) → List ℕ → Option L
-line_by_first_word by line = by_first_word by (split_at SPACE line)
+line_by_first_word line_of line = by_first_word line_of (split_at SPACE line)
 
 -- a number
 abbrev pub number_at : Words → Option (ℕ × Words)

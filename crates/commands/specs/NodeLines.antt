@@ -44,6 +44,7 @@ abbrev pub text_line_or_else : {L : Type 0} → (OfferedEntry → L) → Option 
 text_line_or_else line (Some form) otherwise ws lines = option_map (λ o. (line o.0, o.1)) (text_offer form ws lines)
 text_line_or_else line None otherwise ws lines = otherwise
 
+-- a line that offers no text
 abbrev pub node_line : List ℕ → Words → Option NodeLine
 node_line verb ws =
     if bytes_eq verb (codes "charter") then option_map (λ o. Offer o) (charter_offer ws) else question_or_short_line (label_question_of verb) verb ws

@@ -31,10 +31,11 @@ line_or_node_line None verb ws = option_map (λ l. Node l) (node_line verb ws)
 abbrev pub serve_without_text : List (List ℕ) → List ℕ → Words → Option (ServeLine × ℕ)
 serve_without_text lines verb ws = without_text (line_or_node_line (serve_only_line verb ws) verb ws)
 
--- a line that submits no text
+-- a line that adds a text, or gives none
 abbrev pub add_line_or_else : List (List ℕ) → List ℕ → Words → Option (ServeLine × ℕ)
 add_line_or_else lines verb ws = text_line_or_else (λ o. Add o) (add_form verb) (serve_without_text lines verb ws) ws lines
 
+-- a line by its verb and the words after it
 abbrev pub serve_line_by : List (List ℕ) → List ℕ → Words → Option (ServeLine × ℕ)
 serve_line_by lines verb ws = text_line_or_else (λ o. Node (Offer o)) (submit_form verb) (add_line_or_else lines verb ws) ws lines
 

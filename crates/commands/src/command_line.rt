@@ -3,7 +3,7 @@ ghost use Rattle.std.specs.Prelude.{◌≤◌, IfOk};
 
 use crate::grammar::{commands, matches_of};
 use crate::hints::push_hint;
-use crate::pictured::pictured_steps;
+use crate::picture_options::pictured_steps;
 use crate::request::{
     CommandLineFault, DatabaseQuestion, ProofForm, ProofQuestion, Question, Request, ServeOptions,
     SiteRequest,
@@ -226,6 +226,7 @@ pub(crate) fn invalid_value(alloc: Global, text: &str) -> CommandLineFault {
     fault_of_kind(alloc, ErrorKind::InvalidValue, text)
 }
 
+/// Returns the fault of a command line without a command.
 fn no_command(alloc: Global) -> CommandLineFault {
     fault_of_kind(alloc, ErrorKind::MissingSubcommand, "a command is wanted")
 }
@@ -238,6 +239,7 @@ fn fault_of_kind(alloc: Global, kind: ErrorKind, text: &str) -> CommandLineFault
     }
 }
 
+/// Returns the text of `clap` for an error of this kind.
 fn refusal_text(alloc: Global, kind: ErrorKind, text: &str) -> Result<String, AllocError> {
     let error = commands(alloc)?.error(kind, text)?;
     format!(in alloc; "{error}")

@@ -90,7 +90,7 @@ const ASSUME: Argument = Argument {
     help: "Take each $p that has no right proof as a $a, and answer for the rest",
 };
 
-const EACH: Argument = Argument {
+const CHECK_ALL: Argument = Argument {
     name: "all",
     form: Form::Flag,
     help: "Judge every $p by itself, and print each that is not proved",
@@ -144,7 +144,7 @@ const EVENTS: Argument = Argument {
     help: "How many steps the picture shows, 1 to 200; else all from the first on",
 };
 
-const ALL: Argument = Argument {
+const USAGE_ALL: Argument = Argument {
     name: "all",
     form: Form::Flag,
     help: "Also those that use it indirectly",
@@ -169,93 +169,93 @@ const HTML: Argument = Argument {
 };
 
 /// A command: its name, its usage, its help, and its arguments.
-struct Shape(
+struct CommandDefinition(
     &'static str,
     &'static str,
     &'static str,
     &'static [Argument],
 );
 
-const COMMANDS: [Shape; 14] = [
-    Shape(
+const COMMANDS: [CommandDefinition; 14] = [
+    CommandDefinition(
         "outline",
         "mmlib outline < DATABASE",
         "Print the statements of the database on standard input, one a line: mmlib outline < set.mm",
         &[NAME],
     ),
-    Shape(
+    CommandDefinition(
         "check",
         "mmlib check < DATABASE",
         "Check the proofs of the database on standard input: mmlib check < set.mm",
-        &[EACH, NAME],
+        &[CHECK_ALL, NAME],
     ),
-    Shape(
+    CommandDefinition(
         "list",
         "mmlib list < DATABASE",
         "Print the assertions of the database on standard input, one a line: mmlib list < set.mm",
         &[ASSUME, NAME],
     ),
-    Shape(
+    CommandDefinition(
         "export",
         "mmlib export < DATABASE",
         "Print the database on standard input in the export form: mmlib export < set.mm",
         &[ASSUME, NAME],
     ),
-    Shape(
+    CommandDefinition(
         "tree",
         "mmlib tree LABEL < DATABASE",
         "Print the derivation of a $p of the database on standard input, a node a line: mmlib tree id < set.mm",
         &[LABEL, ASSUME, NAME],
     ),
-    Shape(
+    CommandDefinition(
         "trace",
         "mmlib trace LABEL < DATABASE",
         "Print the $a (axioms, definitions, syntax) that a $p rests on: mmlib trace id < set.mm",
         &[LABEL, ASSUME, NAME],
     ),
-    Shape(
+    CommandDefinition(
         "usage",
         "mmlib usage LABEL < DATABASE",
         "Print who cites a statement of the database on standard input: mmlib usage id < set.mm",
-        &[LABEL, ALL, ASSUME, NAME],
+        &[LABEL, USAGE_ALL, ASSUME, NAME],
     ),
-    Shape(
+    CommandDefinition(
         "proof",
         "mmlib proof LABEL < DATABASE",
         "Print the steps of the proof of a $p of the database on standard input: mmlib proof id --essential < set.mm",
         &[LABEL, ESSENTIAL, DOT, HTML, ASSUME, NAME],
     ),
-    Shape(
+    CommandDefinition(
         "extract",
         "mmlib extract LABEL .. < DATABASE",
         "Print some assertions of the database on standard input, with all that they need: mmlib extract id < set.mm",
         &[LABELS, ASSUME, NAME],
     ),
-    Shape(
+    CommandDefinition(
         "show",
         "mmlib show LABEL .. < DATABASE",
         "Print statements of the database on standard input, each with its description and its hypotheses: mmlib show id < set.mm",
         &[ANY_LABELS, ASSUME, NAME],
     ),
-    Shape(
+    CommandDefinition(
         "find",
         "mmlib find PATTERN < DATABASE",
         "Print the assertions of the database on standard input that have a pattern: mmlib find '( $? -> $? )' < set.mm",
         &[PATTERN, HYPOTHESES, WORDS, ASSUME, NAME],
     ),
-    Shape(
+    CommandDefinition(
         "pages",
         "mmlib pages FOLDER < DATABASE",
         "Write a site of the database on standard input, a page for each assertion: mmlib pages site < set.mm",
         &[FOLDER, ASSUME, NAME],
     ),
-    Shape(
+    CommandDefinition(
         "play",
         "mmlib play --nodes N < SCRIPT",
         "Drive nodes, event by event, by the lines of a script on standard input: mmlib play --nodes 3 < my.script",
         &[NODES, WEIGHTS, PICTURE, FROM, EVENTS],
     ),
-    Shape(
+    CommandDefinition(
         "serve",
         "mmlib serve --nodes N --workers W < SCRIPT",
         "Serve the lines of a script on standard input by nodes that are threads: mmlib serve --nodes 3 --workers 2 < my.script",
@@ -274,8 +274,8 @@ pub fn commands<'a>(alloc: Global) -> Result<Command<'a>, AllocError> {
         .override_usage("mmlib COMMAND < DATABASE")
         .no_binary_name(true)
         .subcommand_required(true);
-    for shape in &COMMANDS {
-        program = program.subcommand(command(alloc, shape)?)?;
+    for definition in &COMMANDS {
+        program = program.subcommand(command(alloc, definition)?)?;
     }
     Ok(program)
 }
@@ -285,9 +285,9 @@ pub(crate) fn matches_of<'a>(alloc: Global, words: &'a [&'a str]) -> Result<ArgM
     commands(alloc)?.try_get_matches_from(words)
 }
 
-/// Returns the command of `clap` with this shape.
-fn command<'a>(alloc: Global, shape: &Shape) -> Result<Command<'a>, AllocError> {
-    let Shape(name, usage, help, arguments) = *shape;
+/// Returns the command of `clap` with this definition.
+fn command<'a>(alloc: Global, definition: &CommandDefinition) -> Result<Command<'a>, AllocError> {
+    let CommandDefinition(name, usage, help, arguments) = *definition;
     let mut command = Command::new(alloc, name).about(help).override_usage(usage);
     match name {
         "play" => command = command.after_help(PLAY_LINES),
@@ -295,13 +295,13 @@ fn command<'a>(alloc: Global, shape: &Shape) -> Result<Command<'a>, AllocError> 
         _ => {}
     }
     for argument in arguments {
-        command = command.arg(made(alloc, argument)?)?;
+        command = command.arg(clap_argument(alloc, argument)?)?;
     }
     Ok(command)
 }
 
-/// Makes an argument or option.
-fn made<'a>(alloc: Global, argument: &Argument) -> Result<Arg<'a>, AllocError> {
+/// Returns the argument or option of `clap`.
+fn clap_argument<'a>(alloc: Global, argument: &Argument) -> Result<Arg<'a>, AllocError> {
     let arg = Arg::new(alloc, argument.name).help(argument.help);
     match argument.form {
         Form::Label => Ok(arg.required(true).value_name("LABEL")),

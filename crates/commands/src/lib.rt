@@ -1,14 +1,14 @@
 //! The parsers of command lines, and of the lines of the scripts of `play` and `serve`.
 //!
-//! Crates above use `parse_command_line`, which returns the `Request` of a command line, and one contract:
-//! `parse_script` returns the lines by the definition of the command's lines (`specs/PlayLines`,
-//! `specs/ServeLines`, `specs/SessionLines`), or the number of the first bad line. No other crate
-//! depends on `clap`.
+//! Crates above use `parse_command_line`, which returns the `Request` of a command line, and
+//! `parse_script`. The main contract: `parse_script` returns the lines by the definition of the
+//! command's lines (`specs/PlayLines`, `specs/ServeLines`, `specs/SessionLines`), or the number of the
+//! first bad line. No other crate depends on `clap`.
 //!
 //! Reading order: `request` (the request of a command line), `weights` (numbers of a command line),
 //! `grammar` (its commands and options) with `script_help`, `hints` (on files among the words),
-//! `pictured`, `command_line`; `pieces` (a text between separators), `line_words` (the words of a
-//! line), `lines` (the lines of a script), `text_form` (a text on the line or on those that
+//! `picture_options`, `command_line`; `pieces` (a text between separators), `line_words` (the words
+//! of a line), `lines` (the lines of a script), `text_form` (a text on the line or on those that
 //! follow), `offered_entry`, `node_question` (labels), `node_line`, `play_line`, `serve_line`
 //! and `session_line` (the request of a line), `session_texts` (where a text ends), `script` (all
 //! lines).
@@ -22,7 +22,7 @@ mod lines;
 mod node_line;
 mod node_question;
 mod offered_entry;
-mod pictured;
+mod picture_options;
 mod pieces;
 mod play_line;
 mod request;

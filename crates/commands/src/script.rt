@@ -59,7 +59,7 @@ pub fn parse_script<L: Line>(alloc: Global, script: &[u8]) -> Result<Vec<L>, Scr
         }
         let number = rest.number();
         match L::parse(alloc, line, &mut rest) {
-            Ok(line) => is_out_of_memory |= !is_pushed(&mut lines, line),
+            Ok(line) => is_out_of_memory |= !try_push(&mut lines, line),
             Err(LineFault::Bad) => return Err(ScriptFault::BadLine { number }),
             Err(LineFault::Memory) => is_out_of_memory = true,
         }
@@ -70,8 +70,8 @@ pub fn parse_script<L: Line>(alloc: Global, script: &[u8]) -> Result<Vec<L>, Scr
     Ok(lines)
 }
 
-/// Appends a line, and returns whether allocation succeeded.
-fn is_pushed<L: Drop>(lines: &mut Vec<L>, line: L) -> bool
+/// Appends a line. Returns whether the allocation succeeded.
+fn try_push<L: Drop>(lines: &mut Vec<L>, line: L) -> bool
     ensures { IsTrue result → lines.new.items ≡ lines.old.items ++ line ∷ [] }
 {
     lines.push(line).is_ok()

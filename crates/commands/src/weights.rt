@@ -13,8 +13,8 @@ pub const MOST_WORKERS: usize = 16;
 #[derive(Clone, Copy, Debug)]
 pub struct WorkerCount {
     pub count: usize,
-    ghost some: { 1 ≤ count },
-    ghost few: { count ≤ MOST_WORKERS },
+    ghost positive: { 1 ≤ count },
+    ghost bounded: { count ≤ MOST_WORKERS },
 }
 
 impl WorkerCount {

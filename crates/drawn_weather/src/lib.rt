@@ -7,8 +7,8 @@ use nodes::{Fate, Weather};
 use rand_core::utils::NextWord;
 use rand_pcg::Pcg32;
 
-/// How many numbers a fate is drawn from. `Drop`, `Twice` and `Later` have one number each, so
-/// about one hint in four does not pass.
+/// How many numbers a fate is drawn from. `Drop`, `Twice` and `Later` have one number each, and
+/// `Pass` has the other nine.
 const DRAW_RANGE: u32 = 12;
 
 /// A weather that loses, repeats or delays about one hint in four, chosen by a generator.

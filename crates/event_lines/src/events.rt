@@ -1,4 +1,4 @@
-//! Events as lines.
+//! Events as lines of `play`.
 ghost use Rattle.std.specs.Prelude.{◌≡◌, ◌++◌, ◌^◌, ◌<◌, ◌==◌, Ok, count_by, map, IfOk, OnOk};
 ghost use Rattle.commands.specs.PlayLines.{play_line_of};
 ghost use Rattle.commands.specs.Scripts.{script_of};

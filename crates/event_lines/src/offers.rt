@@ -1,4 +1,4 @@
-//! Offers of entries as lines.
+//! Offers of entries as lines of `play`.
 ghost use Rattle.std.specs.Prelude.{◌≡◌, ◌++◌, ◌^◌, ◌<◌, ◌==◌, [], ◌∷◌, codes, decimal, length, map, OnOk};
 ghost use Rattle.std.specs.List.{AllByRecursion, list_any};
 ghost use Rattle.commands.specs.declared.script.TheConstants.{LINE_FEED};
@@ -16,7 +16,7 @@ pub(crate) fn push_offer(text: &mut Vec<u8>, node: u8, entry: &Entry) -> Result<
     ensures in_range { OnOk result ((node < 256) × EntryIsInRange entry.now) }
 {
     match entry {
-        Entry::Text(submission) => push_text(text, node, submission),
+        Entry::Text(submission) => push_text_offer(text, node, submission),
         Entry::Charter {
             author,
             serial,
@@ -31,7 +31,7 @@ pub(crate) fn push_offer(text: &mut Vec<u8>, node: u8, entry: &Entry) -> Result<
 }
 
 /// Appends the lines that offer a text at a node.
-fn push_text(text: &mut Vec<u8>, node: u8, submission: &Submission) -> Result<(), AllocError>
+fn push_text_offer(text: &mut Vec<u8>, node: u8, submission: &Submission) -> Result<(), AllocError>
     ensures text { OnOk result (text.new.items ≡ text.old.items ++ text_offer_lines node submission.now) }
     ensures in_range { OnOk result ((node < 256) × TextIsInRange submission.now) }
 {

@@ -10,7 +10,7 @@ use Rattle.std.proofs.lemmas.Fmt.{decimal_injective, decimal_is_IsNumeral}
 use Rattle.std.proofs.lemmas.List.{append_cancel_left, append_cancel_right}
 use Rattle.std.proofs.lemmas.List.Folds.{list_all-append}
 use Rattle.mm_lex.specs.Alphabet.{Name, has_name, is_empty, is_label, is_label_byte}
-use Rattle.file_names.specs.FileNames.{escaped_byte, escaped, reserved, plus_if_reserved, is_spelled, spelled, numbered}
+use Rattle.file_names.specs.FileNames.{escaped_byte, escaped, reserved, plus_if_reserved, is_spelled, label_stem, position_stem}
 use Rattle.file_names.specs.Laws as laws
 use Rattle.file_names.specs.Laws.{is_name_byte, is_empty_or_begins_with_dot}
 
@@ -62,8 +62,8 @@ read-plus_if_reserved label = by (has_name label reserved)
 label-bytes : (label : Name) → is_spelled label ≡ true → (not (is_empty label) ≡ true) × (list_all is_label_byte label ≡ true)
 label-bytes label h = and_parts (not (is_empty label)) (list_all is_label_byte label) (and_parts (nat_le (length label) 100) (is_label label) h).1
 
-read-spelled : (label : Name) → is_spelled label ≡ true → read_by false (spelled label) ≡ label
-read-spelled label h = read-escaped label (plus_if_reserved label) (label-bytes label h).1 ∙ (ap (λ l. label ++ l) (read-plus_if_reserved label) ∙ append-nil label)
+read-label_stem : (label : Name) → is_spelled label ≡ true → read_by false (label_stem label) ≡ label
+read-label_stem label h = read-escaped label (plus_if_reserved label) (label-bytes label h).1 ∙ (ap (λ l. label ++ l) (read-plus_if_reserved label) ∙ append-nil label)
 
 -- ---- digits
 
@@ -100,29 +100,29 @@ no_label_byte d h = by (d == 46) refl
 
 -- ---- different names
 
--- no spelled name is equal to a numbered one
-spelled-numbered : (label : Name) (p : ℕ) → is_spelled label ≡ true → p < 2 ^ 64 → spelled label ≡ numbered p → ⊥
+-- no stem that spells a label is equal to one made from a position
+stem_kinds-apart : (label : Name) (p : ℕ) → is_spelled label ≡ true → p < 2 ^ 64 → label_stem label ≡ position_stem p → ⊥
 unfolding read_by
-spelled-numbered label p h fits same =
+stem_kinds-apart label p h fits same =
     let d = decimal-digits p fits in
     let first = (and_parts (is_ascii_digit d.first) (list_all is_ascii_digit d.rest) (sym (ap (list_all is_ascii_digit) d.is) ∙ d.digits)).0 in
     let read : label ≡ (if d.first == 46 then d.first else d.first - 32) ∷ read_by false d.rest =
-    sym (read-spelled label h) ∙ (ap (read_by false) same ∙ ap (λ ds. read_by false (43 ∷ ds)) d.is) in
+    sym (read-label_stem label h) ∙ (ap (read_by false) same ∙ ap (λ ds. read_by false (43 ∷ ds)) d.is) in
     let all = ap (list_all is_label_byte) (sym read) ∙ (label-bytes label h).1 in
     let parts = and_parts (is_label_byte (if d.first == 46 then d.first else d.first - 32)) (list_all is_label_byte (read_by false d.rest)) all in
     true≢false (sym parts.0 ∙ no_label_byte d.first first)
 
 stems-differ : (one other : Name) (p q : ℕ) → p < 2 ^ 64 → q < 2 ^ 64 → (t : Bool) → is_spelled one ≡ t → (u : Bool) → is_spelled other ≡ u
-    → (if t then spelled one else numbered p) ≡ (if u then spelled other else numbered q) → (one ≡ other) ⊎ (p ≡ q)
-stems-differ one other p q pf qf true e true f same = inl (sym (read-spelled one e) ∙ (ap (read_by false) same ∙ read-spelled other f))
-stems-differ one other p q pf qf true e false f same = absurd (spelled-numbered one q e qf same)
-stems-differ one other p q pf qf false e true f same = absurd (spelled-numbered other p f pf (sym same))
+    → (if t then label_stem one else position_stem p) ≡ (if u then label_stem other else position_stem q) → (one ≡ other) ⊎ (p ≡ q)
+stems-differ one other p q pf qf true e true f same = inl (sym (read-label_stem one e) ∙ (ap (read_by false) same ∙ read-label_stem other f))
+stems-differ one other p q pf qf true e false f same = absurd (stem_kinds-apart one q e qf same)
+stems-differ one other p q pf qf false e true f same = absurd (stem_kinds-apart other p f pf (sym same))
 stems-differ one other p q pf qf false e false f same = inr (decimal_injective p q pf qf (append_cancel_left (codes "+") (decimal p) (decimal q) same))
 
 pub names-differ : laws.NamesDiffer
 names-differ one other p q pf qf same =
     stems-differ one other p q pf qf (is_spelled one) refl (is_spelled other) refl
-    (append_cancel_right (if is_spelled one then spelled one else numbered p) (if is_spelled other then spelled other else numbered q) (codes ".html") same)
+    (append_cancel_right (if is_spelled one then label_stem one else position_stem p) (if is_spelled other then label_stem other else position_stem q) (codes ".html") same)
 
 -- ---- names stay within a folder
 
@@ -171,8 +171,8 @@ record IsStem (text : List ℕ) : Type 0 where
   pub bytes : list_all is_name_byte text ≡ true
   pub undotted : (rest : List ℕ) → is_empty_or_begins_with_dot (text ++ rest) ≡ false
 
-spelled-stem : (label : Name) → is_spelled label ≡ true → IsStem (spelled label)
-spelled-stem label h =
+label_stem-is_stem : (label : Name) → is_spelled label ≡ true → IsStem (label_stem label)
+label_stem-is_stem label h =
     let parts = label-bytes label h in
     record { bytes = joined_bytes (escaped label) (plus_if_reserved label) (escaped_bytes label parts.1) (plus_bytes label); undotted = λ rest. first label parts.0 rest }
   where
@@ -190,11 +190,11 @@ spelled-stem label h =
         ap is_empty_or_begins_with_dot (append_assoc (escaped_byte b ++ escaped l) (plus_if_reserved label) rest ∙ append_assoc (escaped_byte b) (escaped l) (plus_if_reserved label ++ rest))
         ∙ byte b (escaped l ++ (plus_if_reserved label ++ rest))
 
-stem : (label : Name) (p : ℕ) → p < 2 ^ 64 → (t : Bool) → is_spelled label ≡ t → IsStem (if t then spelled label else numbered p)
-stem label p fits true e = spelled-stem label e
+stem : (label : Name) (p : ℕ) → p < 2 ^ 64 → (t : Bool) → is_spelled label ≡ t → IsStem (if t then label_stem label else position_stem p)
+stem label p fits true e = label_stem-is_stem label e
 stem label p fits false e = record { bytes = joined_bytes (codes "+") (decimal p) refl (digits_in_names (decimal p) (decimal-digits p fits).digits); undotted = λ rest. refl }
 
 pub names-stay : laws.NamesStayInAFolder
 names-stay label p fits =
     let f = stem label p fits (is_spelled label) refl in
-    (joined_bytes (if is_spelled label then spelled label else numbered p) (codes ".html") f.bytes refl, f.undotted (codes ".html"))
+    (joined_bytes (if is_spelled label then label_stem label else position_stem p) (codes ".html") f.bytes refl, f.undotted (codes ".html"))

@@ -23,18 +23,18 @@ reserved = codes "index" ∷ codes "con" ∷ codes "prn" ∷ codes "aux" ∷ cod
 abbrev pub plus_if_reserved : Name → List ℕ
 plus_if_reserved label = if has_name label reserved then codes "+" else []
 
--- it is a label of at most 100 bytes, which its file name spells
+-- it is a label of at most 100 bytes: its file name spells the label
 abbrev pub is_spelled : Name → Bool
 is_spelled label = nat_le (length label) 100 && is_label label
 
--- the stem that spells the label
-abbrev pub spelled : Name → List ℕ
-spelled label = escaped label ++ plus_if_reserved label
+-- the stem (the name without `.html`) that spells the label
+abbrev pub label_stem : Name → List ℕ
+label_stem label = escaped label ++ plus_if_reserved label
 
 -- the stem made from the position
-abbrev pub numbered : ℕ → List ℕ
-numbered position = codes "+" ++ decimal position
+abbrev pub position_stem : ℕ → List ℕ
+position_stem position = codes "+" ++ decimal position
 
 -- the name of the file of the assertion with this label at this position
 abbrev pub file_name : Name → ℕ → List ℕ
-file_name label position = (if is_spelled label then spelled label else numbered position) ++ codes ".html"
+file_name label position = (if is_spelled label then label_stem label else position_stem position) ++ codes ".html"

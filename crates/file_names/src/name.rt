@@ -1,8 +1,8 @@
-//! The name of the file of an assertion, and of the two other files of a site.
+//! The name of the file of an assertion, and the names of the two other files of a site.
 ghost use Rattle.std.specs.Prelude.{◌≡◌, ◌++◌, if◌then◌else◌, OnOk};
 ghost use Rattle.std.specs.List.{list_any};
 ghost use Rattle.mm_lex.specs.Alphabet.{has_name, name_eq};
-ghost use Rattle.file_names.specs.FileNames.{escaped_byte, escaped, reserved, plus_if_reserved, is_spelled, spelled, numbered, file_name};
+ghost use Rattle.file_names.specs.FileNames.{escaped_byte, escaped, reserved, plus_if_reserved, is_spelled, label_stem, position_stem, file_name};
 
 use mm_lex::is_label;
 use numbers::push_number;
@@ -25,10 +25,10 @@ const RESERVED: [&[u8]; 25] = [
     b"lpt6", b"lpt7", b"lpt8", b"lpt9",
 ];
 
-/// Appends the name of the file of the assertion that has this label and this position. A label of at
-/// most 100 bytes is spelled: each dot becomes `+.`, each uppercase letter becomes `+` and its lowercase
-/// letter, and a reserved label gets a `+` at its end. For any other, the name is `+` and the position.
-/// The name ends with `.html`.
+/// Appends the name of the file of the assertion that has this label and whose statement has this
+/// position. A label of at most 100 bytes is spelled: each dot becomes `+.`, each uppercase letter
+/// becomes `+` and its lowercase letter, and a reserved label gets a `+` at its end. For any other,
+/// the name is `+` and the position. The name ends with `.html`.
 ///
 /// Errors: an allocation fails; the text is then unspecified. Cost: the length of the
 /// label. Source: this project's own form; the names of devices are those of Windows.
@@ -42,12 +42,12 @@ pub fn push_file_name(text: &mut Vec<u8>, label: &[u8], position: usize) -> Resu
 /// Appends the stem of the file name: the name without `.html`.
 fn push_stem(text: &mut Vec<u8>, label: &[u8], position: usize) -> Result<(), AllocError>
     ensures { OnOk result (text.new.items
-        ≡ text.old.items ++ (if is_spelled label.now then spelled label.now else numbered position)) }
+        ≡ text.old.items ++ (if is_spelled label.now then label_stem label.now else position_stem position)) }
 {
     if is_spelled(label) {
-        push_spelled(text, label)
+        push_label_stem(text, label)
     } else {
-        push_numbered(text, position)
+        push_position_stem(text, position)
     }
 }
 
@@ -59,8 +59,8 @@ fn is_spelled(label: &[u8]) -> bool
 }
 
 /// Appends the stem that spells a label.
-fn push_spelled(text: &mut Vec<u8>, label: &[u8]) -> Result<(), AllocError>
-    ensures { OnOk result (text.new.items ≡ text.old.items ++ spelled label.now) }
+fn push_label_stem(text: &mut Vec<u8>, label: &[u8]) -> Result<(), AllocError>
+    ensures { OnOk result (text.new.items ≡ text.old.items ++ label_stem label.now) }
 {
     push_escaped(text, label)?;
     push_plus_if_reserved(text, label)
@@ -104,19 +104,19 @@ fn push_plus_if_reserved(text: &mut Vec<u8>, label: &[u8]) -> Result<(), AllocEr
 fn is_reserved(label: &[u8]) -> bool
     ensures { result ≡ has_name label.now reserved }
 {
-    is_one_of(label, &RESERVED)
+    is_among(label, &RESERVED)
 }
 
 /// Returns whether the label is one of the names.
-fn is_one_of(label: &[u8], names: &[&[u8]]) -> bool
+fn is_among(label: &[u8], names: &[&[u8]]) -> bool
     ensures { result ≡ list_any (λ name. name_eq label.now name.now) names.now }
 {
     names.iter().any(|name| label == *name)
 }
 
 /// Appends the stem that is made from a position.
-fn push_numbered(text: &mut Vec<u8>, position: usize) -> Result<(), AllocError>
-    ensures { OnOk result (text.new.items ≡ text.old.items ++ numbered position) }
+fn push_position_stem(text: &mut Vec<u8>, position: usize) -> Result<(), AllocError>
+    ensures { OnOk result (text.new.items ≡ text.old.items ++ position_stem position) }
 {
     text.extend_from_slice(b"+")?;
     push_number(text, position as u64)

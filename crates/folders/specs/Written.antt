@@ -8,6 +8,7 @@ use Rattle.folders.specs.declared.memory_folder.WrittenFile.{WrittenFile}
 abbrev pub File : Type 0
 File = List ℕ × List ℕ
 
+-- the name and the bytes of a written file
 abbrev pub file_of : WrittenFile → File
 file_of f = (string_bytes f.name, f.bytes.items)
 

@@ -18,6 +18,7 @@ pub fn push_html(page: &mut Vec<u8>, bytes: &[u8]) -> Result<(), AllocError>
     Ok(())
 }
 
+/// Appends a byte, or its character reference if it is one of `&`, `<`, `>` and `"`.
 fn push_html_byte(page: &mut Vec<u8>, byte: u8) -> Result<(), AllocError>
     ensures { OnOk result (page.new.items ≡ page.old.items ++ html_byte byte) }
 {
@@ -46,6 +47,7 @@ pub fn push_quoted(text: &mut Vec<u8>, bytes: &[u8]) -> Result<(), AllocError>
     Ok(())
 }
 
+/// Appends a byte, after a `\` if it is `"` or `\`.
 fn push_quoted_byte(text: &mut Vec<u8>, byte: u8) -> Result<(), AllocError>
     ensures { OnOk result (text.new.items ≡ text.old.items ++ quoted_byte byte) }
 {

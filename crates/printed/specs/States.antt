@@ -21,9 +21,11 @@ count_text name n = name ++ decimal n
 abbrev pub role_and_promise : NodeState → List ℕ
 role_and_promise state = role_text state.role ++ codes " promise " ++ ballot_text state.promise
 
+-- how many entries the log has, how many were applied, and how many values wait
 abbrev pub counts_text : NodeState → ℕ → List ℕ
 counts_text state applied = count_text (codes " learned ") state.learned ++ count_text (codes " applied ") applied ++ count_text (codes " waiting ") state.waiting
 
+-- the end of the line
 abbrev pub down_text : Bool → List ℕ
 down_text down = (if down then codes " down" else []) ++ codes "\n"
 

@@ -20,8 +20,8 @@ node_line S depth at = decimal depth ++ codes " " ++ label_or_none (stmt_at S at
 abbrev mutual
   pub tree_lines : Database → ℕ → Derivation → List ℕ
   tree_lines S depth (hyp i) = node_line S depth i
-  tree_lines S depth (apply a kids) = node_line S depth a ++ trees_lines S (depth + 1) kids
+  tree_lines S depth (apply a children) = node_line S depth a ++ trees_lines S (depth + 1) children
 
   pub trees_lines : Database → ℕ → Derivations → List ℕ
   trees_lines S depth none = []
-  trees_lines S depth (more t kids) = tree_lines S depth t ++ trees_lines S depth kids
+  trees_lines S depth (more t ts) = tree_lines S depth t ++ trees_lines S depth ts

@@ -64,7 +64,7 @@ pub fn push_log(text: &mut Vec<u8>, log: &[Option<Entry>]) -> Result<(), AllocEr
 /// Appends the count of the assertions of a library, and a line for each assertion.
 ///
 /// Cost: the size of all statements.
-pub fn push_library(text: &mut Vec<u8>, library: &Library) -> Result<(), AllocError>
+pub fn push_library_list(text: &mut Vec<u8>, library: &Library) -> Result<(), AllocError>
     ensures { OnOk result (text.new.items
         ≡ text.old.items ++ list_text (listed library.now.replica.statements)) }
 {

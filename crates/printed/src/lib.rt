@@ -4,7 +4,8 @@
 //! specified.
 //!
 //! Crates above use the clause of each call: the appended text is exactly that of a definition in
-//! `specs`.
+//! `specs`. `C1` to `C7` are the causes of a refusal (`library::Cause`), `G1` to `G10` the rules of a
+//! database (`scope::Rule`).
 //!
 //! Reading order: `verdict_text`, `packets`, `answers` (logs, lists and exports), `counted`,
 //! `states`, `tree_text`; `broken_rules` (the first statement of a database that breaks a rule) and
@@ -21,7 +22,8 @@ mod tree_text;
 mod verdict_text;
 
 pub use answers::{
-    push_assertions, push_export, push_library, push_list, push_log, push_ok, push_verdict_line,
+    push_assertions, push_export, push_library_list, push_list, push_log, push_ok,
+    push_verdict_line,
 };
 pub use broken_rules::first_broken_rule;
 pub use counted::{push_counted, push_learned};

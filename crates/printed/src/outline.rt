@@ -97,7 +97,7 @@ fn push_rules_line(bytes: &mut Vec<u8>, broken: Option<(usize, Rule)>) -> Result
     }
 }
 
-/// Returns a line that consists of some words and a number.
+/// Returns the line for a text that cannot be parsed: some words and a number.
 fn refusal(alloc: Global, words: &[u8], number: usize) -> Result<Vec<u8>, AllocError>
     ensures { IfOk result (λ bytes. bytes.items ≡ numbered_line words.now number) }
 {

@@ -2,8 +2,8 @@
 use crate::databases::{answer_question, print_outline};
 use crate::fault::Fault;
 use crate::pages::print_pages;
-use crate::pictured::print_picture;
 use crate::play::play;
+use crate::play_picture::print_picture;
 use crate::serve::serve;
 use crate::streams::print;
 use commands::{CommandLineFault, Request, VERSION, parse_command_line};

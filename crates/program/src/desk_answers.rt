@@ -38,10 +38,10 @@ impl<R: Wait> AnsweringDesk<'_, R> {
             × (text.new.items ≡ text.old.items ++ export_text cell.replica.library.statements)) }
     {
         let alloc = self.alloc;
-        let made = self
+        let export = self
             .desk
             .ask(self.rt, node, |cell| export_of(alloc, cell))??;
-        Ok(text.extend_from_slice(made.as_slice())?)
+        Ok(text.extend_from_slice(export.as_slice())?)
     }
 
     /// Appends the entries that a node took over from its log.
@@ -50,8 +50,8 @@ impl<R: Wait> AnsweringDesk<'_, R> {
             × (text.new.items ≡ text.old.items ++ learned_text cell.entries)) }
     {
         let alloc = self.alloc;
-        let made = self.desk.ask(self.rt, node, |cell| log_of(alloc, cell))??;
-        Ok(text.extend_from_slice(made.as_slice())?)
+        let log = self.desk.ask(self.rt, node, |cell| log_of(alloc, cell))??;
+        Ok(text.extend_from_slice(log.as_slice())?)
     }
 
     /// Appends the state of a node.
@@ -75,18 +75,18 @@ impl<R: Wait> AnsweringDesk<'_, R> {
             × (text.new.items ≡ text.old.items ++ answer)) }
     {
         let alloc = self.alloc;
-        let made = self.desk.ask(self.rt, question.node, |cell| {
+        let lines = self.desk.ask(self.rt, question.node, |cell| {
             label_answer(alloc, cell.library(), question)
         })??;
-        Ok(text.extend_from_slice(made.as_slice())?)
+        Ok(text.extend_from_slice(lines.as_slice())?)
     }
 
     /// Appends why a node refused an entry.
-    pub fn push_why(&self, at: NodeEntryId, text: &mut Vec<u8>) -> Result<(), Fault> {
+    pub fn push_why(&self, entry_id: NodeEntryId, text: &mut Vec<u8>) -> Result<(), Fault> {
         let alloc = self.alloc;
-        let decision = self
-            .desk
-            .ask(self.rt, at.node, |cell| { decision_at(alloc, cell, at) })??;
+        let decision = self.desk.ask(self.rt, entry_id.node, |cell| {
+            decision_at(alloc, cell, entry_id)
+        })??;
         Ok(push_why(alloc, text, &decision)?)
     }
 
@@ -107,7 +107,11 @@ impl<R: Wait> AnsweringDesk<'_, R> {
 }
 
 /// Returns what a cell decided on an entry.
-fn decision_at(alloc: Global, cell: &NodeCell, at: NodeEntryId) -> Result<Decision, AllocError> {
+fn decision_at(
+    alloc: Global,
+    cell: &NodeCell,
+    entry_id: NodeEntryId,
+) -> Result<Decision, AllocError> {
     let mut entries = Vec::new(alloc);
     for entry in cell.entries().iter().take(cell.applied() as usize) {
         match entry {
@@ -115,7 +119,7 @@ fn decision_at(alloc: Global, cell: &NodeCell, at: NodeEntryId) -> Result<Decisi
             None => entries.push(None)?,
         }
     }
-    decision_of(alloc, cell.library(), entries.as_slice(), at)
+    decision_of(alloc, cell.library(), entries.as_slice(), entry_id)
 }
 
 /// Returns the statements of the library of a cell.

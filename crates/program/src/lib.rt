@@ -2,14 +2,14 @@
 //!
 //! Reading order: `command_line` (`run`, which does what a command line asks for), `fault` (why a
 //! command ends without its answer, and the line that says so), `streams` (reading and printing),
-//! `named_text`; `databases` (a database that is read and judged), `answers` (the one place that
+//! `named_text`; `databases` (a database that is read and checked), `answers` (the one place that
 //! answers a question about a library), `proofs` (the steps of a proof), `searches` (searches for
-//! assertions), `shown` (statements as blocks), `pages` (a site), `each_proof` (every `$p` checked
-//! by itself), `assumed` (each `$p` that is not proved taken as a `$a`), `refused_texts` and
-//! `refused_questions` (why there is no answer); `scripts` (the lines of a script, answered one by
-//! one), `node_answers` (about the library of a node), `why` (why a node refused an entry), `play`,
-//! `pictured`; `served_weather`, `served_nodes`, `desk_answers`, `session` (the lines of `serve`)
-//! and `serve`.
+//! assertions), `shown` (the answers to `show`: statements as blocks of lines), `pages` (a site),
+//! `each_proof` (every `$p` checked by itself), `assumed` (each `$p` that is not proved taken as a
+//! `$a`), `refused_texts` and `refused_questions` (why there is no answer); `scripts` (the lines of a
+//! script, answered one by one), `node_answers` (about the library of a node), `why` (why a node
+//! refused an entry), `play`, `play_picture` (the picture of a run); `served_weather`,
+//! `served_nodes`, `desk_answers`, `session` (the lines of `serve`) and `serve`.
 #![tactic(auto)]
 
 mod answers;
@@ -22,8 +22,8 @@ mod fault;
 mod named_text;
 mod node_answers;
 mod pages;
-mod pictured;
 mod play;
+mod play_picture;
 mod proofs;
 mod refused_questions;
 mod refused_texts;

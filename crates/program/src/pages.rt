@@ -59,7 +59,7 @@ fn apply_and_print<R: AllocGlobal + Threads + Sync, O: Write, F: Write, S: Folde
         bytes: bytes.as_slice(),
     };
     match apply_text(rt, library, bytes)? {
-        Verdict::Refused(cause) => print_refused(rt, request, text, cause, streams, folder),
+        Verdict::Refused(cause) => assume_or_refuse(rt, request, text, cause, streams, folder),
         _ => print_site(
             rt.alloc(),
             library,
@@ -73,7 +73,7 @@ fn apply_and_print<R: AllocGlobal + Threads + Sync, O: Write, F: Write, S: Folde
 
 /// Writes the pages of a text that is refused, each `$p` that is not proved taken as a `$a`, if
 /// that is asked for; else prints the refusal.
-fn print_refused<R: AllocGlobal + Threads + Sync, O: Write, F: Write, S: Folder>(
+fn assume_or_refuse<R: AllocGlobal + Threads + Sync, O: Write, F: Write, S: Folder>(
     rt: &R,
     request: SiteRequest<'_>,
     text: NamedText<'_>,

@@ -11,7 +11,7 @@ use event_lines::push_events;
 use library::Entry;
 use net::Event;
 use printed::{
-    push_export, push_library, push_log, push_ok, push_packet, push_state, push_verdict_line,
+    push_export, push_library_list, push_log, push_ok, push_packet, push_state, push_verdict_line,
 };
 use std::alloc::{AllocError, Global};
 use std::io::{Read, Write};
@@ -57,14 +57,16 @@ fn answer_node_line(world: &mut World, line: NodeLine, text: &mut Vec<u8>) -> Re
         }
         NodeLine::Begin { node } => push_step(world, Event::Begin(node), text),
         NodeLine::Restart { node } => push_step(world, Event::Restart(node), text),
-        NodeLine::List { node } => Ok(push_library(text, world.library(node)?)?),
-        NodeLine::Status(at) => {
-            let verdict = world.library(at.node)?.status(at.author, at.serial);
+        NodeLine::List { node } => Ok(push_library_list(text, world.library(node)?)?),
+        NodeLine::Status(entry_id) => {
+            let verdict = world
+                .library(entry_id.node)?
+                .status(entry_id.author, entry_id.serial);
             Ok(push_verdict_line(text, verdict, b"unknown")?)
         }
         NodeLine::Export { node } => Ok(push_export(text, world.library(node)?)?),
         NodeLine::Log { node } => Ok(push_log(text, world.log(node)?.as_slice())?),
-        NodeLine::Why(at) => push_decision(world, at, text),
+        NodeLine::Why(entry_id) => push_decision(world, entry_id, text),
         NodeLine::State { node } => {
             let (state, applied) = (world.state(node)?, world.applied(node)?);
             Ok(push_state(text, &state, applied, false)?)
@@ -83,11 +85,16 @@ fn answer_node_line(world: &mut World, line: NodeLine, text: &mut Vec<u8>) -> Re
 }
 
 /// Appends why the node refused an entry.
-fn push_decision(world: &World, at: NodeEntryId, text: &mut Vec<u8>) -> Result<(), Fault> {
+fn push_decision(world: &World, entry_id: NodeEntryId, text: &mut Vec<u8>) -> Result<(), Fault> {
     let alloc = *text.allocator();
-    let mut entries = world.log(at.node)?;
-    entries.truncate(world.applied(at.node)? as usize);
-    let decision = decision_of(alloc, world.library(at.node)?, entries.as_slice(), at)?;
+    let mut entries = world.log(entry_id.node)?;
+    entries.truncate(world.applied(entry_id.node)? as usize);
+    let decision = decision_of(
+        alloc,
+        world.library(entry_id.node)?,
+        entries.as_slice(),
+        entry_id,
+    )?;
     Ok(push_why(alloc, text, &decision)?)
 }
 

@@ -37,7 +37,7 @@ fn write_reason<F: Write>(
             faults.write_all(label)?;
         }
         Fault::Ask(AskFault::NotProvable) => {
-            write_kind(library, label, faults)?;
+            write_keyword(library, label, faults)?;
             faults.write_all(b"; only a $p has a proof")?;
         }
         Fault::Ask(AskFault::TooLarge) => {
@@ -46,7 +46,7 @@ fn write_reason<F: Write>(
             faults.write_all(b" shows the same steps without a limit")?;
         }
         Fault::Extract(ExtractFault::NotAssertion) => {
-            write_kind(library, label, faults)?;
+            write_keyword(library, label, faults)?;
             faults.write_all(b"; only an assertion can be extracted")?;
         }
         Fault::Extract(ExtractFault::SameLabel) => {
@@ -59,10 +59,10 @@ fn write_reason<F: Write>(
 }
 
 /// Writes a label, and the keyword of the statement that has it.
-fn write_kind<F: Write>(library: &Library, label: &[u8], faults: &mut F) -> Result<(), Fault> {
+fn write_keyword<F: Write>(library: &Library, label: &[u8], faults: &mut F) -> Result<(), Fault> {
     faults.write_all(label)?;
     faults.write_all(b" is a ")?;
-    Ok(faults.write_all(kind_of(library, label))?)
+    Ok(faults.write_all(keyword_of(library, label))?)
 }
 
 /// Returns the label for which a question is refused, or an empty label if it has none.
@@ -84,7 +84,7 @@ fn first_refused<'a>(library: &Library, labels: &[&'a str], fault: &Fault) -> &'
         let is_refused = match fault {
             Fault::Extract(ExtractFault::SameLabel) => labels[..index].contains(label),
             Fault::Extract(ExtractFault::NotAssertion) => {
-                matches!(kind_of(library, label.as_bytes()), b"$f" | b"$e")
+                matches!(keyword_of(library, label.as_bytes()), b"$f" | b"$e")
             }
             _ => library.frames().position(label.as_bytes()).is_none(),
         };
@@ -96,7 +96,7 @@ fn first_refused<'a>(library: &Library, labels: &[&'a str], fault: &Fault) -> &'
 }
 
 /// Returns the keyword of the statement with a label, or an empty text if there is no statement.
-fn kind_of(library: &Library, label: &[u8]) -> &'static [u8] {
+fn keyword_of(library: &Library, label: &[u8]) -> &'static [u8] {
     let Some(at) = library.frames().position(label) else {
         return b"";
     };

@@ -19,7 +19,7 @@ pub trait Answers<L> {
 }
 
 /// A source of the lines of a script or a session.
-pub trait Source<L> {
+pub trait LineSource<L> {
     /// Returns the next line, or `None` at the end.
     ///
     /// Errors: no further line can be read.
@@ -29,7 +29,7 @@ pub trait Source<L> {
     fn is_live(&self) -> bool;
 }
 
-impl<L: Drop> Source<L> for IntoIter<L> {
+impl<L: Drop> LineSource<L> for IntoIter<L> {
     fn next_line(&mut self) -> Result<Option<L>, Fault> {
         Ok(self.next())
     }
@@ -50,7 +50,7 @@ pub fn read_script<L: Line, I: Read>(alloc: Global, input: &mut I) -> Result<Vec
 ///
 /// Errors: no further line can be read; an allocation fails before anything is printed; a write
 /// fails.
-pub fn answer_lines<L: Drop, N: Answers<L>, S: Source<L>, O: Write>(
+pub fn answer_lines<L: Drop, N: Answers<L>, S: LineSource<L>, O: Write>(
     alloc: Global,
     nodes: &mut N,
     lines: &mut S,

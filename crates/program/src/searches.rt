@@ -22,7 +22,7 @@ pub fn matching_lines(
     found_lines(alloc, &database, query)
 }
 
-/// Returns the places of the descriptions of a text, or an empty list if the search does not read
+/// Returns the spans of the descriptions of a text, or an empty list if the search does not read
 /// descriptions.
 fn descriptions_for(
     alloc: Global,

@@ -8,7 +8,7 @@ ghost use Rattle.printed.specs.Printed.{list_text};
 
 use crate::desk_answers::AnsweringDesk;
 use crate::fault::Fault;
-use crate::scripts::{Answers, Source, answer_lines};
+use crate::scripts::{Answers, LineSource, answer_lines};
 use crate::served_nodes::{Nodes, NodesDesk, start_nodes, stop_nodes};
 use crate::session::{Script, ServedLine, Session};
 use crate::streams::print;
@@ -50,7 +50,7 @@ pub fn serve<
 /// Every thread is joined, even if a write fails.
 fn serve_lines<
     R: AllocGlobal + Threads + Wait + Copy + Send + Sync + Drop + 'static,
-    S: Source<ServedLine>,
+    S: LineSource<ServedLine>,
     O: Write,
 >(rt: &R, options: &ServeOptions, lines: &mut S, output: &mut O) -> Result<u8, Fault> {
     let mut nodes = start_nodes(
@@ -69,7 +69,7 @@ fn serve_lines<
 }
 
 /// Prints the answers to the lines at a desk of the nodes, and returns the exit status.
-fn answer_at_desk<R: AllocGlobal + Wait, S: Source<ServedLine>, O: Write>(
+fn answer_at_desk<R: AllocGlobal + Wait, S: LineSource<ServedLine>, O: Write>(
     rt: &R,
     nodes: &Nodes,
     lines: &mut S,
@@ -113,10 +113,10 @@ fn answer_serve_line<R: Wait>(
 ) -> Result<(), Fault> {
     match line {
         ServeLine::Node(line) => answer_node_line(answering, line, text),
-        ServeLine::Settle(at) => {
+        ServeLine::Settle(entry_id) => {
             Ok(push_verdict_line(
                 text,
-                wait_for_verdict(answering.rt, answering.desk, at)?,
+                wait_for_verdict(answering.rt, answering.desk, entry_id)?,
                 b"unknown",
             )?)
         }
@@ -152,12 +152,12 @@ fn answer_node_line<R: Wait>(
         NodeLine::Begin { node } => desk.begin(rt, node)?,
         NodeLine::Restart { node } => desk.restart(rt, node)?,
         NodeLine::List { node } => return Ok(push_node_list(rt, desk, node, text)?),
-        NodeLine::Status(at) => {
-            return Ok(push_verdict_line(text, status(rt, desk, at)?, b"unknown")?);
+        NodeLine::Status(entry_id) => {
+            return Ok(push_verdict_line(text, status(rt, desk, entry_id)?, b"unknown")?);
         }
         NodeLine::Export { node } => return answering.push_export(node, text),
         NodeLine::Log { node } => return answering.push_log(node, text),
-        NodeLine::Why(at) => return answering.push_why(at, text),
+        NodeLine::Why(entry_id) => return answering.push_why(entry_id, text),
         NodeLine::State { node } => return answering.push_state(node, text),
         NodeLine::Ask(question) => return answering.push_label_answer(&question, text),
         NodeLine::Compare(pair) => return answering.push_compared(pair, text),
@@ -183,12 +183,16 @@ fn push_node_list<R: Wait>(
 }
 
 /// Returns the verdict of the node's library on the entry, or `None` if it is not decided there.
-fn status<R: Wait>(rt: &R, desk: &NodesDesk, at: NodeEntryId) -> Result<Option<Verdict>, StepFault>
-    ensures status { IfOk result (IsStatus at.node at.author at.serial) }
-    ensures no_node { desk.now ≤ at.node → result ≡ Err NoNode }
-    ensures only_apart { at.node < desk.now → IsOkUnless result Apart }
+fn status<R: Wait>(
+    rt: &R,
+    desk: &NodesDesk,
+    entry_id: NodeEntryId,
+) -> Result<Option<Verdict>, StepFault>
+    ensures status { IfOk result (IsStatus entry_id.node entry_id.author entry_id.serial) }
+    ensures no_node { desk.now ≤ entry_id.node → result ≡ Err NoNode }
+    ensures only_apart { entry_id.node < desk.now → IsOkUnless result Apart }
 {
-    desk.status(rt, at.node, at.author, at.serial)
+    desk.status(rt, entry_id.node, entry_id.author, entry_id.serial)
 }
 
 /// Returns the verdict as soon as it is known, or `None` if it is not known after `MOST_TURNS`
@@ -196,20 +200,20 @@ fn status<R: Wait>(rt: &R, desk: &NodesDesk, at: NodeEntryId) -> Result<Option<V
 fn wait_for_verdict<R: Wait>(
     rt: &R,
     desk: &NodesDesk,
-    at: NodeEntryId,
+    entry_id: NodeEntryId,
 ) -> Result<Option<Verdict>, StepFault>
-    ensures status { IfOk result (IsStatus at.node at.author at.serial) }
-    ensures no_node { desk.now ≤ at.node → result ≡ Err NoNode }
-    ensures only_apart { at.node < desk.now → IsOkUnless result Apart }
+    ensures status { IfOk result (IsStatus entry_id.node entry_id.author entry_id.serial) }
+    ensures no_node { desk.now ≤ entry_id.node → result ≡ Err NoNode }
+    ensures only_apart { entry_id.node < desk.now → IsOkUnless result Apart }
 {
     for turn in 0..MOST_TURNS {
         if turn % TURNS_PER_QUERY == 0 {
-            let verdict = status(rt, desk, at)?;
+            let verdict = status(rt, desk, entry_id)?;
             if verdict.is_some() {
                 return Ok(verdict);
             }
         }
         thread::yield_now();
     }
-    status(rt, desk, at)
+    status(rt, desk, entry_id)
 }

@@ -2,7 +2,7 @@
 ghost use Rattle.std.specs.Prelude.{◌≤◌, OnOk, vec_len};
 
 use crate::fault::Fault;
-use crate::scripts::{Source, read_script};
+use crate::scripts::{LineSource, read_script};
 use commands::{
     LINE_FEED, ScriptFault, ServeLine, SessionLine, TextEnd, expected_form, first_word,
     parse_script, text_end,
@@ -31,7 +31,7 @@ impl Script {
     }
 }
 
-impl Source<ServedLine> for Script {
+impl LineSource<ServedLine> for Script {
     fn next_line(&mut self) -> Result<Option<ServedLine>, Fault> {
         match self.lines.next() {
             Some(line) => Ok(Some(Ok(SessionLine::Serve(line)))),
@@ -55,7 +55,7 @@ pub struct Session<'a, I: Read> {
     number: usize,
 }
 
-impl<I: Read> Source<ServedLine> for Session<'_, I> {
+impl<I: Read> LineSource<ServedLine> for Session<'_, I> {
     fn next_line(&mut self) -> Result<Option<ServedLine>, Fault> {
         self.read_next()
     }
@@ -90,7 +90,7 @@ impl<'a, I: Read> Session<'a, I> {
             }
             let number = self.number;
             self.read_text()?;
-            match self.parsed(number) {
+            match self.parse_line(number) {
                 Ok(None) => {}
                 Ok(Some(line)) => return Ok(Some(Ok(line))),
                 Err(fault) => return Ok(Some(Err(fault))),
@@ -100,7 +100,7 @@ impl<'a, I: Read> Session<'a, I> {
     }
 
     /// Parses the line that was read last, which has this number. Returns `None` if it is empty.
-    fn parsed(&self, number: usize) -> Result<Option<SessionLine>, Fault> {
+    fn parse_line(&self, number: usize) -> Result<Option<SessionLine>, Fault> {
         match parse_script::<SessionLine>(self.alloc, self.text.as_slice()) {
             Ok(mut lines) => Ok(lines.pop()),
             Err(ScriptFault::Memory) => Err(Fault::Memory(AllocError)),

@@ -29,7 +29,7 @@ pub fn blocks(
 ) -> Result<Vec<u8>, Fault> {
     let positions = positions(alloc, library, labels)?;
     let ends = ends(alloc, text.bytes)?;
-    let written = DatabaseText {
+    let database = DatabaseText {
         name: text.name,
         text: text.bytes,
         ends: ends.as_slice(),
@@ -39,7 +39,7 @@ pub fn blocks(
         if !blocks.is_empty() {
             blocks.push(b'\n')?;
         }
-        push_statement_block(alloc, &mut blocks, library, &written, *at)?;
+        push_statement_block(alloc, &mut blocks, library, &database, *at)?;
     }
     Ok(blocks)
 }
@@ -99,25 +99,25 @@ fn push_statement_block(
     alloc: Global,
     blocks: &mut Vec<u8>,
     library: &Library,
-    written: &DatabaseText<'_>,
+    database: &DatabaseText<'_>,
     at: usize,
 ) -> Result<(), AllocError> {
     let statements = library.statements();
     if at == 0 || at > statements.len() {
         return Ok(());
     }
-    let begin = begin(written, at);
-    let part = part(written, begin, at);
+    let begin = begin(database, at);
+    let part = part(database, begin, at);
     let descriptions = descriptions(alloc, part)?;
     let input = BlockInput {
         statements,
         frames: library.frames(),
         statement: &statements[at - 1],
         position: at,
-        line_and_column: position(alloc, written, begin, part)?,
+        line_and_column: first_line_and_column(alloc, database, begin, part)?,
         description: first_description(part, descriptions.as_slice()),
     };
-    if let Some(name) = written.name {
+    if let Some(name) = database.name {
         blocks.extend_from_slice(name.as_bytes())?;
         blocks.push(b':')?;
     }
@@ -125,26 +125,26 @@ fn push_statement_block(
 }
 
 /// Returns the offset at which the statement before the one at a position ends; 0 for the first.
-fn begin(written: &DatabaseText<'_>, at: usize) -> usize {
+fn begin(database: &DatabaseText<'_>, at: usize) -> usize {
     match at.checked_sub(2) {
-        Some(before) => written.ends.get(before).copied().unwrap_or(0),
+        Some(before) => database.ends.get(before).copied().unwrap_or(0),
         None => 0,
     }
 }
 
 /// Returns the text of the statement at a position with all comments before it, from `begin`, where
 /// the previous statement ends. Parsed alone, this part has the same description.
-fn part<'a>(written: &DatabaseText<'a>, begin: usize, at: usize) -> &'a [u8] {
-    match written.ends.get(at.saturating_sub(1)) {
-        Some(end) => written.text.get(begin..*end).unwrap_or(b""),
+fn part<'a>(database: &DatabaseText<'a>, begin: usize, at: usize) -> &'a [u8] {
+    match database.ends.get(at.saturating_sub(1)) {
+        Some(end) => database.text.get(begin..*end).unwrap_or(b""),
         None => b"",
     }
 }
 
 /// Returns the line and column of the first token of a part of the text that begins at `begin`.
-fn position(
+fn first_line_and_column(
     alloc: Global,
-    written: &DatabaseText<'_>,
+    database: &DatabaseText<'_>,
     begin: usize,
     part: &[u8],
 ) -> Result<Position, AllocError> {
@@ -155,13 +155,13 @@ fn position(
         Some(span) => begin.saturating_add(span.start),
         None => begin,
     };
-    Ok(line_and_column(written.text, offset.min(written.text.len())))
+    Ok(line_and_column(database.text, offset.min(database.text.len())))
 }
 
-/// Returns the description of the first statement of a text, if it has one; `places` are the places
-/// of its descriptions.
-fn first_description<'a>(text: &'a [u8], places: &[Option<Span>]) -> Option<&'a [u8]> {
-    match places.first() {
+/// Returns the description of the first statement of a text, if it has one; `spans` are the spans of
+/// the descriptions of its statements.
+fn first_description<'a>(text: &'a [u8], spans: &[Option<Span>]) -> Option<&'a [u8]> {
+    match spans.first() {
         Some(Some(span)) => text.get(span.start..span.end),
         _ => None,
     }

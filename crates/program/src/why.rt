@@ -42,9 +42,9 @@ pub fn decision_of(
     alloc: Global,
     library: &Library,
     entries: &[Option<Entry>],
-    at: NodeEntryId,
+    entry_id: NodeEntryId,
 ) -> Result<Decision, AllocError> {
-    let cause = match library.status(at.author, at.serial) {
+    let cause = match library.status(entry_id.author, entry_id.serial) {
         None => return Ok(Decision::Unknown),
         Some(Verdict::Refused(cause)) => cause,
         Some(_) => return Ok(Decision::Added),
@@ -55,7 +55,7 @@ pub fn decision_of(
         let Some(entry) = entry else {
             continue;
         };
-        if entry.author() == at.author && entry.serial() == at.serial {
+        if entry.author() == entry_id.author && entry.serial() == entry_id.serial {
             return Ok(Decision::Refused(RefusedEntry {
                 cause,
                 entry: entry.copy()?,

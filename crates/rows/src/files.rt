@@ -16,6 +16,7 @@ pub fn push_row_files<R: Files + AllocGlobal + Clone + Drop>(
     Ok(names.sort()?)
 }
 
+/// Appends the name of an entry of a folder, if it is a file of rows.
 fn push_entry<R: Files + Drop>(
     alloc: Global,
     entry: io::Result<DirEntry<R>>,
@@ -25,7 +26,7 @@ fn push_entry<R: Files + Drop>(
     Ok(push_name(alloc, entry.file_name(), names)?)
 }
 
-/// Appends the name of a file of rows.
+/// Appends a name, if it is that of a file of rows.
 fn push_name(alloc: Global, name: &str, names: &mut Vec<String>) -> Result<(), AllocError> {
     if name.ends_with(".rows") {
         names.push(String::from_str(alloc, name)?)?;
@@ -44,6 +45,7 @@ pub fn push_file<R: Files + AllocGlobal>(
     push_lines(rt, folder, file.as_str(), text)
 }
 
+/// Appends lines, with the lines of another file in place of `include FILE`.
 fn push_lines<R: Files + AllocGlobal>(
     rt: &R,
     folder: &str,
@@ -71,6 +73,7 @@ fn push_included<R: Files + AllocGlobal>(
     Ok(text.push_str(file.as_str())?)
 }
 
+/// Reads a file of a folder.
 fn read_file<R: Files + AllocGlobal>(rt: &R, folder: &str, name: &str) -> io::Result<String> {
     let path = format!(in rt.alloc(); "{folder}/{name}")?;
     fs::read_to_string(rt, path.as_str())

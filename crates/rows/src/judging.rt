@@ -132,7 +132,8 @@ impl<'a, 'w, R: AllocGlobal + Threads + Wait + Copy + Send + Sync + Drop + 'stat
         }
     }
 
-    /// Truncates the input at each byte in turn.
+    /// Truncates the input at each byte in turn. `elsewhere` is the expected output for a truncation
+    /// that the row does not list.
     fn judge_truncations(&self, input: &[u8], elsewhere: &[u8]) -> Difference {
         for end in 0..input.len() + 1 {
             match self.judge_truncated(&input[..end], elsewhere) {
@@ -280,7 +281,7 @@ fn expected_of<'a>(row: &'a Row, output: &'a [u8]) -> Expected<'a> {
     }
 }
 
-/// Returns the expected output for the input truncated here.
+/// Returns the expected output for the input truncated at `end`, or `elsewhere` if none is listed.
 fn output_at<'a>(truncations: &'a [Truncation], end: usize, elsewhere: &'a [u8]) -> &'a [u8] {
     for truncation in truncations {
         if truncation.before_line_feed == end || truncation.after == end {

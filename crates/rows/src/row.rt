@@ -9,7 +9,8 @@ pub struct Row {
     pub commands: Vec<Vec<String>>,
     pub input: Vec<u8>,
     pub output: Vec<u8>,
-    /// The endings of the input for which the row holds, each appended to `input`; if there are none, `input` is the whole input.
+    /// The endings of the input for which the row holds, each appended to `input`; if there are none,
+    /// `input` is the whole input.
     pub endings: Vec<Ending>,
     /// The number of lines of the output, if `output` is only its beginning.
     pub lines: Option<u64>,
@@ -56,7 +57,7 @@ pub enum Mode {
     FailingWrites,
 }
 
-/// The output for the input truncated here, before or after the line feed.
+/// The output for the input truncated at the end of a line, before or after its line feed.
 #[derive(Drop)]
 pub struct Truncation {
     pub before_line_feed: usize,

@@ -98,6 +98,7 @@ fn add_command(alloc: Global, row: &mut Row, text: &str) -> Result<(), RowFault>
     Ok(())
 }
 
+/// Sets the exit status.
 fn set_status(row: &mut Row, text: &str) -> Result<(), RowFault> {
     let number = parse_number(text.as_bytes()).ok_or(RowFault::NotALine)?;
     if number > 255 {
@@ -107,11 +108,13 @@ fn set_status(row: &mut Row, text: &str) -> Result<(), RowFault> {
     Ok(())
 }
 
+/// Sets the number of lines of the output.
 fn set_lines(row: &mut Row, text: &str) -> Result<(), RowFault> {
     row.lines = Some(parse_number(text.as_bytes()).ok_or(RowFault::NotALine)?);
     Ok(())
 }
 
+/// Sets how many calls the folder answers.
 fn set_folder_calls(row: &mut Row, text: &str) -> Result<(), RowFault> {
     row.folder_calls = Some(parse_number(text.as_bytes()).ok_or(RowFault::NotALine)?);
     Ok(())
@@ -144,12 +147,13 @@ fn add_fault(alloc: Global, row: &mut Row, text: &str) -> Result<(), RowFault> {
     }
 }
 
+/// Sets the beginning of the standard error.
 fn set_beginning(alloc: Global, row: &mut Row, text: &str) -> Result<(), RowFault> {
     row.faults = Faults::Beginning(word_of(alloc, text)?.into_bytes());
     Ok(())
 }
 
-/// Appends one of several endings of the input.
+/// Appends one of several endings of the input, and its ending of the output.
 fn add_ending(alloc: Global, row: &mut Row, text: &str, answer: &str) -> Result<(), RowFault> {
     let mut ending = Ending {
         input: Vec::new(alloc),
@@ -161,6 +165,7 @@ fn add_ending(alloc: Global, row: &mut Row, text: &str, answer: &str) -> Result<
     Ok(())
 }
 
+/// Appends `ENDING => ANSWER`, one of several endings of the input and its ending of the output.
 fn add_ending_with_answer(alloc: Global, row: &mut Row, text: &str) -> Result<(), RowFault> {
     let (text, answer) = text.rsplit_once(" => ").ok_or(RowFault::NotALine)?;
     add_ending(alloc, row, text, answer)

@@ -89,7 +89,7 @@ fn push_byte(bytes: &mut Vec<u8>, digits: &str) -> Result<(), RowFault> {
     Ok(())
 }
 
-/// Returns the value of `K` or `K+S` at a time, counted from 0.
+/// Returns the number of `K` or `K+S` for a time, counted from 0: K plus the time, or plus S times it.
 fn number_at(text: &str, time: u64) -> Option<u64> {
     let (first, step) = match text.split_once('+') {
         Some((first, step)) => (first, parse_number(step.as_bytes())?),

@@ -1,7 +1,7 @@
 -- The marks of a picture: all that it shows of some steps of a run.
 -- Source: this project's own form; arrows between lines of processes are Lamport's space-time diagrams
 -- (Time, Clocks, and the Ordering of Events, 1978).
--- The code looks packets up in the world; here they are a list.
+-- The code looks packets up in the world; here they are a list. A stump is the beginning of an arrow whose end is not shown.
 use Rattle.std.specs.Prelude.{ℕ, suc, zero, ◌+◌, ◌-◌, ◌==◌, Bool, true, false, ◌&&◌, List, [], ◌∷◌, ◌++◌, Option, Some, None, nat_lt, nat_le, slice_get, drop, take, if◌then◌else◌}
 use Rattle.std.specs.List.{list_any, position_from}
 use Rattle.synod.specs.declared.packet.Packet.{Packet}
@@ -42,12 +42,12 @@ abbrev pub spot : ℕ → Step → Spot
 spot row s = record { row = row; node = s.node }
 
 -- a restart breaks the line of its node
-abbrev pub breaks : ℕ → Step → Act → List Mark
-breaks row s Restart = Break (spot row s) ∷ []
-breaks row s (Offer event) = []
-breaks row s Begin = []
-breaks row s (Deliver number) = []
-breaks row s (Apply slot verdict) = []
+abbrev pub break_marks : ℕ → Step → Act → List Mark
+break_marks row s Restart = Break (spot row s) ∷ []
+break_marks row s (Offer event) = []
+break_marks row s Begin = []
+break_marks row s (Deliver number) = []
+break_marks row s (Apply slot verdict) = []
 
 -- the mark of the slots that its node learned in the step, if there are any
 abbrev pub learned_marks : ℕ → Step → List Mark
@@ -59,38 +59,38 @@ arrow shown row n None = []
 arrow shown row n (Some p) = Arrow n (record { row = position_from (posts n) 0 shown; node = p.from }) (record { row = row; node = p.to }) ∷ []
 
 -- the arrow of the packet that an act delivers, if it is a delivery
-abbrev pub arrows : Packets → List Step → ℕ → Act → List Mark
-arrows packets shown row (Deliver n) = arrow shown row n (slice_get packets n)
-arrows packets shown row (Offer event) = []
-arrows packets shown row Begin = []
-arrows packets shown row Restart = []
-arrows packets shown row (Apply slot verdict) = []
+abbrev pub arrow_marks : Packets → List Step → ℕ → Act → List Mark
+arrow_marks packets shown row (Deliver n) = arrow shown row n (slice_get packets n)
+arrow_marks packets shown row (Offer event) = []
+arrow_marks packets shown row Begin = []
+arrow_marks packets shown row Restart = []
+arrow_marks packets shown row (Apply slot verdict) = []
 
 -- the stump of packet n, posted at a spot
-abbrev pub undelivered : Spot → ℕ → Option (Packet Carried) → List Mark
-undelivered from n None = []
-undelivered from n (Some p) = Stump n from p.to ∷ []
+abbrev pub stump_at : Spot → ℕ → Option (Packet Carried) → List Mark
+stump_at from n None = []
+stump_at from n (Some p) = Stump n from p.to ∷ []
 
--- the stump of packet n, which the step in a row posted, if no shown step delivers it
+-- the stump of packet n, which the step in a row posted, unless a shown step delivers the packet
 abbrev pub stump : Packets → List Step → ℕ → Step → ℕ → List Mark
-stump packets shown row s n = if list_any (delivers n) shown then [] else undelivered (spot row s) n (slice_get packets n)
+stump packets shown row s n = if list_any (delivers n) shown then [] else stump_at (spot row s) n (slice_get packets n)
 
 -- the stumps of the packets from n on, as many as the last argument says
-abbrev pub stumps_from : Packets → List Step → ℕ → Step → ℕ → ℕ → List Mark
-stumps_from packets shown row s n zero = []
-stumps_from packets shown row s n (suc count) = stump packets shown row s n ++ stumps_from packets shown row s (n + 1) count
+abbrev pub stump_marks_from : Packets → List Step → ℕ → Step → ℕ → ℕ → List Mark
+stump_marks_from packets shown row s n zero = []
+stump_marks_from packets shown row s n (suc count) = stump packets shown row s n ++ stump_marks_from packets shown row s (n + 1) count
 
 -- the stumps of the packets that the step in a row posted
-abbrev pub stumps : Packets → List Step → ℕ → Step → List Mark
-stumps packets shown row s = stumps_from packets shown row s s.first_post (s.end_post - s.first_post)
+abbrev pub stump_marks : Packets → List Step → ℕ → Step → List Mark
+stump_marks packets shown row s = stump_marks_from packets shown row s s.first_post (s.end_post - s.first_post)
 
 -- the point of a step, and the break of a restart
 abbrev pub point_marks : ℕ → Step → List Mark
-point_marks row s = Point (spot row s) ∷ [] ++ breaks row s s.act
+point_marks row s = Point (spot row s) ∷ [] ++ break_marks row s s.act
 
 -- the marks of the step in a row
 abbrev pub step_marks : Packets → List Step → ℕ → Step → List Mark
-step_marks packets shown row s = point_marks row s ++ arrows packets shown row s.act ++ learned_marks row s ++ stumps packets shown row s
+step_marks packets shown row s = point_marks row s ++ arrow_marks packets shown row s.act ++ learned_marks row s ++ stump_marks packets shown row s
 
 -- the marks of the last argument, the shown steps from a row on
 abbrev pub marks_from : Packets → List Step → ℕ → List Step → List Mark

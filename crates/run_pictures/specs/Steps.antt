@@ -20,24 +20,24 @@ use Rattle.run_pictures.specs.declared.step.Act.TheVariants.{Offer as Offering, 
 use Rattle.run_pictures.specs.StepStart.{ended_of}
 
 -- the world after some events, or the fault that they cause
-abbrev pub Reached : Type 0
-Reached = Result (World Carried) StepFault
+abbrev pub WorldOrFault : Type 0
+WorldOrFault = Result (World Carried) StepFault
 
 -- the world after one more event
-abbrev pub reached_after : Reached → Event Carried → Reached
-reached_after r e = events_result carried_size (e ∷ []) r
+abbrev pub after_one_more : WorldOrFault → Event Carried → WorldOrFault
+after_one_more r e = events_result carried_size (e ∷ []) r
 
 -- the receiver of a packet, or 0 if there is none
 abbrev pub receiver_of : Option (Packet Carried) → ℕ
 receiver_of None = 0
 receiver_of (Some p) = p.to
 
--- the node of an event that is taken; for a delivery, the receiver of the packet
-abbrev pub node_in : Reached → Event Carried → ℕ
-node_in r (Offer k entry) = k
-node_in r (Begin k) = k
-node_in r (Deliver number) = receiver_of (slice_get (packets_after r) number)
-node_in r (Restart k) = k
+-- the node of an event; for a delivery, the receiver of the packet
+abbrev pub node_of_event : WorldOrFault → Event Carried → ℕ
+node_of_event r (Offer k entry) = k
+node_of_event r (Begin k) = k
+node_of_event r (Deliver number) = receiver_of (slice_get (packets_after r) number)
+node_of_event r (Restart k) = k
 
 -- the number of entries of the log of a node in a state, or 0 if there is no node
 abbrev pub learned_of : Option NodeState → ℕ
@@ -45,8 +45,8 @@ learned_of None = 0
 learned_of (Some state) = state.learned
 
 -- the number of entries of the log of node k
-abbrev pub learned_in : Reached → ℕ → ℕ
-learned_in r k = learned_of (state_after r k)
+abbrev pub learned_by : WorldOrFault → ℕ → ℕ
+learned_by r k = learned_of (state_after r k)
 
 -- the act of the event at an index of the history
 abbrev pub act_of : ℕ → Event Carried → Act
@@ -56,22 +56,22 @@ act_of index (Deliver number) = Delivering number
 act_of index (Restart k) = Restarting
 
 -- the fields of the step of the event at an index that are known in the world before it
-abbrev pub step_start_of : ℕ → Reached → Event Carried → StepStart
+abbrev pub step_start_of : ℕ → WorldOrFault → Event Carried → StepStart
 step_start_of index before e = record {
-  node = node_in before e;
+  node = node_of_event before e;
   act = act_of index e;
   first_post = length (packets_after before);
-  learned_before = learned_in before (node_in before e);
+  learned_before = learned_by before (node_of_event before e);
 }
 
 -- the step of the event at an index, from the world before it to the world reached by it
-abbrev pub step_of : ℕ → Reached → Event Carried → Reached → Step
-step_of index before e reached = ended_of (step_start_of index before e) (length (packets_after reached)) (learned_in reached (node_in before e))
+abbrev pub step_of : ℕ → WorldOrFault → Event Carried → WorldOrFault → Step
+step_of index before e reached = ended_of (step_start_of index before e) (length (packets_after reached)) (learned_by reached (node_of_event before e))
 
 -- the steps of some events, the first of which is at an index, after a world
-abbrev pub steps_from : ℕ → Reached → List (Event Carried) → List Step
+abbrev pub steps_from : ℕ → WorldOrFault → List (Event Carried) → List Step
 steps_from index r [] = []
-steps_from index r (e ∷ es) = step_of index r e (reached_after r e) ∷ steps_from (suc index) (reached_after r e) es
+steps_from index r (e ∷ es) = step_of index r e (after_one_more r e) ∷ steps_from (suc index) (after_one_more r e) es
 
 -- the steps of a history, in order, one for each event
 abbrev pub steps_of : History Carried → List Step

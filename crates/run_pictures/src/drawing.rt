@@ -4,7 +4,7 @@ ghost use Rattle.timelines.specs.declared.grid.TheConstants.{MOST_ROWS};
 ghost use Rattle.run_pictures.specs.Marks.{shown_of};
 ghost use Rattle.run_pictures.specs.declared.drawing.PictureFault.TheVariants.{Memory, TooLarge};
 
-use crate::labels::{learned_label, packet_label, packet_title, step_label};
+use crate::labels::{learned_note, packet_label, packet_title, step_label};
 use crate::mark::{Mark, Origin, Spot};
 use crate::part::Part;
 use crate::run::Run;
@@ -128,7 +128,7 @@ fn draw_learned(
     first: u32,
     end: u32,
 ) -> Result<(), AllocError> {
-    let note = learned_label(alloc, first, end)?;
+    let note = learned_note(alloc, first, end)?;
     timeline.push_note(note.as_slice())
 }
 
@@ -145,7 +145,7 @@ fn draw_arrow(
         return Ok(());
     };
     let label = packet_label(alloc, packet)?;
-    timeline.push_arrow(origin(from), grid_point(to), label.as_slice())
+    timeline.push_arrow(grid_origin(from), grid_point(to), label.as_slice())
 }
 
 /// Draws the stump of a packet of the step that was drawn last.
@@ -172,14 +172,14 @@ fn grid_point(spot: Spot) -> GridPoint {
 }
 
 /// Returns where an arrow begins.
-fn origin(from: Origin) -> GridPoint {
+fn grid_origin(from: Origin) -> GridPoint {
     GridPoint {
         node: from.node,
         row: from.row.map(grid_row),
     }
 }
 
-/// Returns a row in the form in which a timeline is drawn.
+/// Returns a row as a `GridPoint` has it.
 fn grid_row(row: usize) -> u32 {
     u32::try_from(row).unwrap_or(u32::MAX)
 }

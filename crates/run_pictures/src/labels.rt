@@ -22,58 +22,58 @@ const REPLACEMENT: u8 = b'?';
 /// text for an offer, the number of the packet for a delivery, the slot and the verdict for an application.
 /// The offer of a charter is labelled `charter`, with its author and serial number.
 pub(crate) fn step_label(alloc: Global, world: &World, act: Act) -> Result<Vec<u8>, AllocError> {
-    let mut name = Vec::new(alloc);
+    let mut label = Vec::new(alloc);
     match act {
-        Act::Offer { event } => push_offer(&mut name, world, event)?,
-        Act::Begin => name.extend_from_slice(b"begin")?,
-        Act::Deliver { packet } => push_numbered(&mut name, b"deliver ", packet)?,
-        Act::Restart => name.extend_from_slice(b"restart")?,
+        Act::Offer { event } => push_offer(&mut label, world, event)?,
+        Act::Begin => label.extend_from_slice(b"begin")?,
+        Act::Deliver { packet } => push_numbered(&mut label, b"deliver ", packet)?,
+        Act::Restart => label.extend_from_slice(b"restart")?,
         Act::Apply { slot, verdict } => {
-            push_numbered(&mut name, b"apply slot ", u64::from(slot))?;
-            name.extend_from_slice(b": ")?;
-            push_verdict(&mut name, verdict)?;
+            push_numbered(&mut label, b"apply slot ", u64::from(slot))?;
+            label.extend_from_slice(b": ")?;
+            push_verdict(&mut label, verdict)?;
         }
     }
-    escaped(alloc, name.as_slice())
+    escaped(alloc, label.as_slice())
 }
 
 /// Appends the label of the offer that is the event at an index of the history.
-fn push_offer(name: &mut Vec<u8>, world: &World, index: u64) -> Result<(), AllocError> {
+fn push_offer(label: &mut Vec<u8>, world: &World, index: u64) -> Result<(), AllocError> {
     match world.history().get(index as usize) {
-        Some(Event::Offer(_, Carried(entry))) => push_entry(name, entry),
-        _ => name.extend_from_slice(b"offer"),
+        Some(Event::Offer(_, Carried(entry))) => push_entry(label, entry),
+        _ => label.extend_from_slice(b"offer"),
     }
 }
 
 /// Appends the label of the offer of an entry: with the start of its text, unless it is a charter.
-fn push_entry(name: &mut Vec<u8>, entry: &Entry) -> Result<(), AllocError> {
+fn push_entry(label: &mut Vec<u8>, entry: &Entry) -> Result<(), AllocError> {
     match entry {
         Entry::Text(submission) => {
-            push_numbered(name, b"offer ", submission.author)?;
-            push_numbered(name, b"/", submission.serial)?;
-            name.extend_from_slice(b" ")?;
-            push_start(name, submission.text.as_slice())
+            push_numbered(label, b"offer ", submission.author)?;
+            push_numbered(label, b"/", submission.serial)?;
+            label.extend_from_slice(b" ")?;
+            push_start(label, submission.text.as_slice())
         }
         Entry::Charter { author, serial, .. } => {
-            push_numbered(name, b"charter ", *author)?;
-            push_numbered(name, b"/", *serial)
+            push_numbered(label, b"charter ", *author)?;
+            push_numbered(label, b"/", *serial)
         }
     }
 }
 
 /// Appends a text and then a number.
-fn push_numbered(name: &mut Vec<u8>, before: &[u8], number: u64) -> Result<(), AllocError> {
-    name.extend_from_slice(before)?;
-    push_number(name, number)
+fn push_numbered(label: &mut Vec<u8>, before: &[u8], number: u64) -> Result<(), AllocError> {
+    label.extend_from_slice(before)?;
+    push_number(label, number)
 }
 
 /// Appends at most `MOST_SHOWN` bytes, with `?` for each that is not printable ASCII, and ` ..` if there are more.
-fn push_start(name: &mut Vec<u8>, bytes: &[u8]) -> Result<(), AllocError> {
+fn push_start(label: &mut Vec<u8>, bytes: &[u8]) -> Result<(), AllocError> {
     for byte in bytes.iter().take(MOST_SHOWN) {
-        name.push(printable(*byte))?;
+        label.push(printable(*byte))?;
     }
     if bytes.len() > MOST_SHOWN {
-        name.extend_from_slice(b" ..")?;
+        label.extend_from_slice(b" ..")?;
     }
     Ok(())
 }
@@ -104,7 +104,7 @@ pub(crate) fn packet_title(alloc: Global, packet: &Packet<Carried>) -> Result<Ve
 }
 
 /// Returns the note that says which slots, `first..end`, a node learned.
-pub(crate) fn learned_label(alloc: Global, first: u32, end: u32) -> Result<Vec<u8>, AllocError> {
+pub(crate) fn learned_note(alloc: Global, first: u32, end: u32) -> Result<Vec<u8>, AllocError> {
     let last = end.saturating_sub(1);
     let mut note = Vec::new(alloc);
     push_numbered(&mut note, b"learned ", u64::from(first))?;

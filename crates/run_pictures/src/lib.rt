@@ -1,5 +1,6 @@
 //! Draws a picture of a run: a row for each event and for each application of an entry, an arrow for
-//! each delivery of a packet, and a stump for each packet that is posted and that no shown step delivers.
+//! each delivery of a packet, and a stump, the beginning of an arrow, for each packet that a shown step posts and no
+//! shown step delivers.
 //!
 //! The main contracts: a `Run` records exactly the steps of the events in its history, and `Run::marks`
 //! returns exactly the marks of a part of the recorded steps (`specs/Steps`, `specs/Marks`). `draw` draws these marks.

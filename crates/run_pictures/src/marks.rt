@@ -2,8 +2,8 @@
 ghost use Rattle.std.specs.Prelude.{◌≡◌, ◌≤◌, ◌+◌, ◌++◌, [], ◌∷◌, length, slice_get, IfOk, OnOk};
 ghost use Rattle.std.specs.List.{list_any, position_from};
 ghost use Rattle.timelines.specs.declared.grid.TheConstants.{MOST_ROWS};
-ghost use Rattle.run_pictures.specs.Marks.{arrow, arrows, breaks, delivers, delivers_act, learned_marks, marks_from, marks_of as marks_shown};
-ghost use Rattle.run_pictures.specs.Marks.{point_marks, posts, spot, step_marks, stump, stumps, undelivered};
+ghost use Rattle.run_pictures.specs.Marks.{arrow, arrow_marks, break_marks, delivers, delivers_act, learned_marks, marks_from, marks_of as marks_shown};
+ghost use Rattle.run_pictures.specs.Marks.{point_marks, posts, spot, step_marks, stump, stump_marks, stump_at};
 ghost use Rattle.run_pictures.specs.RunView.{packets_of};
 
 use crate::mark::{Mark, Origin, Spot};
@@ -97,7 +97,7 @@ fn spot_of(row: usize, step: Step) -> Spot
 
 /// Appends the break of a node's line, if the step is a restart.
 fn push_break(marks: &mut Vec<Mark>, row: usize, step: Step) -> Result<(), AllocError>
-    ensures { OnOk result (marks.new.items ≡ marks.old.items ++ breaks row step step.act) }
+    ensures { OnOk result (marks.new.items ≡ marks.old.items ++ break_marks row step step.act) }
 {
     match step.act {
         Act::Restart => {
@@ -139,7 +139,7 @@ fn push_arrows(
     act: Act,
 ) -> Result<(), AllocError>
     ensures { OnOk result (marks.new.items
-        ≡ marks.old.items ++ arrows (packets_of world.now) shown.now row act) }
+        ≡ marks.old.items ++ arrow_marks (packets_of world.now) shown.now row act) }
 {
     match act {
         Act::Deliver { packet } => push_arrow(marks, world, shown, row, packet),
@@ -185,11 +185,11 @@ fn push_arrow(
 fn row_of_post(shown: &[Step], number: u64) -> Option<usize>
     ensures { result ≡ position_from (posts number) 0 shown.now }
 {
-    shown.iter().position(|step| is_post(step, number))
+    shown.iter().position(|step| has_posted(step, number))
 }
 
 /// Returns whether the step posted a packet.
-fn is_post(step: &Step, number: u64) -> bool
+fn has_posted(step: &Step, number: u64) -> bool
     ensures { result ≡ posts number step.now }
 {
     step.first_post <= number && number < step.end_post
@@ -204,7 +204,7 @@ fn push_stumps(
     step: Step,
 ) -> Result<(), AllocError>
     ensures { OnOk result (marks.new.items
-        ≡ marks.old.items ++ stumps (packets_of world.now) shown.now row step) }
+        ≡ marks.old.items ++ stump_marks (packets_of world.now) shown.now row step) }
 {
     for number in step.first_post..step.end_post {
         push_stump(marks, world, shown, row, step, number)?;
@@ -227,7 +227,7 @@ fn push_stump(
     if is_delivered(shown, number) {
         Ok(())
     } else {
-        push_undelivered(marks, world, spot_of(row, step), number)
+        push_stump_at(marks, world, spot_of(row, step), number)
     }
 }
 
@@ -235,11 +235,11 @@ fn push_stump(
 fn is_delivered(shown: &[Step], number: u64) -> bool
     ensures { result ≡ list_any (delivers number) shown.now }
 {
-    shown.iter().any(|step| is_delivery(step.act, number))
+    shown.iter().any(|step| is_delivery_of(step.act, number))
 }
 
 /// Returns whether an act delivers a packet.
-fn is_delivery(act: Act, number: u64) -> bool
+fn is_delivery_of(act: Act, number: u64) -> bool
     ensures { result ≡ delivers_act number act }
 {
     match act {
@@ -249,14 +249,14 @@ fn is_delivery(act: Act, number: u64) -> bool
 }
 
 /// Appends the stump of a packet that is posted at a spot.
-fn push_undelivered(
+fn push_stump_at(
     marks: &mut Vec<Mark>,
     world: &World,
     from: Spot,
     number: u64,
 ) -> Result<(), AllocError>
     ensures { OnOk result (marks.new.items ≡ marks.old.items
-        ++ undelivered from number (slice_get (packets_of world.now) number)) }
+        ++ stump_at from number (slice_get (packets_of world.now) number)) }
 {
     match world.packet(number) {
         Ok(packet) => {

@@ -6,7 +6,7 @@ ghost use Rattle.net.specs.declared.fault.StepFault.TheVariants.{Memory};
 ghost use Rattle.world.specs.Carried.{value_event, carried_size};
 ghost use Rattle.world.specs.WorldView.{new_world};
 ghost use Rattle.timelines.specs.declared.grid.TheConstants.{MOST_ROWS};
-ghost use Rattle.run_pictures.specs.Steps.{act_of, step_start_of, is_event, learned_in, node_in, receiver_of, steps_of};
+ghost use Rattle.run_pictures.specs.Steps.{act_of, step_start_of, is_event, learned_by, node_of_event, receiver_of, steps_of};
 
 use crate::mark::Mark;
 use crate::marks::marks_of;
@@ -19,8 +19,8 @@ use std::marker::Model;
 use synod::Weights;
 use world::World;
 
-/// A world of nodes and their libraries with a record of its steps: the events that it took and the
-/// applications of entries, in order. Contracts see the world and the steps.
+/// A world of nodes and their libraries, with a record of its steps: the events that it took and the
+/// applications of entries, in order. In contracts a run is the world and the steps.
 #[derive(Drop)]
 pub struct Run {
     world: World,
@@ -148,7 +148,7 @@ fn step_start(world: &World, posted: u64, event: &Event<Entry>) -> Result<StepSt
 
 /// Returns the node of an event, or 0 for the delivery of a packet that does not exist.
 fn node_of(world: &World, event: &Event<Entry>) -> u8
-    ensures { result ≡ node_in (world_of carried_size world.now.history) (value_event event.now) }
+    ensures { result ≡ node_of_event (world_of carried_size world.now.history) (value_event event.now) }
 {
     match event {
         Event::Offer(k, _) => *k,
@@ -183,7 +183,7 @@ fn act(event: &Event<Entry>, index: u64) -> Act
 /// Returns the number of entries of node `k`'s log.
 fn learned_at(world: &World, k: u8) -> u32
     requires { k < length world.now.history.weights }
-    ensures { result ≡ learned_in (world_of carried_size world.now.history) k }
+    ensures { result ≡ learned_by (world_of carried_size world.now.history) k }
 {
     match world.state(k) {
         Ok(state) => state.learned,

@@ -19,7 +19,7 @@ const ROW_HEIGHT: u64 = 28;
 /// The y coordinate at which the lines of nodes begin, and the arrows from above the first row.
 pub(crate) const TOP_EDGE: u64 = 34;
 
-/// How far a stump goes sideways for each column between its node and its receiver.
+/// How far a stump goes sideways for each column from its node to that of its receiver.
 const STUMP_WIDTH: u64 = 44;
 
 /// How far a stump to its own node goes to the left. A stump to a node at the left goes further by
@@ -30,7 +30,7 @@ const OWN_STUMP_WIDTH: u64 = 22;
 pub(crate) const STUMP_DEPTH: u64 = 9;
 
 /// The greatest width of a character of a label.
-const BYTE_WIDTH: u64 = 7;
+const CHARACTER_WIDTH: u64 = 7;
 
 /// A point of a picture: the column of a node, and a row, counted from 0; `None` is above row 0.
 #[derive(Clone, Copy, Debug, PartialEq, Eq)]
@@ -81,7 +81,7 @@ pub(crate) fn stump_end(from: u8, to: u8) -> u64 {
     }
 }
 
-/// Returns the width of a picture of `nodes` nodes whose longest label has `bytes` characters.
-pub(crate) fn width(nodes: u8, bytes: u32) -> u64 {
-    column_x(nodes.saturating_sub(1)) + BYTE_WIDTH * u64::from(bytes) + 40
+/// Returns the width of a picture of `nodes` nodes whose longest text has this many characters.
+pub(crate) fn width(nodes: u8, characters: u32) -> u64 {
+    column_x(nodes.saturating_sub(1)) + CHARACTER_WIDTH * u64::from(characters) + 40
 }

@@ -37,8 +37,9 @@ pub struct Timeline {
     lines: Vec<u8>,
     points: Vec<u8>,
     texts: Vec<u8>,
-    /// How many characters the text of the last row shows, and the longest text before it.
+    /// How many characters the text of the last row shows.
     length: u32,
+    /// The greatest `length` of the rows before the last.
     longest: u32,
 }
 
@@ -81,11 +82,11 @@ impl Timeline {
             node,
             row: Some(self.rows),
         };
-        push_dot(&mut self.points, at, class_of(style))?;
+        push_dot(&mut self.points, at, class_attribute(style))?;
         push_row(&mut self.texts, at, number)?;
         self.texts.extend_from_slice(label)?;
         self.last = at;
-        self.length = count(label);
+        self.length = character_count(label);
         self.rows = self.rows.saturating_add(1);
         Ok(())
     }
@@ -139,7 +140,10 @@ impl Timeline {
     /// Appends words to the text of the last row, with a class for their style.
     fn push_words(&mut self, class: &[u8], words: &[u8]) -> Result<(), AllocError> {
         push_span(&mut self.texts, class, words)?;
-        self.length = self.length.saturating_add(1).saturating_add(count(words));
+        self.length = self
+            .length
+            .saturating_add(1)
+            .saturating_add(character_count(words));
         Ok(())
     }
 
@@ -193,7 +197,7 @@ impl Timeline {
 }
 
 impl Stump {
-    /// Adds a number and a title.
+    /// Appends a number and a title.
     fn append(&mut self, number: u64, title: &[u8]) -> Result<(), AllocError> {
         push_numbered(&mut self.numbers, b",", number)?;
         self.titles.extend_from_slice(b"\n")?;
@@ -201,8 +205,8 @@ impl Stump {
     }
 }
 
-/// Returns the attribute for the look of a point.
-fn class_of(style: PointStyle) -> &'static [u8] {
+/// Returns the attribute `class` of a point, or no bytes for `Plain`.
+fn class_attribute(style: PointStyle) -> &'static [u8] {
     match style {
         PointStyle::Plain => b"",
         PointStyle::Good => b" class=\"y\"",
@@ -211,7 +215,7 @@ fn class_of(style: PointStyle) -> &'static [u8] {
 }
 
 /// Returns how many characters a label shows. A character reference counts as one.
-fn count(label: &[u8]) -> u32 {
+fn character_count(label: &[u8]) -> u32 {
     let mut shown = 0u32;
     let mut is_reference = false;
     for byte in label {

@@ -9,7 +9,7 @@ pub loop-line-preserved-in-Ok : goal.loop-line-preserved-in-Ok
 loop-line-preserved-in-Ok g c =
     let some : 0 < length c.in-Some.line.now = grind (arith, nat_tests) in
     is_read_parsed c.loop-line.invariant c.in-Some.line.now c.take.new.self c.in-Some.ensures.0 c.in-Some.ensures.1
-    c.parse.new.lines some c.in-Ok.line c.is_pushed.new.lines.items c.is_pushed.result c.in-Ok.ensures c.is_pushed.ensures
+    c.parse.new.lines some c.in-Ok.line c.try_push.new.lines.items c.try_push.result c.in-Ok.ensures c.try_push.ensures
 
 pub loop-line-preserved : goal.loop-line-preserved
 loop-line-preserved g c =

@@ -1,4 +1,4 @@
-use Rattle.run_pictures.proofs.Words.{stumps, ◌++◌, packets_of}
+use Rattle.run_pictures.proofs.Words.{stump_marks, ◌++◌, packets_of}
 use Rattle.run_pictures.proofs.MarksLemmas.{one_packet, no_packet_left}
 use Rattle.run_pictures.proofs.marks.push_stumps.Goals as goal
 
@@ -6,12 +6,12 @@ pub loop-number-preserved : goal.loop-number-preserved
 loop-number-preserved c =
     one_packet (packets_of c.args.world.now) c.args.shown.now c.args.row c.args.step c.loop-number.number c.args.step.end_post
     c.loop-number.marks.items c.push_stump.new.marks.items
-    (c.args.marks.now.items ++ stumps (packets_of c.args.world.now) c.args.shown.now c.args.row c.args.step)
+    (c.args.marks.now.items ++ stump_marks (packets_of c.args.world.now) c.args.shown.now c.args.row c.args.step)
     c.loop-number-test.true c.loop-number.invariant c.in_ok-push_stump.ensures
 
 pub returns : goal.returns
 returns c =
     no_packet_left (packets_of c.args.world.now) c.args.shown.now c.args.row c.args.step c.loop-number.number c.args.step.end_post
     c.loop-number.marks.items
-    (c.args.marks.now.items ++ stumps (packets_of c.args.world.now) c.args.shown.now c.args.row c.args.step)
+    (c.args.marks.now.items ++ stump_marks (packets_of c.args.world.now) c.args.shown.now c.args.row c.args.step)
     c.loop-number-test.false c.loop-number.invariant
