@@ -45,7 +45,7 @@ module _ (S : Database) (names : List Name) (at : ℕ) (items : List Item) (k la
           let over : length st.saved - labels ≤ i = grind (arith, nat_tests) in
           subst (Fails S names at held what) (sym (unmarked over)) (fails_recall_none what i same over)
 
-  -- each result that a citation gives makes the proof too heavy
+  -- with each result that a citation gives, the lengths of all results exceed the limit
   pub cannot_cite : (label : Name) (i : ℕ) (r : Stmt) → slice_get items k ≡ Some (Cite label) → Carries S i r label
       → (s : Stmt) (below : List Expr) (e : Expr) → stmt_at S i ≡ Some s → Gives S at i s held.stack below e → SYMBOLS_LIMIT < held.weight + length e
   cannot_cite label i r there carries = cite_stuck S at held stopped.light label i r carries (stopped.stops.stuck (Cite label) there)

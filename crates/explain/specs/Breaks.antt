@@ -17,7 +17,7 @@ fails mandatory test.Unfinished token = has_byte question_mark token
 fails mandatory test.NotLabel token = not (is_label token)
 fails mandatory test.NotListable token = not (is_label token) || has_name token mandatory
 
--- the first of the tokens that fails the test, its index, and those after it
+-- the first of the words that passes the test, its index, and the words after it
 pub record IsFirst (test : Name → Bool) (words : List Name) (index : ℕ) (word : Name) (rest : List Name) : Type 0 where
   pub front : List Name
   pub whole : words ≡ front ++ word ∷ rest
@@ -27,6 +27,7 @@ pub record IsFirst (test : Name → Bool) (words : List Name) (index : ℕ) (wor
 
 -- ---- letters
 
+-- the letters of the words, joined
 abbrev pub joined : List Name → List ℕ
 joined words = flat_map (λ word. word) words
 
@@ -93,6 +94,7 @@ pub record IsListing (tokens mandatory : List Name) (index : ℕ) (word : Name) 
   pub whole : tokens ≡ begin ∷ words
   pub first : IsFirst (fails mandatory test.NotListable) words index word rest
 
+-- this token is the first that is not a label where a label is required
 pub record IsNotLabel (tokens mandatory : List Name) (token : ℕ) : Type 0 where
   pub word : Name
   pub rest : List Name
@@ -100,6 +102,7 @@ pub record IsNotLabel (tokens mandatory : List Name) (token : ℕ) : Type 0 wher
       ⊎ ((index : ℕ) × (token ≡ index + 1) × IsListing tokens mandatory index word rest × (word ≢ finish))
   pub other : IsFalse (is_label word)
 
+-- this token is the first listed label of a mandatory hypothesis
 pub record IsMandatory (tokens mandatory : List Name) (token : ℕ) : Type 0 where
   pub index : ℕ
   pub word : Name
@@ -109,11 +112,13 @@ pub record IsMandatory (tokens mandatory : List Name) (token : ℕ) : Type 0 whe
   pub label : IsTrue (is_label word)
   pub named : IsTrue (has_name word mandatory)
 
+-- all tokens after `(` are labels that may be listed
 pub record IsUnclosed (tokens mandatory : List Name) : Type 0 where
   pub words : List Name
   pub whole : tokens ≡ begin ∷ words
   pub listed : IsFalse (list_any (fails mandatory test.NotListable) words)
 
+-- the letters after `)` break a rule
 pub record AreLettersBroken (tokens mandatory : List Name) (broken : LetterBreak) : Type 0 where
   pub index : ℕ
   pub rest : List Name

@@ -20,7 +20,7 @@ pub record AreWrong (S : Database) (names : List Name) (at : ℕ) (h : State) (a
   pub count : length results ≡ length (hypotheses (before S a) s)
   pub wrong : IsResultsFault S names at a s results fault
 
--- a citation of the statement s at i gives a result that makes the proof too heavy
+-- a citation of the statement s at i gives a result with which the lengths of all results exceed the limit
 pub record IsHeavy (S : Database) (at : ℕ) (h : State) (i : ℕ) (s : Stmt) : Type 0 where
   pub below : List Expr
   pub result : Expr
@@ -39,7 +39,7 @@ FailsAt S names at h i s TooManySymbols = IsHeavy S at h i s
 FailsAt S names at h i s fault = ⊥
 
 -- the fault of an item: a label that no statement has; the fault of a citation of its statement; a recall of a result that
--- is not marked, or is too heavy; a mark without a result
+-- is not marked, or with which the lengths of all results exceed the limit; a mark without a result
 abbrev pub FailsCited : Database → List Name → ℕ → State → Name → Fault → Type 0
 FailsCited S names at h label UnknownLabel = (i : ℕ) (s : Stmt) → Carries S i s label → ⊥
 FailsCited S names at h label fault = (i : ℕ) × (s : Stmt) × Carries S i s label × FailsAt S names at h i s fault

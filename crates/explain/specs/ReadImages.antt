@@ -16,7 +16,7 @@ images_read S [] rs = []
 images_read S (p ∷ ps) [] = []
 images_read S (p ∷ ps) (e ∷ rs) = image_at (stmt_at S p) e ++ images_read S ps rs
 
--- the images, by numbers
+-- the image that a result gives, and the images that all results give, by number
 abbrev pub code_at : Hypothesis → List ℕ → CodeImages
 code_at (Float x) e = (x, drop 1 e) ∷ []
 code_at (Essential q) e = []

@@ -8,7 +8,7 @@ ghost use Rattle.explain.specs.Stored.DisjointPairs.{AreDisjointPairs, IsDisjoin
 use std::alloc::Global;
 use std::collections::BTreeMap;
 
-/// The most pairs that are recorded; a full table is cleared before the next one.
+/// The most pairs that are recorded; a full cache is cleared before the next pair is recorded.
 const MOST_PAIRS: usize = 65_536;
 
 /// Two variables of an assertion.
@@ -27,7 +27,7 @@ pub struct DisjointPairs {
 }
 
 impl DisjointPairs {
-    /// Returns an empty table. Does not allocate.
+    /// Returns an empty cache. Does not allocate.
     pub fn new(alloc: Global) -> DisjointPairs
         ensures { result.pairs.items ≡ [] }
     {

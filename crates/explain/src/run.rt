@@ -48,8 +48,8 @@ pub fn first_fault(
     }
 }
 
-/// Returns the fault of the item at which the run stops. The number of an item is 0 for a mark, up to the count of the labels
-/// for a citation, greater for a recall.
+/// Returns the fault of the item at which the run stops. The number of an item is 0 for a mark, from 1 to the count of the
+/// labels for a citation, and greater for a recall.
 fn item_fault(
     alloc: Global,
     frames: &Frames,
@@ -79,7 +79,7 @@ fn item_fault(
     }
 }
 
-/// Returns the fault of a recall that fails. The index counts the marked results, which follow those kept for labels.
+/// Returns the fault of a recall that fails. The index counts the marked results, which follow those cached for labels.
 fn recall_fault(results: &Results, labels: usize, index: usize) -> Fault
     ensures marked { index < length results.now.results.saved - labels → result ≡ TooManySymbols }
     ensures unmarked { length results.now.results.saved - labels ≤ index → result ≡ NoMarkedResult }

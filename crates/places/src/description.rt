@@ -83,7 +83,8 @@ fn can_skip(walk: Walk) -> bool
     }
 }
 
-/// Returns the offset of the run that contains the next `$`, or of the last run if there is no `$`.
+/// Returns the offset after the last white byte between `at` and the next `$` or the end of the text, or `at` if there is no
+/// such byte.
 fn skip_to_dollar(text: &[u8], at: usize) -> usize
     requires { at ≤ length text.now }
     ensures { SkipsRuns text.now at result }

@@ -1,4 +1,4 @@
-//! A page that is being written.
+//! The values that the parts of a page share.
 use crate::contents::PageContents;
 use crate::notation::Notation;
 
