@@ -76,13 +76,13 @@ fn is_pair_at(pairs: &[VariablePair], index: usize, first: u32, second: u32) -> 
     ensures { IsTrue result → IsPairAt pairs.now index first second }
 {
     match pairs.get(index) {
-        Some(pair) => is_of(*pair, first, second) || is_of(*pair, second, first),
+        Some(pair) => is_pair_of(*pair, first, second) || is_pair_of(*pair, second, first),
         None => false,
     }
 }
 
 /// Returns whether a pair consists of these two variables, in this order.
-fn is_of(pair: VariablePair, first: u32, second: u32) -> bool
+fn is_pair_of(pair: VariablePair, first: u32, second: u32) -> bool
     ensures { IsTrue result → (pair.first ≡ first) × (pair.second ≡ second) }
 {
     pair.first == first && pair.second == second

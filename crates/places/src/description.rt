@@ -90,12 +90,12 @@ fn skip_to_dollar(text: &[u8], at: usize) -> usize
     ensures { SkipsRuns text.now at result }
 {
     let (_, rest) = text.split_at(at);
-    let (plain, _) = rest.split_at(count_plain(rest));
+    let (plain, _) = rest.split_at(count_before_dollar(rest));
     at + after_last_white(plain)
 }
 
 /// Returns the number of bytes before the first `$`, or of all bytes if there is none.
-fn count_plain(text: &[u8]) -> usize
+fn count_before_dollar(text: &[u8]) -> usize
     ensures within { result ≤ length text.now }
     ensures plain { (k : ℕ) → k < result → slice_index text.now k ≡ 36 → ⊥ }
 {

@@ -10,5 +10,5 @@ pub struct PageValues<'a> {
     /// The positions of the mandatory hypotheses.
     pub hypotheses: &'a [u32],
     /// Whether all steps are shown besides the essential ones.
-    pub is_whole: bool,
+    pub shows_all_steps: bool,
 }
