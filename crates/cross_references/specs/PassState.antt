@@ -7,6 +7,7 @@ use Rattle.mm_read.specs.Statements.{Database}
 use Rattle.library.specs.Uses.{Cites, Uses, IsAxiomAt}
 use Rattle.frame.specs.Stored.Hypotheses.{In, AreThose}
 
+-- the lists of these vectors
 abbrev pub lists_of : List (Vec ℕ) → List (List ℕ)
 lists_of vectors = map (λ (v : Vec ℕ). v.items) vectors
 

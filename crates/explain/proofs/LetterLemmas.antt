@@ -1,6 +1,6 @@
 -- Letters that are read up to an index, and the effect of the next letter.
-use Rattle.explain.proofs.Words.{◌≡◌, ◌≢◌, ℕ, ◌+◌, ◌-◌, ◌*◌, ◌<◌, ◌≤◌, Bool, true, false, ◌&&◌, nat_le, List, [], ◌∷◌, ◌++◌, length, Some, slice_get, refl, option_map, sym, ◌∙◌, ap, subst, arith, append_assoc, append-nil, length-append, inl, inr, list_all-append, or_left, or_right, le-leb, Name, Item, IsNumber, is_first, is_last, number_from, items_of, before_rest, numbers_from, starts_with_mark, WritesRow, is_first-true, number_of-placed, placed-number_of, first_bounds, last_bounds, is_first-false, is_last-true, WritesRow-read, LetterBreak, LetterFault, marks_in, IsEnd, fault_index, IsAllowed, IsOver, BeginsWith, Breaks, IsLetterBreak, zeros, IsReadTo, before-none}
-use Rattle.explain.specs.Breaks.{IsNoLetter}
+use Rattle.explain.proofs.Words.{◌≡◌, ◌≢◌, ℕ, ◌+◌, ◌-◌, ◌*◌, ◌<◌, ◌≤◌, Bool, true, false, ◌&&◌, nat_le, List, [], ◌∷◌, ◌++◌, length, Some, slice_get, refl, option_map, sym, ◌∙◌, ap, subst, arith, append_assoc, append-nil, length-append, inl, inr, list_all-append, or_left, or_right, le-leb, Name, Item, IsNumber, is_first, is_last, number_from, items_of, before_rest, numbers_from, starts_with_mark, WritesRow, is_first-true, number_of-placed, placed-number_of, first_bounds, last_bounds, is_first-false, is_last-true, WritesRow-read, LetterBreak, LetterFault, marks_in, IsEndOrMark, fault_index, IsAllowed, IsTooGreat, BeginsWith, Breaks, IsLetterBreak, zeros, IsReadTo, before-none}
+use Rattle.explain.specs.Breaks.{IsNotLetter}
 use Rattle.explain.proofs.LetterNumberLemmas.{at-append, not-empty, marks-zeros, zeros-number, zeros-mark, before-push, over, last-over, zero-or}
 
 -- ---- no letters are read yet
@@ -90,8 +90,8 @@ module _ (labels : ℕ) (letters : List ℕ) (index limit digits begin : ℕ) (r
   pub ends-here : length letters ≤ index → digits ≡ 0 → letters ≡ r.front
   ends-here h e = r.whole ∙ (ap (λ b. r.front ++ (b ++ r.rest)) (r.empty e) ∙ (ap (λ x. r.front ++ x) (ended h) ∙ append-nil r.front))
 
-  pub nothing-left : length letters ≤ index → IsEnd r.rest
-  nothing-left h = subst IsEnd (sym (ended h)) tt
+  pub nothing-left : length letters ≤ index → IsEndOrMark r.rest
+  nothing-left h = subst IsEndOrMark (sym (ended h)) tt
 
   pub some-begun : (digits ≡ 0 → ⊥) → r.begun ≢ []
   some-begun h e = h (r.some e)
@@ -104,8 +104,8 @@ module _ (labels : ℕ) (letters : List ℕ) (index limit digits begin : ℕ) (r
     pub breaks-here : (P : ℕ → Type 0) → P letter → BeginsWith P r.rest
     breaks-here P p = subst (BeginsWith P) (sym next.1) p
 
-    pub ends-so : letter ≡ 90 → IsEnd r.rest
-    ends-so e = subst IsEnd (sym next.1) e
+    pub ends-so : letter ≡ 90 → IsEndOrMark r.rest
+    ends-so e = subst IsEndOrMark (sym next.1) e
 
     -- a word or a mark ends with this letter
     done : (n limit' : ℕ) → ((text : List ℕ) → numbers_from limit digits (letter ∷ text) ≡ option_map (λ more. n ∷ more) (numbers_from limit' 0 text))
@@ -196,13 +196,13 @@ module _ (labels : ℕ) (letters : List ℕ) (index limit digits begin : ℕ) (r
     counted : (word : Name) (n : ℕ) → IsNumber (r.begun ++ letter ∷ word) n → number_from digits (letter ∷ word) ≡ Some n
     counted word n is = sym (r.counts (letter ∷ word)) ∙ number_of-placed (r.begun ++ letter ∷ word) n is
 
-    pub word-over : 65 ≤ letter → letter ≤ 84 → limit < 20 * digits + (letter - 64) → BeginsWith (IsOver limit r.begun) r.rest
+    pub word-over : 65 ≤ letter → letter ≤ 84 → limit < 20 * digits + (letter - 64) → BeginsWith (IsTooGreat limit r.begun) r.rest
     word-over low high h =
-        breaks-here (IsOver limit r.begun) (or_right (is_first letter) (is_last letter) (is_last-true letter low high), λ word n is. last-over limit digits letter word n (is_first-false letter high) h (counted word n is))
+        breaks-here (IsTooGreat limit r.begun) (or_right (is_first letter) (is_last letter) (is_last-true letter low high), λ word n is. last-over limit digits letter word n (is_first-false letter high) h (counted word n is))
 
-    pub begun-over : (digits' : ℕ) → 85 ≤ letter → letter ≤ 89 → digits' ≡ 5 * digits + (letter - 84) → limit ≤ 20 * digits' → BeginsWith (IsOver limit r.begun) r.rest
+    pub begun-over : (digits' : ℕ) → 85 ≤ letter → letter ≤ 89 → digits' ≡ 5 * digits + (letter - 84) → limit ≤ 20 * digits' → BeginsWith (IsTooGreat limit r.begun) r.rest
     begun-over digits' low high is h =
-        breaks-here (IsOver limit r.begun) (
+        breaks-here (IsTooGreat limit r.begun) (
           or_left (is_first letter) (is_last letter) first,
           λ word n placed.
               over limit (5 * digits + (letter - 84)) word n (omega (arith, h, is)) (sym (goes word) ∙ counted word n placed),
@@ -214,8 +214,8 @@ module _ (labels : ℕ) (letters : List ℕ) (index limit digits begin : ℕ) (r
         goes : (word : Name) → number_from digits (letter ∷ word) ≡ number_from (5 * digits + (letter - 84)) word
         goes word = rw first refl
 
-    pub other-here : (65 ≤ letter → letter ≤ 84 → ⊥) → (85 ≤ letter → letter ≤ 89 → ⊥) → letter ≢ 90 → BeginsWith IsNoLetter r.rest
-    other-here last first mark = breaks-here IsNoLetter (not-first, not-last, mark)
+    pub other-here : (65 ≤ letter → letter ≤ 84 → ⊥) → (85 ≤ letter → letter ≤ 89 → ⊥) → letter ≢ 90 → BeginsWith IsNotLetter r.rest
+    other-here last first mark = breaks-here IsNotLetter (not-first, not-last, mark)
       where
         not-first : is_first letter ≡ false
         not-first = by (is_first letter) refl

@@ -1,5 +1,5 @@
 -- Images by number and by name.
-use Rattle.explain.proofs.Words.{◌≡◌, ℕ, zero, suc, ◌+◌, ◌<◌, Bool, true, false, cond, List, [], ◌∷◌, ◌++◌, length, drop, get_or, map, arith, refl, sym, ◌∙◌, ap, add-one, append_assoc, Some, nat_eq, Bor, Name, name_eq, Stmt, Database, stmt_at, name_at, decode, AreDistinct, Hypothesis, Float, Essential, AreBelow, AreRequired, IsOf, CodeImages, code_image, code_apply, image, apply, same-number, Image, codes, code_images, named_expressions, image_at, images_read, code_at, codes_read, named_images, AreVariables, decode-append}
+use Rattle.explain.proofs.Words.{◌≡◌, ℕ, zero, suc, ◌+◌, ◌<◌, Bool, true, false, cond, List, [], ◌∷◌, ◌++◌, length, drop, get_or, map, arith, refl, sym, ◌∙◌, ap, add-one, append_assoc, Some, nat_eq, Bor, Name, name_eq, Stmt, Database, stmt_at, name_at, decode, AreDistinct, Hypothesis, Float, Essential, AreBelow, AreRequired, IsOf, CodeImages, code_image, code_apply, image, apply, same-number, Image, codes, code_images, named_expressions, image_at, images_read, code_image_at, code_images_read, named_images, AreVariables, decode-append}
 use Rattle.mm_read.specs.declared.stmt.Stmt.TheVariants as stmt
 
 decode-drop : (names : List Name) (e : List ℕ) → decode names (drop 1 e) ≡ drop 1 (decode names e)
@@ -37,7 +37,7 @@ module _ (names : List Name) (distinct : AreDistinct names) where
 
 -- the image that a hypothesis gives from its result is the same by number and by name
 image_is : (S : Database) (names : List Name) (p : ℕ) (s : Stmt) (h : Hypothesis) (e : List ℕ) → stmt_at S p ≡ Some s → IsOf names p s h
-    → (named_images names (code_at h e) ≡ image_at (stmt_at S p) (decode names e)) × AreVariables (length names) (code_at h e)
+    → (named_images names (code_image_at h e) ≡ image_at (stmt_at S p) (decode names e)) × AreVariables (length names) (code_image_at h e)
 image_is S names p (stmt.Float l c v) (Float x) e stands is =
     (ap (λ y. (y, decode names (drop 1 e)) ∷ []) is.1 ∙ (ap (λ d. (v, d) ∷ []) (decode-drop names e) ∙ ap (λ o. image_at o (decode names e)) (sym stands)), (is.0, tt))
 image_is S names p (stmt.Ess l e') (Essential q) e stands is = (ap (λ o. image_at o (decode names e)) (sym stands), tt)
@@ -64,7 +64,7 @@ variables-append n (p ∷ σ) τ h k = (h.0, variables-append n σ τ h.1 k)
 
 -- the images that all hypotheses give from their results are the same by number and by name
 pub images_are : (S : Database) (names : List Name) (ps typecodes : List ℕ) (hs : List Hypothesis) (es : List (List ℕ)) → AreRequired S names ps typecodes hs
-    → (named_images names (codes_read hs es) ≡ images_read S ps (map (decode names) es)) × AreVariables (length names) (codes_read hs es)
+    → (named_images names (code_images_read hs es) ≡ images_read S ps (map (decode names) es)) × AreVariables (length names) (code_images_read hs es)
 images_are S names [] [] [] es required = (refl, tt)
 images_are S names [] (x ∷ typecodes) hs es required = absurd required
 images_are S names [] [] (h ∷ hs) es required = absurd required
@@ -74,9 +74,9 @@ images_are S names (p ∷ ps) (x ∷ typecodes) (h ∷ hs) [] required = (refl, 
 images_are S names (p ∷ ps) (x ∷ typecodes) (h ∷ hs) (e ∷ es) required =
     let one = image_is S names p required.0.stmt h e required.0.stands required.0.is in
     let rest = images_are S names ps typecodes hs es required.1 in (
-      named-append names (code_at h e) (codes_read hs es)
-          ∙ (ap (λ σ. σ ++ named_images names (codes_read hs es)) one.0 ∙ ap (λ τ. image_at (stmt_at S p) (decode names e) ++ τ) rest.0),
-      variables-append (length names) (code_at h e) (codes_read hs es) one.1 rest.1,
+      named-append names (code_image_at h e) (code_images_read hs es)
+          ∙ (ap (λ σ. σ ++ named_images names (code_images_read hs es)) one.0 ∙ ap (λ τ. image_at (stmt_at S p) (decode names e) ++ τ) rest.0),
+      variables-append (length names) (code_image_at h e) (code_images_read hs es) one.1 rest.1,
     )
 
 -- ---- numbers with the same names are the same
@@ -86,23 +86,23 @@ images_are S names (p ∷ ps) (x ∷ typecodes) (h ∷ hs) (e ∷ es) required =
 -- the images of the remaining results are those of the next one and those after it
 read_step : (kinds : List Hypothesis) (results : List (Bor (List ℕ))) (k : ℕ) (h : Hypothesis) → k < length kinds → k < length results
     → get_or kinds k (Float 0) ≡ h → (r : Bor (List ℕ)) → r ≡ get_or results k r
-    → codes_read (drop k kinds) (codes (drop k results)) ≡ code_at h r.now ++ codes_read (drop (suc k) kinds) (codes (drop (suc k) results))
+    → code_images_read (drop k kinds) (codes (drop k results)) ≡ code_image_at h r.now ++ code_images_read (drop (suc k) kinds) (codes (drop (suc k) results))
 read_step [] results k h within inside is r here = absurd (omega (arith, within))
 read_step (x ∷ kinds) [] k h within inside is r here = absurd (omega (arith, inside))
 read_step (x ∷ kinds) (y ∷ results) zero h within inside is r here =
-    ap (λ z. code_at z y.now ++ codes_read kinds (codes results)) is ∙ ap (λ (v : Bor (List ℕ)). code_at h v.now ++ codes_read kinds (codes results)) (sym here)
+    ap (λ z. code_image_at z y.now ++ code_images_read kinds (codes results)) is ∙ ap (λ (v : Bor (List ℕ)). code_image_at h v.now ++ code_images_read kinds (codes results)) (sym here)
 read_step (x ∷ kinds) (y ∷ results) (suc k) h within inside is r here = read_step kinds results k h (omega (arith, within)) (omega (arith, inside)) is r here
 
 -- when the result for a `$f` is read, the images so far and those of the remaining results stay the same list
 pub read_more : (kinds : List Hypothesis) (results : List (Bor (List ℕ))) (k x : ℕ) (old new : List Image) (image : Image) (whole : CodeImages) → k < length kinds → k < length results
     → get_or kinds k (Float 0) ≡ Float x → (r : Bor (List ℕ)) → r ≡ get_or results k r → image.variable ≡ x → image.symbols.now ≡ drop 1 r.now → new ≡ old ++ image ∷ []
-    → code_images old ++ codes_read (drop k kinds) (codes (drop k results)) ≡ whole
-    → code_images new ++ codes_read (drop (k + 1) kinds) (codes (drop (k + 1) results)) ≡ whole
+    → code_images old ++ code_images_read (drop k kinds) (codes (drop k results)) ≡ whole
+    → code_images new ++ code_images_read (drop (k + 1) kinds) (codes (drop (k + 1) results)) ≡ whole
 read_more kinds results k x old new image whole within inside is r here variable symbols added e =
-    let rest : CodeImages = codes_read (drop (suc k) kinds) (codes (drop (suc k) results)) in
+    let rest : CodeImages = code_images_read (drop (suc k) kinds) (codes (drop (suc k) results)) in
     let step = read_step kinds results k (Float x) within inside is r here in
     let pair : ◌≡◌ {A = ℕ × List ℕ} (image.variable, image.symbols.now) (x, drop 1 r.now) = ap (λ v. (v, image.symbols.now)) variable ∙ ap (λ d. (x, d)) symbols in
-    ap (λ n. code_images new ++ codes_read (drop n kinds) (codes (drop n results))) (add-one k)
+    ap (λ n. code_images new ++ code_images_read (drop n kinds) (codes (drop n results))) (add-one k)
     ∙ (ap (λ l. code_images l ++ rest) added
     ∙ (ap (λ l. l ++ rest) (map-append old image)
     ∙ (append_assoc (code_images old) ((image.variable, image.symbols.now) ∷ []) rest
@@ -116,21 +116,21 @@ read_more kinds results k x old new image whole within inside is r here variable
 -- the result for a `$e` gives no image
 pub read_skip : (kinds : List Hypothesis) (results : List (Bor (List ℕ))) (k : ℕ) (images : List Image) (whole : CodeImages) → k < length kinds → k < length results
     → ((x : ℕ) → get_or kinds k (Float 0) ≡ Float x → ⊥)
-    → code_images images ++ codes_read (drop k kinds) (codes (drop k results)) ≡ whole
-    → code_images images ++ codes_read (drop (k + 1) kinds) (codes (drop (k + 1) results)) ≡ whole
+    → code_images images ++ code_images_read (drop k kinds) (codes (drop k results)) ≡ whole
+    → code_images images ++ code_images_read (drop (k + 1) kinds) (codes (drop (k + 1) results)) ≡ whole
 read_skip kinds results k images whole within inside not e =
-    ap (λ n. code_images images ++ codes_read (drop n kinds) (codes (drop n results))) (add-one k)
+    ap (λ n. code_images images ++ code_images_read (drop n kinds) (codes (drop n results))) (add-one k)
     ∙ (ap (λ l. code_images images ++ l) (sym (go kinds results k within inside not)) ∙ e)
   where
-    none : (h : Hypothesis) (e : List ℕ) → ((x : ℕ) → h ≡ Float x → ⊥) → code_at h e ≡ []
+    none : (h : Hypothesis) (e : List ℕ) → ((x : ℕ) → h ≡ Float x → ⊥) → code_image_at h e ≡ []
     none (Float x) e not = absurd (not x refl)
     none (Essential q) e not = refl
 
     go : (kinds : List Hypothesis) (results : List (Bor (List ℕ))) (k : ℕ) → k < length kinds → k < length results → ((x : ℕ) → get_or kinds k (Float 0) ≡ Float x → ⊥)
-        → codes_read (drop k kinds) (codes (drop k results)) ≡ codes_read (drop (suc k) kinds) (codes (drop (suc k) results))
+        → code_images_read (drop k kinds) (codes (drop k results)) ≡ code_images_read (drop (suc k) kinds) (codes (drop (suc k) results))
     go [] results k within inside not = absurd (omega (arith, within))
     go (x ∷ kinds) [] k within inside not = absurd (omega (arith, inside))
-    go (x ∷ kinds) (y ∷ results) zero within inside not = ap (λ l. l ++ codes_read kinds (codes results)) (none x y.now not)
+    go (x ∷ kinds) (y ∷ results) zero within inside not = ap (λ l. l ++ code_images_read kinds (codes results)) (none x y.now not)
     go (x ∷ kinds) (y ∷ results) (suc k) within inside not = go kinds results k (omega (arith, within)) (omega (arith, inside)) not
 
 pub named-codes : (names : List Name) (vs : List (Bor (List ℕ))) → map (decode names) (codes vs) ≡ named_expressions names vs

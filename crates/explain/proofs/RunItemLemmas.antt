@@ -1,5 +1,5 @@
 -- The fault of an item that cannot be done.
-use Rattle.explain.proofs.Words.{◌≡◌, ℕ, zero, suc, ◌+◌, ◌-◌, ◌<◌, ◌≤◌, cond, List, [], ◌∷◌, ◌++◌, length, take, get_or, arith, refl, sym, ◌∙◌, ap, subst, Some, None, Option, slice_get, IfOk, MatchOption, Result, Ok, Err, add-one, Vec, Name, Stmt, Database, Expr, decode, AreDistinct, Carries, IsPosition, ArePositions, Item, Cite, Recall, Mark, item_of, items_of, Fault, UnknownLabel, Inactive, NotEarlier, TooFewResults, OtherTypecode, OtherExpression, NotDisjoint, TooManySymbols, NoMarkedResult, FailsAt, FailsCited, Fails, Gives, of_hypothesis, of_assertion, take_more, slice_get-map, SYMBOLS_LIMIT, lt-ltb, le-ltb, stmt_at, same_Some}
+use Rattle.explain.proofs.Words.{◌≡◌, ℕ, zero, suc, ◌+◌, ◌-◌, ◌<◌, ◌≤◌, cond, List, [], ◌∷◌, ◌++◌, length, take, get_or, arith, refl, sym, ◌∙◌, ap, subst, Some, None, Option, slice_get, IfOk, MatchOption, Result, Ok, Err, add-one, Vec, Name, Stmt, Database, Expr, decode, AreDistinct, Carries, IsPosition, ArePositions, Item, Cite, Recall, Mark, item_of, items_of, Fault, UnknownLabel, Inactive, NotEarlier, TooFewResults, OtherTypecode, OtherExpression, NotDisjoint, TooManySymbols, NoMarkedResult, IsCitationFault, IsCiteFault, IsItemFault, CitationGives, of_hypothesis, of_assertion, take_more, slice_get-map, SYMBOLS_LIMIT, lt-ltb, le-ltb, stmt_at, same_Some}
 use Rattle.verify.specs.Machine.{State, Cites, of_hypothesis as cites_hypothesis, of_assertion as cites_assertion, Steps, with_result, with_mark}
 use Rattle.verify.proofs.Words.{take_all, length-append, length-map, option_map, slice_get-get_or, slice_get_within}
 
@@ -21,7 +21,7 @@ recall_item labels (suc n) l =
     ap (λ b. cond b (Cite (get_or labels n [])) (Recall (suc (n - length labels)))) (le-ltb n (length labels) (omega (arith, l))) ∙ ap (λ k. Recall (suc k)) same
 
 -- the fault of a citation of a statement is that of a citation of its label
-pub cited_fails : (S : Database) (names : List Name) (at : ℕ) (h : State) (i : ℕ) (s : Stmt) (label : Name) (fault : Fault) → Carries S i s label → FailsAt S names at h i s fault → FailsCited S names at h label fault
+pub cited_fails : (S : Database) (names : List Name) (at : ℕ) (h : State) (i : ℕ) (s : Stmt) (label : Name) (fault : Fault) → Carries S i s label → IsCitationFault S names at h i s fault → IsCiteFault S names at h label fault
 cited_fails S names at h i s label UnknownLabel carries fails = absurd fails
 cited_fails S names at h i s label (Inactive j) carries fails = (i, s, carries, fails)
 cited_fails S names at h i s label (NotEarlier j) carries fails = (i, s, carries, fails)
@@ -33,7 +33,7 @@ cited_fails S names at h i s label TooManySymbols carries fails = (i, s, carries
 cited_fails S names at h i s label NoMarkedResult carries fails = absurd fails
 
 -- if a statement gives an expression, the machine can cite its label
-pub cites : (S : Database) (at i : ℕ) (s : Stmt) (label : Name) (stack below : List Expr) (e : Expr) → Carries S i s label → Gives S at i s stack below e → Cites S at label stack below e
+pub cites : (S : Database) (at i : ℕ) (s : Stmt) (label : Name) (stack below : List Expr) (e : Expr) → Carries S i s label → CitationGives S at i s stack below e → Cites S at label stack below e
 cites S at i s label stack below e carries (of_hypothesis active same whole) = cites_hypothesis i s carries active same whole
 cites S at i s label stack below e carries (of_assertion σ fits whole same) = cites_assertion i s σ carries fits whole same
 
@@ -50,16 +50,16 @@ module _ (S : Database) (at : ℕ) (h : State) (light : h.weight ≤ SYMBOLS_LIM
           e ∙ (sym (take_all (n + 1) (x ∷ xs) (omega arith)) ∙ take_more (x ∷ xs) n [] (omega arith)) in
           absurd (let over = stuck (with_mark h (get_or (x ∷ xs) n [])) (take n (x ∷ xs), get_or (x ∷ xs) n [], split, refl) in omega (arith, over, light))
 
-  -- a recall of a saved result that has no step within the limit makes the proof too heavy
+  -- with a recall of a saved result that has no step within the limit, the lengths of all results exceed it
   pub recall_heavy : (k : ℕ) → ((next : State) → Steps S at h (Recall (suc k)) next → SYMBOLS_LIMIT < next.weight) → k < length h.saved
       → (e : Expr) × (slice_get h.saved k ≡ Some e) × (SYMBOLS_LIMIT < h.weight + length e)
   recall_heavy k stuck less =
       let there = slice_get-get_or h.saved k [] less in
       (get_or h.saved k [], there, stuck (with_result h h.stack (get_or h.saved k [])) (get_or h.saved k [], there, refl))
 
-  -- a citation that has no step within the limit makes the proof too heavy if the statement gives a result
+  -- with a citation that has no step within the limit, the lengths of all results exceed it, if the statement gives a result
   pub cite_stuck : (label : Name) (i : ℕ) (r : Stmt) → Carries S i r label → ((next : State) → Steps S at h (Cite label) next → SYMBOLS_LIMIT < next.weight)
-      → (s : Stmt) (below : List Expr) (e : Expr) → stmt_at S i ≡ Some s → Gives S at i s h.stack below e → SYMBOLS_LIMIT < h.weight + length e
+      → (s : Stmt) (below : List Expr) (e : Expr) → stmt_at S i ≡ Some s → CitationGives S at i s h.stack below e → SYMBOLS_LIMIT < h.weight + length e
   cite_stuck label i r carries stuck s below e stands gives =
       let same : r ≡ s = same_Some r s (sym carries.stands ∙ stands) in
       stuck (with_result h below e) (below, e, cites S at i s label h.stack below e (subst (λ t. Carries S i t label) same carries) gives, refl)

@@ -1,7 +1,7 @@
 -- The item or the end where the run stops is the first fault.
-use Rattle.explain.proofs.Words.{nat_lt, nat_tests, ◌≡◌, ◌≢◌, Bool, true, false, ℕ, zero, suc, ◌+◌, ◌-◌, ◌<◌, ◌≤◌, List, [], ◌∷◌, ◌++◌, length, map, take, drop, get_or, arith, refl, sym, ◌∙◌, ap, subst, Option, Some, None, slice_get, length-drop, Vec, Name, Stmt, Database, Expr, decode, stmt_at, expr_of, Carries, Item, Cite, Recall, Mark, item_of, items_of, Fault, TooManySymbols, NoMarkedResult, UnknownLabel, Reason, Gives, Fails, RunsWell, IsFirstFault, IsPosition, ArePositions, without_cached, Results, State, start, IsSaved, Runs, IsStopped, item-cite, get_or_default, same_Some, SYMBOLS_LIMIT}
+use Rattle.explain.proofs.Words.{nat_lt, nat_tests, ◌≡◌, ◌≢◌, Bool, true, false, ℕ, zero, suc, ◌+◌, ◌-◌, ◌<◌, ◌≤◌, List, [], ◌∷◌, ◌++◌, length, map, take, drop, get_or, arith, refl, sym, ◌∙◌, ap, subst, Option, Some, None, slice_get, length-drop, Vec, Name, Stmt, Database, Expr, decode, stmt_at, expr_of, Carries, Item, Cite, Recall, Mark, item_of, items_of, Fault, TooManySymbols, NoMarkedResult, UnknownLabel, Reason, CitationGives, IsItemFault, RunsWithinLimit, IsFirstFault, IsPosition, ArePositions, without_cached, Results, State, start, IsSaved, Runs, IsStopped, item-cite, get_or_default, same_Some, SYMBOLS_LIMIT}
 use Rattle.explain.specs.declared.reason.Reason.TheVariants as reason
-use Rattle.explain.specs.FirstFault.{IsEnd}
+use Rattle.explain.specs.FirstFault.{IsEndReason}
 use Rattle.explain.proofs.RunItemLemmas.{mark_fails, recall_heavy, cite_stuck, recall_item, what_is, found-at}
 use Rattle.verify.specs.StepsByNumber.{named}
 use Rattle.verify.specs.Stops.{IsOther}
@@ -13,53 +13,53 @@ module _ (S : Database) (names : List Name) (at : ℕ) (items : List Item) (k la
   held = named names (without_cached labels st)
 
   -- the items before the item run within the limit
-  pub runs_well : RunsWell S at (take k items) held
+  pub runs_well : RunsWithinLimit S at (take k items) held
   runs_well = record { runs = stopped.stops.runs; light = stopped.light }
 
   -- a mark without a result
-  pub fails_mark : (what : Item) → slice_get items k ≡ Some what → Mark ≡ what → Fails S names at held what NoMarkedResult
-  fails_mark what there same = subst (λ i. Fails S names at held i NoMarkedResult) same (mark_fails S at held stopped.light (stopped.stops.stuck Mark (there ∙ ap Some (sym same))))
+  pub fails_mark : (what : Item) → slice_get items k ≡ Some what → Mark ≡ what → IsItemFault S names at held what NoMarkedResult
+  fails_mark what there same = subst (λ i. IsItemFault S names at held i NoMarkedResult) same (mark_fails S at held stopped.light (stopped.stops.stuck Mark (there ∙ ap Some (sym same))))
 
   -- a recall of a saved result, or of one that is not saved
-  pub fails_recall_heavy : (what : Item) (i : ℕ) → slice_get items k ≡ Some what → Recall (suc i) ≡ what → i < length st.saved - labels → Fails S names at held what TooManySymbols
+  pub fails_recall_heavy : (what : Item) (i : ℕ) → slice_get items k ≡ Some what → Recall (suc i) ≡ what → i < length st.saved - labels → IsItemFault S names at held what TooManySymbols
   fails_recall_heavy what i there same less =
       let l = length-drop labels st.saved in let m = length-map (drop labels st.saved) (decode names) in
-      subst (λ w. Fails S names at held w TooManySymbols) same
+      subst (λ w. IsItemFault S names at held w TooManySymbols) same
       (recall_heavy S at held stopped.light i (stopped.stops.stuck (Recall (suc i)) (there ∙ ap Some (sym same))) (omega (arith, l, m, less)))
 
-  pub fails_recall_none : (what : Item) (i : ℕ) → Recall (suc i) ≡ what → length st.saved - labels ≤ i → Fails S names at held what NoMarkedResult
+  pub fails_recall_none : (what : Item) (i : ℕ) → Recall (suc i) ≡ what → length st.saved - labels ≤ i → IsItemFault S names at held what NoMarkedResult
   fails_recall_none what i same over =
       let l = length-drop labels st.saved in let m = length-map (drop labels st.saved) (decode names) in
-      subst (λ w. Fails S names at held w NoMarkedResult) same
+      subst (λ w. IsItemFault S names at held w NoMarkedResult) same
       (λ e saved. let w = slice_get_within (map (decode names) (drop labels st.saved)) i e saved in omega (arith, w, l, m, over))
 
   pub fails_recall : (what : Item) (i : ℕ) (fault : Fault) → slice_get items k ≡ Some what → Recall (suc i) ≡ what
-      → (i < length st.saved - labels → fault ≡ TooManySymbols) → (length st.saved - labels ≤ i → fault ≡ NoMarkedResult) → Fails S names at held what fault
+      → (i < length st.saved - labels → fault ≡ TooManySymbols) → (length st.saved - labels ≤ i → fault ≡ NoMarkedResult) → IsItemFault S names at held what fault
   fails_recall what i fault there same marked unmarked = by (nat_lt i (length st.saved - labels)) refl
     where
-      by : (b : Bool) → nat_lt i (length st.saved - labels) ≡ b → Fails S names at held what fault
+      by : (b : Bool) → nat_lt i (length st.saved - labels) ≡ b → IsItemFault S names at held what fault
       by true e =
           let less : i < length st.saved - labels = grind (arith, nat_tests) in
-          subst (Fails S names at held what) (sym (marked less)) (fails_recall_heavy what i there same less)
+          subst (IsItemFault S names at held what) (sym (marked less)) (fails_recall_heavy what i there same less)
       by false e =
           let over : length st.saved - labels ≤ i = grind (arith, nat_tests) in
-          subst (Fails S names at held what) (sym (unmarked over)) (fails_recall_none what i same over)
+          subst (IsItemFault S names at held what) (sym (unmarked over)) (fails_recall_none what i same over)
 
-  -- each result that a citation gives makes the proof too heavy
+  -- with each result that a citation gives, the lengths of all results exceed the limit
   pub cannot_cite : (label : Name) (i : ℕ) (r : Stmt) → slice_get items k ≡ Some (Cite label) → Carries S i r label
-      → (s : Stmt) (below : List Expr) (e : Expr) → stmt_at S i ≡ Some s → Gives S at i s held.stack below e → SYMBOLS_LIMIT < held.weight + length e
+      → (s : Stmt) (below : List Expr) (e : Expr) → stmt_at S i ≡ Some s → CitationGives S at i s held.stack below e → SYMBOLS_LIMIT < held.weight + length e
   cannot_cite label i r there carries = cite_stuck S at held stopped.light label i r carries (stopped.stops.stuck (Cite label) there)
 
   -- the fault of an item is the first fault
-  pub first_at : (s : Stmt) (what : Item) (fault : Fault) → slice_get items k ≡ Some what → Fails S names at held what fault → IsFirstFault S names at s items (reason.Item k fault)
+  pub first_at : (s : Stmt) (what : Item) (fault : Fault) → slice_get items k ≡ Some what → IsItemFault S names at held what fault → IsFirstFault S names at s items (reason.Item k fault)
   first_at s what fault there fails = (held, what, runs_well, there, fails)
 
 -- the fault at the end
 module _ (S : Database) (names : List Name) (at : ℕ) (items : List Item) (labels : ℕ) (st : Results ℕ) (s : Stmt) (stopped : IsStopped S at names items (length items) labels st) (other : IsOther names st s) where
-  whole : RunsWell S at items (held S names at items (length items) labels st stopped)
-  whole = subst (λ is. RunsWell S at is (held S names at items (length items) labels st stopped)) (take_all (length items) items (omega arith)) (runs_well S names at items (length items) labels st stopped)
+  whole : RunsWithinLimit S at items (held S names at items (length items) labels st stopped)
+  whole = subst (λ is. RunsWithinLimit S at is (held S names at items (length items) labels st stopped)) (take_all (length items) items (omega arith)) (runs_well S names at items (length items) labels st stopped)
 
-  pub first_end : (r : Reason) → IsEnd st.stack r → IsFirstFault S names at s items r
+  pub first_end : (r : Reason) → IsEndReason st.stack r → IsFirstFault S names at s items r
   first_end (reason.Item k fault) is = absurd is
   first_end (reason.ResultCount count) is = (held S names at items (length items) labels st stopped, whole, is.0 ∙ sym (length-map st.stack (decode names)), is.1)
   first_end (reason.OtherTheorem proved) is =

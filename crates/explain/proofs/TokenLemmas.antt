@@ -1,6 +1,6 @@
 -- Tokens that write no items.
-use Rattle.explain.proofs.Words.{◌≡◌, ℕ, ◌+◌, Bool, true, false, not, bytes_eq, ◌||◌, List, [], ◌∷◌, ◌++◌, length, map, refl, list_all, list_any, sym, ◌∙◌, ap, subst, arith, append_assoc, append-nil, length-append, inl, inr, true≢false, list_any-append, bytes_eq-Decides, or_parts, not-false, and_from, or_from, not-true, Name, has_name, is_label, Item, Cite, is_unfinished, is_compressed, begin, finish, Writes, WritesRow, LetterBreak, fails, joined, IsFirst, IsLetterBreak, IsListing, IsNotLabel, AreLettersBroken}
-use Rattle.explain.specs.declared.code.Test.TheVariants as test
+use Rattle.explain.proofs.Words.{◌≡◌, ℕ, ◌+◌, Bool, true, false, not, bytes_eq, ◌||◌, List, [], ◌∷◌, ◌++◌, length, map, refl, list_all, list_any, sym, ◌∙◌, ap, subst, arith, append_assoc, append-nil, length-append, inl, inr, true≢false, list_any-append, bytes_eq-Decides, or_parts, not-false, and_from, or_from, not-true, Name, has_name, is_label, Item, Cite, is_unfinished, is_compressed, begin, finish, Writes, WritesRow, LetterBreak, has_fault, joined, IsFirst, IsLetterBreak, IsListing, IsNotLabel, AreLettersBroken}
+use Rattle.explain.specs.declared.code.TokenFault.TheVariants as token_fault
 
 -- ---- the first word that fails a test
 
@@ -35,17 +35,17 @@ module _ (t : Name → Bool) where
 
 -- ---- the tokens that pass
 
-all-labels : (mandatory words : List Name) → list_any (fails mandatory test.NotLabel) words ≡ false → list_all is_label words ≡ true
+all-labels : (mandatory words : List Name) → list_any (has_fault mandatory token_fault.NotLabel) words ≡ false → list_all is_label words ≡ true
 all-labels mandatory [] h = refl
 all-labels mandatory (w ∷ words) h =
-    let p = or_parts (not (is_label w)) (list_any (fails mandatory test.NotLabel) words) h in
+    let p = or_parts (not (is_label w)) (list_any (has_fault mandatory token_fault.NotLabel) words) h in
     and_from (is_label w) (list_all is_label words) (not-false (is_label w) p.0) (all-labels mandatory words p.1)
 
-listed-labels : (mandatory words : List Name) → list_any (fails mandatory test.NotListable) words ≡ false
+listed-labels : (mandatory words : List Name) → list_any (has_fault mandatory token_fault.NotListable) words ≡ false
     → (list_all is_label words ≡ true) × (list_any (λ label. has_name label mandatory) words ≡ false)
 listed-labels mandatory [] h = (refl, refl)
 listed-labels mandatory (w ∷ words) h =
-    let p = or_parts (not (is_label w) || has_name w mandatory) (list_any (fails mandatory test.NotListable) words) h in
+    let p = or_parts (not (is_label w) || has_name w mandatory) (list_any (has_fault mandatory token_fault.NotListable) words) h in
     let q = or_parts (not (is_label w)) (has_name w mandatory) p.0 in
     let more = listed-labels mandatory words p.1 in
     (and_from (is_label w) (list_all is_label words) (not-false (is_label w) q.0) more.0, or_from (has_name w mandatory) (list_any (λ label. has_name label mandatory) words) q.1 more.1)
@@ -53,10 +53,10 @@ listed-labels mandatory (w ∷ words) h =
 -- ---- tokens that write
 
 -- if no token has the byte `?`, the proof is not unfinished
-pub finished : (mandatory tokens : List Name) → list_any (fails mandatory test.Unfinished) tokens ≡ false → is_unfinished tokens ≡ false
+pub finished : (mandatory tokens : List Name) → list_any (has_fault mandatory token_fault.Unfinished) tokens ≡ false → is_unfinished tokens ≡ false
 finished mandatory tokens h = h
 
-pub writes-normal : (tokens mandatory : List Name) → is_unfinished tokens ≡ false → is_compressed tokens ≡ false → list_any (fails mandatory test.NotLabel) tokens ≡ false
+pub writes-normal : (tokens mandatory : List Name) → is_unfinished tokens ≡ false → is_compressed tokens ≡ false → list_any (has_fault mandatory token_fault.NotLabel) tokens ≡ false
     → Writes tokens mandatory (map (λ token. Cite token) tokens)
 writes-normal tokens mandatory f c h = inr (c, (f, record { labels = all-labels mandatory tokens h; cites = refl }))
 
@@ -69,15 +69,15 @@ writes-compressed tokens mandatory index rest items f c l row =
 -- ---- the broken rule
 
 pub not-label-normal : (tokens mandatory words : List Name) (token : ℕ) (word : Name) (rest : List Name) → words ≡ tokens → is_compressed tokens ≡ false
-    → IsFirst (fails mandatory test.NotLabel) words token word rest → IsNotLabel tokens mandatory token
+    → IsFirst (has_fault mandatory token_fault.NotLabel) words token word rest → IsNotLabel tokens mandatory token
 not-label-normal tokens mandatory words token word rest same c f = record {
   word = word;
   rest = rest;
-  here = inl (c, subst (λ w. IsFirst (fails mandatory test.NotLabel) w token word rest) same f);
+  here = inl (c, subst (λ w. IsFirst (has_fault mandatory token_fault.NotLabel) w token word rest) same f);
   other = not-true (is_label word) f.here;
 }
 
-module _ (tokens mandatory words : List Name) (index : ℕ) (word : Name) (rest : List Name) (starts : tokens ≡ begin ∷ words) (f : IsFirst (fails mandatory test.NotListable) words index word rest) where
+module _ (tokens mandatory words : List Name) (index : ℕ) (word : Name) (rest : List Name) (starts : tokens ≡ begin ∷ words) (f : IsFirst (has_fault mandatory token_fault.NotListable) words index word rest) where
   listing-of : IsListing tokens mandatory index word rest
   listing-of = record { words = words; whole = starts; first = f }
 

@@ -3,8 +3,8 @@
 -- The code reads tokens and letters from left to right.
 use Rattle.std.specs.Prelude.{◌≡◌, ◌≢◌, ℕ, suc, ◌+◌, ◌<◌, ◌≤◌, ◌⊎◌, Bool, not, ◌||◌, IsTrue, IsFalse, List, [], ◌∷◌, ◌++◌, length, flat_map}
 use Rattle.explain.specs.Words.{list_all, list_any, Name, has_byte, has_name, is_label, Item, Cite, Recall, Mark, IsNumber, is_first, is_last, question_mark, is_unfinished, is_compressed, begin, finish, WritesRow}
-use Rattle.explain.specs.declared.code.Test.{Test}
-use Rattle.explain.specs.declared.code.Test.TheVariants as test
+use Rattle.explain.specs.declared.code.TokenFault.{TokenFault}
+use Rattle.explain.specs.declared.code.TokenFault.TheVariants as token_fault
 use Rattle.explain.specs.declared.why.CodeBreak.{CodeBreak}
 use Rattle.explain.specs.declared.why.CodeBreak.TheVariants.{Unfinished, NotLabel, Mandatory, Unclosed, Letters}
 use Rattle.explain.specs.declared.why.LetterBreak.{LetterBreak}
@@ -12,12 +12,12 @@ use Rattle.explain.specs.declared.why.LetterFault.{LetterFault}
 use Rattle.explain.specs.declared.why.LetterFault.TheVariants.{NotLetter, NotEnded, EarlyMark, TooGreat}
 
 -- the token has this fault
-abbrev pub fails : List Name → Test → Name → Bool
-fails mandatory test.Unfinished token = has_byte question_mark token
-fails mandatory test.NotLabel token = not (is_label token)
-fails mandatory test.NotListable token = not (is_label token) || has_name token mandatory
+abbrev pub has_fault : List Name → TokenFault → Name → Bool
+has_fault mandatory token_fault.Unfinished token = has_byte question_mark token
+has_fault mandatory token_fault.NotLabel token = not (is_label token)
+has_fault mandatory token_fault.NotListable token = not (is_label token) || has_name token mandatory
 
--- the first of the tokens that fails the test, its index, and those after it
+-- the first of the words that passes the test, its index, and the words after it
 pub record IsFirst (test : Name → Bool) (words : List Name) (index : ℕ) (word : Name) (rest : List Name) : Type 0 where
   pub front : List Name
   pub whole : words ≡ front ++ word ∷ rest
@@ -27,6 +27,7 @@ pub record IsFirst (test : Name → Bool) (words : List Name) (index : ℕ) (wor
 
 -- ---- letters
 
+-- the letters of the words, joined
 abbrev pub joined : List Name → List ℕ
 joined words = flat_map (λ word. word) words
 
@@ -38,32 +39,32 @@ marks_in (Cite label ∷ items) = marks_in items
 marks_in (Recall k ∷ items) = marks_in items
 
 -- the letters end here, or the next one is a mark
-abbrev pub IsEnd : List ℕ → Type 0
-IsEnd [] = Unit {0}
-IsEnd (letter ∷ letters) = letter ≡ 90
+abbrev pub IsEndOrMark : List ℕ → Type 0
+IsEndOrMark [] = Unit {0}
+IsEndOrMark (letter ∷ letters) = letter ≡ 90
 
 abbrev pub BeginsWith : (ℕ → Type 0) → List ℕ → Type 0
 BeginsWith P [] = ⊥
 BeginsWith P (letter ∷ letters) = P letter
 
 -- the byte is not one of A to Z
-abbrev pub IsNoLetter : ℕ → Type 0
-IsNoLetter letter = IsFalse (is_first letter) × IsFalse (is_last letter) × (letter ≢ 90)
+abbrev pub IsNotLetter : ℕ → Type 0
+IsNotLetter letter = IsFalse (is_first letter) × IsFalse (is_last letter) × (letter ≢ 90)
 
 -- the letter group has no letter yet, or some group with this beginning has a number up to the limit
 abbrev pub IsAllowed : ℕ → List ℕ → Type 0
 IsAllowed limit begun = (begun ≡ []) ⊎ ((word : Name) × (n : ℕ) × IsNumber (begun ++ word) n × (n ≤ limit))
 
 -- a letter A to Y such that every letter group beginning with `begun` and this letter has a number greater than the limit
-abbrev pub IsOver : ℕ → List ℕ → ℕ → Type 0
-IsOver limit begun letter = IsTrue (is_first letter || is_last letter) × ((word : Name) (n : ℕ) → IsNumber (begun ++ letter ∷ word) n → limit < n)
+abbrev pub IsTooGreat : ℕ → List ℕ → ℕ → Type 0
+IsTooGreat limit begun letter = IsTrue (is_first letter || is_last letter) × ((word : Name) (n : ℕ) → IsNumber (begun ++ letter ∷ word) n → limit < n)
 
 -- after the items and the letters U to Y that begin a letter group, the rest breaks the rule
 abbrev pub Breaks : LetterFault → ℕ → List Item → List ℕ → List ℕ → Type 0
-Breaks NotLetter limit items begun rest = BeginsWith IsNoLetter rest
-Breaks NotEnded limit items begun rest = (begun ≢ []) × IsEnd rest
+Breaks NotLetter limit items begun rest = BeginsWith IsNotLetter rest
+Breaks NotEnded limit items begun rest = (begun ≢ []) × IsEndOrMark rest
 Breaks EarlyMark limit items begun rest = (items ≡ []) × (begun ≡ []) × BeginsWith (λ letter. letter ≡ 90) rest
-Breaks TooGreat limit items begun rest = BeginsWith (IsOver limit begun) rest
+Breaks TooGreat limit items begun rest = BeginsWith (IsTooGreat limit begun) rest
 
 -- the index of the fault: that of the letter itself, or of the beginning of the letter group
 abbrev pub fault_index : LetterFault → ℕ → ℕ → ℕ
@@ -91,15 +92,17 @@ pub record IsLetterBreak (labels : List Name) (letters : List ℕ) (broken : Let
 pub record IsListing (tokens mandatory : List Name) (index : ℕ) (word : Name) (rest : List Name) : Type 0 where
   pub words : List Name
   pub whole : tokens ≡ begin ∷ words
-  pub first : IsFirst (fails mandatory test.NotListable) words index word rest
+  pub first : IsFirst (has_fault mandatory token_fault.NotListable) words index word rest
 
+-- this token is the first that is not a label where a label is required
 pub record IsNotLabel (tokens mandatory : List Name) (token : ℕ) : Type 0 where
   pub word : Name
   pub rest : List Name
-  pub here : (IsFalse (is_compressed tokens) × IsFirst (fails mandatory test.NotLabel) tokens token word rest)
+  pub here : (IsFalse (is_compressed tokens) × IsFirst (has_fault mandatory token_fault.NotLabel) tokens token word rest)
       ⊎ ((index : ℕ) × (token ≡ index + 1) × IsListing tokens mandatory index word rest × (word ≢ finish))
   pub other : IsFalse (is_label word)
 
+-- this token is the first listed label of a mandatory hypothesis
 pub record IsMandatory (tokens mandatory : List Name) (token : ℕ) : Type 0 where
   pub index : ℕ
   pub word : Name
@@ -109,11 +112,13 @@ pub record IsMandatory (tokens mandatory : List Name) (token : ℕ) : Type 0 whe
   pub label : IsTrue (is_label word)
   pub named : IsTrue (has_name word mandatory)
 
+-- all tokens after `(` are labels that may be listed
 pub record IsUnclosed (tokens mandatory : List Name) : Type 0 where
   pub words : List Name
   pub whole : tokens ≡ begin ∷ words
-  pub listed : IsFalse (list_any (fails mandatory test.NotListable) words)
+  pub listed : IsFalse (list_any (has_fault mandatory token_fault.NotListable) words)
 
+-- the letters after `)` break a rule
 pub record AreLettersBroken (tokens mandatory : List Name) (broken : LetterBreak) : Type 0 where
   pub index : ℕ
   pub rest : List Name
@@ -122,7 +127,7 @@ pub record AreLettersBroken (tokens mandatory : List Name) (broken : LetterBreak
 
 -- the rule that the tokens break under these mandatory labels; a token has a `?` only if the rule is `Unfinished`
 abbrev pub IsBreak : List Name → List Name → CodeBreak → Type 0
-IsBreak tokens mandatory (Unfinished token) = (word : Name) × (rest : List Name) × IsFirst (fails mandatory test.Unfinished) tokens token word rest
+IsBreak tokens mandatory (Unfinished token) = (word : Name) × (rest : List Name) × IsFirst (has_fault mandatory token_fault.Unfinished) tokens token word rest
 IsBreak tokens mandatory (NotLabel token) = IsFalse (is_unfinished tokens) × IsNotLabel tokens mandatory token
 IsBreak tokens mandatory (Mandatory token) = IsFalse (is_unfinished tokens) × IsMandatory tokens mandatory token
 IsBreak tokens mandatory Unclosed = IsFalse (is_unfinished tokens) × IsUnclosed tokens mandatory

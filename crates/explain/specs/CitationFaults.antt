@@ -47,7 +47,7 @@ IsMismatchFault S names a s rs (OtherTypecode b p actual) =
     × HasOtherTypecodeThan (stmt_at S p) (decode names actual.items))
 IsMismatchFault S names a s rs fault = ⊥
 
--- the fault of a result that a hypothesis of that kind, with that typecode, does not require
+-- the expression, by number, does not begin with this typecode
 abbrev pub HasOtherTypecodeNumber : ℕ → List ℕ → Type 0
 HasOtherTypecodeNumber typecode [] = Unit {0}
 HasOtherTypecodeNumber typecode (x ∷ e) = x ≢ typecode
@@ -56,6 +56,7 @@ abbrev pub IsFloat : Hypothesis → Type 0
 IsFloat (hypothesis.Float x) = Unit {0}
 IsFloat (hypothesis.Essential p) = ⊥
 
+-- the fault of a result that a hypothesis of this kind, with this typecode, does not require
 abbrev pub IsFaultOfResult : Hypothesis → ℕ → ℕ → ℕ → Vec ℕ → Vec ℕ → Fault → Type 0
 IsFaultOfResult kind typecode a p required actual (OtherTypecode b q r) = (b ≡ a) × (q ≡ p) × (r ≡ actual) × IsFloat kind × HasOtherTypecodeNumber typecode actual.items
 IsFaultOfResult kind typecode a p required actual (OtherExpression b q e r) = (b ≡ a) × (q ≡ p) × (e ≡ required) × (r ≡ actual)

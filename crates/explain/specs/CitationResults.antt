@@ -6,16 +6,16 @@ use Rattle.explain.specs.Words.{Stmt, Expr, Database, expr_of, stmt_at, decode, 
 use Rattle.frame.specs.Substitution.{Images, apply as applied}
 
 -- a citation of the statement s at i replaces the results above `below` by e
-pub data Gives (S : Database) (at i : ℕ) (s : Stmt) (stack below : List Expr) (e : Expr) : Type 0 where
-  of_hypothesis : IsHypothesis S at i s → e ≡ expr_of s → stack ≡ below → Gives S at i s stack below e
-  of_assertion : (σ : Images) → IsInstance S at i s σ → stack ≡ below ++ premises S i s σ → e ≡ applied σ (expr_of s) → Gives S at i s stack below e
+pub data CitationGives (S : Database) (at i : ℕ) (s : Stmt) (stack below : List Expr) (e : Expr) : Type 0 where
+  of_hypothesis : IsHypothesis S at i s → e ≡ expr_of s → stack ≡ below → CitationGives S at i s stack below e
+  of_assertion : (σ : Images) → IsInstance S at i s σ → stack ≡ below ++ premises S i s σ → e ≡ applied σ (expr_of s) → CitationGives S at i s stack below e
 
--- the results, by name, after those that are kept for labels
-abbrev pub named_after : Numbered → ℕ → HeldResults → State
-named_after f labels results = named f.names (without_cached labels results.results)
+-- the results by name, without those that are cached for labels
+abbrev pub named_without_cached : Numbered → ℕ → HeldResults → State
+named_without_cached f labels results = named f.names (without_cached labels results.results)
 
--- every result that a citation of the statement at i gives makes the proof too heavy
+-- with each result that a citation of the statement at i gives, the lengths of all results exceed the limit
 abbrev pub CannotCite : Numbered → ℕ → ℕ → HeldResults → Type 0
 CannotCite f at i results =
-    (s : Stmt) (below : List Expr) (e : Expr) → stmt_at f.statements i ≡ Some s → Gives f.statements at i s (map (decode f.names) results.results.stack) below e
+    (s : Stmt) (below : List Expr) (e : Expr) → stmt_at f.statements i ≡ Some s → CitationGives f.statements at i s (map (decode f.names) results.results.stack) below e
     → SYMBOLS_LIMIT < results.results.weight + length e

@@ -7,7 +7,7 @@ use Rattle.explain.specs.declared.reason.Fault.{Fault}
 use Rattle.explain.specs.declared.reason.Fault.TheVariants.{UnknownLabel, Inactive, NotEarlier, TooFewResults, OtherTypecode, OtherExpression, NotDisjoint, TooManySymbols, NoMarkedResult}
 use Rattle.explain.specs.declared.reason.Reason.{Reason}
 use Rattle.explain.specs.declared.reason.Reason.TheVariants as reason
-use Rattle.explain.specs.CitationResults.{Gives}
+use Rattle.explain.specs.CitationResults.{CitationGives}
 use Rattle.explain.specs.WrongResults.{IsResultsFault}
 
 -- the last results on the stack, one for each mandatory hypothesis of the earlier assertion s at a, are wrong
@@ -20,59 +20,59 @@ pub record AreWrong (S : Database) (names : List Name) (at : ℕ) (h : State) (a
   pub count : length results ≡ length (hypotheses (before S a) s)
   pub wrong : IsResultsFault S names at a s results fault
 
--- a citation of the statement s at i gives a result that makes the proof too heavy
-pub record IsHeavy (S : Database) (at : ℕ) (h : State) (i : ℕ) (s : Stmt) : Type 0 where
+-- a citation of the statement s at i gives a result with which the lengths of all results exceed the limit
+pub record ExceedsLimit (S : Database) (at : ℕ) (h : State) (i : ℕ) (s : Stmt) : Type 0 where
   pub below : List Expr
   pub result : Expr
-  pub gives : Gives S at i s h.stack below result
+  pub gives : CitationGives S at i s h.stack below result
   pub heavy : SYMBOLS_LIMIT < h.weight + length result
 
 -- the fault of a citation of the statement s at i
-abbrev pub FailsAt : Database → List Name → ℕ → State → ℕ → Stmt → Fault → Type 0
-FailsAt S names at h i s (Inactive j) = (j ≡ i) × (i < at) × (IsHypothesis S at i s → ⊥) × (is_assertion s ≡ true → ⊥)
-FailsAt S names at h i s (NotEarlier j) = (j ≡ i) × (at ≤ i)
-FailsAt S names at h i s (TooFewResults b required present) = (b ≡ i) × (i < at) × IsTrue (is_assertion s) × (required ≡ length (hypotheses (before S i) s)) × (present ≡ length h.stack) × (present < required)
-FailsAt S names at h i s (OtherTypecode b p r) = AreWrong S names at h i s (OtherTypecode b p r)
-FailsAt S names at h i s (OtherExpression b p q r) = AreWrong S names at h i s (OtherExpression b p q r)
-FailsAt S names at h i s (NotDisjoint b x y u v) = AreWrong S names at h i s (NotDisjoint b x y u v)
-FailsAt S names at h i s TooManySymbols = IsHeavy S at h i s
-FailsAt S names at h i s fault = ⊥
+abbrev pub IsCitationFault : Database → List Name → ℕ → State → ℕ → Stmt → Fault → Type 0
+IsCitationFault S names at h i s (Inactive j) = (j ≡ i) × (i < at) × (IsHypothesis S at i s → ⊥) × (is_assertion s ≡ true → ⊥)
+IsCitationFault S names at h i s (NotEarlier j) = (j ≡ i) × (at ≤ i)
+IsCitationFault S names at h i s (TooFewResults b required present) = (b ≡ i) × (i < at) × IsTrue (is_assertion s) × (required ≡ length (hypotheses (before S i) s)) × (present ≡ length h.stack) × (present < required)
+IsCitationFault S names at h i s (OtherTypecode b p r) = AreWrong S names at h i s (OtherTypecode b p r)
+IsCitationFault S names at h i s (OtherExpression b p q r) = AreWrong S names at h i s (OtherExpression b p q r)
+IsCitationFault S names at h i s (NotDisjoint b x y u v) = AreWrong S names at h i s (NotDisjoint b x y u v)
+IsCitationFault S names at h i s TooManySymbols = ExceedsLimit S at h i s
+IsCitationFault S names at h i s fault = ⊥
 
 -- the fault of an item: a label that no statement has; the fault of a citation of its statement; a recall of a result that
--- is not marked, or is too heavy; a mark without a result
-abbrev pub FailsCited : Database → List Name → ℕ → State → Name → Fault → Type 0
-FailsCited S names at h label UnknownLabel = (i : ℕ) (s : Stmt) → Carries S i s label → ⊥
-FailsCited S names at h label fault = (i : ℕ) × (s : Stmt) × Carries S i s label × FailsAt S names at h i s fault
+-- is not marked, or with which the lengths of all results exceed the limit; a mark without a result
+abbrev pub IsCiteFault : Database → List Name → ℕ → State → Name → Fault → Type 0
+IsCiteFault S names at h label UnknownLabel = (i : ℕ) (s : Stmt) → Carries S i s label → ⊥
+IsCiteFault S names at h label fault = (i : ℕ) × (s : Stmt) × Carries S i s label × IsCitationFault S names at h i s fault
 
-abbrev pub FailsRecalled : State → ℕ → Fault → Type 0
-FailsRecalled h k NoMarkedResult = (e : Expr) → IsSaved h.saved k e → ⊥
-FailsRecalled h k TooManySymbols = (e : Expr) × IsSaved h.saved k e × (SYMBOLS_LIMIT < h.weight + length e)
-FailsRecalled h k fault = ⊥
+abbrev pub IsRecallFault : State → ℕ → Fault → Type 0
+IsRecallFault h k NoMarkedResult = (e : Expr) → IsSaved h.saved k e → ⊥
+IsRecallFault h k TooManySymbols = (e : Expr) × IsSaved h.saved k e × (SYMBOLS_LIMIT < h.weight + length e)
+IsRecallFault h k fault = ⊥
 
-abbrev pub FailsMarked : State → Fault → Type 0
-FailsMarked h NoMarkedResult = h.stack ≡ []
-FailsMarked h fault = ⊥
+abbrev pub IsMarkFault : State → Fault → Type 0
+IsMarkFault h NoMarkedResult = h.stack ≡ []
+IsMarkFault h fault = ⊥
 
-abbrev pub Fails : Database → List Name → ℕ → State → Item → Fault → Type 0
-Fails S names at h (Cite label) fault = FailsCited S names at h label fault
-Fails S names at h (Recall k) fault = FailsRecalled h k fault
-Fails S names at h Mark fault = FailsMarked h fault
+abbrev pub IsItemFault : Database → List Name → ℕ → State → Item → Fault → Type 0
+IsItemFault S names at h (Cite label) fault = IsCiteFault S names at h label fault
+IsItemFault S names at h (Recall k) fault = IsRecallFault h k fault
+IsItemFault S names at h Mark fault = IsMarkFault h fault
 
 -- the items run to the state h, within the limit
-pub record RunsWell (S : Database) (at : ℕ) (items : List Item) (h : State) : Type 0 where
+pub record RunsWithinLimit (S : Database) (at : ℕ) (items : List Item) (h : State) : Type 0 where
   pub runs : Runs S at start items h
   pub light : h.weight ≤ SYMBOLS_LIMIT
 
 -- the first fault of the run over the items of a proof of the statement s at `at`
 abbrev pub IsFirstFault : Database → List Name → ℕ → Stmt → List Item → Reason → Type 0
 IsFirstFault S names at s items (reason.Item k fault) =
-    (h : State) × (item : Item) × RunsWell S at (take k items) h × (slice_get items k ≡ Some item) × Fails S names at h item fault
-IsFirstFault S names at s items (reason.ResultCount count) = (h : State) × RunsWell S at items h × (count ≡ length h.stack) × (count ≢ 1)
+    (h : State) × (item : Item) × RunsWithinLimit S at (take k items) h × (slice_get items k ≡ Some item) × IsItemFault S names at h item fault
+IsFirstFault S names at s items (reason.ResultCount count) = (h : State) × RunsWithinLimit S at items h × (count ≡ length h.stack) × (count ≢ 1)
 IsFirstFault S names at s items (reason.OtherTheorem proved) =
-    (h : State) × RunsWell S at items h × (h.stack ≡ decode names proved.items ∷ []) × (decode names proved.items ≢ expr_of s)
+    (h : State) × RunsWithinLimit S at items h × (h.stack ≡ decode names proved.items ∷ []) × (decode names proved.items ≢ expr_of s)
 
 -- the number of results at the end is not one, or the only result, by number, is this one
-abbrev pub IsEnd : List (List ℕ) → Reason → Type 0
-IsEnd stack (reason.ResultCount count) = (count ≡ length stack) × (count ≢ 1)
-IsEnd stack (reason.OtherTheorem proved) = stack ≡ proved.items ∷ []
-IsEnd stack r = ⊥
+abbrev pub IsEndReason : List (List ℕ) → Reason → Type 0
+IsEndReason stack (reason.ResultCount count) = (count ≡ length stack) × (count ≢ 1)
+IsEndReason stack (reason.OtherTheorem proved) = stack ≡ proved.items ∷ []
+IsEndReason stack r = ⊥

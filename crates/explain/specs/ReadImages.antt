@@ -16,15 +16,15 @@ images_read S [] rs = []
 images_read S (p ∷ ps) [] = []
 images_read S (p ∷ ps) (e ∷ rs) = image_at (stmt_at S p) e ++ images_read S ps rs
 
--- the images, by numbers
-abbrev pub code_at : Hypothesis → List ℕ → CodeImages
-code_at (Float x) e = (x, drop 1 e) ∷ []
-code_at (Essential q) e = []
+-- the image that a result gives, and the images that all results give, by number
+abbrev pub code_image_at : Hypothesis → List ℕ → CodeImages
+code_image_at (Float x) e = (x, drop 1 e) ∷ []
+code_image_at (Essential q) e = []
 
-abbrev pub codes_read : List Hypothesis → List (List ℕ) → CodeImages
-codes_read [] es = []
-codes_read (h ∷ hs) [] = []
-codes_read (h ∷ hs) (e ∷ es) = code_at h e ++ codes_read hs es
+abbrev pub code_images_read : List Hypothesis → List (List ℕ) → CodeImages
+code_images_read [] es = []
+code_images_read (h ∷ hs) [] = []
+code_images_read (h ∷ hs) (e ∷ es) = code_image_at h e ++ code_images_read hs es
 
 -- images by number as images of names
 abbrev pub named_images : List Name → CodeImages → Images

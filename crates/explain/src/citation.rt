@@ -8,8 +8,8 @@ ghost use Rattle.frame.specs.AtPosition.{AreLegal};
 ghost use Rattle.explain.specs.Stored.Vectors.{AreSymbols, AreImages, CountIs, codes, named_expressions};
 ghost use Rattle.explain.specs.CitationFaults.{IsFaultOfResult, IsMismatchFault, NumberedResultsMatch, AreImagesOfResults};
 ghost use Rattle.scope.specs.Active.{before, stmt_at};
-ghost use Rattle.explain.specs.CitationResults.{CannotCite, named_after};
-ghost use Rattle.explain.specs.FirstFault.{FailsAt};
+ghost use Rattle.explain.specs.CitationResults.{CannotCite, named_without_cached};
+ghost use Rattle.explain.specs.FirstFault.{IsCitationFault};
 ghost use Rattle.explain.specs.WrongResults.{AreCorrect, IsResultsFault};
 ghost use Rattle.subst.specs.declared.buffer.TheConstants.{SYMBOLS_LIMIT};
 
@@ -36,7 +36,7 @@ pub fn citation_fault(
     requires results { AllBelow (length frames.now.names) results.now.results.stack }
     requires stuck { CannotCite frames.now at statement results.now }
     ensures { (labels : ℕ) (s : Statement) → stmt_at frames.now.statements statement ≡ Some s
-        → IfOk result (FailsAt frames.now.statements frames.now.names at (named_after frames.now labels results.now) statement s) }
+        → IfOk result (IsCitationFault frames.now.statements frames.now.names at (named_without_cached frames.now labels results.now) statement s) }
 {
     match frames.meaning(at, statement) {
         Meaning::Hypothesis(_) => Ok(Fault::TooManySymbols),
@@ -62,7 +62,7 @@ fn assertion_fault(
     requires results { AllBelow (length frames.now.names) results.now.results.stack }
     requires stuck { CannotCite frames.now at a results.now }
     ensures { (labels : ℕ) (s : Statement) → stmt_at frames.now.statements a ≡ Some s
-        → IfOk result (FailsAt frames.now.statements frames.now.names at (named_after frames.now labels results.now) a s) }
+        → IfOk result (IsCitationFault frames.now.statements frames.now.names at (named_without_cached frames.now labels results.now) a s) }
 {
     let mut mandatory = Vec::new(alloc);
     frames.mandatory(a, &mut mandatory)?;
@@ -91,7 +91,7 @@ fn assertion_view_fault(
     requires results { AllBelow (length frames.now.names) results.now.results.stack }
     requires stuck { CannotCite frames.now at a results.now }
     ensures { (labels : ℕ) (s : Statement) → stmt_at frames.now.statements a ≡ Some s
-        → IfOk result (FailsAt frames.now.statements frames.now.names at (named_after frames.now labels results.now) a s) }
+        → IfOk result (IsCitationFault frames.now.statements frames.now.names at (named_without_cached frames.now labels results.now) a s) }
 {
     let present = results.len();
     let required = mandatory.len();

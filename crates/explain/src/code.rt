@@ -5,7 +5,7 @@ ghost use Rattle.mm_lex.specs.Alphabet.{is_label, has_name};
 ghost use Rattle.proof_code.specs.LabelNames.{AreNames};
 ghost use Rattle.proof_code.specs.declared.item.Item.{Item};
 ghost use Rattle.proof_code.specs.Writes.{Writes, is_compressed, is_unfinished};
-ghost use Rattle.explain.specs.Breaks.{IsFirst, IsBreak, fails, joined};
+ghost use Rattle.explain.specs.Breaks.{IsFirst, IsBreak, has_fault, joined};
 
 use crate::broken_letters::letter_break;
 use crate::why::CodeBreak;
@@ -14,9 +14,9 @@ use proof_code::{MOST_LETTERS, is_compressed, names_of};
 use std::alloc::{AllocError, Global};
 use std::collections::BTreeSet;
 
-/// A test that finds a faulty token of a proof.
+/// A fault of a token of a proof.
 #[derive(Clone, Copy, Drop)]
-pub(crate) enum Test {
+pub(crate) enum TokenFault {
     /// The token has the byte `?`.
     Unfinished,
     /// The token is not a label.
@@ -39,13 +39,18 @@ pub(crate) fn code_break(
     if tokens.len() > MOST_LETTERS {
         return Err(AllocError);
     }
-    if let Some((token, _)) = first_of(&mut tokens.iter(), mandatory, None, Test::Unfinished) {
+    if let Some((token, _)) = first_with_fault(
+        &mut tokens.iter(),
+        mandatory,
+        None,
+        TokenFault::Unfinished,
+    ) {
         return Ok(CodeBreak::Unfinished { token });
     }
     if is_compressed(tokens) {
         return compressed_break(alloc, tokens, mandatory);
     }
-    match first_of(&mut tokens.iter(), mandatory, None, Test::NotLabel) {
+    match first_with_fault(&mut tokens.iter(), mandatory, None, TokenFault::NotLabel) {
         Some((token, _)) => Ok(CodeBreak::NotLabel { token }),
         None => unreachable!(),
     }
@@ -88,8 +93,12 @@ fn listed_break(
     }
     let mut words = tokens.iter();
     let _ = words.next();
-    let Some((listed, word)) = first_of(&mut words, mandatory, Some(names), Test::NotListable)
-    else {
+    let Some((listed, word)) = first_with_fault(
+        &mut words,
+        mandatory,
+        Some(names),
+        TokenFault::NotListable,
+    ) else {
         return Ok(CodeBreak::Unclosed);
     };
     if word == b")".as_slice() {
@@ -114,20 +123,20 @@ fn listed_break(
 ///
 /// Cost: linear in the tokens; for `NotListable` times the logarithm of the number of mandatory labels if their set is given,
 /// else times that number.
-fn first_of<'a>(
+fn first_with_fault<'a>(
     words: &mut WordIter<'a>,
     mandatory: &Words,
     names: Option<&BTreeSet<&[u8]>>,
-    test: Test,
+    fault: TokenFault,
 ) -> Option<(usize, &'a [u8])>
     requires few { length words.old < 2 ^ 64 }
     requires names { IfSome names (λ set. AreNames set.now mandatory.now) }
-    ensures { MatchOption result (list_any (fails mandatory.now test) words.old ≡ false)
-        (λ r. IsFirst (fails mandatory.now test) words.old r.0 r.1.now words.new) }
+    ensures { MatchOption result (list_any (has_fault mandatory.now fault) words.old ≡ false)
+        (λ r. IsFirst (has_fault mandatory.now fault) words.old r.0 r.1.now words.new) }
 {
     let mut index = 0usize;
     while let Some(word) = words.next() {
-        if fails(word, mandatory, names, test) {
+        if has_fault(word, mandatory, names, fault) {
             return Some((index, word));
         }
         index += 1;
@@ -136,14 +145,19 @@ fn first_of<'a>(
 }
 
 /// Returns whether the token has this fault.
-fn fails(token: &[u8], mandatory: &Words, names: Option<&BTreeSet<&[u8]>>, test: Test) -> bool
+fn has_fault(
+    token: &[u8],
+    mandatory: &Words,
+    names: Option<&BTreeSet<&[u8]>>,
+    fault: TokenFault,
+) -> bool
     requires { IfSome names (λ set. AreNames set.now mandatory.now) }
-    ensures { result ≡ fails mandatory.now test token.now }
+    ensures { result ≡ has_fault mandatory.now fault token.now }
 {
-    match test {
-        Test::Unfinished => token.contains(&b'?'),
-        Test::NotLabel => !is_label(token),
-        Test::NotListable => !is_label(token) || has(mandatory, names, token),
+    match fault {
+        TokenFault::Unfinished => token.contains(&b'?'),
+        TokenFault::NotLabel => !is_label(token),
+        TokenFault::NotListable => !is_label(token) || has(mandatory, names, token),
     }
 }
 

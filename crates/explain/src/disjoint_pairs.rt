@@ -8,7 +8,7 @@ ghost use Rattle.explain.specs.Stored.DisjointPairs.{AreDisjointPairs, IsDisjoin
 use std::alloc::Global;
 use std::collections::BTreeMap;
 
-/// The most pairs that are recorded; a full table is cleared before the next one.
+/// The most pairs that are recorded; a full cache is cleared before the next pair is recorded.
 const MOST_PAIRS: usize = 65_536;
 
 /// Two variables of an assertion.
@@ -27,7 +27,7 @@ pub struct DisjointPairs {
 }
 
 impl DisjointPairs {
-    /// Returns an empty table. Does not allocate.
+    /// Returns an empty cache. Does not allocate.
     pub fn new(alloc: Global) -> DisjointPairs
         ensures { result.pairs.items ≡ [] }
     {
@@ -76,13 +76,13 @@ fn is_pair_at(pairs: &[VariablePair], index: usize, first: u32, second: u32) -> 
     ensures { IsTrue result → IsPairAt pairs.now index first second }
 {
     match pairs.get(index) {
-        Some(pair) => is_of(*pair, first, second) || is_of(*pair, second, first),
+        Some(pair) => is_pair_of(*pair, first, second) || is_pair_of(*pair, second, first),
         None => false,
     }
 }
 
 /// Returns whether a pair consists of these two variables, in this order.
-fn is_of(pair: VariablePair, first: u32, second: u32) -> bool
+fn is_pair_of(pair: VariablePair, first: u32, second: u32) -> bool
     ensures { IsTrue result → (pair.first ≡ first) × (pair.second ≡ second) }
 {
     pair.first == first && pair.second == second

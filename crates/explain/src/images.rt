@@ -4,7 +4,7 @@ ghost use Rattle.frame.specs.Below.{AreBelow};
 ghost use Rattle.frame.specs.Substitution.{code_image, code_apply};
 ghost use Rattle.explain.specs.ImageIndexes.{IsImageIndex};
 ghost use Rattle.explain.specs.Stored.Vectors.{codes, AreSymbols, AreImages, code_images};
-ghost use Rattle.explain.specs.ReadImages.{codes_read};
+ghost use Rattle.explain.specs.ReadImages.{code_images_read};
 
 use entries::{Hypotheses, Hypothesis};
 use std::alloc::{AllocError, Global};
@@ -77,7 +77,7 @@ pub fn read_images<'a>(
 ) -> Result<Images<'a>, AllocError>
     requires { length kinds.now ≡ length results.now }
     ensures below { (n : ℕ) → AreSymbols n results.now → IfOk result (λ images. AreImages n images) }
-    ensures read { IfOk result (λ images. code_images images ≡ codes_read kinds.now (codes results.now)) }
+    ensures read { IfOk result (λ images. code_images images ≡ code_images_read kinds.now (codes results.now)) }
 {
     let list = list_images(alloc, kinds, results)?;
     Images::new(alloc, list)
@@ -91,7 +91,7 @@ fn list_images<'a>(
 ) -> Result<Vec<Image<'a>>, AllocError>
     requires { length kinds.now ≡ length results.now }
     ensures below { (n : ℕ) → AreSymbols n results.now → IfOk result (λ images. AreImages n images.items) }
-    ensures read { IfOk result (λ images. code_images images.items ≡ codes_read kinds.now (codes results.now)) }
+    ensures read { IfOk result (λ images. code_images images.items ≡ code_images_read kinds.now (codes results.now)) }
 {
     let mut images = Vec::new(alloc);
     for k in 0..kinds.len() {

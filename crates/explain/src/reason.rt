@@ -52,7 +52,7 @@ pub enum Fault {
         in_first_image: u32,
         in_second_image: u32,
     },
-    /// The lengths of all results, with that of this item, add up to more than the limit.
+    /// The lengths of all results, with that of the result of this item, add up to more than the limit.
     TooManySymbols,
     /// There is no result to mark, or none marked with this number.
     NoMarkedResult,

@@ -3,8 +3,8 @@ ghost use Rattle.std.specs.Prelude.{◌≡◌, ◌-◌, ◌<◌, ◌≤◌, leng
 ghost use Rattle.mm_read.specs.declared.stmt.Stmt.{Stmt as Statement};
 ghost use Rattle.scope.specs.Active.{stmt_at};
 ghost use Rattle.proof_code.specs.declared.item.Item.{Item};
-ghost use Rattle.explain.specs.CitationResults.{named_after};
-ghost use Rattle.explain.specs.FirstFault.{Fails, IsEnd, IsFirstFault};
+ghost use Rattle.explain.specs.CitationResults.{named_without_cached};
+ghost use Rattle.explain.specs.FirstFault.{IsItemFault, IsEndReason, IsFirstFault};
 ghost use Rattle.explain.specs.declared.reason.Fault.TheVariants.{TooManySymbols, NoMarkedResult};
 ghost use Rattle.verify.specs.Right.{IsProvable, IsRight};
 ghost use Rattle.verify.specs.Stops.{IsOther, IsStopped};
@@ -48,8 +48,8 @@ pub fn first_fault(
     }
 }
 
-/// Returns the fault of the item at which the run stops. The number of an item is 0 for a mark, up to the count of the labels
-/// for a citation, greater for a recall.
+/// Returns the fault of the item at which the run stops. The number of an item is 0 for a mark, from 1 to the count of the
+/// labels for a citation, and greater for a recall.
 fn item_fault(
     alloc: Global,
     frames: &Frames,
@@ -62,7 +62,7 @@ fn item_fault(
     requires position { (1 ≤ at) × (at ≤ length frames.now.statements) }
     requires item { item < length items.now }
     requires stopped { IsStopped frames.now.statements at frames.now.names items.now item labels results.now.results }
-    ensures { (what : Item) → slice_get items.now item ≡ Some what → IfOk result (Fails frames.now.statements frames.now.names at (named_after frames.now labels results.now) what) }
+    ensures { (what : Item) → slice_get items.now item ≡ Some what → IfOk result (IsItemFault frames.now.statements frames.now.names at (named_without_cached frames.now labels results.now) what) }
 {
     let parts = items.parts();
     let number = parts.numbers[item] as usize;
@@ -79,7 +79,7 @@ fn item_fault(
     }
 }
 
-/// Returns the fault of a recall that fails. The index counts the marked results, which follow those kept for labels.
+/// Returns the fault of a recall that fails. The index counts the marked results, which follow those cached for labels.
 fn recall_fault(results: &Results, labels: usize, index: usize) -> Fault
     ensures marked { index < length results.now.results.saved - labels → result ≡ TooManySymbols }
     ensures unmarked { length results.now.results.saved - labels ≤ index → result ≡ NoMarkedResult }
@@ -93,7 +93,7 @@ fn recall_fault(results: &Results, labels: usize, index: usize) -> Fault
 
 /// Returns the reason at the end of a run that does not leave the theorem's expression as its only result.
 fn end_reason(alloc: Global, results: &Results) -> Result<Reason, AllocError>
-    ensures { IfOk result (IsEnd results.now.results.stack) }
+    ensures { IfOk result (IsEndReason results.now.results.stack) }
 {
     let count = results.len();
     if count != 1 {

@@ -3,7 +3,7 @@
 ghost use Rattle.std.specs.Prelude.{◌≤◌, length, IfOk};
 
 use crate::broken_rule::explain_rule;
-use crate::proof::{explain_proof, explain_with_frames};
+use crate::proof::{explain_in_database, explain_proof};
 use crate::shape_fault::explain_shape;
 use crate::text_fault::explain_text;
 use crate::text_tokens::TextTokens;
@@ -48,19 +48,19 @@ pub fn explain_refusal(
 }
 
 /// Returns the lines that explain why a text is refused after the statements of a library, at most 65,536 bytes. The first
-/// `before` bytes of `text` are the export of the library; lines and columns are counted in the rest, which is the refused
-/// text. The statement number in `fault` counts from the first statement of the library.
+/// `library_len` bytes of `text` are the export of the library; lines and columns are counted in the rest, which is the
+/// refused text. The statement number in `fault` counts from the first statement of the library.
 ///
 /// Errors and cost: those of `explain_refusal`.
 pub fn explain_after(
     alloc: Global,
     text: &[u8],
-    before: usize,
+    library_len: usize,
     fault: DatabaseFault,
 ) -> Result<Vec<u8>, AllocError>
     ensures short { IfOk result (λ lines. length lines.items ≤ MOST_BYTES) }
 {
-    let mut lines = Lines::new(alloc, None, before);
+    let mut lines = Lines::new(alloc, None, library_len);
     push_lines(alloc, &mut lines, text, fault);
     lines.into_bytes()
 }
@@ -80,7 +80,7 @@ pub fn explain_unproved(
     ensures short { IfOk result (λ lines. length lines.items ≤ MOST_BYTES) }
 {
     let mut lines = Lines::new(alloc, name, 0);
-    explain_with_frames(alloc, &mut lines, tokens, database, statement);
+    explain_in_database(alloc, &mut lines, tokens, database, statement);
     lines.into_bytes()
 }
 

@@ -29,13 +29,13 @@ pub(crate) fn spot_of(proof: &Words, item: usize) -> Spot {
 
 /// Returns where the letter group or mark at an index begins among the letters, or the end of the tokens if there are fewer.
 fn group_spot(proof: &Words, item: usize) -> Spot {
-    let mut is_past = false;
+    let mut in_letters = false;
     let mut rest = proof.iter();
     let mut token = 0usize;
     let mut before = item;
     let mut begun = None;
     while let Some(letters) = rest.next() {
-        if is_past {
+        if in_letters {
             for (byte, letter) in letters.iter().enumerate() {
                 let begin = begun.unwrap_or(Spot { token, byte });
                 begun = Some(begin);
@@ -48,7 +48,7 @@ fn group_spot(proof: &Words, item: usize) -> Spot {
                 }
             }
         }
-        is_past = is_past || letters == b")".as_slice();
+        in_letters = in_letters || letters == b")".as_slice();
         token = token.saturating_add(1);
     }
     Spot { token, byte: 0 }
@@ -56,18 +56,18 @@ fn group_spot(proof: &Words, item: usize) -> Spot {
 
 /// Returns where the letter at an index among those of all tokens after `)` is, or the end of the tokens if there are fewer.
 pub(crate) fn letter_spot(proof: &Words, letter: usize) -> Spot {
-    let mut is_past = false;
+    let mut in_letters = false;
     let mut rest = proof.iter();
     let mut token = 0usize;
     let mut byte = letter;
     while let Some(letters) = rest.next() {
-        if is_past {
+        if in_letters {
             if byte < letters.len() {
                 return Spot { token, byte };
             }
             byte -= letters.len();
         }
-        is_past = is_past || letters == b")".as_slice();
+        in_letters = in_letters || letters == b")".as_slice();
         token = token.saturating_add(1);
     }
     Spot { token, byte: 0 }

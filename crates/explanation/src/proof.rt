@@ -52,12 +52,12 @@ fn explain_in_text(
     statement: usize,
 ) {
     if let Some(tokens) = lines.ok_or_fail(TextTokens::new(alloc, text)) {
-        explain_with_frames(alloc, lines, &tokens, database, statement);
+        explain_in_database(alloc, lines, &tokens, database, statement);
     }
 }
 
 /// Writes why the proof of the `$p` at a position is wrong or unfinished, given the statements parsed from the text.
-pub(crate) fn explain_with_frames(
+pub(crate) fn explain_in_database(
     alloc: Global,
     lines: &mut Lines<'_>,
     tokens: &TextTokens<'_>,

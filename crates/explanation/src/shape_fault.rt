@@ -45,7 +45,7 @@ fn explain_token(lines: &mut Lines<'_>, text: &[u8], spans: &[Span], index: usiz
     match spans.get(index) {
         Some(span) => {
             lines.push_place(text, span.start);
-            push_misfit(lines, expected, token_in(text, *span), start == index);
+            push_misplaced(lines, expected, token_in(text, *span), start == index);
         }
         None => {
             lines.push_place(text, text.len());
@@ -68,7 +68,7 @@ fn explain_token(lines: &mut Lines<'_>, text: &[u8], spans: &[Span], index: usiz
 
 /// Writes that a token is not allowed where it is, and which tokens are; for `$[`, that files are not included; and for a
 /// word in place of a label, which characters a label has.
-fn push_misfit(lines: &mut Lines<'_>, expected: &[u8], token: &[u8], begins: bool) {
+fn push_misplaced(lines: &mut Lines<'_>, expected: &[u8], token: &[u8], begins: bool) {
     if token == b"$[".as_slice() {
         lines.push(
             b": file inclusion is not supported; join the files first: cat a.mm b.mm | mmlib check",
@@ -109,10 +109,10 @@ fn symbols_or_end(len: usize, enough: usize) -> &'static [u8] {
 
 /// Returns the part of the message that names the tokens allowed after these, the first of which is a label.
 fn after_label(text: &[u8], before: &[Span]) -> &'static [u8] {
-    let Some(key) = before.get(1) else {
+    let Some(keyword) = before.get(1) else {
         return b"$f, $e, $a or $p";
     };
-    match token_in(text, *key) {
+    match token_in(text, *keyword) {
         b"$f" => match before.len() {
             2 => b"a constant",
             3 => b"a variable",

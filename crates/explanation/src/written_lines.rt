@@ -24,16 +24,16 @@ pub(crate) struct Lines<'a> {
     has_failed: bool,
     /// The number of bytes at the start of the text that are the statements of a library, one on each line; only the rest is
     /// explained.
-    before: usize,
+    library_len: usize,
 }
 
 impl<'a> Lines<'a> {
-    pub(crate) fn new(alloc: Global, name: Option<&'a str>, before: usize) -> Lines<'a> {
+    pub(crate) fn new(alloc: Global, name: Option<&'a str>, library_len: usize) -> Lines<'a> {
         Lines {
             bytes: Vec::new(alloc),
             name,
             has_failed: false,
-            before,
+            library_len,
         }
     }
 
@@ -92,9 +92,9 @@ impl<'a> Lines<'a> {
     /// Writes `LINE:COLUMN`, counted in the part that is explained, after the name of the file and a colon if there is a name;
     /// for an offset before that part, writes the number of the statement of the library at that offset.
     pub(crate) fn push_place(&mut self, text: &[u8], offset: usize) {
-        let before = self.before;
+        let library_len = self.library_len;
         let within = offset.min(text.len());
-        if within < before {
+        if within < library_len {
             self.push(b"statement ");
             self.push_number(line_and_column(text, within).line);
             self.push(b" of the library");
@@ -104,8 +104,8 @@ impl<'a> Lines<'a> {
             self.push(name.as_bytes());
             self.push(b":");
         }
-        let explained = &text[before..];
-        let place = line_and_column(explained, within - before);
+        let explained = &text[library_len..];
+        let place = line_and_column(explained, within - library_len);
         self.push_number(place.line);
         self.push(b":");
         self.push_number(place.column);

@@ -148,7 +148,7 @@ impl DisjointLists {
         marks: &[bool],
         found: &mut Vec<usize>,
     ) -> Result<(), AllocError> {
-        let most = self.with_most(other_variables);
+        let most = self.with_most_lists(other_variables);
         for code in other_variables {
             if !self.is_covered(*code) {
                 self.count_variable(at, *code, most, marks, found)?;
@@ -163,7 +163,7 @@ impl DisjointLists {
 
     /// Returns the variable of `other_variables` with the most `$d` among those that are not covered, or `usize::MAX` if all are
     /// covered.
-    fn with_most(&self, other_variables: &[usize]) -> usize {
+    fn with_most_lists(&self, other_variables: &[usize]) -> usize {
         let mut most = usize::MAX;
         for code in other_variables {
             if !self.is_covered(*code) && self.count(*code) >= self.count(most) {
@@ -191,23 +191,23 @@ impl DisjointLists {
         for offset in from..self.count(code) {
             if let Some(index) = self.index(code, offset) {
                 if !self.is_included(index, marks) {
-                    let more = self.has(most, index);
-                    self.count_in(at, index, code != most, more, found)?;
+                    let has_most = self.has(most, index);
+                    self.count_in(at, index, code != most, has_most, found)?;
                 }
             }
         }
-        self.forget_included(code, from, marks);
+        self.remove_included(code, from, marks);
         Ok(())
     }
 
     /// Counts one more variable of the assertion at a position in a `$d`, if `counts`, and appends the position of the `$d` if
-    /// the count is 2 or more. The first call for an assertion starts from the covered variables, plus one if `more`.
+    /// the count is 2 or more. The first call for an assertion starts from the covered variables, plus one if `has_most`.
     fn count_in(
         &mut self,
         at: usize,
         index: usize,
         counts: bool,
-        more: bool,
+        has_most: bool,
         found: &mut Vec<usize>,
     ) -> Result<(), AllocError> {
         let Some(list) = self.lists.get_mut(index) else {
@@ -215,7 +215,7 @@ impl DisjointLists {
         };
         if list.counted_for != at {
             list.counted_for = at;
-            list.count = list.covered.saturating_add(one_if(more));
+            list.count = list.covered.saturating_add(one_if(has_most));
         }
         list.count = list.count.saturating_add(one_if(counts));
         if list.count >= 2 {
@@ -225,7 +225,7 @@ impl DisjointLists {
     }
 
     /// Removes the marked `$d` from those of a symbol, from index `from` on, and records that all were visited.
-    fn forget_included(&mut self, code: usize, from: usize, marks: &[bool]) {
+    fn remove_included(&mut self, code: usize, from: usize, marks: &[bool]) {
         let mut kept = from;
         for offset in from..self.count(code) {
             if let Some(index) = self.index(code, offset) {

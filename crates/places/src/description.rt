@@ -83,18 +83,19 @@ fn can_skip(walk: Walk) -> bool
     }
 }
 
-/// Returns the offset of the run that contains the next `$`, or of the last run if there is no `$`.
+/// Returns the offset after the last white byte between `at` and the next `$` or the end of the text, or `at` if there is no
+/// such byte.
 fn skip_to_dollar(text: &[u8], at: usize) -> usize
     requires { at ≤ length text.now }
     ensures { SkipsRuns text.now at result }
 {
     let (_, rest) = text.split_at(at);
-    let (plain, _) = rest.split_at(count_plain(rest));
+    let (plain, _) = rest.split_at(count_before_dollar(rest));
     at + after_last_white(plain)
 }
 
 /// Returns the number of bytes before the first `$`, or of all bytes if there is none.
-fn count_plain(text: &[u8]) -> usize
+fn count_before_dollar(text: &[u8]) -> usize
     ensures within { result ≤ length text.now }
     ensures plain { (k : ℕ) → k < result → slice_index text.now k ≡ 36 → ⊥ }
 {

@@ -35,7 +35,7 @@ fn push_hypotheses(
     }
     let partition = partition_essential(alloc, values.contents.statements, values.hypotheses)?;
     page.extend_from_slice(b"<h2>Hypotheses</h2>\n")?;
-    push_table(page, &values.notation, &partition.first)?;
+    push_table(page, &values.notation, &partition.passing)?;
     push_floating(page, &values.notation, &partition.others)
 }
 

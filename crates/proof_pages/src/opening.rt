@@ -2,13 +2,13 @@
 use crate::notation::{label_of, push_html_expr};
 use crate::page_values::PageValues;
 use crate::partition::expr_at;
-use crate::style::{HEAD, SHEET};
+use crate::style::{PAGE_START, STYLE_SHEET};
 use markup::push_html;
 use std::alloc::AllocError;
 
 /// Appends the start of a page: its title and its style.
 fn push_head(page: &mut Vec<u8>, title: &[u8], is_linked: bool) -> Result<(), AllocError> {
-    page.extend_from_slice(HEAD)?;
+    page.extend_from_slice(PAGE_START)?;
     push_html(page, title)?;
     page.extend_from_slice(b"</title>\n")?;
     push_style(page, is_linked)?;
@@ -23,14 +23,14 @@ fn push_style(page: &mut Vec<u8>, is_linked: bool) -> Result<(), AllocError> {
         return page.extend_from_slice(b"<link rel=\"stylesheet\" href=\"style.css\">\n");
     }
     page.extend_from_slice(b"<style>\n")?;
-    page.extend_from_slice(SHEET)?;
+    page.extend_from_slice(STYLE_SHEET)?;
     page.extend_from_slice(b"</style>\n")
 }
 
 /// Appends the part before the hypotheses: the label, the description and the expression.
 pub fn push_opening(page: &mut Vec<u8>, values: &PageValues<'_>) -> Result<(), AllocError> {
     let contents = values.contents;
-    push_head(page, label_at(values), values.notation.is_linked)?;
+    push_head(page, assertion_label(values), values.notation.is_linked)?;
     push_kind_and_index_link(page, values)?;
     push_description(page, contents.related.description)?;
     page.extend_from_slice(b"<p class=\"expr\">")?;
@@ -43,7 +43,7 @@ pub fn push_opening(page: &mut Vec<u8>, values: &PageValues<'_>) -> Result<(), A
 }
 
 /// Returns the label of the assertion.
-fn label_at<'a>(values: &PageValues<'a>) -> &'a [u8] {
+fn assertion_label<'a>(values: &PageValues<'a>) -> &'a [u8] {
     let contents = values.contents;
     if contents.at == 0 || contents.at > contents.statements.len() {
         return &[];

@@ -15,7 +15,7 @@ use std::alloc::{AllocError, Global};
 use std::io::Write;
 
 /// Writes the page of an assertion as a file of its own: the assertion with its description, if `contents` has one,
-/// its hypotheses and its disjoint variables; its essential steps, also all steps if `is_whole`, the axioms that it
+/// its hypotheses and its disjoint variables; its essential steps, also all steps if `shows_all_steps`, the axioms that it
 /// rests on, and the theorems that cite it.
 ///
 /// Errors: `Memory`, `Output`; part of the page may be written then. Cost: the size of the page, and the number of all
@@ -24,11 +24,11 @@ pub fn write_page<W: Write>(
     alloc: Global,
     out: &mut W,
     contents: &PageContents<'_>,
-    is_whole: bool,
+    shows_all_steps: bool,
 ) -> Result<(), WriteFault>
     requires { (s : Statement) × HasAssertion contents.now.frames.now.statements contents.now.at s }
 {
-    write_contents(alloc, out, contents, false, is_whole)
+    write_contents(alloc, out, contents, false, shows_all_steps)
 }
 
 /// Writes the page of an assertion as part of a site: the page of `write_page` with only the
@@ -52,7 +52,7 @@ fn write_contents<W: Write>(
     out: &mut W,
     contents: &PageContents<'_>,
     is_linked: bool,
-    is_whole: bool,
+    shows_all_steps: bool,
 ) -> Result<(), WriteFault>
     requires { (s : Statement) × HasAssertion contents.now.frames.now.statements contents.now.at s }
 {
@@ -67,7 +67,7 @@ fn write_contents<W: Write>(
             is_linked,
         },
         hypotheses: hypotheses.as_slice(),
-        is_whole,
+        shows_all_steps,
     };
     write_parts(alloc, out, &values)
 }

@@ -1,4 +1,4 @@
-//! A page that is being written.
+//! The values that the parts of a page share.
 use crate::contents::PageContents;
 use crate::notation::Notation;
 
@@ -10,5 +10,5 @@ pub struct PageValues<'a> {
     /// The positions of the mandatory hypotheses.
     pub hypotheses: &'a [u32],
     /// Whether all steps are shown besides the essential ones.
-    pub is_whole: bool,
+    pub shows_all_steps: bool,
 }

@@ -7,7 +7,7 @@ use std::alloc::{AllocError, Global};
 #[derive(Drop)]
 pub struct Partition {
     /// The positions that pass the test.
-    pub first: Vec<u32>,
+    pub passing: Vec<u32>,
     /// The positions that do not pass it.
     pub others: Vec<u32>,
 }
@@ -15,14 +15,14 @@ pub struct Partition {
 impl Partition {
     fn new(alloc: Global) -> Partition {
         Partition {
-            first: Vec::new(alloc),
+            passing: Vec::new(alloc),
             others: Vec::new(alloc),
         }
     }
 
     fn add(&mut self, position: u32, passes: bool) -> Result<(), AllocError> {
         if passes {
-            self.first.push(position)?;
+            self.passing.push(position)?;
         } else {
             self.others.push(position)?;
         }

@@ -35,7 +35,7 @@ fn write_tables<W: Write>(
 ) -> Result<(), WriteFault> {
     page.extend_from_slice(b"<h2>Proof</h2>\n")?;
     write_steps(out, page, &values.notation, b"e", proof.essential)?;
-    if values.is_whole {
+    if values.shows_all_steps {
         page.extend_from_slice(b"<details>\n<summary>All steps</summary>\n")?;
         write_steps(out, page, &values.notation, b"s", proof.steps)?;
         page.extend_from_slice(b"</details>\n")?;
@@ -76,7 +76,7 @@ fn push_axioms(
         contents.related.axioms,
     )?;
     page.extend_from_slice(b"<h2>Axioms that it rests on</h2>\n")?;
-    push_labels(page, &values.notation, &axioms.first)?;
+    push_labels(page, &values.notation, &axioms.passing)?;
     push_other_axioms(page, &values.notation, &axioms.others)
 }
 

@@ -1,5 +1,5 @@
 -- From the results of the searches to a violation of each rule.
-use Rattle.rule_violation.proofs.Words.{◌≡◌, ℕ, Bool, true, false, not, ◌&&◌, ◌||◌, List, [], ◌∷◌, refl, sym, ◌∙◌, ap, Option, Some, None, IsSomeAnd, MatchOption, IsTrue, true≢false, slice_get, IfOk, Result, IfOk-weaker, Rule, SymbolFault, list_any, list_all, and_from, and_parts, or_parts, not-true, or_assoc, or_comm, not-not, or_swap, Name, has_name, Stmt, Open, Close, Const, Var, Disj, Float, Ess, Axiom, Prove, Database, Expr, G2, G3, G4, G5, G8, G9, constants, variables, label_of, has_label, expr_of, is_constant, is_variable, has_float, was_symbol, was_label, keeps, all_different, is_fresh_label, are_typed, RuleViolation, Statement, Symbol, Twice, Earlier, Label, has_name_in, has_fault, Violates, Among, IsTwice, IsRepeated, IsSymbolOf, IsLabelOf, typed_expr}
+use Rattle.rule_violation.proofs.Words.{◌≡◌, ℕ, Bool, true, false, not, ◌&&◌, ◌||◌, List, [], ◌∷◌, refl, sym, ◌∙◌, ap, Option, Some, None, IsSomeAnd, MatchOption, IsTrue, true≢false, slice_get, IfOk, Result, IfOk-weaker, Rule, SymbolFault, list_any, list_all, and_from, and_parts, or_parts, not-true, or_assoc, or_comm, not-not, or_swap, Name, has_name, Stmt, Open, Close, Const, Var, Disj, Float, Ess, Axiom, Prove, Database, Expr, G2, G3, G4, G5, G8, G9, constants, variables, label_of, has_label, expr_of, is_constant, is_variable, has_float, was_symbol, was_label, keeps, all_different, is_fresh_label, are_typed, RuleViolation, Statement, Symbol, Twice, Earlier, Label, has_name_in, has_fault, Violates, HoldsAt, IsTwice, IsRepeated, IsSymbolOf, IsLabelOf, typed_expr}
 use Rattle.rule_violation.specs.declared.search.Part.TheVariants as part
 use Rattle.rule_violation.specs.declared.symbol_search.SymbolFault.TheVariants as fault
 
@@ -53,7 +53,7 @@ by_twice names r P not is = IfOk-weaker r _ _ (some_violation (all_different nam
 
 -- the violation by a symbol that fails a test, if the rule requires that all symbols pass it
 by_symbol : {E : Type 0} (S : Database) (s : Stmt) (rule : Rule) (t : SymbolFault) (pass : Name → Bool) (expr : Expr) (r : Result (Option RuleViolation) E)
-    → keeps S s rule ≡ list_all pass expr → ((x : Name) → pass x ≡ not (has_fault S t x)) → ((k : ℕ) → Among expr k (λ x. IsTrue (has_fault S t x)) → Violates S s rule (Symbol k))
+    → keeps S s rule ≡ list_all pass expr → ((x : Name) → pass x ≡ not (has_fault S t x)) → ((k : ℕ) → HoldsAt expr k (λ x. IsTrue (has_fault S t x)) → Violates S s rule (Symbol k))
     → IfOk r (λ found. MatchOption found (list_any (has_fault S t) expr ≡ false) (IsSymbolOf expr (has_fault S t)))
     → keeps S s rule ≡ false → IfOk r (λ found. IsSomeAnd found (Violates S s rule))
 by_symbol S s rule t pass expr r keeps_is same is told broken =

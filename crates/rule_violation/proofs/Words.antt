@@ -9,7 +9,7 @@ pub use Rattle.names.proofs.CodesLemmas.{code-name, first-named, has-at, name_eq
 pub use Rattle.names.specs.Codes.{AreDistinct, AreNamed, code_of, name_at}
 pub use Rattle.rule_violation.specs.Marks.{is_fault_if_absent, marked}
 pub use Rattle.rule_violation.specs.Search.{IsActiveAt, IsAt, closed_in, closed_from, has_fault, has_name_in}
-pub use Rattle.rule_violation.specs.Violates.{Among, IsLabelOf, IsRepeated, IsSymbolOf, IsTwice, Violates, typed_expr}
+pub use Rattle.rule_violation.specs.Violates.{HoldsAt, IsLabelOf, IsRepeated, IsSymbolOf, IsTwice, Violates, typed_expr}
 pub use Rattle.rule_violation.specs.declared.symbol_search.SymbolFault.{SymbolFault}
 pub use Rattle.rule_violation.specs.declared.violation.RuleViolation.{RuleViolation}
 pub use Rattle.rule_violation.specs.declared.violation.RuleViolation.TheVariants.{Earlier, Label, Statement, Symbol, Twice}

@@ -16,14 +16,14 @@ use Rattle.rule_violation.specs.declared.violation.RuleViolation.TheVariants.{St
 use Rattle.rule_violation.specs.Search.{has_name_in, IsAt, IsActiveAt}
 
 -- there is a name at the index, and it has the property
-pub record Among (names : List Name) (index : ℕ) (P : Name → Type 0) : Type 0 where
+pub record HoldsAt (names : List Name) (index : ℕ) (P : Name → Type 0) : Type 0 where
   pub name : Name
   pub is_there : slice_get names index ≡ Some name
   pub is : P name
 
 -- the violation is a symbol that passes the test
 abbrev pub IsSymbolOf : List Name → (Name → Bool) → RuleViolation → Type 0
-IsSymbolOf names test (Symbol k) = Among names k (λ x. IsTrue (test x))
+IsSymbolOf names test (Symbol k) = HoldsAt names k (λ x. IsTrue (test x))
 IsSymbolOf names test w = ⊥
 
 -- the violation is a statement that has the label or declares it as a symbol
@@ -33,7 +33,7 @@ IsLabelOf S x w = ⊥
 
 -- the same symbol is at both indexes
 abbrev pub IsTwice : List Name → ℕ → ℕ → Type 0
-IsTwice names first second = (first < second) × Among names second (λ x. slice_get names first ≡ Some x)
+IsTwice names first second = (first < second) × HoldsAt names second (λ x. slice_get names first ≡ Some x)
 
 abbrev pub IsRepeated : List Name → RuleViolation → Type 0
 IsRepeated names (Twice first second) = IsTwice names first second
@@ -57,24 +57,24 @@ abbrev pub Violates : Database → Stmt → Rule → RuleViolation → Type 0
 Violates S s G1 Statement = keeps S s G1 ≡ false
 Violates S s G10 Statement = keeps S s G10 ≡ false
 -- a constant that is an earlier label or was declared as a symbol, with that statement, or that occurs twice
-Violates S s G2 (Earlier k i) = Among (constants s) k (λ x. IsAt S i (has_name_in part.LabelOrSymbol x))
+Violates S s G2 (Earlier k i) = HoldsAt (constants s) k (λ x. IsAt S i (has_name_in part.LabelOrSymbol x))
 Violates S s G2 (Twice j k) = IsTwice (constants s) j k
 -- a variable that is an earlier label, was declared as a constant, or is an active variable, with that statement, or that
 -- occurs twice
-Violates S s G3 (Earlier k i) = Among (variables s) k (λ x. IsAt S i (has_name_in part.LabelOrConstant x) ⊎ IsActiveAt S i (has_name_in part.Variable x))
+Violates S s G3 (Earlier k i) = HoldsAt (variables s) k (λ x. IsAt S i (has_name_in part.LabelOrConstant x) ⊎ IsActiveAt S i (has_name_in part.Variable x))
 Violates S s G3 (Twice j k) = IsTwice (variables s) j k
 -- the label, which is an earlier label or was declared as a symbol, with that statement
 Violates S s G4 (Label i) = (x : Name) × (label_of s ≡ Some x) × IsAt S i (has_name_in part.LabelOrSymbol x)
 -- a symbol that is neither a constant nor an active variable
-Violates S s G5 (Symbol k) = Among (expr_of s) k (λ x. IsFalse (is_constant S x) × IsFalse (is_variable S x))
+Violates S s G5 (Symbol k) = HoldsAt (expr_of s) k (λ x. IsFalse (is_constant S x) × IsFalse (is_variable S x))
 -- the first symbol, which is not a constant
-Violates S s G6 (Symbol k) = (k ≡ 0) × Among (expr_of s) k (λ x. IsFalse (is_constant S x))
+Violates S s G6 (Symbol k) = (k ≡ 0) × HoldsAt (expr_of s) k (λ x. IsFalse (is_constant S x))
 -- the second symbol of a `$f`, which is not an active variable, or has an active `$f`, with that statement
-Violates S s G7 (Symbol k) = (k ≡ 1) × Among (float_expr s) k (λ x. IsFalse (is_variable S x))
-Violates S s G7 (Earlier k i) = (k ≡ 1) × Among (float_expr s) k (λ x. IsActiveAt S i (has_name_in part.Float x))
+Violates S s G7 (Symbol k) = (k ≡ 1) × HoldsAt (float_expr s) k (λ x. IsFalse (is_variable S x))
+Violates S s G7 (Earlier k i) = (k ≡ 1) × HoldsAt (float_expr s) k (λ x. IsActiveAt S i (has_name_in part.Float x))
 -- a symbol of a `$d` that is not an active variable, or that occurs twice
-Violates S s G8 (Symbol k) = Among (separated s) k (λ x. IsFalse (is_variable S x))
+Violates S s G8 (Symbol k) = HoldsAt (separated s) k (λ x. IsFalse (is_variable S x))
 Violates S s G8 (Twice j k) = IsTwice (separated s) j k
 -- a variable that has no active `$f`
-Violates S s G9 (Symbol k) = Among (typed_expr s) k (λ x. IsTrue (is_variable S x) × IsFalse (has_float S x))
+Violates S s G9 (Symbol k) = HoldsAt (typed_expr s) k (λ x. IsTrue (is_variable S x) × IsFalse (has_float S x))
 Violates S s rule w = ⊥

@@ -17,7 +17,7 @@ use scope::Rule;
 use std::alloc::{AllocError, Global};
 
 /// Returns a violation of a rule that a statement breaks after the earlier ones. If the statement keeps the rule, the result
-/// is not specified.
+/// is not specified. `scope::Rule` lists the rules G1 to G10.
 ///
 /// Errors: an allocation fails. Cost: a few passes over the earlier statements, with a look-up of each of their names among
 /// those of the statement.
@@ -44,6 +44,7 @@ pub fn violation_of(
     }
 }
 
+/// Returns a violation of G2 by a symbol of a `$c`.
 fn of_constants(
     alloc: Global,
     earlier: &[Stmt],
@@ -64,6 +65,7 @@ fn of_constants(
     }
 }
 
+/// Returns a violation of G3 by a symbol of a `$v`.
 fn of_variables(
     alloc: Global,
     earlier: &[Stmt],
@@ -86,6 +88,7 @@ fn of_variables(
     }
 }
 
+/// Returns a violation of G4 by the label.
 fn of_label(earlier: &[Stmt], stmt: &Stmt) -> Option<RuleViolation>
     ensures { keeps earlier.now stmt.now rule.G4 ≡ false → IsSomeAnd result (Violates earlier.now stmt.now rule.G4) }
 {
@@ -108,6 +111,7 @@ fn label_conflict(earlier: &[Stmt], label: &Word) -> Option<RuleViolation>
     }
 }
 
+/// Returns a violation of G5 by a symbol of the expression.
 fn of_expression(
     alloc: Global,
     earlier: &[Stmt],
@@ -120,15 +124,15 @@ fn of_expression(
             let symbol = usize::from(is_symbol(earlier, constant.as_bytes()));
             Ok(Some(RuleViolation::Symbol { symbol }))
         }
-        Stmt::Ess { expr, .. } => symbol_of(alloc, earlier, expr, SymbolFault::Unknown),
-        Stmt::Axiom { expr, .. } => symbol_of(alloc, earlier, expr, SymbolFault::Unknown),
-        Stmt::Prove { expr, .. } => symbol_of(alloc, earlier, expr, SymbolFault::Unknown),
+        Stmt::Ess { expr, .. } => faulty_symbol(alloc, earlier, expr, SymbolFault::Unknown),
+        Stmt::Axiom { expr, .. } => faulty_symbol(alloc, earlier, expr, SymbolFault::Unknown),
+        Stmt::Prove { expr, .. } => faulty_symbol(alloc, earlier, expr, SymbolFault::Unknown),
         _ => Ok(None),
     }
 }
 
 /// Returns the first of the symbols with this fault, by its index, or `None` if none has it.
-fn symbol_of(
+fn faulty_symbol(
     alloc: Global,
     earlier: &[Stmt],
     names: &Words,
@@ -142,6 +146,7 @@ fn symbol_of(
     }
 }
 
+/// Returns a violation of G7 by the second symbol of a `$f`.
 fn of_float(earlier: &[Stmt], stmt: &Stmt) -> Option<RuleViolation>
     ensures { keeps earlier.now stmt.now rule.G7 ≡ false → IsSomeAnd result (Violates earlier.now stmt.now rule.G7) }
 {
@@ -157,6 +162,7 @@ fn of_float(earlier: &[Stmt], stmt: &Stmt) -> Option<RuleViolation>
     }
 }
 
+/// Returns a violation of G8 by a symbol of a `$d`.
 fn of_disjoint(
     alloc: Global,
     earlier: &[Stmt],
@@ -167,12 +173,13 @@ fn of_disjoint(
     let Stmt::Disj(names) = stmt else {
         return Ok(None);
     };
-    match symbol_of(alloc, earlier, names, SymbolFault::Inactive)? {
+    match faulty_symbol(alloc, earlier, names, SymbolFault::Inactive)? {
         Some(violation) => Ok(Some(violation)),
         None => first_repeated(alloc, names),
     }
 }
 
+/// Returns a violation of G9 by a variable of a `$e`, `$a` or `$p`.
 fn of_untyped(
     alloc: Global,
     earlier: &[Stmt],
@@ -181,9 +188,9 @@ fn of_untyped(
     ensures { keeps earlier.now stmt.now rule.G9 ≡ false → IfOk result (λ violation. IsSomeAnd violation (Violates earlier.now stmt.now rule.G9)) }
 {
     match stmt {
-        Stmt::Ess { expr, .. } => symbol_of(alloc, earlier, expr, SymbolFault::Untyped),
-        Stmt::Axiom { expr, .. } => symbol_of(alloc, earlier, expr, SymbolFault::Untyped),
-        Stmt::Prove { expr, .. } => symbol_of(alloc, earlier, expr, SymbolFault::Untyped),
+        Stmt::Ess { expr, .. } => faulty_symbol(alloc, earlier, expr, SymbolFault::Untyped),
+        Stmt::Axiom { expr, .. } => faulty_symbol(alloc, earlier, expr, SymbolFault::Untyped),
+        Stmt::Prove { expr, .. } => faulty_symbol(alloc, earlier, expr, SymbolFault::Untyped),
         _ => Ok(None),
     }
 }

@@ -22,5 +22,6 @@ abbrev pub description_lines : Option (List ℕ) → List ℕ
 description_lines None = []
 description_lines (Some text) = wrapped (map (word text) (runs text))
 
+-- the block of the statement s at a position
 abbrev pub block_text : Database → ℕ → Stmt → Position → Option (List ℕ) → List ℕ
 block_text S at s line_and_column description = heading line_and_column at ++ description_lines description ++ frame_if S at s ++ statement_line s

@@ -1,4 +1,4 @@
-use Rattle.explain.proofs.Words.{◌≡◌, ◌∙◌, ◌++◌, ◌-◌, ap, sym, subst, refl, length, drop, take, map, arith, decode, expr_of, AllBelow, all-drop, map-append, named_after, images_of, IsResultsFault, codes, named_expressions}
+use Rattle.explain.proofs.Words.{◌≡◌, ◌∙◌, ◌++◌, ◌-◌, ap, sym, subst, refl, length, drop, take, map, arith, decode, expr_of, AllBelow, all-drop, map-append, named_without_cached, images_of, IsResultsFault, codes, named_expressions}
 use Rattle.frame.specs.Substitution.{apply as applied}
 use Rattle.verify.proofs.Words.{length-drop, length-map, take-append-drop}
 use Rattle.explain.proofs.NamedLemmas.{named-codes}
@@ -29,7 +29,7 @@ returns-in-Some c labels s e =
     ap (map (decode names)) (sym (take-append-drop base stack)) ∙ map-append (decode names) (take base stack) (drop base stack) in
     let all = c.len-present.ensures in let few = c.if-present-required.false in
     let same = length-map (drop base stack) (decode names) in let cut = length-drop base stack in let required = ap length (c.requires.mandatory s e) in
-    wrong_fails S names c.args.at c.args.a s (named_after c.args.frames.now labels c.args.results.now) (map (decode names) (take base stack)) (map (decode names) (drop base stack)) c.in-Some.fault
+    wrong_fails S names c.args.at c.args.a s (named_without_cached c.args.frames.now labels c.args.results.now) (map (decode names) (take base stack)) (map (decode names) (drop base stack)) c.in-Some.fault
     whole (omega (arith, all, few, same, cut, required)) c.requires.earlier has
     (subst (λ rs. IsResultsFault S names c.args.at c.args.a s rs c.in-Some.fault) by_names (rw c.in-Some.is at (c.in_ok-fault.ensures s e)))
 

@@ -1,4 +1,4 @@
-use Rattle.explain.proofs.Words.{◌≡◌, ◌<◌, ◌∙◌, subst, sym, ap, refl, drop, ◌+◌, ◌++◌, length, get_or, arith, get_or_from_slice_get, slice_get_within, Float, AreBelow, codes, code_images, AreImages, codes_read, below-drop}
+use Rattle.explain.proofs.Words.{◌≡◌, ◌<◌, ◌∙◌, subst, sym, ap, refl, drop, ◌+◌, ◌++◌, length, get_or, arith, get_or_from_slice_get, slice_get_within, Float, AreBelow, codes, code_images, AreImages, code_images_read, below-drop}
 use Rattle.explain.proofs.VectorLemmas.{got, nothing, symbols-at}
 use Rattle.explain.proofs.ImagesLemmas.{images-push}
 use Rattle.explain.proofs.NamedLemmas.{read_more, read_skip}
@@ -21,13 +21,13 @@ loop-k-preserved c =
                 (c.loop-k.invariant.below n symbols)
                 (subst (λ xs. AreBelow n xs) (sym e) (below-drop n 1 r.now (symbols-at n c.args.results.now c.loop-k.k r symbols inside here))));
             read = read_more c.args.kinds.now c.args.results.now c.loop-k.k w.in-Float.variable c.loop-k.images.items c.match-get.images.items
-                (record { variable = w.in-Float.variable; symbols = w.without_first-symbols.result }) (codes_read c.args.kinds.now (codes c.args.results.now))
+                (record { variable = w.in-Float.variable; symbols = w.without_first-symbols.result }) (code_images_read c.args.kinds.now (codes c.args.results.now))
                 within inside (kind ∙ w.in-Float.is) r here refl e
                 (ap (λ v. v.items) w.images-is ∙ w.in_ok-push.ensures.items) c.loop-k.invariant.read;
           }
       | in_default w ↦ record {
         below = λ n symbols. subst (λ v. AreImages n v.items) (sym w.images-is) (c.loop-k.invariant.below n symbols);
-        read = subst (λ v. code_images v.items ++ codes_read (drop (c.loop-k.k + 1) c.args.kinds.now) (codes (drop (c.loop-k.k + 1) c.args.results.now)) ≡ codes_read c.args.kinds.now (codes c.args.results.now)) (sym w.images-is)
-            (read_skip c.args.kinds.now c.args.results.now c.loop-k.k c.loop-k.images.items (codes_read c.args.kinds.now (codes c.args.results.now)) within inside (λ x e. w.in_default.not-Float x (sym kind ∙ e)) c.loop-k.invariant.read);
+        read = subst (λ v. code_images v.items ++ code_images_read (drop (c.loop-k.k + 1) c.args.kinds.now) (codes (drop (c.loop-k.k + 1) c.args.results.now)) ≡ code_images_read c.args.kinds.now (codes c.args.results.now)) (sym w.images-is)
+            (read_skip c.args.kinds.now c.args.results.now c.loop-k.k c.loop-k.images.items (code_images_read c.args.kinds.now (codes c.args.results.now)) within inside (λ x e. w.in_default.not-Float x (sym kind ∙ e)) c.loop-k.invariant.read);
       }
     ]

@@ -1,4 +1,4 @@
-use Rattle.explain.proofs.Words.{◌≡◌, ◌-◌, List, [], length, get_or, arith, sym, ◌∙◌, subst, None, Some, slice_get, Cite, IfOk-weaker, UnknownLabel, Fails, same_Some}
+use Rattle.explain.proofs.Words.{◌≡◌, ◌-◌, List, [], length, get_or, arith, sym, ◌∙◌, subst, None, Some, slice_get, Cite, IfOk-weaker, UnknownLabel, IsItemFault, same_Some}
 use Rattle.explain.proofs.RunItemLemmas.{found-length, found-at, cited_fails}
 use Rattle.explain.proofs.StoppedLemmas.{held, fails_mark, fails_recall, cannot_cite, mark_there, recall_there, cite_there, position_at}
 use Rattle.explain.proofs.run.item_fault.Goals as goal
@@ -35,7 +35,7 @@ returns-in-Some c = λ what there.
     let p = rw c.in-Some.is at (position_at S labels positions (n - 1) c.index.result.now c.index.result.now c.in_ok-positions.ensures.found (omega arith) c.index.ensures) in
     let cites : slice_get items k ≡ Some (Cite (get_or labels (n - 1) [])) = cite_there labels numbers items k c.parts-parts.ensures c.requires.item c.if-number-eq0.false (omega arith) in
     IfOk-weaker c.citation_fault.result _ _
-    (λ fault fails. subst (λ w. Fails S names at (held S names at items k c.args.labels c.args.results.now.results c.requires.stopped) w fault) (same_Some (Cite (get_or labels (n - 1) [])) what (sym cites ∙ there))
+    (λ fault fails. subst (λ w. IsItemFault S names at (held S names at items k c.args.labels c.args.results.now.results c.requires.stopped) w fault) (same_Some (Cite (get_or labels (n - 1) [])) what (sym cites ∙ there))
     (cited_fails S names at (held S names at items k c.args.labels c.args.results.now.results c.requires.stopped) c.in-Some.statement p.0 (get_or labels (n - 1) []) fault p.1 fails)) (c.citation_fault.ensures c.args.labels p.0 p.1.stands)
 
 pub returns : goal.returns
@@ -46,4 +46,4 @@ returns c = λ what there.
     let l = found-length S labels positions c.in_ok-positions.ensures.found in
     let p = rw c.in-None.is at (position_at S labels positions (n - 1) c.index.result.now c.index.result.now c.in_ok-positions.ensures.found (omega arith) c.index.ensures) in
     let cites : slice_get items k ≡ Some (Cite (get_or labels (n - 1) [])) = cite_there labels numbers items k c.parts-parts.ensures c.requires.item c.if-number-eq0.false (omega arith) in
-    subst (λ w. Fails S names at (held S names at items k c.args.labels c.args.results.now.results c.requires.stopped) w UnknownLabel) (same_Some (Cite (get_or labels (n - 1) [])) what (sym cites ∙ there)) p
+    subst (λ w. IsItemFault S names at (held S names at items k c.args.labels c.args.results.now.results c.requires.stopped) w UnknownLabel) (same_Some (Cite (get_or labels (n - 1) [])) what (sym cites ∙ there)) p

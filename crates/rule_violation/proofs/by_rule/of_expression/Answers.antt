@@ -3,10 +3,10 @@ use Rattle.rule_violation.proofs.ViolationLemmas.{G5_is}
 use Rattle.rule_violation.proofs.by_rule.of_expression.Goals as goal
 
 pub returns-in-Ess : goal.returns-in-Ess
-returns-in-Ess c = G5_is c.args.earlier.now c.args.stmt.now c.in-Ess.expr c.symbol_of.result (ap expr_of c.in-Ess.is) c.symbol_of.ensures
+returns-in-Ess c = G5_is c.args.earlier.now c.args.stmt.now c.in-Ess.expr c.faulty_symbol.result (ap expr_of c.in-Ess.is) c.faulty_symbol.ensures
 
 pub returns-in-Axiom : goal.returns-in-Axiom
-returns-in-Axiom c = G5_is c.args.earlier.now c.args.stmt.now c.in-Axiom.expr c.symbol_of-in-Axiom.result (ap expr_of c.in-Axiom.is) c.symbol_of-in-Axiom.ensures
+returns-in-Axiom c = G5_is c.args.earlier.now c.args.stmt.now c.in-Axiom.expr c.faulty_symbol-in-Axiom.result (ap expr_of c.in-Axiom.is) c.faulty_symbol-in-Axiom.ensures
 
 pub returns-in-Prove : goal.returns-in-Prove
-returns-in-Prove c = G5_is c.args.earlier.now c.args.stmt.now c.in-Prove.expr c.symbol_of-in-Prove.result (ap expr_of c.in-Prove.is) c.symbol_of-in-Prove.ensures
+returns-in-Prove c = G5_is c.args.earlier.now c.args.stmt.now c.in-Prove.expr c.faulty_symbol-in-Prove.result (ap expr_of c.in-Prove.is) c.faulty_symbol-in-Prove.ensures

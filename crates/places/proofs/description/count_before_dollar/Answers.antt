@@ -1,5 +1,5 @@
 use Rattle.std.proofs.Common.{arith, eq-eqb}
-use Rattle.places.proofs.description.count_plain.Goals as goal
+use Rattle.places.proofs.description.count_before_dollar.Goals as goal
 
 pub returns-in-Some-clause-plain : goal.returns-in-Some-clause-plain
 returns-in-Some-clause-plain c = λ k before is. c.in-Some.ensures.0.before k (omega arith) before (eq-eqb _ _ is)

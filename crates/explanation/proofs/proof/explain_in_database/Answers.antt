@@ -2,7 +2,7 @@ use Rattle.std.proofs.Common.{◌∙◌, ap, refl, sym}
 use Rattle.mm_read.specs.declared.stmt.Stmt.{Stmt}
 use Rattle.mm_read.specs.declared.stmt.Stmt.TheVariants.{Prove}
 use Rattle.scope.specs.Active.{bare, bares}
-use Rattle.explanation.proofs.proof.explain_with_frames.Goals as goal
+use Rattle.explanation.proofs.proof.explain_in_database.Goals as goal
 use Rattle.verify.proofs.RightLemmas.{provable-bare}
 use Rattle.verify.specs.Right.{IsProvable}
 
