@@ -35,7 +35,7 @@ fn shortened<'a>(
 }
 
 /// Appends to the buffer the conclusion of the assertion from the results in these ranges, and returns its range.
-/// `standing` has the places of the symbols of the assertion's expression.
+/// `standing` has the places of the symbols in the assertion's expression.
 ///
 /// Errors: an allocation fails, or the expressions exceed `SYMBOLS_LIMIT` symbols. Cost: one look at each result, the symbols
 /// written, and the symbols of the expression, or only its distinct ones if `standing` is given.

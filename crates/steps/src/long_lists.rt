@@ -36,7 +36,7 @@ impl Model for HypothesisList {
 }
 
 impl HypothesisList {
-    /// Returns the hypotheses of the assertion at a position, by its parts.
+    /// Returns the hypotheses of the assertion at a position, copied from a view of it.
     ///
     /// Errors: an allocation fails.
     fn of(

@@ -131,7 +131,7 @@ fn fill_ranges(
     Ok(())
 }
 
-/// Cites an assertion by its parts, and the places of the symbols of its expression if they are known.
+/// Cites an assertion, given a view of it and, if they are known, the places of the symbols in its expression.
 pub fn cite_parts(
     alloc: Global,
     draft: &mut TableDraft,

@@ -56,8 +56,8 @@ abbrev pub is_among : List ℕ → Option ℕ → Bool
 is_among symbols None = false
 is_among symbols (Some x) = list_any (λ s. x == s) symbols
 
--- what is left of the expression are the occurrences of some of its symbols, among which are the constants and those that were
--- listed for the statement at the position
+-- the occurrences of some symbols are left of the expression, among which are its constants and the symbols that were listed for
+-- the statement at the position
 pub record HasListed (keys : List ℕ) (position : ℕ) (constants expr left : List ℕ) : Type 0 where
   pub keeps : ℕ → Bool
   pub is : left ≡ filter keeps expr

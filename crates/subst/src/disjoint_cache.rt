@@ -114,7 +114,7 @@ impl DisjointCache {
         self.ask(pairs, groups, symbols, images)
     }
 
-    /// Returns the answer of `are_groups_disjoint` if there are groups.
+    /// Returns the answer of `are_groups_disjoint`, given that there are groups.
     #[inline(always)]
     fn ask(
         &mut self,

@@ -14,10 +14,10 @@ use frame::{Frames, PairMemo, Pairs};
 use std::alloc::{AllocError, Global};
 use std::marker::Model;
 
-/// Facts are recorded of this many places.
+/// The number of places of which facts are recorded.
 const RECORDED_PLACES: u32 = 8192;
 
-/// The number of the last active `$d` that are read in a proof before the first question.
+/// How many of the last active `$d` are read in a proof before any pair is looked up.
 const READ_LISTS: usize = 16;
 
 /// The most symbols of a `$d` that is read.
@@ -34,7 +34,7 @@ pub struct RowWord {
 /// The pairs of variables of a proof that were found to be disjoint, as words of bits. A bit that is set is a fact; one that
 /// is not set says nothing.
 ///
-/// A hint gives the index that a word may have. At most 24 MB are used: variables beyond the first 8,192 are not recorded.
+/// A hint says where in the list a word may be. At most 24 MB are used: variables beyond the first 8,192 are not recorded.
 #[derive(Drop)]
 pub struct DisjointRows {
     hints: Hints,
@@ -218,8 +218,7 @@ impl DisjointRows {
         Ok(())
     }
 
-    /// Looks up and returns whether the variable at a place is disjoint from each of those at the places of a word. Records it
-    /// if so.
+    /// Looks up whether the variable at a place is disjoint from each of those at the places of a word, and records it if so.
     #[cold]
     #[inline(never)]
     fn ask(

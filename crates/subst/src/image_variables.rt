@@ -19,7 +19,7 @@ use frame::Pairs;
 use std::alloc::{AllocError, Global};
 use std::marker::Model;
 
-/// The variables of results with more symbols are recorded.
+/// A result with more symbols than this is long: its variables are recorded.
 pub const LONG_RESULT: usize = 1024;
 
 /// The words of a result's variables are recorded if there is at most one for this many of its symbols: with more words, it
@@ -378,7 +378,7 @@ impl ImageVariables {
         Ok(())
     }
 
-    /// Returns the range of the words of a symbol's image, which is read unless it was before.
+    /// Returns the range of the words of a symbol's image, which is read first if it was not read before.
     ///
     /// Errors: an allocation fails. Cost: the symbols of the image, once in a citation; constant for a long one.
     #[inline(always)]
@@ -428,7 +428,7 @@ impl ImageVariables {
     }
 }
 
-/// Appends words, mostly one.
+/// Appends words; usually there is one.
 ///
 /// Errors: an allocation fails; the words are unchanged.
 #[inline(always)]

@@ -79,7 +79,7 @@ fn first_place(words: &[PlaceWord]) -> Option<usize>
     None
 }
 
-/// Returns the number of steps that it takes to mark the symbols of a list, or `None` if it is more than `most`.
+/// Returns the number of steps that it takes to mark the symbols of a list, or `None` if that is more than `most`.
 ///
 /// Cost: at most `most` steps.
 fn marking_steps(list: &[u32], most: usize) -> Option<usize>

@@ -12,15 +12,16 @@ use entries::SymbolPlaces;
 use std::alloc::{AllocError, Global};
 use std::marker::Model;
 
-/// If more than one in this many symbols is left, reading the whole expression costs about as much.
+/// The symbols that are left are few if they are at most one in this many. With more, reading the whole expression costs about
+/// as much.
 const PART: usize = 4;
 
 /// A key is a position times this, plus a symbol.
 const SYMBOLS: u64 = 4_294_967_296;
 
-/// Buffers for the symbols that are left of an expression, and a list of symbols, each for the statement at a position,
-/// that `find_listed` leaves. Contracts see the listed pairs of a position and a symbol, each as one number, as `keys`, and
-/// the symbols that were found last as `left`.
+/// The symbols that are left of an expression without those whose images are empty, and a list of symbols, each for the
+/// statement at a position, that `find_listed` leaves in its expression. Contracts see the listed pairs of a position and a
+/// symbol, each as one number, as `keys`, and the symbols that were found last as `left`.
 #[derive(Drop)]
 pub struct Remaining {
     /// The indexes of the symbols that are left of the expression.
@@ -69,7 +70,7 @@ impl Remaining {
         Ok(())
     }
 
-    /// Puts the list of symbols in the order of positions, each pair once.
+    /// Sorts the list by positions and symbols, and removes repeated pairs.
     ///
     /// Cost: n log n for n symbols.
     pub fn order(&mut self)

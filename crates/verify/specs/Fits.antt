@@ -54,9 +54,10 @@ abbrev pub HypothesisMatches : Database → Images → Hypothesis → Expr → T
 HypothesisMatches S σ (Float x) r = Unit {0}
 HypothesisMatches S σ (Essential p) r = r ≡ applied σ (expr_at S p)
 
--- so do the results for the first n
+-- so are the results for the first n hypotheses
 abbrev pub DoFitBefore : ℕ → Database → Images → List Hypothesis → List Expr → Type 0
 DoFitBefore n S σ hs rs = (k : ℕ) (h : Hypothesis) → k < n → slice_get hs k ≡ Some h → HypothesisMatches S σ h (get_or rs k [])
 
+-- so are the results for all
 pub record DoMatch (S : Database) (σ : Images) (hs : List Hypothesis) (rs : List Expr) : Type 0 where
   pub each : (k : ℕ) (h : Hypothesis) → slice_get hs k ≡ Some h → HypothesisMatches S σ h (get_or rs k [])

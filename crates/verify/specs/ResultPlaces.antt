@@ -12,12 +12,14 @@ pub record HeldResults : Type 0 where
   pub images : CodeImages
   pub about : Numbered
 
+-- the results in these ranges
 abbrev pub seen : List ℕ → List SymbolRange → List SymbolRange → ℕ → Results ℕ
 seen symbols stack saved weight = record { stack = map (symbols_in symbols) stack; saved = map (symbols_in symbols) saved; weight = weight }
 
 abbrev pub held : List ℕ → List (ℕ × SymbolRange) → List SymbolRange → List SymbolRange → ℕ → Numbered → HeldResults
 held symbols images stack saved weight about = record { results = seen symbols stack saved weight; images = images_at symbols images; about = about }
 
+-- all ranges are in the buffer, which has no more symbols than the weight, and the weight is within the limit
 pub record AreKept (symbols : List ℕ) (images : List (ℕ × SymbolRange)) (stack saved : List SymbolRange) (weight : ℕ) : Type 0 where
   pub images_inside : AreInside (length symbols) images
   pub stack_within : AreWithin (length symbols) stack
@@ -60,7 +62,8 @@ abbrev pub Recalls : {A : Type 0} → Bool → Results A → Results A → ℕ �
 Recalls {A} true old new k = (e : List A) × IsSaved old.saved k e × (new ≡ with_result old old.stack e)
 Recalls {A} false old new k = (e : List A) → IsSaved old.saved k e → weight_limit < old.weight + length e
 
--- `Recalls` at an index, from 0, where a label has a result with symbols; or nothing is done, and the index is a label's
+-- the result saved at an index, from 0, is recalled, and has symbols if the index is a label's; or the index is a label's, and
+-- nothing is done
 abbrev pub Finds : {A : Type 0} → Option Bool → ℕ → Results A → Results A → ℕ → Type 0
 Finds None labels old new k = (k < labels) × (new ≡ old)
 Finds (Some ok) labels old new k = (k < labels → 0 < length (get_or old.saved k [])) × Recalls ok old new (suc k)

@@ -32,7 +32,8 @@ const MOST_NUMBERS: usize = 1_048_576;
 const COUNT_SIZE: usize = 8;
 
 /// The lists by which an assertion is cited: its mandatory hypotheses, and lists of variables whose images must be disjoint.
-/// These lists have each mandatory pair. A list is left out if its pairs are recorded to be all in others (`PairPlaces`).
+/// Each mandatory pair of variables is in one of these lists. A list is left out if all its pairs are recorded to be in others
+/// (`PairPlaces`).
 #[derive(Drop)]
 pub struct AssertionLists {
     /// The position of the assertion.

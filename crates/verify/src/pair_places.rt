@@ -1,4 +1,4 @@
-//! The places of pairs of variables in the lists that are kept of an assertion.
+//! Where pairs of variables are in the lists that are kept of an assertion.
 
 use entries::{Hypotheses, Hypothesis};
 use std::alloc::{AllocError, Global};
@@ -27,7 +27,7 @@ const NO_PLACE: PairPlace = PairPlace {
 
 /// A place for each two variables of an assertion that were recorded to be together in a list.
 ///
-/// A place is only a guess, which is checked, so no contract says anything of it.
+/// Each place is checked when it is used, so no contract says anything about it.
 #[derive(Drop)]
 pub struct PairPlaces {
     /// The number of each variable of the assertion, from 0.

@@ -555,8 +555,8 @@ fn find_left(frames: &Frames, position: u32, expr: &[u32], remaining: &mut Remai
     }
 }
 
-/// Returns whether the result in a range is the expression of the `$e` at a position with the images substituted. If the symbols
-/// are listed, it compares only what is left of a long expression, where that is little.
+/// Returns whether the result in a range is the expression of the `$e` at a position with the images substituted. If symbols are
+/// listed, compares only those that are left of a long expression, provided that these are few.
 fn essential_matches(
     symbols: &Buffer,
     images: &ImageRanges,
@@ -586,7 +586,7 @@ fn essential_matches(
     symbols.matches(images, remaining.left(), place)
 }
 
-/// Truncates to the first `keep` ranges and appends one, mostly by overwriting another.
+/// Truncates to the first `keep` ranges and appends one, usually by overwriting another.
 #[inline(always)]
 fn truncate_and_push(
     stack: &mut Vec<SymbolRange>,

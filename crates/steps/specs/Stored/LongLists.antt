@@ -21,13 +21,13 @@ pub record Listed : Type 0 where
   pub typecodes : List ℕ
   pub required : List Hypothesis
 
--- they are copied from this view
+-- the list was copied from this view
 pub record AreMadeOf (position : ℕ) (c : AssertionView) (l : Listed) : Type 0 where
   pub at : l.position ≡ position
   pub typecodes_same : l.typecodes ≡ c.typecodes.now
   pub hypotheses_same : l.required ≡ c.hypotheses
 
--- they are those of the assertion s at their position, whose groups of disjoint variables have symbol numbers
+-- the list has the hypotheses of the assertion s at its position, whose groups of disjoint variables have symbol numbers
 pub record AreListsOf (S : Database) (names : List Name) (l : Listed) (s : Stmt) : Type 0 where
   pub hypotheses_of : AreRequired S names (hypotheses (before S l.position) s) l.typecodes l.required
   pub groups : List (List ℕ)

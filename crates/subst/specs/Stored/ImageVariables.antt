@@ -12,6 +12,8 @@ use Rattle.subst.specs.declared.image_variables.LongImage.{LongImage}
 use Rattle.subst.specs.Stored.PlaceSets.{AddsSymbols, HasBit, HasPlace, no_word}
 use Rattle.subst.specs.Stored.VariablePlaces.{Places, ArePlacesOf, IsAmong}
 
+-- words of bits, of which the first `kept` are those of long images; the words of the image that is being read; the images that
+-- were read in this citation; the long images
 pub record RecordedImages : Type 0 where
   pub words : List PlaceWord
   pub list : List PlaceWord

@@ -5,6 +5,7 @@ use Rattle.std.specs.Prelude.{◌≡◌, ℕ, ◌<◌, ◌⊎◌, Bool, true, fa
 use Rattle.subst.specs.Words.{bit_at, All, Contains, Name, is_variable, name_at, is_pair, Numbered}
 use Rattle.subst.specs.declared.variable_places.MetSymbol.{MetSymbol}
 
+-- the symbols that were met, and the variables among them, each at its place
 pub record Places : Type 0 where
   pub symbols : List MetSymbol
   pub variables : List ℕ
