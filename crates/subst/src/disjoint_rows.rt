@@ -6,8 +6,8 @@ ghost use Rattle.subst.specs.Stored.DisjointRows.{AreFacts, ArePairs, HasFact, I
 ghost use Rattle.subst.specs.Stored.PlaceSets.{ArePlacesBelow, HasBit, near_word};
 ghost use Rattle.subst.specs.Stored.VariablePlaces.{ArePlaced, Grows};
 
+use crate::disjoint_list_search::DisjointListSearch;
 use crate::hints::Hints;
-use crate::one_list::OneDisjointList;
 use crate::place_words::{PlaceWord, costly_steps, lowest, without};
 use crate::variable_places::VariablePlaces;
 use frame::{Frames, PairMemo, Pairs};
@@ -43,7 +43,7 @@ pub struct DisjointRows {
     has_read_active: bool,
     /// The pairs that long searches found, in all proofs.
     memo: PairMemo,
-    one_list: OneDisjointList,
+    disjoint_list_search: DisjointListSearch,
 }
 
 impl Model for DisjointRows {
@@ -65,7 +65,7 @@ impl DisjointRows {
             words: Vec::new(alloc),
             has_read_active: false,
             memo: PairMemo::new(alloc),
-            one_list: OneDisjointList::new(alloc),
+            disjoint_list_search: DisjointListSearch::new(alloc),
         }
     }
 
@@ -83,7 +83,7 @@ impl DisjointRows {
     {
         self.words.clear();
         self.has_read_active = false;
-        self.one_list.release(alloc);
+        self.disjoint_list_search.release(alloc);
     }
 
     /// Has the frames make long searches for pairs again, as `PairMemo::repeat_searches`.
@@ -221,7 +221,7 @@ impl DisjointRows {
     /// Looks up whether the variable at a place is disjoint from each of those at the places of a word, and records it if so.
     #[cold]
     #[inline(never)]
-    fn ask(
+    fn look_up(
         &mut self,
         pairs: &Pairs<'_>,
         variables: &VariablePlaces,
@@ -286,7 +286,7 @@ impl DisjointRows {
         for word in others {
             let index = word.index;
             let bits = word.bits & !self.bits(place, index);
-            if bits != 0 && !self.ask(pairs, variables, place, PlaceWord { index, bits })? {
+            if bits != 0 && !self.look_up(pairs, variables, place, PlaceWord { index, bits })? {
                 return Ok(false);
             }
         }
@@ -371,7 +371,7 @@ impl DisjointRows {
             return self.are_disjoint(pairs, variables, words, others);
         };
         if self
-            .one_list
+            .disjoint_list_search
             .are_in_one(pairs, variables, words, others, steps)?
         {
             return Ok(true);

@@ -11,7 +11,7 @@ use Rattle.frame.specs.AssertionView.{AreRequired}
 use Rattle.frame.specs.LongEssentials.{HasConstants, long_essentials}
 use Rattle.frame.specs.Stored.Hypotheses.{In}
 use Rattle.frame.specs.declared.stored_entries.TheConstants.{LONG_EXPRESSION}
-use Rattle.subst.specs.Vanishing.{HasListed}
+use Rattle.subst.specs.RemainingSymbols.{HasListed}
 
 -- the hypotheses are those of the assertion at a
 abbrev pub AreThoseOf : Database → List Name → ℕ → List Hypothesis → Type 0

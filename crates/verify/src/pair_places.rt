@@ -59,7 +59,7 @@ impl PairPlaces {
         }
         for index in 0..hypotheses.len() {
             if let Hypothesis::Float(variable) = hypotheses.get(index) {
-                let number = small(self.variables.len());
+                let number = saturating_u32(self.variables.len());
                 let _recorded = self.variables.insert(variable, number);
             }
         }
@@ -114,9 +114,9 @@ impl PairPlaces {
                 if let Some(index) = self.index(first, second) {
                     if let Some(place) = self.places.get_mut(index) {
                         *place = PairPlace {
-                            list: small(list),
-                            first: small(first),
-                            second: small(second),
+                            list: saturating_u32(list),
+                            first: saturating_u32(first),
+                            second: saturating_u32(second),
                         };
                     }
                 }
@@ -126,7 +126,7 @@ impl PairPlaces {
 }
 
 /// Returns the number in 32 bits, or the greatest such number if it is more.
-fn small(number: usize) -> u32 {
+fn saturating_u32(number: usize) -> u32 {
     match u32::try_from(number) {
         Ok(number) => number,
         Err(_) => u32::MAX,
