@@ -35,13 +35,13 @@ impl<'a> Work for Proofs<'a> {
     ghost use Rattle.std.specs.Prelude.{length};
     ghost use Rattle.library.specs.Unproved.{IsRightProof};
     ghost use Rattle.scope.specs.Active.{bares};
-    ghost use Rattle.verify.specs.KeptLists.{AreKeptFor};
+    ghost use Rattle.verify.specs.KeptLists.{IsCacheFor};
 
     ghost count = { λ proofs. length proofs.positions };
 
     ghost right = { IsRightProof };
 
-    ghost fits = { λ proofs. AreKeptFor (bares proofs.statements) proofs.names };
+    ghost fits = { λ proofs. IsCacheFor (bares proofs.statements) proofs.names };
 
     fn count(&self) -> usize {
         self.positions.len()

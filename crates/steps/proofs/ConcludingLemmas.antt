@@ -16,7 +16,7 @@ module _ (xs ys typecodes : List ℕ) (hs : List Hypothesis) (places : List Symb
   all-read b r e = subst (λ v. Reads v typecodes hs (map (symbols_in xs) places) (images_at xs images)) e (seen b r)
 
 -- the places of the symbols of an expression are those of their numbers
-pub standing-codes : (names : List Name) (e : List ℕ) (x : Expr) (standing : Option (Bor SymbolGroups)) → AreDistinct names → AreBelow (length names) e → decode names e ≡ x
-    → IfSome standing (λ places. AreExprPlaces names x places.now) → IfSome standing (λ places. ArePlacesOf e places.now)
-standing-codes names e x None distinct below same p = tt
-standing-codes names e x (Some places) distinct below same p = subst (λ c. ArePlacesOf c places.now) (decode-injective names p.codes e distinct p.below below (p.named ∙ sym same)) p.places
+pub symbol_places-codes : (names : List Name) (e : List ℕ) (x : Expr) (symbol_places : Option (Bor SymbolGroups)) → AreDistinct names → AreBelow (length names) e → decode names e ≡ x
+    → IfSome symbol_places (λ places. AreExprPlaces names x places.now) → IfSome symbol_places (λ places. ArePlacesOf e places.now)
+symbol_places-codes names e x None distinct below same p = tt
+symbol_places-codes names e x (Some places) distinct below same p = subst (λ c. ArePlacesOf c places.now) (decode-injective names p.codes e distinct p.below below (p.named ∙ sym same)) p.places

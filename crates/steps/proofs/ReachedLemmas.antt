@@ -1,6 +1,6 @@
 -- The items recorded so far; a run takes the others.
 use Rattle.steps.proofs.Words.{◌≡◌, ℕ, zero, suc, ◌-◌, ◌+◌, ◌<◌, ◌≤◌, List, [], ◌∷◌, length, map, take, drop, get_or, Some, refl, sym, ◌∙◌, ap, subst, arith, length-map, drop_all, Name, Stmt, Expr, Database, stmt_at, expr_of, AreLegal, Item, item_of, items_of, State, start, Steps, Runs, IsRight, conclude_same, spellings_run, items-more, all-taken, progress, RecordsItems, AreSteps, steps_of, expr_in, row_of, rows_of, progress_of, AgreesWithRun, CanDo, IsDone, TableDraft, some-same}
-use Rattle.steps.proofs.SoundLemmas.{records-sound, records-snoc, nothing-sound, root-last}
+use Rattle.steps.proofs.SoundLemmas.{records-sound, records-snoc, nothing-sound, last_place-last}
 
 drop-more : (labels : List Name) (xs : List ℕ) (i : ℕ) → i < length xs → map (item_of labels) (drop i xs) ≡ item_of labels (get_or xs i 0) ∷ map (item_of labels) (drop (i + 1) xs)
 drop-more labels [] i h = absurd (omega (arith, h))
@@ -70,20 +70,20 @@ module _ (S : Database) (at : ℕ) (names : List Name) where
     one-left = r.tied.stack ∙ (ap (λ s. s.stack) over ∙ r.ends)
 
     -- if the stack has one expression, it has one place, and its row has the expression
-    root : (xs : List ℕ) (e : Expr) → map (expr_in names (rows_of d)) xs ≡ e ∷ [] → (n : ℕ) × (xs ≡ n ∷ []) × (expr_in names (rows_of d) n ≡ e)
-    root [] e q = cc
-    root (x ∷ []) e q = (x, refl, (let p : expr_in names (rows_of d) x ≡ e = cc in p))
-    root (x ∷ y ∷ xs) e q = absurd (omega (arith, ap length q))
+    last_place : (xs : List ℕ) (e : Expr) → map (expr_in names (rows_of d)) xs ≡ e ∷ [] → (n : ℕ) × (xs ≡ n ∷ []) × (expr_in names (rows_of d) n ≡ e)
+    last_place [] e q = cc
+    last_place (x ∷ []) e q = (x, refl, (let p : expr_in names (rows_of d) x ≡ e = cc in p))
+    last_place (x ∷ y ∷ xs) e q = absurd (omega (arith, ap length q))
 
     pub reached-steps : AreSteps S at items (steps_of (rows_of d))
     reached-steps =
-        let n = root d.stack.items (expr_of r.stmt) one-left in
-        record { end = progress_of d; root = n.0; recorded = recorded-all; same = refl; one = n.1; last = root-last (progress_of d) n.0 (records-sound S at items (progress [] [] []) (progress_of d) nothing-sound recorded-all) n.1 }
+        let n = last_place d.stack.items (expr_of r.stmt) one-left in
+        record { end = progress_of d; last_place = n.0; recorded = recorded-all; same = refl; one = n.1; last = last_place-last (progress_of d) n.0 (records-sound S at items (progress [] [] []) (progress_of d) nothing-sound recorded-all) n.1 }
 
     pub reached-last : (s : Stmt) → stmt_at S at ≡ Some s → expr_in names (rows_of d) (length (rows_of d) - 1) ≡ expr_of s
-    unfolding root reached-steps
+    unfolding last_place reached-steps
     reached-last s stands =
-        let n = root d.stack.items (expr_of r.stmt) one-left in
+        let n = last_place d.stack.items (expr_of r.stmt) one-left in
         let l : length (steps_of (rows_of d)) ≡ suc n.0 = reached-steps.last in
         let m = length-map (rows_of d) (λ x. x.step) in
         let e : length (rows_of d) - 1 ≡ n.0 = omega (arith, l, m) in

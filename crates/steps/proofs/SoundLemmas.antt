@@ -120,8 +120,8 @@ pub nothing-sound : IsSound (progress [] [] [])
 nothing-sound = record { stack_below = tt; saved_below = tt; ordered = λ k s e. (let x = e in cc); once = λ j k s e f. (let x = e in cc); last = λ n e. absurd (omega (arith, e)) }
 
 -- if one result is left, it is that of the last step
-pub root-last : (p : Progress) (n : ℕ) → IsSound p → p.stack ≡ n ∷ [] → length p.steps ≡ suc n
-root-last p n is one =
+pub last_place-last : (p : Progress) (n : ℕ) → IsSound p → p.stack ≡ n ∷ [] → length p.steps ≡ suc n
+last_place-last p n is one =
     let low = (subst (AreBelow (length p.steps)) one is.stack_below).0 in
     let e : length p.steps ≡ suc (length p.steps - 1) = omega (arith, low) in
     let r = is.last (length p.steps - 1) e in

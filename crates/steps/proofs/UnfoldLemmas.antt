@@ -142,8 +142,8 @@ module _ (S : Database) where
     pub unfolds : HasLabelsOnce S → (items : List Item) (steps : List Step) → IsRight S at items → AreSteps S at items steps → Derives S at items (last_unfolded S steps)
     unfolds once items steps right are =
         let left = leaves S at once items (seen are.end) right (records-grow items (progress [] [] []) are.end nothing-sound are.recorded) in
-        let one : map (pick (unfolded S are.end.steps)) (are.root ∷ []) ≡ left.0 ∷ [] = ap (map (pick (unfolded S are.end.steps))) (sym are.one) ∙ left.2 in
-        let top : pick (unfolded S are.end.steps) are.root ≡ left.0 = cc in
-        let last : length steps - 1 ≡ are.root = (let l = are.last in omega (arith, l)) in
-        let whole : last_unfolded S steps ≡ left.0 = ap (pick (unfolded S steps)) last ∙ (ap (λ s. pick (unfolded S s) are.root) (sym are.same) ∙ top) in
+        let one : map (pick (unfolded S are.end.steps)) (are.last_place ∷ []) ≡ left.0 ∷ [] = ap (map (pick (unfolded S are.end.steps))) (sym are.one) ∙ left.2 in
+        let top : pick (unfolded S are.end.steps) are.last_place ≡ left.0 = cc in
+        let last : length steps - 1 ≡ are.last_place = (let l = are.last in omega (arith, l)) in
+        let whole : last_unfolded S steps ≡ left.0 = ap (pick (unfolded S steps)) last ∙ (ap (λ s. pick (unfolded S s) are.last_place) (sym are.same) ∙ top) in
         subst (Derives S at items) (sym whole) left.1

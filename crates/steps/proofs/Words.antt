@@ -48,8 +48,8 @@ pub use Rattle.std.specs.declared.vec.Vec.{Vec}
 pub use Rattle.steps.specs.Essential.{AreEssential, IsEssential, IsIn, IsRenumbered, essential_of, for_premises, is_last, is_premise, is_taken, mandatory}
 pub use Rattle.steps.specs.Rows.{AreRows, Follows, IsRow, Row, expr_in, from_assertion, from_hypothesis, no_row, row, steps_of}
 pub use Rattle.steps.specs.StepTable.{AreSteps, IsPlaced, Makes, Progress, RecordsItem, RecordsItems, Step, comes_last, of_assertion, of_hypothesis, progress, stands}
-pub use Rattle.steps.specs.Stored.Drafted.{AreInBuffer, AreKnown, CanDo, Finds, GivesAssertion, GivesHypothesis, IsDone, IsDraft, AgreesWithRun, codes_in, key_of, place_in, place_of, progress_of, row_of, rows_of}
-pub use Rattle.steps.specs.Stored.LongLists.{AreKept, AreListsOf, AreMadeOf, HasPartsOf, IsAt, Listed, with_groups}
+pub use Rattle.steps.specs.Stored.Drafted.{AreInBuffer, AreKnown, CanDo, Finds, GivesAssertion, GivesHypothesis, IsDone, IsDraft, AgreesWithRun, codes_in, key_of, range_in, place_of, progress_of, row_of, rows_of}
+pub use Rattle.steps.specs.Stored.LongLists.{AreKept, AreListsOf, AreMadeOf, HasPartsOf, IsAt, ListedHypotheses, with_groups}
 pub use Rattle.steps.specs.Stored.Marked.{AreMarkedFrom, AreMarks, AreNumbers, HasMark, MarksMore, kept_row, mark_each, mark_last, marked_before, number_of, taken_by}
 pub use Rattle.steps.specs.Unfolded.{citation_over, has_assertion, last_unfolded, unfolded, unfolded_after}
 pub use Rattle.steps.specs.declared.table_draft.PlacedStep.{PlacedStep}
@@ -78,7 +78,7 @@ pub use Rattle.verify.proofs.ResultPlaceLemmas.{get-map, map-drop}
 pub use Rattle.verify.proofs.StepLemmas.{all-taken, items-more}
 pub use Rattle.verify.proofs.Words.{same_Some}
 pub use Rattle.verify.specs.Derivations.{Derivation, apply, from_list, hyp}
-pub use Rattle.verify.specs.Fits.{AreDifferent, AreRead, IsTyped, Reads}
+pub use Rattle.verify.specs.HypothesisResults.{AreDifferent, AreRead, IsTyped, Reads}
 pub use Rattle.verify.specs.Growth.{Grows, GrowsBy, Trees, a_hypothesis, an_assertion, trees}
 pub use Rattle.verify.specs.Machine.{Cites, Results, Runs, State, Steps, start, with_mark, with_result}
 pub use Rattle.verify.specs.Plan.{pick}

@@ -49,8 +49,8 @@ RecordsItems S at old (item ∷ items) new = (next : Progress) × RecordsItem S 
 -- these are the steps of the items, and the one result left on the stack is that of the last step
 pub record AreSteps (S : Database) (at : ℕ) (items : List Item) (steps : List Step) : Type 0 where
   pub end : Progress
-  pub root : ℕ
+  pub last_place : ℕ
   pub recorded : RecordsItems S at (progress [] [] []) items end
   pub same : end.steps ≡ steps
-  pub one : end.stack ≡ root ∷ []
-  pub last : length steps ≡ suc root
+  pub one : end.stack ≡ last_place ∷ []
+  pub last : length steps ≡ suc last_place

@@ -23,7 +23,7 @@ pub use Rattle.std.specs.declared.vec.Vec.{Vec}
 pub use Rattle.subst.specs.SymbolRanges.{symbols_in}
 pub use Rattle.subst.specs.declared.symbol_range.SymbolRange.{SymbolRange}
 pub use Rattle.verify.specs.Derivations.{Derivation, apply, from_list, hyp}
-pub use Rattle.verify.specs.Fits.{AreRead}
+pub use Rattle.verify.specs.HypothesisResults.{AreRead}
 pub use Rattle.verify.specs.Machine.{State, Steps}
 pub use Rattle.verify.specs.Plan.{pick}
 pub use Rattle.verify.specs.ResultPlaces.{below, top}

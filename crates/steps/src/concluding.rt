@@ -4,50 +4,50 @@ ghost use Rattle.entries.specs.declared.assertion_view.Hypothesis.TheVariants.{F
 ghost use Rattle.entries.specs.SymbolPlaces.{ArePlacesOf};
 ghost use Rattle.frame.specs.Substitution.{CodeImages, code_apply};
 ghost use Rattle.subst.specs.SymbolRanges.{symbols_in, AreWithin};
-ghost use Rattle.subst.specs.Vanishing.{HaveSameResult};
-ghost use Rattle.verify.specs.Fits.{AreDifferent, IsTyped, AreRead};
+ghost use Rattle.subst.specs.RemainingSymbols.{HaveSameResult};
+ghost use Rattle.verify.specs.HypothesisResults.{AreDifferent, IsTyped, AreRead};
 
 use entries::{AssertionView, SymbolPlaces};
 use std::alloc::AllocError;
 use subst::{Buffer, ImageRanges, Remaining, SYMBOLS_LIMIT, SymbolRange, range_between};
 use verify::read_off;
 
-/// Returns the symbols of an expression whose images are not empty, if `standing` is given and they are at most a quarter of the
-/// expression; otherwise the expression. Substituting in either gives the same result.
+/// Returns the symbols of an expression whose images are not empty, if `symbol_places` is given and they are at most a quarter
+/// of the expression; otherwise the expression. Substituting in either gives the same result.
 ///
 /// Errors: an allocation fails. Cost: the distinct symbols of the expression, and the symbols that are returned.
 fn shortened<'a>(
     images: &ImageRanges,
     expr: &'a [u32],
-    standing: Option<&SymbolPlaces>,
+    symbol_places: Option<&SymbolPlaces>,
     remaining: &'a mut Remaining,
 ) -> Result<&'a [u32], AllocError>
-    requires { IfSome standing (λ places. ArePlacesOf expr.now places.now) }
+    requires { IfSome symbol_places (λ places. ArePlacesOf expr.now places.now) }
     ensures { IfOk result (λ short. HaveSameResult images.now short.now expr.now) }
 {
-    let Some(places) = standing else {
+    let Some(places) = symbol_places else {
         return Ok(expr);
     };
-    match remaining.of(images, expr, places)? {
+    match remaining.find_nonempty(images, expr, places)? {
         Some(left) => Ok(left),
         None => Ok(expr),
     }
 }
 
 /// Appends to the buffer the conclusion of the assertion from the results in these ranges, and returns its range.
-/// `standing` has the places of the symbols of the assertion's expression.
+/// `symbol_places` has the places of the symbols in the assertion's expression.
 ///
 /// Errors: an allocation fails, or the expressions exceed `SYMBOLS_LIMIT` symbols. Cost: one look at each result, the symbols
-/// written, and the symbols of the expression, or only its distinct ones if `standing` is given.
+/// written, and the symbols of the expression, or only its distinct ones if `symbol_places` is given.
 pub fn conclude(
     symbols: &mut Buffer,
     images: &mut ImageRanges,
     remaining: &mut Remaining,
     cited: &AssertionView<'_>,
-    standing: Option<&SymbolPlaces>,
+    symbol_places: Option<&SymbolPlaces>,
     places: &[SymbolRange],
 ) -> Result<SymbolRange, AllocError>
-    requires standing { IfSome standing (λ places. ArePlacesOf cited.now.conclusion.now places.now) }
+    requires symbol_places { IfSome symbol_places (λ places. ArePlacesOf cited.now.conclusion.now places.now) }
     requires same { length places.now ≡ length cited.now.hypotheses }
     requires typecodes { length cited.now.typecodes.now ≡ length cited.now.hypotheses }
     requires within { AreWithin (length symbols.old) places.now }
@@ -69,7 +69,7 @@ pub fn conclude(
     else {
         unreachable!();
     };
-    let conclusion = shortened(images, cited.conclusion, standing, remaining)?;
+    let conclusion = shortened(images, cited.conclusion, symbol_places, remaining)?;
     if !symbols.add_applied(images, conclusion, SYMBOLS_LIMIT - start)? {
         return Err(AllocError);
     }

@@ -52,7 +52,7 @@ fn premises_of(
         Meaning::Assertion => {
             let few = frames.cited(position);
             let index = lists.index_of(frames, position, few.is_some())?;
-            let cited = lists.parts(frames, position, few, index);
+            let cited = lists.view_at(frames, position, few, index);
             premises_among(alloc, &cited.hypotheses, table.taken(place))
         }
         Meaning::Hypothesis(_) => Ok(Vec::new(alloc)),

@@ -1,4 +1,4 @@
-//! Finds equal steps: a map from a step's cited position and taken places to its own place.
+//! Finds equal steps by a map: from the position that a step cites and the places that it takes, to its own place.
 ghost use Rattle.std.specs.Prelude.{◌≡◌, ◌≢◌, ℕ, ◌∷◌, List, None, Some, IfOk, OnOk};
 ghost use Rattle.steps.specs.Stored.Drafted.{place_of};
 

@@ -28,15 +28,15 @@ pub struct HypothesisList {
 impl Model for HypothesisList {
     ghost use Rattle.std.specs.Prelude.{map};
     ghost use Rattle.entries.specs.Hypotheses.{told};
-    ghost use Rattle.steps.specs.Stored.LongLists.{Listed};
+    ghost use Rattle.steps.specs.Stored.LongLists.{ListedHypotheses};
 
-    ghost Value = { Listed };
+    ghost Value = { ListedHypotheses };
 
     ghost view = { λ a. record { position = a.position; typecodes = a.typecodes.items; required = map told a.required.items } };
 }
 
 impl HypothesisList {
-    /// Returns the hypotheses of the assertion at a position, by its parts.
+    /// Returns the hypotheses of the assertion at a position, copied from a view of it.
     ///
     /// Errors: an allocation fails.
     fn of(
@@ -168,7 +168,7 @@ impl LongLists {
 
     /// Returns a view of the assertion at a position: `few` if it is given, else a view of the list at an index, without
     /// groups of disjoint variables.
-    pub fn parts<'a>(
+    pub fn view_at<'a>(
         &'a self,
         frames: &'a Frames,
         position: usize,

@@ -64,7 +64,7 @@ fn cite(
         Meaning::Assertion => {
             let few = frames.cited(position);
             let index = lists.index_of(frames, position, few.is_some())?;
-            let cited = lists.parts(frames, position, few, index);
+            let cited = lists.view_at(frames, position, few, index);
             cite_parts(alloc, draft, position, &cited, frames.places(position))
         }
         Meaning::Nothing => unreachable!(),

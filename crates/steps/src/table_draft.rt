@@ -5,9 +5,9 @@ ghost use Rattle.mm_read.specs.declared.stmt.Stmt.{Stmt as Statement};
 ghost use Rattle.entries.specs.SymbolPlaces.{ArePlacesOf};
 ghost use Rattle.entries.specs.declared.assertion_view.Hypothesis.TheVariants.{Float};
 ghost use Rattle.frame.specs.Below.{AreBelow};
-ghost use Rattle.verify.specs.Fits.{AreDifferent, IsTyped};
+ghost use Rattle.verify.specs.HypothesisResults.{AreDifferent, IsTyped};
 ghost use Rattle.verify.specs.ResultPlaces.{top};
-ghost use Rattle.steps.specs.Stored.Drafted.{IsDraft, AreHeld, Adds, GivesHypothesis, GivesAssertion, place_in, codes_in};
+ghost use Rattle.steps.specs.Stored.Drafted.{IsDraft, IsWellFormed, Adds, GivesHypothesis, GivesAssertion, range_in, codes_in};
 
 use crate::concluding::conclude;
 use crate::known::{find, keep, key};
@@ -108,9 +108,9 @@ pub fn cite_hypothesis(
 }
 
 /// Returns the range of the expression of the step at a place.
-fn place_at(placed: &[PlacedStep], number: usize) -> SymbolRange
+fn range_at(placed: &[PlacedStep], number: usize) -> SymbolRange
     requires { number < length placed.now }
-    ensures { result ≡ place_in placed.now number }
+    ensures { result ≡ range_in placed.now number }
 {
     placed[number].place
 }
@@ -122,25 +122,25 @@ fn fill_ranges(
     places: &mut Vec<SymbolRange>,
 ) -> Result<(), AllocError>
     requires { AreBelow (length placed.now) taken.now }
-    ensures { OnOk result (places.new.items ≡ map (place_in placed.now) taken.now) }
+    ensures { OnOk result (places.new.items ≡ map (range_in placed.now) taken.now) }
 {
     places.clear();
     for number in taken {
-        places.push(place_at(placed, *number))?;
+        places.push(range_at(placed, *number))?;
     }
     Ok(())
 }
 
-/// Cites an assertion by its parts, and the places of the symbols of its expression if they are known.
+/// Cites an assertion, given a view of it and, if they are known, the places of the symbols in its expression.
 pub fn cite_parts(
     alloc: Global,
     draft: &mut TableDraft,
     position: usize,
     cited: &AssertionView<'_>,
-    standing: Option<&SymbolPlaces>,
+    symbol_places: Option<&SymbolPlaces>,
 ) -> Result<(), AllocError>
-    requires standing { IfSome standing (λ places. ArePlacesOf cited.now.conclusion.now places.now) }
-    requires held { AreHeld draft.old }
+    requires symbol_places { IfSome symbol_places (λ places. ArePlacesOf cited.now.conclusion.now places.now) }
+    requires held { IsWellFormed draft.old }
     requires many { length cited.now.hypotheses ≤ length draft.old.stack.items }
     requires typecodes { length cited.now.typecodes.now ≡ length cited.now.hypotheses }
     requires different { AreDifferent cited.now.hypotheses }
@@ -161,7 +161,7 @@ pub fn cite_parts(
         &mut draft.images,
         &mut draft.remaining,
         cited,
-        standing,
+        symbol_places,
         &draft.places,
     )?;
     add_step(

@@ -96,7 +96,7 @@ module _ (v : Numbered) (f : Places) (list : List ℕ) (bits : ℕ) (pairs : Are
       let two = are.only q b in record {
         row = one.2.there;
         place = two.2.there;
-        kept = rw (one.2.same, two.2.same) (pairs.each one.0 two.0 one.1 two.1 (λ same. other (are.once p q two.0 a b (subst (IsAt f p) same one.2) two.2)));
+        disjoint = rw (one.2.same, two.2.same) (pairs.each one.0 two.0 one.1 two.1 (λ same. other (are.once p q two.0 a b (subst (IsAt f p) same one.2) two.2)));
       }
 
   pub listed-facts : (old new : List RowWord) (p less : ℕ) → AreFacts v f old → RecordsWord old new p (record { index = 0; bits = less }) → bit_at bits p ≡ 1 → ((j : ℕ) → bit_at less j ≡ 1 → bit_at bits j ≡ 1) → (bit_at less p ≡ 1 → ⊥) → AreFacts v f new

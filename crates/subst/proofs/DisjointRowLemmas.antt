@@ -1,5 +1,5 @@
 -- Variables that were found to be disjoint.
-use Rattle.subst.proofs.Words.{◌≡◌, ℕ, ◌+◌, ◌*◌, ◌^◌, ◌<◌, ◌≤◌, ◌⊎◌, true, List, [], ◌∷◌, ◌++◌, length, get_or, slice_set, bit_at, bit_and, bit_not, bit_or, w64, sym, ◌∙◌, ap, subst, arith, inl, inr, cases_eq, cases_lt, get_or_append_left, get_or_push, get_or-set_same, get_or-set_other, length-set, length_push, Numbered, PlaceWord, HasAmong, HasBit, HasPlace, near_word, no_word, RowWord, no_row, IsRowAt, HasFact, IsFact, AreFacts, RecordsWord, DecidesWord, DecidesAll, DecidesBits, DecidesEach, Places, is_kept, Grows}
+use Rattle.subst.proofs.Words.{◌≡◌, ℕ, ◌+◌, ◌*◌, ◌^◌, ◌<◌, ◌≤◌, ◌⊎◌, true, List, [], ◌∷◌, ◌++◌, length, get_or, slice_set, bit_at, bit_and, bit_not, bit_or, w64, sym, ◌∙◌, ap, subst, arith, inl, inr, cases_eq, cases_lt, get_or_append_left, get_or_push, get_or-set_same, get_or-set_other, length-set, length_push, Numbered, PlaceWord, HasAmong, HasBit, HasPlace, near_word, no_word, RowWord, no_row, IsRowAt, HasFact, IsFact, AreFacts, RecordsWord, DecidesWord, DecidesAll, DecidesBits, DecidesEach, Places, are_places_disjoint, Grows}
 use Rattle.subst.proofs.BitsLemmas.{zero-none, or-either, and-left, and-rest, IsTaken}
 use Rattle.subst.proofs.VariablePlaceLemmas.{kept-grown, place-grown}
 use Rattle.subst.proofs.PlaceSetLemmas.{word-alone, word-more}
@@ -8,7 +8,7 @@ pub facts-none : (v : Numbered) (f : Places) → AreFacts v f []
 facts-none v f = record { each = λ p q h. (let low = h.there in absurd (omega (arith, low))) }
 
 pub fact-grown : (v : Numbered) (f g : Places) (p q : ℕ) → Grows f g → IsFact v f p q → IsFact v g p q
-fact-grown v f g p q grows h = record { row = (place-grown f g p grows h.row).there; place = (place-grown f g q grows h.place).there; kept = kept-grown v f g p q grows h.row h.place ∙ h.kept }
+fact-grown v f g p q grows h = record { row = (place-grown f g p grows h.row).there; place = (place-grown f g q grows h.place).there; disjoint = kept-grown v f g p q grows h.row h.place ∙ h.disjoint }
 
 pub facts-grown : (v : Numbered) (f g : Places) (ws : List RowWord) → Grows f g → AreFacts v f ws → AreFacts v g ws
 facts-grown v f g ws grows facts = record { each = λ p q h. fact-grown v f g p q grows (facts.each p q h) }
@@ -74,7 +74,7 @@ facts-recorded v f old new p w facts records own = record {
 
 -- the variable is disjoint from those of the first n words
 pub record AreToldFirst (v : Numbered) (f : Places) (p : ℕ) (ws : List PlaceWord) (n : ℕ) : Type 0 where
-  pub each : (k q : ℕ) → k < n → HasBit (get_or ws k no_word) q → is_kept v f p q ≡ true
+  pub each : (k q : ℕ) → k < n → HasBit (get_or ws k no_word) q → are_places_disjoint v f p q ≡ true
 
 pub told-none : (v : Numbered) (f : Places) (p : ℕ) (ws : List PlaceWord) → AreToldFirst v f p ws 0
 told-none v f p ws = record { each = λ k q h b. absurd (omega (arith, h)) }
@@ -91,7 +91,7 @@ told-all v f p ws n long told = λ q h. (let low = h.there in told.each h.word q
 pub told-word : (v : Numbered) (f : Places) (rows : List RowWord) (p : ℕ) (w : PlaceWord) (known : ℕ) → w.bits < 2 ^ 64 → known < 2 ^ 64 → AreFacts v f rows → ((b : ℕ) → bit_at known b ≡ 1 → HasFact rows p (64 * w.index + b))
     → DecidesWord v f p (record { index = w.index; bits = bit_and w.bits (bit_not w64 known) }) true → DecidesWord v f p w true
 told-word v f rows p w known fits other facts recorded asked = λ q h. elim (and-rest w.bits known h.bit fits other h.set) [
-  | inl old ↦ rw h.place (facts.each p _ (recorded h.bit old)).kept
+  | inl old ↦ rw h.place (facts.each p _ (recorded h.bit old)).disjoint
   | inr rest ↦ asked q (record { bit = h.bit; place = h.place; set = rest })
 ]
 
@@ -122,7 +122,7 @@ pub found-none : (rows : List RowWord) (bits others : ℕ) → others ≡ 0 → 
 found-none rows bits others none p q h k = absurd (zero-none k.bit (rw none at k.set))
 
 pub found-tells : (v : Numbered) (f : Places) (rows : List RowWord) (bits before : ℕ) → AreFacts v f rows → ((p q : ℕ) → HasBit (near_word bits) p → HasBit (near_word before) q → HasFact rows p q) → DecidesEach v f (near_word bits ∷ []) (near_word before ∷ []) true
-found-tells v f rows bits before facts found = λ p q h k. (facts.each p q (found p q (word-alone (near_word bits) p h) (word-alone (near_word before) q k))).kept
+found-tells v f rows bits before facts found = λ p q h k. (facts.each p q (found p q (word-alone (near_word bits) p h) (word-alone (near_word before) q k))).disjoint
 
 -- ---- the places of a word, and of a list of words
 
@@ -130,7 +130,7 @@ pub told-bits : (v : Numbered) (f : Places) (w : PlaceWord) (ws : List PlaceWord
 told-bits v f w ws rest none taken = λ p q h b. elim (taken.done h.bit h.set) [ inl left ↦ absurd (zero-none h.bit (rw none at left)) | inr one ↦ rw h.place (one q b) ]
 
 pub record AreTold (v : Numbered) (f : Places) (words : List PlaceWord) (ws : List PlaceWord) (n : ℕ) : Type 0 where
-  pub each : (p q : ℕ) → HasAmong n words p → HasPlace ws q → is_kept v f p q ≡ true
+  pub each : (p q : ℕ) → HasAmong n words p → HasPlace ws q → are_places_disjoint v f p q ≡ true
 
 pub are_told-none : (v : Numbered) (f : Places) (words ws : List PlaceWord) → AreTold v f words ws 0
 are_told-none v f words ws = record { each = λ p q h b. (let low = h.there in absurd (omega (arith, low))) }
@@ -144,4 +144,4 @@ are_told-all v f words ws n long told = λ p q h b. told.each p q (let low = h.t
 -- if the variable is disjoint from those of the word, the facts are still true after the word is recorded
 pub told-facts : (v : Numbered) (f : Places) (old new : List RowWord) (p : ℕ) (w : PlaceWord) → AreFacts v f old → RecordsWord old new p w → p < length f.variables → ((b : ℕ) → bit_at w.bits b ≡ 1 → 64 * w.index + b < length f.variables)
     → DecidesWord v f p w true → AreFacts v f new
-told-facts v f old new p w facts records row below told = facts-recorded v f old new p w facts records (λ q h. (let place = h.place in let low = below h.bit h.set in record { row = row; place = omega (arith, place, low); kept = told q h }))
+told-facts v f old new p w facts records row below told = facts-recorded v f old new p w facts records (λ q h. (let place = h.place in let low = below h.bit h.set in record { row = row; place = omega (arith, place, low); disjoint = told q h }))

@@ -1,5 +1,5 @@
 -- The tables of a cache, as images are read and listed.
-use Rattle.subst.proofs.Words.{◌≡◌, ℕ, zero, suc, ◌+◌, ◌-◌, ◌<◌, ◌≤◌, ◌==◌, false, List, [], ◌∷◌, ◌++◌, length, take, take_all, drop, get_or, sym, ap, subst, arith, Numbered, SymbolRange, symbols_in, CodeImages, code_apply, code_image, PlaceWord, Places, ArePlaced, Grows, IsAmong, AreImagesRecorded, RecordedImages, KeepsRest, AddsSymbols, HasPlace, RecordsImage, AreTables, DisjointTables}
+use Rattle.subst.proofs.Words.{◌≡◌, ℕ, zero, suc, ◌+◌, ◌-◌, ◌<◌, ◌≤◌, ◌==◌, false, List, [], ◌∷◌, ◌++◌, length, take, take_all, drop, get_or, sym, ap, subst, arith, Numbered, SymbolRange, symbols_in, CodeImages, code_apply, code_image, PlaceWord, Places, ArePlaced, Grows, IsAmong, AreImagesRecorded, RecordedImages, ChangesOnlyList, AddsSymbols, HasPlace, RecordsImage, AreTables, DisjointTables}
 use Rattle.subst.proofs.SymbolRangeLemmas.{length-seen}
 use Rattle.subst.proofs.PlaceSetLemmas.{among-left, among-right, symbols-again}
 use Rattle.subst.proofs.WrittenImages.{apply-take}
@@ -46,7 +46,7 @@ some-range xs rest p x low high e = let size = ap length e in omega (arith, leng
 abbrev pub begun_of : RecordedImages → RecordedImages
 begun_of n = record { words = take n.kept n.words; list = []; kept = n.kept; read = []; long = n.long }
 
-module _ (v : Numbered) (symbols : List ℕ) (t : DisjointTables) (g : Places) (tables : AreTables v symbols t) (placed : ArePlaced v g) (grows : Grows t.variables g) (listed : RecordedImages) (keeps : KeepsRest (begun_of t.images) listed) where
+module _ (v : Numbered) (symbols : List ℕ) (t : DisjointTables) (g : Places) (tables : AreTables v symbols t) (placed : ArePlaced v g) (grows : Grows t.variables g) (listed : RecordedImages) (keeps : ChangesOnlyList (begun_of t.images) listed) where
   listed-recorded : AreImagesRecorded v g symbols listed
   listed-recorded = recorded-most v t.variables g symbols (begun_of t.images) listed grows (rest-most (begun_of t.images) listed keeps) (recorded-begin v t.variables symbols t.images tables.recorded)
 

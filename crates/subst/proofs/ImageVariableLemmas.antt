@@ -1,5 +1,5 @@
 -- The words of the places of the variables of images, and the ranges of these words.
-use Rattle.subst.proofs.Words.{◌≡◌, ℕ, ◌+◌, ◌-◌, ◌<◌, ◌≤◌, List, [], ◌∷◌, ◌++◌, length, take, drop, get_or, slice_range, refl, sym, ◌∙◌, ap, subst, arith, inl, inr, append-nil, get_or_append_left, get_or-append_right, get_or-append-add, get_or-drop, get_or-take, drop-drop, drop-take, length-append, length-take, length-drop, Numbered, code_image, SymbolRange, symbols_in, images_at, Places, Grows, GrowsWords, IsAmong, PlaceWord, ArePlacesBelow, HasBit, HasPlace, near_word, no_word, AddsSymbols, AddsWords, RecordedImages, WordRange, ReadImage, LongImage, IsIn, IsRangeOf, IsLong, AreImagesRecorded, AreRead, Appends, AppendsWord, KeepsMost, KeepsRest, KeepsImage, RecordsImage, All-nil, All-push, All-weaker, All-contains}
+use Rattle.subst.proofs.Words.{◌≡◌, ℕ, ◌+◌, ◌-◌, ◌<◌, ◌≤◌, List, [], ◌∷◌, ◌++◌, length, take, drop, get_or, slice_range, refl, sym, ◌∙◌, ap, subst, arith, inl, inr, append-nil, get_or_append_left, get_or-append_right, get_or-append-add, get_or-drop, get_or-take, drop-drop, drop-take, length-append, length-take, length-drop, Numbered, code_image, SymbolRange, symbols_in, images_at, Places, Grows, GrowsWords, IsAmong, PlaceWord, ArePlacesBelow, HasBit, HasPlace, near_word, no_word, AddsSymbols, AddsWords, RecordedImages, WordRange, ReadImage, LongImage, IsIn, IsRangeOf, IsLong, AreImagesRecorded, AreRead, Appends, AppendsWord, AppendsAndChangesList, ChangesOnlyList, RecordsReadImage, RecordsImage, All-nil, All-push, All-weaker, All-contains}
 use Rattle.subst.proofs.VariablePlaceLemmas.{grows-own, has-more, places-below, places-same}
 use Rattle.subst.proofs.PlaceSetLemmas.{place-none}
 use Rattle.subst.proofs.SymbolRangeLemmas.{seen-more}
@@ -51,28 +51,28 @@ listed-in words r j low high h =
 
 -- ---- the records that stay
 
-pub most-own : (n : RecordedImages) → KeepsMost n n
+pub most-own : (n : RecordedImages) → AppendsAndChangesList n n
 most-own n = ([], n.list, ap (λ s. record { words = s; list = n.list; kept = n.kept; read = n.read; long = n.long }) (sym (append-nil n.words)))
 
-pub rest-own : (n : RecordedImages) → KeepsRest n n
+pub rest-own : (n : RecordedImages) → ChangesOnlyList n n
 rest-own n = (n.list, refl)
 
-pub rest-most : (old new : RecordedImages) → KeepsRest old new → KeepsMost old new
+pub rest-most : (old new : RecordedImages) → ChangesOnlyList old new → AppendsAndChangesList old new
 rest-most old new h = ([], h.0, h.1 ∙ ap (λ s. record { words = s; list = h.0; kept = old.kept; read = old.read; long = old.long }) (sym (append-nil old.words)))
 
-pub rest-twice : (a b c : RecordedImages) → KeepsRest a b → KeepsRest b c → KeepsRest a c
+pub rest-twice : (a b c : RecordedImages) → ChangesOnlyList a b → ChangesOnlyList b c → ChangesOnlyList a c
 rest-twice a b c h k = (k.0, k.1 ∙ rw h.1 refl)
 
-pub rest-cleared : (a b c : RecordedImages) → b ≡ record { words = a.words; list = []; kept = a.kept; read = a.read; long = a.long } → KeepsRest b c → KeepsRest a c
+pub rest-cleared : (a b c : RecordedImages) → b ≡ record { words = a.words; list = []; kept = a.kept; read = a.read; long = a.long } → ChangesOnlyList b c → ChangesOnlyList a c
 rest-cleared a b c h k = (k.0, k.1 ∙ rw h refl)
 
-pub most-twice : (a b c : RecordedImages) → KeepsRest a b → KeepsMost b c → KeepsMost a c
+pub most-twice : (a b c : RecordedImages) → ChangesOnlyList a b → AppendsAndChangesList b c → AppendsAndChangesList a c
 most-twice a b c h k = (k.0, k.1, k.2 ∙ rw h.1 refl)
 
 long-grown : (v : Numbered) (f g : Places) (symbols : List ℕ) (words more : List PlaceWord) (kept : ℕ) (e : LongImage) → Grows f g → IsLong v f symbols words kept e → IsLong v g symbols (words ++ more) kept e
 long-grown v f g symbols words more kept e grows h = record { low = h.low; high = h.high; within = h.within; range = range-grown v f g words more e.words (symbols_in symbols e.image) grows h.range }
 
-pub recorded-most : (v : Numbered) (f g : Places) (symbols : List ℕ) (old new : RecordedImages) → Grows f g → KeepsMost old new → AreImagesRecorded v f symbols old → AreImagesRecorded v g symbols new
+pub recorded-most : (v : Numbered) (f g : Places) (symbols : List ℕ) (old new : RecordedImages) → Grows f g → AppendsAndChangesList old new → AreImagesRecorded v f symbols old → AreImagesRecorded v g symbols new
 recorded-most v f g symbols old new grows keeps h =
     let kept = h.kept in
     rw keeps.2 (record {
@@ -80,7 +80,7 @@ recorded-most v f g symbols old new grows keeps h =
       long = All-weaker (IsLong v f symbols old.words old.kept) (IsLong v g symbols (old.words ++ keeps.0) old.kept) (λ e is. long-grown v f g symbols old.words keeps.0 old.kept e grows is) old.long h.long;
     })
 
-pub read-most : (v : Numbered) (f g : Places) (symbols : List ℕ) (images : List (ℕ × SymbolRange)) (old new : RecordedImages) → Grows f g → KeepsMost old new → AreRead v f symbols images old → AreRead v g symbols images new
+pub read-most : (v : Numbered) (f g : Places) (symbols : List ℕ) (images : List (ℕ × SymbolRange)) (old new : RecordedImages) → Grows f g → AppendsAndChangesList old new → AreRead v f symbols images old → AreRead v g symbols images new
 read-most v f g symbols images old new grows keeps h =
     rw keeps.2 (record {
       each = All-weaker (λ (e : ReadImage). IsRangeOf v f old.words e.words (code_image (images_at symbols images) e.symbol)) (λ e. IsRangeOf v g (old.words ++ keeps.0) e.words (code_image (images_at symbols images) e.symbol))
@@ -196,15 +196,15 @@ read-range v f symbols images n x r read k low same = All-contains (λ (e : Read
 
 -- ---- an image is recorded
 
-pub recorded-image : (v : Numbered) (f : Places) (symbols : List ℕ) (old new : RecordedImages) (x : ℕ) (r : WordRange) → KeepsImage old new x r → AreImagesRecorded v f symbols old → AreImagesRecorded v f symbols new
+pub recorded-image : (v : Numbered) (f : Places) (symbols : List ℕ) (old new : RecordedImages) (x : ℕ) (r : WordRange) → RecordsReadImage old new x r → AreImagesRecorded v f symbols old → AreImagesRecorded v f symbols new
 recorded-image v f symbols old new x r (inl e) h = rw e h
 recorded-image v f symbols old new x r (inr e) h = rw e (record { kept = h.kept; long = h.long })
 
-pub words-image : (old new : RecordedImages) (x : ℕ) (r : WordRange) → KeepsImage old new x r → new.words ≡ old.words
+pub words-image : (old new : RecordedImages) (x : ℕ) (r : WordRange) → RecordsReadImage old new x r → new.words ≡ old.words
 words-image old new x r (inl e) = ap (λ (n : RecordedImages). n.words) e
 words-image old new x r (inr e) = ap (λ (n : RecordedImages). n.words) e
 
-pub read-image : (v : Numbered) (f : Places) (symbols : List ℕ) (images : List (ℕ × SymbolRange)) (old new : RecordedImages) (x : ℕ) (r : WordRange) → KeepsImage old new x r → IsRangeOf v f old.words r (code_image (images_at symbols images) x) → AreRead v f symbols images old → AreRead v f symbols images new
+pub read-image : (v : Numbered) (f : Places) (symbols : List ℕ) (images : List (ℕ × SymbolRange)) (old new : RecordedImages) (x : ℕ) (r : WordRange) → RecordsReadImage old new x r → IsRangeOf v f old.words r (code_image (images_at symbols images) x) → AreRead v f symbols images old → AreRead v f symbols images new
 read-image v f symbols images old new x r (inl e) own h = rw e h
 read-image v f symbols images old new x r (inr e) own h =
     rw e (record { each = All-push (λ (i : ReadImage). IsRangeOf v f old.words i.words (code_image (images_at symbols images) i.symbol)) old.read (record { symbol = x; words = r }) h.each own })
@@ -214,10 +214,10 @@ read-image v f symbols images old new x r (inr e) own h =
 pub words-own : (n : RecordedImages) → GrowsWords n n
 words-own n = ([], sym (append-nil n.words))
 
-pub words-most : (old new : RecordedImages) → KeepsMost old new → GrowsWords old new
+pub words-most : (old new : RecordedImages) → AppendsAndChangesList old new → GrowsWords old new
 words-most old new h = (h.0, ap (λ (n : RecordedImages). n.words) h.2)
 
-pub words-kept : (a b c : RecordedImages) (x : ℕ) (r : WordRange) → KeepsMost a b → KeepsImage b c x r → GrowsWords a c
+pub words-kept : (a b c : RecordedImages) (x : ℕ) (r : WordRange) → AppendsAndChangesList a b → RecordsReadImage b c x r → GrowsWords a c
 words-kept a b c x r h k = (h.0, words-image b c x r k ∙ ap (λ (n : RecordedImages). n.words) h.2)
 
 pub range-words : (v : Numbered) (f g : Places) (old new : RecordedImages) (r : WordRange) (image : List ℕ) → Grows f g → GrowsWords old new → IsRangeOf v f old.words r image → IsRangeOf v g new.words r image

@@ -6,7 +6,7 @@ mod WrittenImages
 mod AlikeLemmas
 pub mod MatchLemmas
 mod CopyLemmas
-pub mod VanishingLemmas
+pub mod RemainingSymbolLemmas
 pub mod SubstitutionLemmas
 pub mod DisjointLemmas
 mod Rows
@@ -15,7 +15,7 @@ pub mod VariablePlaceLemmas
 mod PlaceSetLemmas
 pub mod DisjointRowLemmas
 mod ActivePairLemmas
-mod OneListLemmas
+mod DisjointListSearchLemmas
 pub mod ImageVariableLemmas
 pub mod ImagePairLemmas
 mod DisjointTableLemmas

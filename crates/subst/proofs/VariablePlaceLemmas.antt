@@ -1,5 +1,5 @@
 -- The places of variables, as symbols are met.
-use Rattle.subst.proofs.Words.{◌≡◌, ℕ, ◌+◌, ◌<◌, ◌⊎◌, false, List, [], ◌∷◌, ◌++◌, length, get_or, Option, Some, None, Result, Ok, Err, OnOk, is_ok, is_err, if◌then◌else◌, refl, sym, ◌∙◌, ap, subst, arith, inl, inr, cases_eq, get_or_append_left, get_or_push, length_push, Numbered, MetSymbol, Places, is_kept, IsAt, Grows, IsPlace, IsListed, IsVariable, ArePlaced, HasVariable, ArePlacesOf, IsAmong, All-nil, All-same, All-push, All-weaker, All-contains}
+use Rattle.subst.proofs.Words.{◌≡◌, ℕ, ◌+◌, ◌<◌, ◌⊎◌, false, List, [], ◌∷◌, ◌++◌, length, get_or, Option, Some, None, Result, Ok, Err, OnOk, is_ok, is_err, if◌then◌else◌, refl, sym, ◌∙◌, ap, subst, arith, inl, inr, cases_eq, get_or_append_left, get_or_push, length_push, Numbered, MetSymbol, Places, are_places_disjoint, IsAt, Grows, IsPlace, IsListed, IsVariable, ArePlaced, HasVariable, ArePlacesOf, IsAmong, All-nil, All-same, All-push, All-weaker, All-contains}
 
 pub grows-own : (f : Places) → Grows f f
 grows-own f = record { each = λ j x at. at }
@@ -12,7 +12,7 @@ pub place-grown : (f g : Places) (j : ℕ) → Grows f g → j < length f.variab
 place-grown f g j grows h = grows.each j (get_or f.variables j 0) (record { there = h; same = refl })
 
 -- whether the variables at two places are disjoint does not change
-pub kept-grown : (v : Numbered) (f g : Places) (i j : ℕ) → Grows f g → i < length f.variables → j < length f.variables → is_kept v g i j ≡ is_kept v f i j
+pub kept-grown : (v : Numbered) (f g : Places) (i j : ℕ) → Grows f g → i < length f.variables → j < length f.variables → are_places_disjoint v g i j ≡ are_places_disjoint v f i j
 kept-grown v f g i j grows hi hj = rw ((place-grown f g i grows hi).same, (place-grown f g j grows hj).same) refl
 
 pub is_place-grown : (v : Numbered) (f g : Places) (x : ℕ) (o : Option ℕ) → Grows f g → IsPlace v f x o → IsPlace v g x o

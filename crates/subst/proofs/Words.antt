@@ -45,14 +45,14 @@ pub use Rattle.subst.specs.Laws.{AreImagesDisjoint, DisjointConditionLaw, Substi
 pub use Rattle.subst.specs.Stored.DisjointRows.{AreFacts, ArePairs, HasFact, IsFact, IsRowAt, RecordsWord, DecidesAll, DecidesBits, DecidesEach, DecidesWord, no_row}
 pub use Rattle.subst.specs.Stored.DisjointTables.{AreTables, are_named_disjoint}
 pub use Rattle.subst.specs.Stored.ImagePairs.{AreDisjointPairs, IsDisjointPair, IsInside, RecordsPair}
-pub use Rattle.subst.specs.Stored.ImageVariables.{AddsImage, Appends, AppendsWord, AreImagesRecorded, AreRead, GrowsWords, IsIn, IsLong, IsRangeOf, KeepsImage, KeepsMost, KeepsRest, RecordedImages, RecordsImage}
+pub use Rattle.subst.specs.Stored.ImageVariables.{AddsImage, Appends, AppendsWord, AreImagesRecorded, AreRead, GrowsWords, IsIn, IsLong, IsRangeOf, RecordsReadImage, AppendsAndChangesList, ChangesOnlyList, RecordedImages, RecordsImage}
 pub use Rattle.subst.specs.Stored.PlaceSets.{AddsFirst, AddsSymbols, AddsWord, AddsWords, ArePlacesBelow, HasAmong, HasBit, HasEither, HasPlace, TakesPlace, near_word, no_word}
 pub use Rattle.subst.specs.Stored.Slots.{AreUpTo, placed}
 pub use Rattle.subst.specs.Stored.SymbolMarks.{AreMarksOf, HasBoth, IsMarked, TakesMark, TakesPlaces, number_at}
-pub use Rattle.subst.specs.Stored.VariablePlaces.{AreBitsOf, ArePlaced, ArePlacesOf, Grows, HasVariable, IsAmong, IsAt, IsListed, IsPlace, IsVariable, Places, is_kept, variable_name}
+pub use Rattle.subst.specs.Stored.VariablePlaces.{AreBitsOf, ArePlaced, ArePlacesOf, Grows, HasVariable, IsAmong, IsAt, IsListed, IsPlace, IsVariable, Places, are_places_disjoint, variable_name}
 pub use Rattle.subst.specs.Stored.Written.{IsWritten, LacksRoom}
 pub use Rattle.subst.specs.SymbolRanges.{AreInside, AreWithin, images_at, symbols_in}
-pub use Rattle.subst.specs.Vanishing.{group_left, is_group_left, has_nonempty_image, is_range_nonempty, is_symbol_left, remaining}
+pub use Rattle.subst.specs.RemainingSymbols.{group_left, is_group_left, has_nonempty_image, is_range_nonempty, is_symbol_left, remaining}
 pub use Rattle.subst.specs.contracts.subject.Subject.{the_row, the_type}
 pub use Rattle.subst.specs.declared.disjoint_rows.RowWord.{RowWord}
 pub use Rattle.subst.specs.declared.disjoint_tables.DisjointTables.{DisjointTables}

@@ -3,6 +3,6 @@ pub mod SymbolRanges
 pub mod Images
 pub mod DisjointImages
 pub mod DisjointCaches
-pub mod Vanishing
+pub mod RemainingSymbols
 pub mod Laws
 pub mod Stored

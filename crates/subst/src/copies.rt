@@ -9,7 +9,7 @@ use std::simd::prelude::*;
 /// The number of symbols that are copied at once. Up to this many are overwritten after the end of a copy.
 pub const LANES: usize = 32;
 
-/// Copies `len` symbols from `from`, which all are before `at`, to `at`. Most runs fit the first block.
+/// Copies the `len` symbols from `from` on, all of which are before `at`, to `at`. Most copies fit into the first block.
 #[inline(always)]
 fn copy_run(symbols: &mut [u32], from: usize, len: usize, at: usize)
     requires before { from + len ≤ at }
@@ -57,7 +57,7 @@ pub fn put_symbol(symbols: &mut [u32], at: usize, symbol: u32) -> usize
     at + 1
 }
 
-/// Writes an expression at `at`. Most are the two symbols of a `$f`.
+/// Writes an expression at `at`. Most expressions are the two symbols of a `$f`.
 pub fn put_expr(symbols: &mut [u32], at: usize, expr: &[u32])
     requires { at + length expr.now ≤ length symbols.old }
     ensures written { take (at + length expr.now) symbols.new ≡ take at symbols.old ++ expr.now }

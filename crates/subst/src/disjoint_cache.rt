@@ -30,10 +30,10 @@ pub struct DisjointCache {
 }
 
 impl Model for DisjointCache {
-    ghost use Rattle.subst.specs.DisjointCaches.{Known};
+    ghost use Rattle.subst.specs.DisjointCaches.{CacheSubject};
     ghost use Rattle.subst.specs.Stored.DisjointTables.{AreTables};
 
-    ghost Value = { Known };
+    ghost Value = { CacheSubject };
 
     ghost view = { λ a. record { about = a.subject.about; over = a.subject.over } };
 
@@ -111,12 +111,12 @@ impl DisjointCache {
         if groups.len() == 0 {
             return Ok(true);
         }
-        self.ask(pairs, groups, symbols, images)
+        self.decide_groups(pairs, groups, symbols, images)
     }
 
-    /// Returns the answer of `are_groups_disjoint` if there are groups.
+    /// Returns the answer of `are_groups_disjoint`, given that there are groups.
     #[inline(always)]
-    fn ask(
+    fn decide_groups(
         &mut self,
         pairs: &Pairs<'_>,
         groups: &Groups<'_>,

@@ -6,18 +6,18 @@ ghost use Rattle.subst.specs.Stored.DisjointRows.{AreFacts, ArePairs, HasFact, I
 ghost use Rattle.subst.specs.Stored.PlaceSets.{ArePlacesBelow, HasBit, near_word};
 ghost use Rattle.subst.specs.Stored.VariablePlaces.{ArePlaced, Grows};
 
+use crate::disjoint_list_search::DisjointListSearch;
 use crate::hints::Hints;
-use crate::one_list::OneDisjointList;
 use crate::place_words::{PlaceWord, costly_steps, lowest, without};
 use crate::variable_places::VariablePlaces;
 use frame::{Frames, PairMemo, Pairs};
 use std::alloc::{AllocError, Global};
 use std::marker::Model;
 
-/// Facts are recorded of this many places.
+/// The number of places of which facts are recorded.
 const RECORDED_PLACES: u32 = 8192;
 
-/// The number of the last active `$d` that are read in a proof before the first question.
+/// How many of the last active `$d` are read in a proof before any pair is looked up.
 const READ_LISTS: usize = 16;
 
 /// The most symbols of a `$d` that is read.
@@ -34,7 +34,7 @@ pub struct RowWord {
 /// The pairs of variables of a proof that were found to be disjoint, as words of bits. A bit that is set is a fact; one that
 /// is not set says nothing.
 ///
-/// A hint gives the index that a word may have. At most 24 MB are used: variables beyond the first 8,192 are not recorded.
+/// A hint says where in the list a word may be. At most 24 MB are used: variables beyond the first 8,192 are not recorded.
 #[derive(Drop)]
 pub struct DisjointRows {
     hints: Hints,
@@ -43,7 +43,7 @@ pub struct DisjointRows {
     has_read_active: bool,
     /// The pairs that long searches found, in all proofs.
     memo: PairMemo,
-    one_list: OneDisjointList,
+    disjoint_list_search: DisjointListSearch,
 }
 
 impl Model for DisjointRows {
@@ -65,7 +65,7 @@ impl DisjointRows {
             words: Vec::new(alloc),
             has_read_active: false,
             memo: PairMemo::new(alloc),
-            one_list: OneDisjointList::new(alloc),
+            disjoint_list_search: DisjointListSearch::new(alloc),
         }
     }
 
@@ -83,7 +83,7 @@ impl DisjointRows {
     {
         self.words.clear();
         self.has_read_active = false;
-        self.one_list.release(alloc);
+        self.disjoint_list_search.release(alloc);
     }
 
     /// Has the frames make long searches for pairs again, as `PairMemo::repeat_searches`.
@@ -218,11 +218,10 @@ impl DisjointRows {
         Ok(())
     }
 
-    /// Looks up and returns whether the variable at a place is disjoint from each of those at the places of a word. Records it
-    /// if so.
+    /// Looks up whether the variable at a place is disjoint from each of those at the places of a word, and records it if so.
     #[cold]
     #[inline(never)]
-    fn ask(
+    fn look_up(
         &mut self,
         pairs: &Pairs<'_>,
         variables: &VariablePlaces,
@@ -287,7 +286,7 @@ impl DisjointRows {
         for word in others {
             let index = word.index;
             let bits = word.bits & !self.bits(place, index);
-            if bits != 0 && !self.ask(pairs, variables, place, PlaceWord { index, bits })? {
+            if bits != 0 && !self.look_up(pairs, variables, place, PlaceWord { index, bits })? {
                 return Ok(false);
             }
         }
@@ -372,7 +371,7 @@ impl DisjointRows {
             return self.are_disjoint(pairs, variables, words, others);
         };
         if self
-            .one_list
+            .disjoint_list_search
             .are_in_one(pairs, variables, words, others, steps)?
         {
             return Ok(true);

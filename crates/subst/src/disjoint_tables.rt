@@ -188,7 +188,7 @@ impl DisjointTables {
 
     /// Returns whether the images of each two variables of a group are disjoint.
     ///
-    /// Compares each image with the variables of all images before it, or with each of these images if that costs much.
+    /// Compares each image with the variables of all images before it; if that costs much, with each of these images in turn.
     /// Whether a variable is in the group twice is looked up only if its image is not disjoint from the earlier ones.
     #[cold]
     #[inline(never)]

@@ -1,4 +1,4 @@
-//! Writes an expression with the images substituted, after them in their buffer.
+//! Writes an expression with the images substituted into the buffer of the images, after them.
 ghost use Rattle.std.specs.Prelude.{◌≡◌, ◌+◌, ◌<◌, ◌≤◌, ◌^◌, length, take, IfSome, IfNone, OnOk};
 ghost use Rattle.frame.specs.Substitution.{code_apply};
 ghost use Rattle.subst.specs.Stored.Written.{IsWritten, LacksRoom};

@@ -89,7 +89,8 @@ impl ImagePairs {
             return false;
         };
         match self.pairs.get(*place as usize) {
-            Some(noted) => is_same(noted.left, pair.left) && is_same(noted.right, pair.right),
+            Some(recorded) => is_same(recorded.left, pair.left)
+                && is_same(recorded.right, pair.right),
             None => false,
         }
     }
@@ -102,7 +103,7 @@ impl ImagePairs {
         if place >= MOST_PAIRS || self.pairs.push(pair).is_err() {
             return;
         }
-        let _noted = self.places.insert(key(pair), place as u32);
+        let _recorded = self.places.insert(key(pair), place as u32);
     }
 }
 

@@ -19,7 +19,8 @@ const UNSET: Slot = Slot {
     place: SymbolRange { start: 0, end: 0 },
 };
 
-/// A table that grows gets twice the new index and this many slots more, so that it mostly has those of constants too.
+/// A table that grows to have an index gets twice as many slots and this many more, so that it usually has those of constants
+/// too.
 const SPARE: usize = 1024;
 
 /// A read-only view of a table of images, which a loop keeps in registers.
@@ -54,8 +55,8 @@ impl<'a> ImageTable<'a> {
 /// A table of the images of symbols, each a range of a buffer that is kept elsewhere. Contracts see the symbols with their
 /// ranges.
 ///
-/// Cost: setting an image, finding one and removing all take constant time. The table is about twice as long as the greatest
-/// symbol number that was set.
+/// Cost: finding an image and removing all take constant time; so does setting one, unless the table grows. The table is about
+/// twice as long as the greatest symbol number that was set.
 #[derive(Drop)]
 pub struct ImageRanges {
     slots: Vec<Slot>,

@@ -5,7 +5,7 @@ ghost use Rattle.frame.specs.Below.{AreBelow};
 ghost use Rattle.frame.specs.Substitution.{code_image};
 ghost use Rattle.subst.specs.Images.{AreOver};
 ghost use Rattle.subst.specs.SymbolRanges.{AreInside, images_at};
-ghost use Rattle.subst.specs.Stored.ImageVariables.{AddsImage, Appends, AppendsWord, AreImagesRecorded, AreRead, GrowsWords, IsRangeOf, KeepsImage, KeepsMost, KeepsRest, RecordsImage};
+ghost use Rattle.subst.specs.Stored.ImageVariables.{AddsImage, Appends, AppendsWord, AreImagesRecorded, AreRead, GrowsWords, IsRangeOf, RecordsReadImage, AppendsAndChangesList, ChangesOnlyList, RecordsImage};
 ghost use Rattle.subst.specs.Stored.PlaceSets.{AddsWords, near_word};
 ghost use Rattle.subst.specs.Stored.VariablePlaces.{ArePlaced, Grows};
 
@@ -19,7 +19,7 @@ use frame::Pairs;
 use std::alloc::{AllocError, Global};
 use std::marker::Model;
 
-/// The variables of results with more symbols are recorded.
+/// A result with more symbols than this is long: its variables are recorded.
 pub const LONG_RESULT: usize = 1024;
 
 /// The words of a result's variables are recorded if there is at most one for this many of its symbols: with more words, it
@@ -199,7 +199,7 @@ impl ImageVariables {
         requires below { AreBelow (length pairs.now.names) image.now }
         ensures placed { ArePlaced pairs.now variables.new }
         ensures grows { Grows variables.old variables.new }
-        ensures rest { KeepsRest self.old self.new }
+        ensures rest { ChangesOnlyList self.old self.new }
         ensures added { OnOk result (AddsImage pairs.now variables.new self.old self.new image.now) }
     {
         self.list.add_symbols(pairs, variables, image)
@@ -208,7 +208,7 @@ impl ImageVariables {
     /// Adds the words in a range to the list.
     fn add_range(&mut self, range: WordRange) -> Result<(), AllocError>
         requires { (range.start ≤ range.end) × (range.end ≤ length self.old.words) }
-        ensures rest { KeepsRest self.old self.new }
+        ensures rest { ChangesOnlyList self.old self.new }
         ensures added { OnOk result (AddsWords self.old.list self.new.list (slice_range self.old.words range.start range.end)) }
     {
         self.list.add_words(&self.words[range.start..range.end])
@@ -232,7 +232,7 @@ impl ImageVariables {
         requires number { symbol < length pairs.now.names }
         ensures placed { ArePlaced pairs.now variables.new }
         ensures grows { Grows variables.old variables.new }
-        ensures rest { KeepsRest self.old self.new }
+        ensures rest { ChangesOnlyList self.old self.new }
         ensures added { OnOk result (AddsImage pairs.now variables.new self.old self.new (code_image (images_at symbols.now images.now) symbol)) }
     {
         let Some(place) = images.get(symbol) else {
@@ -266,7 +266,7 @@ impl ImageVariables {
     /// Appends the words of the list, and returns their range.
     #[inline(always)]
     fn append_list(&mut self) -> Result<WordRange, AllocError>
-        ensures rest { KeepsMost self.old self.new }
+        ensures rest { AppendsAndChangesList self.old self.new }
         ensures appended { IfOk result (Appends self.old self.new) }
     {
         let start = self.words.len();
@@ -278,7 +278,7 @@ impl ImageVariables {
     /// Appends a word, and returns its range.
     #[inline(always)]
     fn append_word(&mut self, word: PlaceWord) -> Result<WordRange, AllocError>
-        ensures rest { KeepsMost self.old self.new }
+        ensures rest { AppendsAndChangesList self.old self.new }
         ensures appended { IfOk result (AppendsWord self.old self.new word) }
     {
         let start = self.words.len();
@@ -301,7 +301,7 @@ impl ImageVariables {
         requires below { AreBelow (length pairs.now.names) image.now }
         ensures placed { ArePlaced pairs.now variables.new }
         ensures grows { Grows variables.old variables.new }
-        ensures rest { KeepsMost self.old self.new }
+        ensures rest { AppendsAndChangesList self.old self.new }
         ensures range { IfOk result (λ range. IsRangeOf pairs.now variables.new self.new.words range image.now) }
     {
         match variables.near_bits(pairs, image) {
@@ -323,7 +323,7 @@ impl ImageVariables {
         requires below { AreBelow (length pairs.now.names) image.now }
         ensures placed { ArePlaced pairs.now variables.new }
         ensures grows { Grows variables.old variables.new }
-        ensures rest { KeepsMost self.old self.new }
+        ensures rest { AppendsAndChangesList self.old self.new }
         ensures range { IfOk result (λ range. IsRangeOf pairs.now variables.new self.new.words range image.now) }
     {
         self.clear_list();
@@ -356,7 +356,7 @@ impl ImageVariables {
         requires number { symbol < length pairs.now.names }
         ensures placed { ArePlaced pairs.now variables.new }
         ensures grows { Grows variables.old variables.new }
-        ensures rest { KeepsMost self.old self.new }
+        ensures rest { AppendsAndChangesList self.old self.new }
         ensures range { IfOk result (λ range. IsRangeOf pairs.now variables.new self.new.words range (code_image (images_at symbols.now images.now) symbol)) }
     {
         let Some(place) = images.get(symbol) else {
@@ -370,15 +370,15 @@ impl ImageVariables {
 
     /// Records the range of the words of a symbol's image for this citation.
     #[inline(always)]
-    fn keep(&mut self, symbol: u32, words: WordRange) -> Result<(), AllocError>
-        ensures { KeepsImage self.old self.new symbol words }
+    fn record_read(&mut self, symbol: u32, words: WordRange) -> Result<(), AllocError>
+        ensures { RecordsReadImage self.old self.new symbol words }
     {
         self.hints.set(symbol, self.read.len())?;
         self.read.push(ReadImage { symbol, words })?;
         Ok(())
     }
 
-    /// Returns the range of the words of a symbol's image, which is read unless it was before.
+    /// Returns the range of the words of a symbol's image, which is read first if it was not read before.
     ///
     /// Errors: an allocation fails. Cost: the symbols of the image, once in a citation; constant for a long one.
     #[inline(always)]
@@ -407,7 +407,7 @@ impl ImageVariables {
             return Ok(range);
         }
         let range = self.read_image(pairs, variables, symbols, images, symbol)?;
-        self.keep(symbol, range)?;
+        self.record_read(symbol, range)?;
         Ok(range)
     }
 
@@ -428,7 +428,7 @@ impl ImageVariables {
     }
 }
 
-/// Appends words, mostly one.
+/// Appends words; usually there is one.
 ///
 /// Errors: an allocation fails; the words are unchanged.
 #[inline(always)]

@@ -6,8 +6,8 @@
 //! substitution over the names that they stand for is a law. `DisjointCache` decides whether images meet the disjoint
 //! variable condition.
 //!
-//! Reading order: `symbol_range`, `image_ranges`, `copies`, `filling`, `matching`, `buffer`, `vanishing`, `images`,
-//! `disjoint_condition`; `hints`, `variable_places`, `place_words`, `place_set`, `one_list`, `disjoint_rows`,
+//! Reading order: `symbol_range`, `image_ranges`, `copies`, `filling`, `matching`, `buffer`, `remaining_symbols`, `images`,
+//! `disjoint_condition`; `hints`, `variable_places`, `place_words`, `place_set`, `disjoint_list_search`, `disjoint_rows`,
 //! `image_variables`, `image_pairs`, `disjoint_tables`, `subject`, `disjoint_cache`; `laws`.
 #![tactic(auto)]
 
@@ -15,6 +15,7 @@ mod buffer;
 mod copies;
 mod disjoint_cache;
 mod disjoint_condition;
+mod disjoint_list_search;
 mod disjoint_rows;
 mod disjoint_tables;
 mod filling;
@@ -25,12 +26,11 @@ mod image_variables;
 mod images;
 mod laws;
 mod matching;
-mod one_list;
 mod place_set;
 mod place_words;
+mod remaining_symbols;
 mod subject;
 mod symbol_range;
-mod vanishing;
 mod variable_places;
 
 pub use buffer::{Buffer, SYMBOLS_LIMIT, apply_into};
@@ -39,5 +39,5 @@ pub use disjoint_condition::disjoint;
 pub use image_ranges::ImageRanges;
 pub use images::{Subst, apply, has_room};
 pub use laws::{disjoint_condition_law, substitution_over_names};
+pub use remaining_symbols::{Remaining, is_image_nonempty};
 pub use symbol_range::{SymbolRange, range_between, symbols_at};
-pub use vanishing::{Remaining, has_symbols};

@@ -1,4 +1,4 @@
-//! Compares symbols of a buffer to an expression with the images substituted, without writing this.
+//! Compares symbols of a buffer with an expression in which images are substituted, without writing that expression.
 ghost use Rattle.std.specs.Prelude.{◌≡◌, ℕ, ◌∷◌, ◌++◌, ◌↔◌, ◌<◌, ◌≤◌, [], List, length, take, slice_range, IfSome, IfNone, IsTrue};
 ghost use Rattle.frame.specs.Substitution.{code_apply, code_image};
 ghost use Rattle.subst.specs.SymbolRanges.{AreInside, images_at, symbols_in};
@@ -26,7 +26,7 @@ fn common_prefix_len(left: &[u32], right: &[u32]) -> usize
     }
 }
 
-/// Returns whether the first `len` symbols of two lists agree. Mostly they are few, and are compared at once.
+/// Returns whether the first `len` symbols of two lists agree. Usually they are few, and are compared at once.
 #[inline(always)]
 fn have_same_prefix(left: &[u32], right: &[u32], len: usize) -> bool
     requires left { len ≤ length left.now }

@@ -11,9 +11,9 @@ use frame::Pairs;
 use std::alloc::{AllocError, Global};
 use std::marker::Model;
 
-/// A set of places of variables, as those words of bits that have any.
+/// A set of places of variables, as a list of words of bits.
 ///
-/// A hint gives the index that a word may have, so a set is cleared in constant time.
+/// A hint says where in the list the word for 64 places may be, so a set is cleared in constant time.
 #[derive(Drop)]
 pub struct PlaceSet {
     hints: Hints,
@@ -97,8 +97,8 @@ impl PlaceSet {
         Ok(())
     }
 
-    /// Adds a place to the word at hand, and returns that. If the place is not one of its 64, adds the word to the set and
-    /// returns a new one with the place.
+    /// Adds a place to the current word, and returns that word. If the place is not one of its 64, adds the word to the set
+    /// and returns a new one with the place.
     #[inline(always)]
     fn take(&mut self, word: PlaceWord, place: u32) -> Result<PlaceWord, AllocError>
         ensures { IfOk result (λ next. TakesPlace self.old word self.new next place) }
@@ -113,7 +113,7 @@ impl PlaceSet {
         Ok(PlaceWord { index, bits: bit })
     }
 
-    /// Adds the places of the variables among the symbols, except those of the last word at hand, and returns that word.
+    /// Adds the places of the variables among the symbols, except those in the current word at the end, and returns that word.
     #[inline(always)]
     fn take_symbols(
         &mut self,

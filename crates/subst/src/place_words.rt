@@ -9,7 +9,7 @@ pub struct PlaceWord {
     pub bits: u64,
 }
 
-/// The least number of steps at which it costs much to compare two images.
+/// From this many steps on, it costs much to compare two images.
 const COSTLY: usize = 256;
 
 /// Returns the number of steps that it takes to compare the variables at the places of words with those at the places of
@@ -28,7 +28,7 @@ pub fn costly_steps(words: &[PlaceWord], others: usize) -> Option<usize> {
     if steps < COSTLY { None } else { Some(steps) }
 }
 
-/// Returns the lowest bit of a word.
+/// Returns the index of the lowest bit that is set in a word.
 #[inline(always)]
 pub fn lowest(word: u64) -> usize
     requires { 0 < word }
@@ -38,7 +38,7 @@ pub fn lowest(word: u64) -> usize
     word.trailing_zeros() as usize
 }
 
-/// Returns the word without one of its bits.
+/// Returns the word with one of its bits cleared.
 #[inline(always)]
 pub fn without(word: u64, bit: usize) -> u64
     requires low { bit < 64 }

@@ -30,13 +30,13 @@ impl<'a> Work for StatementRange<'a> {
     ghost use Rattle.std.specs.Prelude.{◌-◌};
     ghost use Rattle.scope.specs.Active.{bares};
     ghost use Rattle.unproved.specs.StatementRanges.{IsProvedIn};
-    ghost use Rattle.verify.specs.KeptLists.{AreKeptFor};
+    ghost use Rattle.verify.specs.KeptLists.{IsCacheFor};
 
     ghost count = { λ range. range.end - range.start };
 
     ghost right = { IsProvedIn };
 
-    ghost fits = { λ range. AreKeptFor (bares range.statements) range.names };
+    ghost fits = { λ range. IsCacheFor (bares range.statements) range.names };
 
     fn count(&self) -> usize {
         self.end - self.start

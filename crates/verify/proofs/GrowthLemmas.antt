@@ -1,5 +1,5 @@
 -- The machine over derivations: items spell at most one derivation; the exits of an item in the code.
-use Rattle.verify.proofs.Words.{◌≡◌, ℕ, zero, suc, List, [], ◌∷◌, ◌++◌, length, refl, ◌-◌, ◌<◌, ◌≤◌, Bool, true, false, map, get_or, Result, IfOk, sym, ◌∙◌, ap, subst, append_assoc, append-nil, arith, length-append, same_from_push, Name, Stmt, Expr, Database, stmt_at, before, is_assertion, hypotheses, Item, Cite, Recall, Mark, Derivation, Derivations, hyp, apply, none, more, from_list, ConcludeAll, IsHypothesis, premises, Carries, IsCitable, Spells, SpellsAll, cites_hypothesis, cites_assertion, recalls, marks, spells_none, spells_more, HasLabelsOnce, Trees, trees, Builds, a_hypothesis, an_assertion, IsKept, Grows, GrowsBy, with_tree, Grew, some-same, item_of, item-cite, item-recall, below, top, IsRight, Derives}
+use Rattle.verify.proofs.Words.{◌≡◌, ℕ, zero, suc, List, [], ◌∷◌, ◌++◌, length, refl, ◌-◌, ◌<◌, ◌≤◌, Bool, true, false, map, get_or, Result, IfOk, sym, ◌∙◌, ap, subst, append_assoc, append-nil, arith, length-append, same_from_push, Name, Stmt, Expr, Database, stmt_at, before, is_assertion, hypotheses, Item, Cite, Recall, Mark, Derivation, Derivations, hyp, apply, none, more, from_list, ConcludeAll, IsHypothesis, premises, Carries, IsCitable, Spells, SpellsAll, cites_hypothesis, cites_assertion, recalls, marks, spells_none, spells_more, HasLabelsOnce, Trees, trees, Builds, a_hypothesis, an_assertion, IsSavedTree, Grows, GrowsBy, with_tree, Grew, some-same, item_of, item-cite, item-recall, below, top, IsRight, Derives}
 use Rattle.verify.proofs.Decide.{append_cut, length-premises, not_both}
 use Rattle.verify.proofs.Named.{halves, length-top}
 
@@ -25,17 +25,17 @@ module _ (S : Database) (at : ℕ) where
   abbrev pub Yields : List Derivation → List Item → List Derivation → List Derivation → Type 0
   Yields marked items ts after = (below : List Derivation) → GrowsBy S at (trees below marked) items (trees (below ++ ts) after)
 
-  count-kids : (children : Derivations) (es : List Expr) → ConcludeAll S at children es → length (to_list children) ≡ length es
-  count-kids none [] p = refl
-  count-kids (more t children) (e ∷ es) p = ap suc (count-kids children es p.1)
-  count-kids children es p = absurd p
+  count-children : (children : Derivations) (es : List Expr) → ConcludeAll S at children es → length (to_list children) ≡ length es
+  count-children none [] p = refl
+  count-children (more t children) (e ∷ es) p = ap suc (count-children children es p.1)
+  count-children children es p = absurd p
 
   mutual
     pub yields : {marked after : List Derivation} {items : List Item} {t : Derivation} {weight : ℕ} → Spells S at marked items t after weight → Yields marked items (t ∷ []) after
     yields {marked} (cites_hypothesis {i = i} s e carries active ends) = λ below. (trees (below ++ hyp i ∷ []) marked, (below, hyp i, a_hypothesis i s carries active refl refl, refl), refl)
     yields {marked} {after} {items} (cites_assertion {a = a} {children = children} s e label front front_weight carries citable ends all whole weighs) = λ below.
         let many : length (to_list children) ≡ length (hypotheses (before S a) s)
-        = count-kids children (premises S a ends.0 ends.1) ends.3 ∙ (length-premises S a ends.0 ends.1 ∙ ap (λ u. length (hypotheses (before S a) u)) (some-same ends.2.stands carries.stands)) in
+        = count-children children (premises S a ends.0 ends.1) ends.3 ∙ (length-premises S a ends.0 ends.1 ∙ ap (λ u. length (hypotheses (before S a) u)) (some-same ends.2.stands carries.stands)) in
         let end = trees (below ++ apply a children ∷ []) after in
         grows_behind front (Cite label ∷ []) items (trees below marked) (trees (below ++ to_list children) after) end end whole (yields_all all below)
         (end, (below, apply a children, an_assertion a s (to_list children) carries citable many refl (ap (λ r. apply a r) (sym (from-to children))), refl), refl) refl
@@ -67,7 +67,7 @@ module _ (S : Database) (at : ℕ) where
         (cut.0, same ∙ (ap (λ k. apply k (from_list children)) n ∙ (ap (λ ks. apply d (from_list ks)) cut.1 ∙ sym same')))
 
     -- a number recalls at most one saved derivation
-    kept_same : (saved : List Derivation) (k : ℕ) (t u : Derivation) → IsKept saved k t → IsKept saved k u → t ≡ u
+    kept_same : (saved : List Derivation) (k : ℕ) (t u : Derivation) → IsSavedTree saved k t → IsSavedTree saved k u → t ≡ u
     kept_same saved zero t u p q = absurd p
     kept_same saved (suc k) t u p q = some-same p q
 

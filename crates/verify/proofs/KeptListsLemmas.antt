@@ -1,5 +1,5 @@
 -- The lists that a checker keeps are right for citations of their assertions.
-use Rattle.verify.proofs.Words.{◌≡◌, ℕ, zero, suc, ◌+◌, ◌<◌, ◌≤◌, Bool, true, false, ◌&&◌, ◌||◌, ◌==◌, List, [], ◌∷◌, ◌++◌, length, length-append, map, take, take_all, take_more, map-append, Hypothesis, get_or, slice_get, Some, refl, sym, ap, subst, ◌∙◌, arith, and_from, list_all, list_any, same_Some, get_or_from_slice_get, slice_get_within, inl, inr, Name, Stmt, Database, stmt_at, before, expr_of, name_at, decode, name_eq, name_same, mandatory_groups, Images, image, AllBelow, AreBelow, IsViewOf, are_disjoint, is_group_disjoint, are_groups_disjoint, list_all-append, list_all-map, list_all_more, list_any_at, and_parts, eqb-true, or_cases, slice_range, cut-more, cut-push, extends-refl, range-behind, spans-push, told, AreSpansIn, cut, BufferPart, AssertionView, has_both, is_paired, are_covered, AreSameCondition, IsCitedBy, Lists, AreMadeOf, AreListsOf, AreKeptLists, AreKeptFor, Kept, AreFacts, IsAt}
+use Rattle.verify.proofs.Words.{◌≡◌, ℕ, zero, suc, ◌+◌, ◌<◌, ◌≤◌, Bool, true, false, ◌&&◌, ◌||◌, ◌==◌, List, [], ◌∷◌, ◌++◌, length, length-append, map, take, take_all, take_more, map-append, Hypothesis, get_or, slice_get, Some, refl, sym, ap, subst, ◌∙◌, arith, and_from, list_all, list_any, same_Some, get_or_from_slice_get, slice_get_within, inl, inr, Name, Stmt, Database, stmt_at, before, expr_of, name_at, decode, name_eq, name_same, mandatory_groups, Images, image, AllBelow, AreBelow, IsViewOf, are_disjoint, is_group_disjoint, are_groups_disjoint, list_all-append, list_all-map, list_all_more, list_any_at, and_parts, eqb-true, or_cases, slice_range, cut-more, cut-push, extends-refl, range-behind, spans-push, told, AreSpansIn, cut, BufferPart, AssertionView, has_both, is_paired, are_covered, AreSameCondition, IsCitedBy, CitationLists, AreMadeOf, AreListsOf, AreKeptLists, IsCacheFor, CheckerCache, AreFacts, IsAt}
 
 -- ---- the pairs of lists
 
@@ -135,43 +135,43 @@ both-at gs i x y g here a b =
 
 -- ---- the lists and facts that are kept
 
-pub kept_none : (S : Database) (names : List Name) (kept : Kept) → kept.lists ≡ [] → kept.facts ≡ [] → AreKeptFor S names kept
+pub kept_none : (S : Database) (names : List Name) (kept : CheckerCache) → kept.lists ≡ [] → kept.facts ≡ [] → IsCacheFor S names kept
 kept_none S names kept no_lists no_facts = record {
   are_lists = subst (AreKeptLists S names) (sym no_lists) tt;
   are_facts = subst (AreFacts (record { statements = S; names = names })) (sym no_facts) tt;
 }
 
-pub kept-push : (S : Database) (names : List Name) (ls : List Lists) (l : Lists) → AreKeptLists S names ls → ((s : Stmt) → stmt_at S l.position ≡ Some s → AreListsOf S names l s) → AreKeptLists S names (ls ++ l ∷ [])
+pub kept-push : (S : Database) (names : List Name) (ls : List CitationLists) (l : CitationLists) → AreKeptLists S names ls → ((s : Stmt) → stmt_at S l.position ≡ Some s → AreListsOf S names l s) → AreKeptLists S names (ls ++ l ∷ [])
 kept-push S names [] l h k = (k, tt)
 kept-push S names (m ∷ ls) l h k = (h.0, kept-push S names ls l h.1 k)
 
 -- the lists and facts that are kept stay right when right lists of an assertion are added
-pub kept-more : (S : Database) (names : List Name) (old new : Kept) (l : Lists) → AreKeptFor S names old → ((s : Stmt) → stmt_at S l.position ≡ Some s → AreListsOf S names l s) → new.lists ≡ old.lists ++ l ∷ [] → new.facts ≡ old.facts → AreKeptFor S names new
+pub kept-more : (S : Database) (names : List Name) (old new : CheckerCache) (l : CitationLists) → IsCacheFor S names old → ((s : Stmt) → stmt_at S l.position ≡ Some s → AreListsOf S names l s) → new.lists ≡ old.lists ++ l ∷ [] → new.facts ≡ old.facts → IsCacheFor S names new
 kept-more S names old new l h k lists facts = record {
   are_lists = subst (AreKeptLists S names) (sym lists) (kept-push S names old.lists l h.are_lists k);
   are_facts = subst (AreFacts (record { statements = S; names = names })) (sym facts) h.are_facts;
 }
 
-pub kept-at : (S : Database) (names : List Name) (ls : List Lists) (i : ℕ) (l : Lists) → AreKeptLists S names ls → slice_get ls i ≡ Some l → (s : Stmt) → stmt_at S l.position ≡ Some s → AreListsOf S names l s
+pub kept-at : (S : Database) (names : List Name) (ls : List CitationLists) (i : ℕ) (l : CitationLists) → AreKeptLists S names ls → slice_get ls i ≡ Some l → (s : Stmt) → stmt_at S l.position ≡ Some s → AreListsOf S names l s
 kept-at S names [] i l h e = absurd (cc)
-kept-at S names (m ∷ ls) zero l h e = subst (λ (v : Lists). (s : Stmt) → stmt_at S v.position ≡ Some s → AreListsOf S names v s) (same_Some m l e) h.0
+kept-at S names (m ∷ ls) zero l h e = subst (λ (v : CitationLists). (s : Stmt) → stmt_at S v.position ≡ Some s → AreListsOf S names v s) (same_Some m l e) h.0
 kept-at S names (m ∷ ls) (suc i) l h e = kept-at S names ls i l h.1 e
 
 -- the lists at the index of a position are right for the assertion at that position
-pub kept-lists : (S : Database) (names : List Name) (ls : List Lists) (i position : ℕ) (l : Lists) → AreKeptLists S names ls → IsAt ls i position → slice_get ls i ≡ Some l → (s : Stmt) → stmt_at S position ≡ Some s → AreListsOf S names l s
+pub kept-lists : (S : Database) (names : List Name) (ls : List CitationLists) (i position : ℕ) (l : CitationLists) → AreKeptLists S names ls → IsAt ls i position → slice_get ls i ≡ Some l → (s : Stmt) → stmt_at S position ≡ Some s → AreListsOf S names l s
 kept-lists S names ls i position l kept at here s is = kept-at S names ls i l kept here s (ap (stmt_at S) (at.there l here) ∙ is)
 
-pub at-end : (ls : List Lists) (l : Lists) (position : ℕ) → l.position ≡ position → IsAt (ls ++ l ∷ []) (length ls) position
+pub at-end : (ls : List CitationLists) (l : CitationLists) (position : ℕ) → l.position ≡ position → IsAt (ls ++ l ∷ []) (length ls) position
 at-end ls l position same = record {
   within = let n = length-append ls (l ∷ []) in omega (arith, n);
-  there = λ m here. ap (λ (v : Lists). v.position) (sym (same_Some l m (sym (last ls) ∙ here))) ∙ same;
+  there = λ m here. ap (λ (v : CitationLists). v.position) (sym (same_Some l m (sym (last ls) ∙ here))) ∙ same;
 }
   where
-    last : (ks : List Lists) → slice_get (ks ++ l ∷ []) (length ks) ≡ Some l
+    last : (ks : List CitationLists) → slice_get (ks ++ l ∷ []) (length ks) ≡ Some l
     last [] = refl
     last (k ∷ ks) = last ks
 
-pub made-of : (S : Database) (names : List Name) (a : ℕ) (s : Stmt) (c : AssertionView) (l : Lists) → IsCitedBy S names a s c → AreMadeOf a c l → AreListsOf S names l s
+pub made-of : (S : Database) (names : List Name) (a : ℕ) (s : Stmt) (c : AssertionView) (l : CitationLists) → IsCitedBy S names a s c → AreMadeOf a c l → AreListsOf S names l s
 made-of S names a s c l is made = record {
   hypotheses_of = rw (made.at, made.typecodes_same, made.hypotheses_same) is.required;
   disjoint = λ D σ. made.same names D σ ∙ (is.groups D σ ∙ ap (λ (b : ℕ). are_groups_disjoint D σ (mandatory_groups (before S b) s)) (sym made.at));
@@ -187,7 +187,7 @@ cited-plain S names a s c is = record {
   groups_below = is.groups_below;
 }
 
-pub cited-kept : (S : Database) (names : List Name) (a : ℕ) (s : Stmt) (l : Lists) (c : AssertionView) → AreListsOf S names l s → l.position ≡ a → c.typecodes.now ≡ l.typecodes → c.hypotheses ≡ l.required → c.groups ≡ l.groups
+pub cited-kept : (S : Database) (names : List Name) (a : ℕ) (s : Stmt) (l : CitationLists) (c : AssertionView) → AreListsOf S names l s → l.position ≡ a → c.typecodes.now ≡ l.typecodes → c.hypotheses ≡ l.required → c.groups ≡ l.groups
     → decode names c.conclusion.now ≡ expr_of s → AreBelow (length names) c.conclusion.now → IsCitedBy S names a s c
 cited-kept S names a s l c are at typecodes required groups same below = record {
   required = rw (← at, typecodes, required) are.hypotheses_of;

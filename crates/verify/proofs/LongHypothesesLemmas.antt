@@ -13,8 +13,8 @@ use Rattle.frame.specs.LongEssentials.{is_one_long_with, long_essentials}
 use Rattle.frame.specs.Stored.Hypotheses.{In}
 use Rattle.frame.specs.declared.stored_entries.TheConstants.{LONG_EXPRESSION}
 use Rattle.frame.proofs.AscendingLists.{place-in}
-use Rattle.subst.proofs.VanishingLemmas.{apply-kept, vanished}
-use Rattle.subst.specs.Vanishing.{has_nonempty_image}
+use Rattle.subst.proofs.RemainingSymbolLemmas.{apply-kept, vanished}
+use Rattle.subst.specs.RemainingSymbols.{has_nonempty_image}
 use Rattle.subst.specs.SymbolRanges.{images_at}
 use Rattle.subst.specs.declared.symbol_range.SymbolRange.{SymbolRange}
 use Rattle.entries.specs.PositionSets.{Ascends}

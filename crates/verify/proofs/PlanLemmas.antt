@@ -26,12 +26,12 @@ ordered-snoc k (m ∷ ns) n o h = (o.0, ordered-snoc (k + 1) ns n o.1 (let e : k
 
 pub added-plan : (old new : TreePlan) (n : Node) → IsPlan old → IsAfter (length old.nodes.items) n
     → new.nodes.items ≡ old.nodes.items ++ n ∷ [] → new.stack.items ≡ old.stack.items ++ length old.nodes.items ∷ [] → new.saved.items ≡ old.saved.items → IsPlan new
-added-plan old new n is behind_kids nodes stack saved =
+added-plan old new n is behind_children nodes stack saved =
     let l = length-append old.nodes.items (n ∷ []) in
     let m = ap length nodes in
     let longer : length old.nodes.items ≤ length new.nodes.items = omega (arith, l, m) in
     record {
-      ordered = subst (AreOrdered 0) (sym nodes) (ordered-snoc 0 old.nodes.items n is.ordered (let e : 0 + length old.nodes.items ≡ length old.nodes.items = omega arith in subst (λ j. IsAfter j n) (sym e) behind_kids));
+      ordered = subst (AreOrdered 0) (sym nodes) (ordered-snoc 0 old.nodes.items n is.ordered (let e : 0 + length old.nodes.items ≡ length old.nodes.items = omega arith in subst (λ j. IsAfter j n) (sym e) behind_children));
       stack_below = subst (AreBelow (length new.nodes.items)) (sym stack) (below-push (length new.nodes.items) old.stack.items (length old.nodes.items) (below-more _ _ old.stack.items longer is.stack_below) (omega (arith, l, m)));
       saved_below = subst (AreBelow (length new.nodes.items)) (sym saved) (below-more _ _ old.saved.items longer is.saved_below);
     }
@@ -219,5 +219,5 @@ picked-apply ns i p children n o h at is =
     picked ns i n h ∙ (ap (derive (built (take i ns))) (sym at) ∙ (ap (derive (built (take i ns))) is
     ∙ ap (λ ks. apply p (from_list ks)) (sym (ap (λ ts. map (pick ts) children.items) f.1 ∙ map-pick (built (take i ns)) f.0 children.items (subst (λ k. AreBelow k children.items) e (children-after ns i p children n o h at is))))))
 
-pub kid-low : (ns : List Node) (i p : ℕ) (children : Vec ℕ Global) (n : Node) (items : List ℕ) (j : ℕ) → AreOrdered 0 ns → i < length ns → n ≡ get_or ns i n → n ≡ Apply p children → items ≡ children.items → j < length items → get_or items j 0 < i
-kid-low ns i p children n items j o h at is same lt = below-at i items j 0 (subst (AreBelow i) (sym same) (children-after ns i p children n o h at is)) lt
+pub child-low : (ns : List Node) (i p : ℕ) (children : Vec ℕ Global) (n : Node) (items : List ℕ) (j : ℕ) → AreOrdered 0 ns → i < length ns → n ≡ get_or ns i n → n ≡ Apply p children → items ≡ children.items → j < length items → get_or items j 0 < i
+child-low ns i p children n items j o h at is same lt = below-at i items j 0 (subst (AreBelow i) (sym same) (children-after ns i p children n o h at is)) lt

@@ -132,17 +132,17 @@ essential-iff S names ρ q s r e b distinct stands same below over low h =
       λ d. h.1 (decode-injective names r (code_apply ρ e) distinct low (apply-below names ρ e over below) (d ∙ sym whole)),
     )
 
-pub standing-at : (S : Database) (hs : List Hypothesis) (k : ℕ) (h : Hypothesis) → ArePresent S hs → slice_get hs k ≡ Some h → IsPresent S h
-standing-at S [] k h a e = absurd (cc)
-standing-at S (x ∷ hs) zero h a e = subst (IsPresent S) (same_Some x h e) a.0
-standing-at S (x ∷ hs) (suc k) h a e = standing-at S hs k h a.1 e
+pub present-at : (S : Database) (hs : List Hypothesis) (k : ℕ) (h : Hypothesis) → ArePresent S hs → slice_get hs k ≡ Some h → IsPresent S h
+present-at S [] k h a e = absurd (cc)
+present-at S (x ∷ hs) zero h a e = subst (IsPresent S) (same_Some x h e) a.0
+present-at S (x ∷ hs) (suc k) h a e = present-at S hs k h a.1 e
 
 -- the comparison of numbers for a `$e` decides whether its result matches by name
 pub fits-essential : (S : Database) (names : List Name) (hs : List Hypothesis) (rs : List (List ℕ)) (ρ ρ' : CodeImages) (k q : ℕ) (r e : List ℕ) (b : Bool) → AreDistinct names → ArePresent S hs → slice_get hs k ≡ Some (Essential q)
     → ((s : Stmt) → stmt_at S q ≡ Some s → decode names e ≡ expr_of s) → AreBelow (length names) e → AreOver names ρ → AllBelow (length names) rs → ρ' ≡ ρ → r ≡ get_or rs k [] → IsTrue b ↔ (r ≡ code_apply ρ' e)
     → IsTrue b ↔ HypothesisMatches S (images_of_names names ρ) (Essential q) (get_or (map (decode names) rs) k [])
-fits-essential S names hs rs ρ ρ' k q r e b distinct standing at same below over low images here h =
-    let s = standing-at S hs k (Essential q) standing at in
+fits-essential S names hs rs ρ ρ' k q r e b distinct present at same below over low images here h =
+    let s = present-at S hs k (Essential q) present at in
     subst (λ v. IsTrue b ↔ (v ≡ applied (images_of_names names ρ) (expr_at S q))) (ap (decode names) here ∙ sym (get-decode names rs k))
     (essential-iff S names ρ q s.0 r e b distinct s.1 (same s.0 s.1) below over (subst (AreBelow (length names)) (sym here) (all-at (length names) k rs low))
     (subst (λ σ. IsTrue b ↔ (r ≡ code_apply σ e)) images h))

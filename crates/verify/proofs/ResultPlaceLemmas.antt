@@ -1,5 +1,5 @@
 -- Results as ranges of a buffer that grows.
-use Rattle.verify.proofs.Words.{◌≡◌, ℕ, zero, suc, ◌+◌, ◌-◌, ◌<◌, ◌≤◌, List, [], ◌∷◌, ◌++◌, length, map, take, drop, get_or, replicate, slice_get, slice_set, Some, refl, option_map, sym, ◌∙◌, ap, subst, append_assoc, arith, length-append, length-drop, length-map, map-set, take-map, drop-map, map_push, take_rest, slice_get-map, slice_get-get_or, get_or_from_slice_get, SymbolRange, symbols_in, AreWithin, AreInside, map-seen-more, within-weaken, within-snoc, within-take, within-drop, within-get, within-at, seen-get, length-seen, seen-last, inside-more, inside-none, Results, with_result, IsSaved, seen, AreKept, Keeps, below, top, weight_limit, get-last}
+use Rattle.verify.proofs.Words.{◌≡◌, ℕ, zero, suc, ◌+◌, ◌-◌, ◌<◌, ◌≤◌, List, [], ◌∷◌, ◌++◌, length, map, take, drop, get_or, replicate, slice_get, slice_set, Some, refl, option_map, sym, ◌∙◌, ap, subst, append_assoc, arith, length-append, length-drop, length-map, map-set, take-map, drop-map, map_push, take_rest, slice_get-map, slice_get-get_or, get_or_from_slice_get, SymbolRange, symbols_in, AreWithin, AreInside, map-seen-more, within-weaken, within-snoc, within-take, within-drop, within-get, within-at, seen-get, length-seen, seen-last, inside-more, inside-none, Results, with_result, IsSaved, seen, AreResultRanges, CachesLast, below, top, weight_limit, get-last}
 
 pub map-drop : {A B : Type 0} (f : A → B) (k : ℕ) (xs : List A) → map f (drop k xs) ≡ drop k (map f xs)
 map-drop f k xs = sym (drop-map f k xs)
@@ -10,7 +10,7 @@ results-same {A} a b c d w v p q r =
     ap (λ s. f s c w) p ∙ (ap (λ t. f b t w) q ∙ ap (λ n. f b d n) r)
 
 -- the ranges stay within the buffer and the limit when the buffer and the weight grow by the same symbols
-pub grown-kept : (xs ys zs : List ℕ) (images : List (ℕ × SymbolRange)) (stack saved : List SymbolRange) (w v : ℕ) → AreKept xs images stack saved w → zs ≡ xs ++ ys → v ≡ w + length ys → v ≤ weight_limit → AreKept zs images stack saved v
+pub grown-kept : (xs ys zs : List ℕ) (images : List (ℕ × SymbolRange)) (stack saved : List SymbolRange) (w v : ℕ) → AreResultRanges xs images stack saved w → zs ≡ xs ++ ys → v ≡ w + length ys → v ≤ weight_limit → AreResultRanges zs images stack saved v
 grown-kept xs ys zs images stack saved w v k e weighs light =
     let longer : length xs ≤ length zs = omega (arith, ap length e, length-append xs ys) in
     let few = k.few in
@@ -34,8 +34,8 @@ pub new-place : (xs ys zs : List ℕ) (p : SymbolRange) → zs ≡ xs ++ ys → 
 new-place xs ys zs p e low high = (omega (arith, ap length e, length-append xs ys, low, high), omega (arith, high))
 
 -- a range within the buffer is pushed on the stack
-pub pushed-kept : (xs : List ℕ) (images : List (ℕ × SymbolRange)) (stack saved stack' : List SymbolRange) (w : ℕ) (p : SymbolRange) → AreKept xs images stack saved w → (p.start ≤ p.end) × (p.end ≤ length xs) → stack' ≡ stack ++ p ∷ []
-    → AreKept xs images stack' saved w
+pub pushed-kept : (xs : List ℕ) (images : List (ℕ × SymbolRange)) (stack saved stack' : List SymbolRange) (w : ℕ) (p : SymbolRange) → AreResultRanges xs images stack saved w → (p.start ≤ p.end) × (p.end ≤ length xs) → stack' ≡ stack ++ p ∷ []
+    → AreResultRanges xs images stack' saved w
 pushed-kept xs images stack saved stack' w p k b whole =
     record { images_inside = k.images_inside; stack_within = subst (AreWithin (length xs)) (sym whole) (within-snoc (length xs) stack p k.stack_within b.0 b.1); saved_within = k.saved_within; few = k.few; light = k.light }
 
@@ -57,13 +57,13 @@ within-set n k [] p w low high = tt
 within-set n zero (q ∷ ps) p w low high = (low, high, w.2)
 within-set n (suc k) (q ∷ ps) p w low high = (w.0, w.1, within-set n k ps p w.2 low high)
 
-pub kept-keep : (xs : List ℕ) (images : List (ℕ × SymbolRange)) (stack saved saved' : List SymbolRange) (w k label : ℕ) (p : SymbolRange) → AreKept xs images stack saved w → slice_get stack k ≡ Some p → saved' ≡ slice_set saved label p
-    → AreKept xs images stack saved' w
+pub kept-keep : (xs : List ℕ) (images : List (ℕ × SymbolRange)) (stack saved saved' : List SymbolRange) (w k label : ℕ) (p : SymbolRange) → AreResultRanges xs images stack saved w → slice_get stack k ≡ Some p → saved' ≡ slice_set saved label p
+    → AreResultRanges xs images stack saved' w
 kept-keep xs images stack saved saved' w k label p a h e =
     let b = within-get (length xs) k stack p a.stack_within h in
     record { images_inside = a.images_inside; stack_within = a.stack_within; saved_within = subst (AreWithin (length xs)) (sym e) (within-set (length xs) label saved p a.saved_within b.0 b.1); few = a.few; light = a.light }
 
-pub keep-seen : (xs : List ℕ) (stack saved saved' : List SymbolRange) (w label : ℕ) (p : SymbolRange) → slice_get stack (length stack - 1) ≡ Some p → saved' ≡ slice_set saved label p → Keeps (seen xs stack saved w) (seen xs stack saved' w) label
+pub keep-seen : (xs : List ℕ) (stack saved saved' : List SymbolRange) (w label : ℕ) (p : SymbolRange) → slice_get stack (length stack - 1) ≡ Some p → saved' ≡ slice_set saved label p → CachesLast (seen xs stack saved w) (seen xs stack saved' w) label
 keep-seen xs stack saved saved' w label p last set = λ rest e split.
     let low = length stack - 1 in
     let same : symbols_in xs p ≡ e =
@@ -74,8 +74,8 @@ keep-seen xs stack saved saved' w label p last set = λ rest e split.
 
 -- ---- marks and recalls
 
-pub kept-mark : (xs : List ℕ) (images : List (ℕ × SymbolRange)) (stack saved saved' : List SymbolRange) (w : ℕ) (p : SymbolRange) (k : ℕ) → AreKept xs images stack saved w → slice_get stack k ≡ Some p → saved' ≡ saved ++ p ∷ []
-    → AreKept xs images stack saved' w
+pub kept-mark : (xs : List ℕ) (images : List (ℕ × SymbolRange)) (stack saved saved' : List SymbolRange) (w : ℕ) (p : SymbolRange) (k : ℕ) → AreResultRanges xs images stack saved w → slice_get stack k ≡ Some p → saved' ≡ saved ++ p ∷ []
+    → AreResultRanges xs images stack saved' w
 kept-mark xs images stack saved saved' w p k a h e =
     let b = within-get (length xs) k stack p a.stack_within h in
     record { images_inside = a.images_inside; stack_within = a.stack_within; saved_within = subst (AreWithin (length xs)) (sym e) (within-snoc (length xs) saved p a.saved_within b.0 b.1); few = a.few; light = a.light }
@@ -84,8 +84,8 @@ kept-mark xs images stack saved saved' w p k a h e =
 pub saved-at : (n k : ℕ) (ps : List SymbolRange) (p d : SymbolRange) → AreWithin n ps → k < length ps → p ≡ get_or ps k d → (p.start ≤ p.end) × (p.end ≤ n)
 saved-at n k ps p d w less at = subst (λ q. (q.start ≤ q.end) × (q.end ≤ n)) (sym at) (within-at n k ps d w less)
 
-pub kept-recall : (xs : List ℕ) (images : List (ℕ × SymbolRange)) (stack stack' saved : List SymbolRange) (w v k : ℕ) (p : SymbolRange) → AreKept xs images stack saved w → k < length saved → p ≡ get_or saved k p
-    → stack' ≡ stack ++ p ∷ [] → w ≤ v → v ≤ weight_limit → AreKept xs images stack' saved v
+pub kept-recall : (xs : List ℕ) (images : List (ℕ × SymbolRange)) (stack stack' saved : List SymbolRange) (w v k : ℕ) (p : SymbolRange) → AreResultRanges xs images stack saved w → k < length saved → p ≡ get_or saved k p
+    → stack' ≡ stack ++ p ∷ [] → w ≤ v → v ≤ weight_limit → AreResultRanges xs images stack' saved v
 kept-recall xs images stack stack' saved w v k p a less at e more light =
     let few = a.few in
     pushed-kept xs images stack saved stack' v p (record { images_inside = a.images_inside; stack_within = a.stack_within; saved_within = a.saved_within; few = omega (arith, few, more); light = light }) (saved-at (length xs) k saved p p a.saved_within less at) e
@@ -135,7 +135,7 @@ pub seen-none : (n : ℕ) → map (symbols_in []) (replicate n (let p : SymbolRa
 seen-none zero = refl
 seen-none (suc n) = ap (λ r. [] ∷ r) (seen-none n)
 
-pub cleared-kept : (xs : List ℕ) (images : List (ℕ × SymbolRange)) (stack saved : List SymbolRange) → xs ≡ [] → images ≡ [] → stack ≡ [] → AreWithin 0 saved → AreKept xs images stack saved 0
+pub cleared-kept : (xs : List ℕ) (images : List (ℕ × SymbolRange)) (stack saved : List SymbolRange) → xs ≡ [] → images ≡ [] → stack ≡ [] → AreWithin 0 saved → AreResultRanges xs images stack saved 0
 cleared-kept xs images stack saved e i f w = record {
   images_inside = subst (AreInside (length xs)) (sym i) (inside-none (length xs));
   stack_within = subst (AreWithin (length xs)) (sym f) tt;
@@ -188,18 +188,18 @@ seen_place xs s e all k r i d q v l h less w =
     let within = subst (λ t. AreWithin (length xs) (take (length t - k) (drop k t))) (sym q) (last-within (length xs) k s w) in
     (within-at (length xs) i places d within there, sym (seen-get xs i places d there) ∙ ap (λ u. get_or u i []) seen)
 
-pub apply-cut : (xs zs ys : List ℕ) (images : List (ℕ × SymbolRange)) (stack saved stack' : List SymbolRange) (w v k : ℕ) → AreKept xs images stack saved w → zs ≡ xs ++ ys → stack' ≡ take k stack
-    → v ≡ w + length ys → v ≤ weight_limit → AreKept zs images stack' saved v
+pub apply-cut : (xs zs ys : List ℕ) (images : List (ℕ × SymbolRange)) (stack saved stack' : List SymbolRange) (w v k : ℕ) → AreResultRanges xs images stack saved w → zs ≡ xs ++ ys → stack' ≡ take k stack
+    → v ≡ w + length ys → v ≤ weight_limit → AreResultRanges zs images stack' saved v
 apply-cut xs zs ys images stack saved stack' w v k a e cut weighs light =
     let g = grown-kept xs ys zs images stack saved w v a e weighs light in
     record { images_inside = g.images_inside; stack_within = subst (AreWithin (length zs)) (sym cut) (within-take (length zs) k stack g.stack_within); saved_within = g.saved_within; few = g.few; light = light }
 
-pub apply-kept : (xs ys zs : List ℕ) (images : List (ℕ × SymbolRange)) (stack saved stack' : List SymbolRange) (w v k : ℕ) (p : SymbolRange) → AreKept xs images stack saved w
-    → zs ≡ xs ++ ys → p.start ≡ length xs → p.end ≡ length zs → stack' ≡ take k stack ++ p ∷ [] → v ≡ w + length ys → v ≤ weight_limit → AreKept zs images stack' saved v
+pub apply-kept : (xs ys zs : List ℕ) (images : List (ℕ × SymbolRange)) (stack saved stack' : List SymbolRange) (w v k : ℕ) (p : SymbolRange) → AreResultRanges xs images stack saved w
+    → zs ≡ xs ++ ys → p.start ≡ length xs → p.end ≡ length zs → stack' ≡ take k stack ++ p ∷ [] → v ≡ w + length ys → v ≤ weight_limit → AreResultRanges zs images stack' saved v
 apply-kept xs ys zs images stack saved stack' w v k p a e low high whole weighs light =
     pushed-kept zs images (take k stack) saved stack' v p (apply-cut xs zs ys images stack saved (take k stack) w v k a e refl weighs light) (new-place xs ys zs p e low high) whole
 
-pub apply-seen : (xs ys zs : List ℕ) (images : List (ℕ × SymbolRange)) (stack saved stack' : List SymbolRange) (w v k r : ℕ) (p : SymbolRange) → AreKept xs images stack saved w → k ≡ length stack - r
+pub apply-seen : (xs ys zs : List ℕ) (images : List (ℕ × SymbolRange)) (stack saved stack' : List SymbolRange) (w v k r : ℕ) (p : SymbolRange) → AreResultRanges xs images stack saved w → k ≡ length stack - r
     → zs ≡ xs ++ ys → p.start ≡ length xs → p.end ≡ length zs → stack' ≡ take k stack ++ p ∷ [] → v ≡ w + length ys
     → seen zs stack' saved v ≡ with_result (seen xs stack saved w) (below r (map (symbols_in xs) stack)) ys
 apply-seen xs ys zs images stack saved stack' w v k r p a at e low high whole weighs =
@@ -207,5 +207,5 @@ apply-seen xs ys zs images stack saved stack' w v k r p a at e low high whole we
     ∙ ap (λ b. with_result (seen xs stack saved w) b ys) (sym (take-map (symbols_in xs) k stack) ∙ ap (λ n. take n (map (symbols_in xs) stack)) (at ∙ ap (λ n. n - r) (sym (length-map stack (symbols_in xs)))))
 
 -- other images within the buffer
-pub kept-read : (xs : List ℕ) (images images' : List (ℕ × SymbolRange)) (stack saved : List SymbolRange) (w : ℕ) → AreKept xs images stack saved w → AreInside (length xs) images' → AreKept xs images' stack saved w
+pub kept-read : (xs : List ℕ) (images images' : List (ℕ × SymbolRange)) (stack saved : List SymbolRange) (w : ℕ) → AreResultRanges xs images stack saved w → AreInside (length xs) images' → AreResultRanges xs images' stack saved w
 kept-read xs images images' stack saved w a inside = record { images_inside = inside; stack_within = a.stack_within; saved_within = a.saved_within; few = a.few; light = a.light }

@@ -1,5 +1,5 @@
 -- The exits of a step in the code are steps of the machine.
-use Rattle.verify.proofs.Words.{◌≡◌, ℕ, suc, ◌+◌, ◌-◌, ◌<◌, ◌≤◌, Bool, true, false, List, [], ◌∷◌, ◌++◌, length, map, take, drop, get_or, Some, refl, IsTrue, nat_lt, nat_eq, replicate, slice_get, slice_set, sym, ◌∙◌, ap, subst, arith, true≢false, length-append, nat_tests, length-map, map-append, take-append-drop, take_all, take_more, same_from_push, map_push, append-nil, nil_from_length, drop_all, drop_more, map_more, drop-append-le, drop-set-lt, length-set, length-replicate, get_or-set_same, get_or-set_other, get_or-replicate, get_or_from_slice_get, get_or_default, slice_get-get_or, item-cite, item-recall, Name, Stmt, Database, stmt_at, expr_of, name_at, decode, Item, Cite, Recall, Results, State, start, Cites, of_hypothesis, of_assertion, premises, Expr, Runs, with_result, Adds, Marks, Recalls, Keeps, AreBelow, AllBelow, named, AreNamed, StepsByNumber, without_cached, HasCited, IsCached, AreCached, AreKnown, StepsWithTable, AreLegal, item_of, IsRight, weight_limit, decode-injective, below-group, LabelEntry, Nothing, IsEntry, AreEntries, get-front, length-drop, get_or-append_right, get_or-drop}
+use Rattle.verify.proofs.Words.{◌≡◌, ℕ, suc, ◌+◌, ◌-◌, ◌<◌, ◌≤◌, Bool, true, false, List, [], ◌∷◌, ◌++◌, length, map, take, drop, get_or, Some, refl, IsTrue, nat_lt, nat_eq, replicate, slice_get, slice_set, sym, ◌∙◌, ap, subst, arith, true≢false, length-append, nat_tests, length-map, map-append, take-append-drop, take_all, take_more, same_from_push, map_push, append-nil, nil_from_length, drop_all, drop_more, map_more, drop-append-le, drop-set-lt, length-set, length-replicate, get_or-set_same, get_or-set_other, get_or-replicate, get_or_from_slice_get, get_or_default, slice_get-get_or, item-cite, item-recall, Name, Stmt, Database, stmt_at, expr_of, name_at, decode, Item, Cite, Recall, Results, State, start, Cites, of_hypothesis, of_assertion, premises, Expr, Runs, with_result, Adds, Marks, Recalls, CachesLast, AreBelow, AllBelow, named, AreNamed, StepsByNumber, without_cached, HasCited, IsCached, AreCached, AreKnown, StepsWithTable, AreLegal, item_of, IsRight, weight_limit, decode-injective, below-group, LabelEntry, Nothing, IsEntry, AreEntries, get-front, length-drop, get_or-append_right, get_or-drop}
 use Rattle.verify.proofs.Named.{goes-recall, goes-mark, named-result, result-named, all-drop, all-set, all-snoc, all-none, all-at, get-drop}
 use Rattle.verify.proofs.Decide.{cites_same, refuted_at_end, refuted_at_step, accepts_right}
 use Rattle.verify.proofs.Complete.{runs_append}
@@ -118,11 +118,11 @@ module _ (S : Database) (names : List Name) (at : ℕ) where
       cited-on ok cited =
           let goes = cited.0 (get_or labels k []) (entry_at S at labels table k d are within) in (
             cite-number S names at legal (without_cached (length table) old) (without_cached (length table) new) ok labels number k by_number (let c = are.count in omega (arith, within, c)) (cite-behind (length table) ok (get_or labels k []) old new goes),
-            λ t. known-if (λ b. StepsByNumber b S at names (Cite (get_or labels k [])) old new) (λ g. record { are_named = g.1; given = subst (AreCached S at names table) (sym (cited.1 t)) known.given }) ok goes t,
+            λ t. known-if (λ b. StepsByNumber b S at names (Cite (get_or labels k [])) old new) (λ g. record { are_named = g.1; cached = subst (AreCached S at names table) (sym (cited.1 t)) known.cached }) ok goes t,
           )
 
       -- if the citation took no results, its result is cached for the label
-      module _ (last : Results ℕ) (more : length old.stack < length new.stack) (keeps : Keeps new last k) (cited : HasCited S at names (get_or table k d) old new true) where
+      module _ (last : Results ℕ) (more : length old.stack < length new.stack) (keeps : CachesLast new last k) (cited : HasCited S at names (get_or table k d) old new true) where
         abbrev e : List ℕ
         e = get_or new.stack (length new.stack - 1) []
 
@@ -143,18 +143,18 @@ module _ (S : Database) (names : List Name) (at : ℕ) where
         kept-known : AreKnown S at names table new → AreKnown S at names table last
         kept-known a = subst (AreKnown S at names table) (sym kept) (record {
           are_named = record { stack_named = a.are_named.stack_named; saved_named = all-set (length names) k new.saved e a.are_named.saved_named (all-at (length names) (length new.stack - 1) new.stack a.are_named.stack_named) };
-          given = record { enough = subst (λ n. length table ≤ n) (sym (length-set new.saved k e)) a.given.enough; each = λ j less. by j less (nat_eq k j) refl };
+          cached = record { enough = subst (λ n. length table ≤ n) (sym (length-set new.saved k e)) a.cached.enough; each = λ j less. by j less (nat_eq k j) refl };
         })
           where
             by : (j : ℕ) → j < length table → (b : Bool) → nat_eq k j ≡ b → IsCached S at names (get_or table j Nothing) (get_or (slice_set new.saved k e) j [])
             by j less true t =
                 let one : k ≡ j = grind (arith, nat_tests) in
-                let enough = a.given.enough in
+                let enough = a.cached.enough in
                 subst (λ n. IsCached S at names (get_or table n Nothing) (get_or (slice_set new.saved k e) n [])) one
                 (λ some label is stack. subst (λ x. Cites S at label stack stack (decode names x)) (sym (get_or-set_same new.saved k e [] (omega (arith, within, enough)))) (gives label is stack))
             by j less false t =
                 let other : k ≡ j → ⊥ = λ q. (let x : nat_eq k j ≡ true = grind (arith, nat_tests) in true≢false (sym x ∙ t)) in
-                subst (IsCached S at names (get_or table j Nothing)) (sym (get_or-set_other new.saved k j e [] (λ q. other (sym q)))) (a.given.each j less)
+                subst (IsCached S at names (get_or table j Nothing)) (sym (get_or-set_other new.saved k j e [] (λ q. other (sym q)))) (a.cached.each j less)
 
         pub kept-on : StepsWithTable true S at names table (item_of labels number) old last
         kept-on =
@@ -172,7 +172,7 @@ module _ (S : Database) (names : List Name) (at : ℕ) where
           let entry = subst (IsEntry S at (get_or labels k [])) (get-front front table k d within) (entry_at S at labels (front ++ table) k d are (omega arith)) in
           let goes = cited.0 (get_or labels k []) entry in (
             cite-number S names at legal (without_cached (length table) old) (without_cached (length table) new) ok labels number k by_number (let c = are.count in omega arith) (cite-behind (length table) ok (get_or labels k []) old new goes),
-            λ t. known-if (λ b. StepsByNumber b S at names (Cite (get_or labels k [])) old new) (λ g. record { are_named = g.1; given = subst (AreCached S at names table) (sym (cited.1 t)) known.given }) ok goes t,
+            λ t. known-if (λ b. StepsByNumber b S at names (Cite (get_or labels k [])) old new) (λ g. record { are_named = g.1; cached = subst (AreCached S at names table) (sym (cited.1 t)) known.cached }) ok goes t,
           )
 
     -- ---- the recall of a saved result
@@ -180,7 +180,7 @@ module _ (S : Database) (names : List Name) (at : ℕ) where
     recall-known : (k : ℕ) → Recalls true old new (suc k) → AreKnown S at names table new
     recall-known k r = subst (AreKnown S at names table) (sym r.2) (record {
       are_named = record { stack_named = all-snoc (length names) old.stack r.0 known.are_named.stack_named (below-group (length names) old.saved k r.0 known.are_named.saved_named r.1); saved_named = known.are_named.saved_named };
-      given = known.given;
+      cached = known.cached;
     })
 
     -- a recall of a marked result
@@ -200,13 +200,13 @@ module _ (S : Database) (names : List Name) (at : ℕ) where
     known-on labels k number ok is are within some recalls = (
       cite-number S names at legal (without_cached (length table) old) (without_cached (length table) new) ok labels number k is (let c = are.count in omega (arith, within, c))
           (given-result S names at legal (without_cached (length table) old) (without_cached (length table) new) below_named (get_or labels k []) ok (get_or old.saved k [])
-          (known.given.each k within some (get_or labels k []) (are.each k (let c = are.count in omega (arith, within, c))) (map (decode names) old.stack))
+          (known.cached.each k within some (get_or labels k []) (are.each k (let c = are.count in omega (arith, within, c))) (map (decode names) old.stack))
           (below-group (length names) old.saved k (get_or old.saved k []) known.are_named.saved_named there) (adds ok recalls)),
       known-if (λ b. Recalls b old new (suc k)) (recall-known k) ok recalls,
     )
       where
         there : slice_get old.saved k ≡ Some (get_or old.saved k [])
-        there = let enough = known.given.enough in slice_get-get_or old.saved k [] (omega (arith, within, enough))
+        there = let enough = known.cached.enough in slice_get-get_or old.saved k [] (omega (arith, within, enough))
 
         adds : (b : Bool) → Recalls b old new (suc k) → Adds b (without_cached (length table) old) (without_cached (length table) new) old.stack (get_or old.saved k [])
         adds true h = ap (without_cached (length table)) (h.2 ∙ ap (with_result old old.stack) (sym (get_or_from_slice_get old.saved k h.0 [] h.1)))
@@ -233,7 +233,7 @@ module _ (S : Database) (names : List Name) (at : ℕ) where
           h.1,
           h.2,
           ap (without_cached (length table)) h.3 ∙ results-same old.stack old.stack (drop (length table) (old.saved ++ h.1 ∷ [])) (drop (length table) old.saved ++ h.1 ∷ []) old.weight old.weight
-              refl (drop-append-le (length table) old.saved (h.1 ∷ []) known.given.enough) refl,
+              refl (drop-append-le (length table) old.saved (h.1 ∷ []) known.cached.enough) refl,
         )
         cut-marks false h = h
 
@@ -243,15 +243,15 @@ module _ (S : Database) (names : List Name) (at : ℕ) where
 
         marked : Marks true old new → AreKnown S at names table new
         marked h =
-            let enough = known.given.enough in
+            let enough = known.cached.enough in
             subst (AreKnown S at names table) (sym h.3) (record {
               are_named = record {
                 stack_named = known.are_named.stack_named;
                 saved_named = all-snoc (length names) old.saved h.1 known.are_named.saved_named (last-named h.0 h.1 (subst (AllBelow (length names)) h.2 known.are_named.stack_named));
               };
-              given = record {
+              cached = record {
                 enough = omega (arith, enough, length-append old.saved (h.1 ∷ []));
-                each = λ k less. subst (IsCached S at names (get_or table k Nothing)) (sym (get-front old.saved (h.1 ∷ []) k [] (omega (arith, enough, less)))) (known.given.each k less);
+                each = λ k less. subst (IsCached S at names (get_or table k Nothing)) (sym (get-front old.saved (h.1 ∷ []) k [] (omega (arith, enough, less)))) (known.cached.each k less);
               };
             })
 
@@ -260,7 +260,7 @@ module _ (S : Database) (names : List Name) (at : ℕ) where
   pub start-known : (table : List LabelEntry) (st : Results ℕ) → st ≡ (let r : Results ℕ = record { stack = []; saved = replicate (length table) []; weight = 0 } in r) → AreKnown S at names table st
   start-known table st is = subst (AreKnown S at names table) (sym is) (record {
     are_named = record { stack_named = tt; saved_named = all-none (length names) (length table) };
-    given = record {
+    cached = record {
       enough = (let l = length-replicate (length table) (let r : List ℕ = [] in r) in omega (arith, l));
       each = λ k less some. absurd (omega (arith, some, ap length (get_or-replicate (length table) k (let r : List ℕ = [] in r) [] less)));
     };

@@ -71,21 +71,21 @@ pub use Rattle.subst.proofs.SymbolRangeLemmas.{length-seen, map-seen-more, seen-
 pub use Rattle.subst.specs.Images.{AreOver}
 pub use Rattle.subst.specs.Stored.Written.{Appends}
 pub use Rattle.subst.specs.SymbolRanges.{AreInside, AreWithin, images_at, symbols_in}
-pub use Rattle.subst.specs.Vanishing.{has_nonempty_image}
+pub use Rattle.subst.specs.RemainingSymbols.{has_nonempty_image}
 pub use Rattle.subst.specs.declared.symbol_range.SymbolRange.{SymbolRange}
 pub use Rattle.verify.specs.Concludes.{ConcludeAll, Concludes}
 pub use Rattle.verify.specs.Derivations.{Derivation, Derivations, apply, depth, depth_in, derivation_of, derivation_step, from_list, hyp, more, node_count, nodes_in, none}
 pub use Rattle.verify.specs.Extents.{extent_of}
-pub use Rattle.verify.specs.Fits.{AreDifferent, AreFloats, AreLeadingFloats, AreRead, ArePresent, DoMatch, HypothesisMatches, IsPresent, IsTyped, Reads}
-pub use Rattle.verify.specs.Growth.{Builds, Grew, Grows, GrowsBy, IsKept, Trees, a_hypothesis, an_assertion, trees, with_tree}
-pub use Rattle.verify.specs.KeptLists.{AreKeptFor, AreKeptLists, AreListsOf, AreMadeOf, IsAt, IsCitedBy, Kept, Lists, AreSameCondition, are_covered, is_paired}
+pub use Rattle.verify.specs.HypothesisResults.{AreDifferent, AreFloats, AreLeadingFloats, AreRead, ArePresent, DoMatch, HypothesisMatches, IsPresent, IsTyped, Reads}
+pub use Rattle.verify.specs.Growth.{Builds, Grew, Grows, GrowsBy, IsSavedTree, Trees, a_hypothesis, an_assertion, trees, with_tree}
+pub use Rattle.verify.specs.KeptLists.{IsCacheFor, AreKeptLists, AreListsOf, AreMadeOf, IsAt, IsCitedBy, CheckerCache, CitationLists, AreSameCondition, are_covered, is_paired}
 pub use Rattle.verify.specs.LabelTable.{AreEntries, IsEntry, is_hypothesis_among, viewed_entries}
 pub use Rattle.verify.specs.Laws.{RunsSpell, SpelledOnce, SpellingsRun}
 pub use Rattle.verify.specs.Machine.{Cites, IsSaved, Results, Runs, State, Steps, of_assertion, of_hypothesis, start, with_mark, with_result}
 pub use Rattle.verify.specs.Plan.{AreOrdered, IsAfter, IsPlan, built, built_from, derive, pick, trees_of}
 pub use Rattle.verify.specs.Proves.{Proves, label_or_none, mandatory_labels}
 pub use Rattle.verify.specs.ReadPlaces.{BeginsWith, IsMistyped, ReadTo, ReadsAll, tail_of}
-pub use Rattle.verify.specs.ResultPlaces.{Adds, AreHeld, AreKept, HeldResults, Keeps, Marks, Recalls, Stays, below, held, seen, top}
+pub use Rattle.verify.specs.ResultPlaces.{Adds, AreHeld, AreResultRanges, HeldResults, CachesLast, Marks, Recalls, UnchangedUnlessDone, below, held, seen, top}
 pub use Rattle.verify.specs.Right.{Derives, IsProvable, IsRight, IsSmall, IsAnswerTo, weight_limit}
 pub use Rattle.verify.specs.Spells.{IsCitable, Spells, SpellsAll, cites_assertion, cites_hypothesis, marks, recalls, spells_more, spells_none}
 pub use Rattle.verify.specs.StepsByNumber.{AreCached, AreKnown, AreNamed, HasCited, IsCached, MayCite, StepsByNumber, StepsWithTable, without_cached, named}

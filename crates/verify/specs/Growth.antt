@@ -21,13 +21,13 @@ pub data Builds (S : Database) (at : ℕ) (label : Name) (stack below : List Der
       → stack ≡ below ++ children → t ≡ apply a (from_list children) → Builds S at label stack below t
 
 -- t is the derivation saved as number k, from 1
-abbrev pub IsKept : List Derivation → ℕ → Derivation → Type 0
-IsKept saved zero t = ⊥
-IsKept saved (suc k) t = slice_get saved k ≡ Some t
+abbrev pub IsSavedTree : List Derivation → ℕ → Derivation → Type 0
+IsSavedTree saved zero t = ⊥
+IsSavedTree saved (suc k) t = slice_get saved k ≡ Some t
 
 abbrev pub Grows : Database → ℕ → Trees → Item → Trees → Type 0
 Grows S at st (Cite label) st' = (below : List Derivation) × (t : Derivation) × Builds S at label st.stack below t × (st' ≡ trees (below ++ t ∷ []) st.saved)
-Grows S at st (Recall k) st' = (t : Derivation) × IsKept st.saved k t × (st' ≡ trees (st.stack ++ t ∷ []) st.saved)
+Grows S at st (Recall k) st' = (t : Derivation) × IsSavedTree st.saved k t × (st' ≡ trees (st.stack ++ t ∷ []) st.saved)
 Grows S at st Mark st' = (below : List Derivation) × (t : Derivation) × (st.stack ≡ below ++ t ∷ []) × (st' ≡ trees st.stack (st.saved ++ t ∷ []))
 
 abbrev pub GrowsBy : Database → ℕ → Trees → List Item → Trees → Type 0

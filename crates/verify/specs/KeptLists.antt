@@ -31,14 +31,14 @@ pub record IsCitedBy (S : Database) (names : List Name) (a : ℕ) (s : Stmt) (c 
 -- ---- the lists and facts that are kept
 
 -- the lists of the assertion at a position
-pub record Lists : Type 0 where
+pub record CitationLists : Type 0 where
   pub position : ℕ
   pub typecodes : List ℕ
   pub required : List Hypothesis
   pub groups : List (List ℕ)
 
 -- the lists were made from this view
-pub record AreMadeOf (position : ℕ) (c : AssertionView) (l : Lists) : Type 0 where
+pub record AreMadeOf (position : ℕ) (c : AssertionView) (l : CitationLists) : Type 0 where
   pub at : l.position ≡ position
   pub typecodes_same : l.typecodes ≡ c.typecodes.now
   pub hypotheses_same : l.required ≡ c.hypotheses
@@ -46,26 +46,26 @@ pub record AreMadeOf (position : ℕ) (c : AssertionView) (l : Lists) : Type 0 w
   pub below : (n : ℕ) → AllBelow n c.groups → AllBelow n l.groups
 
 -- the lists are right for citations of the assertion s at their position
-pub record AreListsOf (S : Database) (names : List Name) (l : Lists) (s : Stmt) : Type 0 where
+pub record AreListsOf (S : Database) (names : List Name) (l : CitationLists) (s : Stmt) : Type 0 where
   pub hypotheses_of : AreRequired S names (hypotheses (before S l.position) s) l.typecodes l.required
   pub disjoint : (D : Database) (σ : Images) → are_groups_disjoint D σ (map (decode names) l.groups) ≡ are_groups_disjoint D σ (mandatory_groups (before S l.position) s)
   pub below_names : AllBelow (length names) l.groups
 
-abbrev pub AreKeptLists : Database → List Name → List Lists → Type 0
+abbrev pub AreKeptLists : Database → List Name → List CitationLists → Type 0
 AreKeptLists S names [] = Unit {0}
 AreKeptLists S names (l ∷ ls) = ((s : Stmt) → stmt_at S l.position ≡ Some s → AreListsOf S names l s) × AreKeptLists S names ls
 
 -- the lists of the assertion at a position are at the index i
-pub record IsAt (ls : List Lists) (i position : ℕ) : Type 0 where
+pub record IsAt (ls : List CitationLists) (i position : ℕ) : Type 0 where
   pub within : i < length ls
-  pub there : (l : Lists) → slice_get ls i ≡ Some l → l.position ≡ position
+  pub there : (l : CitationLists) → slice_get ls i ≡ Some l → l.position ≡ position
 
 -- all that a checker keeps: lists of assertions, and the pairs of variables that were found to be disjoint or not
-pub record Kept : Type 0 where
-  pub lists : List Lists
+pub record CheckerCache : Type 0 where
+  pub lists : List CitationLists
   pub facts : List PairFact
 
 -- all of it is right under the frames of these statements
-pub record AreKeptFor (S : Database) (names : List Name) (kept : Kept) : Type 0 where
+pub record IsCacheFor (S : Database) (names : List Name) (kept : CheckerCache) : Type 0 where
   pub are_lists : AreKeptLists S names kept.lists
   pub are_facts : AreFacts (record { statements = S; names = names }) kept.facts

@@ -5,7 +5,7 @@ pub mod Spells
 pub mod Right
 pub mod Machine
 pub mod ResultPlaces
-pub mod Fits
+pub mod HypothesisResults
 pub mod LongHypotheses
 pub mod ReadPlaces
 pub mod KeptLists

@@ -1,4 +1,5 @@
--- What a citation knows of long `$e`: which have a variable whose image is not empty, and what is left of one without the others.
+-- The long `$e` of a citation: those that have a variable whose image is not empty, and the symbols that are left of one without
+-- the variables whose images are empty.
 -- Metamath, 4.2.6: the result for a `$e` is its expression under the images, and an image may be empty.
 -- The code lists each such variable for each long `$e` that has it, in place of a look at each symbol of each `$e`.
 use Rattle.std.specs.Prelude.{◌≡◌, ℕ, ◌<◌, ◌≤◌, ◌^◌, List, [], length, slice_get, Some}
@@ -10,7 +11,7 @@ use Rattle.frame.specs.AssertionView.{AreRequired}
 use Rattle.frame.specs.LongEssentials.{HasConstants, long_essentials}
 use Rattle.frame.specs.Stored.Hypotheses.{In}
 use Rattle.frame.specs.declared.stored_entries.TheConstants.{LONG_EXPRESSION}
-use Rattle.subst.specs.Vanishing.{HasListed}
+use Rattle.subst.specs.RemainingSymbols.{HasListed}
 
 -- the hypotheses are those of the assertion at a
 abbrev pub AreThoseOf : Database → List Name → ℕ → List Hypothesis → Type 0
@@ -25,7 +26,7 @@ pub record AreListed (S : Database) (names : List Name) (a : ℕ) (hs : List Hyp
   pub each : (k x : ℕ) → slice_get hs k ≡ Some (Float x) → (code_image σ x ≡ [] → ⊥) → IsListed S names a x keys
   pub ordered : Ascends keys
 
--- what is left of the long expression of the `$e` at a position has its constants and the symbols that are listed for it
+-- the symbols that are left of the long expression of the `$e` at a position include its constants and those listed for it
 pub record IsLeftOf (S : Database) (names : List Name) (position : ℕ) (codes keys left : List ℕ) : Type 0 where
   pub constants : List ℕ
   pub long : LONG_EXPRESSION ≤ length codes

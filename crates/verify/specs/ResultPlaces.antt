@@ -12,13 +12,15 @@ pub record HeldResults : Type 0 where
   pub images : CodeImages
   pub about : Numbered
 
+-- the results in these ranges
 abbrev pub seen : List ℕ → List SymbolRange → List SymbolRange → ℕ → Results ℕ
 seen symbols stack saved weight = record { stack = map (symbols_in symbols) stack; saved = map (symbols_in symbols) saved; weight = weight }
 
 abbrev pub held : List ℕ → List (ℕ × SymbolRange) → List SymbolRange → List SymbolRange → ℕ → Numbered → HeldResults
 held symbols images stack saved weight about = record { results = seen symbols stack saved weight; images = images_at symbols images; about = about }
 
-pub record AreKept (symbols : List ℕ) (images : List (ℕ × SymbolRange)) (stack saved : List SymbolRange) (weight : ℕ) : Type 0 where
+-- all ranges are in the buffer, which has no more symbols than the weight, and the weight is within the limit
+pub record AreResultRanges (symbols : List ℕ) (images : List (ℕ × SymbolRange)) (stack saved : List SymbolRange) (weight : ℕ) : Type 0 where
   pub images_inside : AreInside (length symbols) images
   pub stack_within : AreWithin (length symbols) stack
   pub saved_within : AreWithin (length symbols) saved
@@ -27,7 +29,7 @@ pub record AreKept (symbols : List ℕ) (images : List (ℕ × SymbolRange)) (st
 
 -- besides, the buffer begins with the symbols that it had when facts were last recorded in the cache
 pub record AreHeld (over symbols : List ℕ) (images : List (ℕ × SymbolRange)) (stack saved : List SymbolRange) (weight : ℕ) : Type 0 where
-  pub kept : AreKept symbols images stack saved weight
+  pub kept : AreResultRanges symbols images stack saved weight
   pub recorded : (more : List ℕ) × (symbols ≡ over ++ more)
 
 abbrev pub below : {A : Type 0} → ℕ → List A → List A
@@ -42,13 +44,13 @@ Adds true old new stack e = new ≡ with_result old stack e
 Adds false old new stack e = weight_limit < old.weight + length e
 
 -- if the item is not done, the results are unchanged
-abbrev pub Stays : {A : Type 0} → Bool → Results A → Results A → Type 0
-Stays true old new = Unit {0}
-Stays false old new = new ≡ old
+abbrev pub UnchangedUnlessDone : {A : Type 0} → Bool → Results A → Results A → Type 0
+UnchangedUnlessDone true old new = Unit {0}
+UnchangedUnlessDone false old new = new ≡ old
 
 -- the last result is saved as number k, from 0
-abbrev pub Keeps : {A : Type 0} → Results A → Results A → ℕ → Type 0
-Keeps {A} old new k = (stack : List (List A)) (e : List A) → old.stack ≡ stack ++ e ∷ [] → new ≡ record { stack = old.stack; saved = slice_set old.saved k e; weight = old.weight }
+abbrev pub CachesLast : {A : Type 0} → Results A → Results A → ℕ → Type 0
+CachesLast {A} old new k = (stack : List (List A)) (e : List A) → old.stack ≡ stack ++ e ∷ [] → new ≡ record { stack = old.stack; saved = slice_set old.saved k e; weight = old.weight }
 
 -- the last result was marked, or there is none
 abbrev pub Marks : {A : Type 0} → Bool → Results A → Results A → Type 0
@@ -60,7 +62,8 @@ abbrev pub Recalls : {A : Type 0} → Bool → Results A → Results A → ℕ �
 Recalls {A} true old new k = (e : List A) × IsSaved old.saved k e × (new ≡ with_result old old.stack e)
 Recalls {A} false old new k = (e : List A) → IsSaved old.saved k e → weight_limit < old.weight + length e
 
--- `Recalls` at an index, from 0, where a label has a result with symbols; or nothing is done, and the index is a label's
-abbrev pub Finds : {A : Type 0} → Option Bool → ℕ → Results A → Results A → ℕ → Type 0
-Finds None labels old new k = (k < labels) × (new ≡ old)
-Finds (Some ok) labels old new k = (k < labels → 0 < length (get_or old.saved k [])) × Recalls ok old new (suc k)
+-- the result saved at an index, from 0, is recalled, and has symbols if the index is a label's; or the index is a label's, and
+-- nothing is done
+abbrev pub RecallsAt : {A : Type 0} → Option Bool → ℕ → Results A → Results A → ℕ → Type 0
+RecallsAt None labels old new k = (k < labels) × (new ≡ old)
+RecallsAt (Some ok) labels old new k = (k < labels → 0 < length (get_or old.saved k [])) × Recalls ok old new (suc k)

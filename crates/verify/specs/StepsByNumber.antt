@@ -44,7 +44,7 @@ pub record AreCached (S : Database) (at : ℕ) (names : List Name) (table : List
 
 pub record AreKnown (S : Database) (at : ℕ) (names : List Name) (table : List LabelEntry) (st : Results ℕ) : Type 0 where
   pub are_named : AreNamed names st
-  pub given : AreCached S at names table st.saved
+  pub cached : AreCached S at names table st.saved
 
 -- the effect of an item if the first saved results are cached for labels
 abbrev pub StepsWithTable : Bool → Database → ℕ → List Name → List LabelEntry → Item → Results ℕ → Results ℕ → Type 0

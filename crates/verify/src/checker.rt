@@ -7,7 +7,7 @@ ghost use Rattle.mm_read.specs.declared.stmt.Stmt.{Stmt as Statement};
 ghost use Rattle.proof_code.specs.ItemNumbers.{items_of};
 ghost use Rattle.proof_code.specs.Writes.{is_compressed};
 ghost use Rattle.scope.specs.Active.{before};
-ghost use Rattle.verify.specs.KeptLists.{AreKeptFor};
+ghost use Rattle.verify.specs.KeptLists.{IsCacheFor};
 ghost use Rattle.verify.specs.LabelTable.{AreEntries, viewed_entries};
 ghost use Rattle.verify.specs.Proves.{Proves};
 ghost use Rattle.verify.specs.Right.{IsProvable, IsRight, IsAnswerTo};
@@ -43,9 +43,9 @@ pub struct Checker {
 }
 
 impl Model for Checker {
-    ghost use Rattle.verify.specs.KeptLists.{Kept};
+    ghost use Rattle.verify.specs.KeptLists.{CheckerCache};
 
-    ghost Value = { Kept };
+    ghost Value = { CheckerCache };
 
     ghost view = { λ a. a.buffers.kept };
 }
@@ -131,8 +131,8 @@ impl Checker {
     /// long that of `Frames::fill_for_citing`. Source: Metamath, 4.2.6 and appendix B.
     pub fn check(&mut self, frames: &Frames, at: usize, items: &Items) -> Result<Answer, AllocError>
         requires provable { (s : Statement) × IsProvable frames.now.statements at s }
-        requires kept { AreKeptFor frames.now.statements frames.now.names self.old }
-        ensures kept { AreKeptFor frames.now.statements frames.now.names self.new }
+        requires kept { IsCacheFor frames.now.statements frames.now.names self.old }
+        ensures kept { IsCacheFor frames.now.statements frames.now.names self.new }
         ensures answer { IfOk result (λ answer. IsAnswerTo answer (IsRight frames.now.statements at items.now)) }
     {
         let parts = items.parts();
@@ -153,8 +153,8 @@ impl Checker {
         tokens: &Words,
     ) -> Result<Answer, AllocError>
         requires provable { (s : Statement) × IsProvable frames.now.statements at s }
-        requires kept { AreKeptFor frames.now.statements frames.now.names self.old }
-        ensures kept { AreKeptFor frames.now.statements frames.now.names self.new }
+        requires kept { IsCacheFor frames.now.statements frames.now.names self.old }
+        ensures kept { IsCacheFor frames.now.statements frames.now.names self.new }
         ensures answer { IfOk result (λ answer. IsAnswerTo answer (Proves frames.now.statements at tokens.now)) }
     {
         self.record_size(tokens.as_text().len());
@@ -193,8 +193,8 @@ impl Checker {
     ) -> Result<Answer, AllocError>
         requires provable { (s : Statement) × IsProvable frames.now.statements at s }
         requires normal { is_compressed tokens.now ≡ false }
-        requires kept { AreKeptFor frames.now.statements frames.now.names self.old }
-        ensures kept { AreKeptFor frames.now.statements frames.now.names self.new }
+        requires kept { IsCacheFor frames.now.statements frames.now.names self.old }
+        ensures kept { IsCacheFor frames.now.statements frames.now.names self.new }
         ensures answer { IfOk result (λ answer. IsAnswerTo answer (Proves frames.now.statements at tokens.now)) }
     {
         match normal(self.alloc, tokens) {
@@ -220,8 +220,8 @@ impl Checker {
         requires provable { (s : Statement) × IsProvable frames.now.statements at s }
         requires compressed { IsTrue (is_compressed tokens.now) }
         requires view { (s : Statement) → IsProvable frames.now.statements at s → view.now ≡ hypotheses (before frames.now.statements at) s }
-        requires kept { AreKeptFor frames.now.statements frames.now.names self.old }
-        ensures kept { AreKeptFor frames.now.statements frames.now.names self.new }
+        requires kept { IsCacheFor frames.now.statements frames.now.names self.old }
+        ensures kept { IsCacheFor frames.now.statements frames.now.names self.new }
         ensures answer { IfOk result (λ answer. IsAnswerTo answer (Proves frames.now.statements at tokens.now)) }
     {
         let Some(heading) = self.reader.read(tokens, view.len())? else {
@@ -269,8 +269,8 @@ fn run_listed(
 ) -> Result<Answer, AllocError>
     requires provable { (s : Statement) × IsProvable frames.now.statements at s }
     requires entries { (labels : List Name) × AreEntries frames.now.statements at labels table.now }
-    requires kept { AreKeptFor frames.now.statements frames.now.names buffers.old.kept }
-    ensures kept { AreKeptFor frames.now.statements frames.now.names buffers.new.kept }
+    requires kept { IsCacheFor frames.now.statements frames.now.names buffers.old.kept }
+    ensures kept { IsCacheFor frames.now.statements frames.now.names buffers.new.kept }
     ensures answer { (labels : List Name) → AreEntries frames.now.statements at labels table.now
         → IfOk result (λ answer. IsAnswerTo answer (IsRight frames.now.statements at (items_of labels numbers.now))) }
 {
@@ -292,8 +292,8 @@ fn run(
 ) -> Result<Answer, AllocError>
     requires provable { (s : Statement) × IsProvable frames.now.statements at s }
     requires entries { (labels : List Name) × AreEntries frames.now.statements at labels (viewed_entries (option_map (λ v. v.now) view) ++ table.now) }
-    requires kept { AreKeptFor frames.now.statements frames.now.names buffers.old.kept }
-    ensures kept { AreKeptFor frames.now.statements frames.now.names buffers.new.kept }
+    requires kept { IsCacheFor frames.now.statements frames.now.names buffers.old.kept }
+    ensures kept { IsCacheFor frames.now.statements frames.now.names buffers.new.kept }
     ensures answer { (labels : List Name) → AreEntries frames.now.statements at labels (viewed_entries (option_map (λ v. v.now) view.entry) ++ table.now)
         → IfOk result (λ answer. IsAnswerTo answer (IsRight frames.now.statements at (items_of labels numbers.now))) }
 {

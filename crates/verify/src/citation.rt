@@ -8,9 +8,9 @@ ghost use Rattle.mm_read.specs.declared.stmt.Stmt.{Stmt as Statement};
 ghost use Rattle.proof_code.specs.ItemNumbers.{item_of};
 ghost use Rattle.scope.specs.Active.{stmt_at};
 ghost use Rattle.verify.specs.StepsByNumber.{AreKnown, AreNamed, StepsWithTable, HasCited, IsReady, MayCite};
-ghost use Rattle.verify.specs.KeptLists.{AreKeptFor, IsAt, IsCitedBy};
+ghost use Rattle.verify.specs.KeptLists.{IsCacheFor, IsAt, IsCitedBy};
 ghost use Rattle.verify.specs.LabelTable.{AreEntries, IsEntry, viewed_entries};
-ghost use Rattle.verify.specs.ResultPlaces.{Stays};
+ghost use Rattle.verify.specs.ResultPlaces.{UnchangedUnlessDone};
 ghost use Rattle.verify.specs.declared.label_table.LabelEntry.TheVariants.{Hypothesis};
 
 use crate::kept_lists::KeptLists;
@@ -54,7 +54,7 @@ fn cite_parts(
     requires may { MayCite claim.now position results.old.about results.old.results }
     requires cited { (s : Statement) → stmt_at claim.now.frames.now.statements position ≡ Some s → IsCitedBy claim.now.frames.now.statements claim.now.frames.now.names position s cited.now }
     ensures goes { IfOk result (HasCited claim.now.frames.now.statements claim.now.at claim.now.frames.now.names (LabelEntry.Assertion position) results.old.results results.new.results) }
-    ensures stays { IfOk result (λ ok. Stays ok results.old.results results.new.results) }
+    ensures stays { IfOk result (λ ok. UnchangedUnlessDone ok results.old.results results.new.results) }
     ensures about { results.new.about ≡ claim.now.pairs }
 {
     let count = cited.hypotheses.len();
@@ -81,11 +81,11 @@ fn cite_parts(
 #[inline(never)]
 fn cite_anew(claim: &Claim<'_>, position: usize, buffers: &mut Buffers) -> Result<bool, AllocError>
     requires may { MayCite claim.now position buffers.old.results.about buffers.old.results.results }
-    requires kept { AreKeptFor claim.now.frames.now.statements claim.now.frames.now.names buffers.old.kept }
+    requires kept { IsCacheFor claim.now.frames.now.statements claim.now.frames.now.names buffers.old.kept }
     ensures goes { IfOk result (HasCited claim.now.frames.now.statements claim.now.at claim.now.frames.now.names (LabelEntry.Assertion position) buffers.old.results.results buffers.new.results.results) }
-    ensures stays { IfOk result (λ ok. Stays ok buffers.old.results.results buffers.new.results.results) }
+    ensures stays { IfOk result (λ ok. UnchangedUnlessDone ok buffers.old.results.results buffers.new.results.results) }
     ensures about { buffers.new.results.about ≡ claim.now.pairs }
-    ensures kept { AreKeptFor claim.now.frames.now.statements claim.now.frames.now.names buffers.new.kept }
+    ensures kept { IsCacheFor claim.now.frames.now.statements claim.now.frames.now.names buffers.new.kept }
 {
     let frame_buffers = &mut buffers.frame_buffers;
     buffers.kept.fill(claim.frames, position, frame_buffers)?;
@@ -103,11 +103,11 @@ fn cite_anew(claim: &Claim<'_>, position: usize, buffers: &mut Buffers) -> Resul
 #[inline(never)]
 fn cite_kept(claim: &Claim<'_>, position: usize, buffers: &mut Buffers) -> Result<bool, AllocError>
     requires may { MayCite claim.now position buffers.old.results.about buffers.old.results.results }
-    requires kept { AreKeptFor claim.now.frames.now.statements claim.now.frames.now.names buffers.old.kept }
+    requires kept { IsCacheFor claim.now.frames.now.statements claim.now.frames.now.names buffers.old.kept }
     ensures goes { IfOk result (HasCited claim.now.frames.now.statements claim.now.at claim.now.frames.now.names (LabelEntry.Assertion position) buffers.old.results.results buffers.new.results.results) }
-    ensures stays { IfOk result (λ ok. Stays ok buffers.old.results.results buffers.new.results.results) }
+    ensures stays { IfOk result (λ ok. UnchangedUnlessDone ok buffers.old.results.results buffers.new.results.results) }
     ensures about { buffers.new.results.about ≡ claim.now.pairs }
-    ensures kept { AreKeptFor claim.now.frames.now.statements claim.now.frames.now.names buffers.new.kept }
+    ensures kept { IsCacheFor claim.now.frames.now.statements claim.now.frames.now.names buffers.new.kept }
 {
     let index = kept_index(
         claim,
@@ -134,8 +134,8 @@ fn kept_index(
 ) -> Result<usize, AllocError>
     requires assertion { (s : Statement) × HasAssertion claim.now.frames.now.statements position s }
     requires legal { AreLegal claim.now.frames.now.statements claim.now.frames.now.names }
-    requires kept { AreKeptFor claim.now.frames.now.statements claim.now.frames.now.names kept.old }
-    ensures kept { AreKeptFor claim.now.frames.now.statements claim.now.frames.now.names kept.new }
+    requires kept { IsCacheFor claim.now.frames.now.statements claim.now.frames.now.names kept.old }
+    ensures kept { IsCacheFor claim.now.frames.now.statements claim.now.frames.now.names kept.new }
     ensures index { IfOk result (λ i. IsAt kept.new.lists i position) }
 {
     if let Some(index) = kept.find(position) {
@@ -153,11 +153,11 @@ fn kept_index(
 #[inline(never)]
 fn cite_long(claim: &Claim<'_>, position: usize, buffers: &mut Buffers) -> Result<bool, AllocError>
     requires may { MayCite claim.now position buffers.old.results.about buffers.old.results.results }
-    requires kept { AreKeptFor claim.now.frames.now.statements claim.now.frames.now.names buffers.old.kept }
+    requires kept { IsCacheFor claim.now.frames.now.statements claim.now.frames.now.names buffers.old.kept }
     ensures goes { IfOk result (HasCited claim.now.frames.now.statements claim.now.at claim.now.frames.now.names (LabelEntry.Assertion position) buffers.old.results.results buffers.new.results.results) }
-    ensures stays { IfOk result (λ ok. Stays ok buffers.old.results.results buffers.new.results.results) }
+    ensures stays { IfOk result (λ ok. UnchangedUnlessDone ok buffers.old.results.results buffers.new.results.results) }
     ensures about { buffers.new.results.about ≡ claim.now.pairs }
-    ensures kept { AreKeptFor claim.now.frames.now.statements claim.now.frames.now.names buffers.new.kept }
+    ensures kept { IsCacheFor claim.now.frames.now.statements claim.now.frames.now.names buffers.new.kept }
 {
     if buffers.kept.count_citation(position) {
         cite_kept(claim, position, buffers)
@@ -170,11 +170,11 @@ fn cite_long(claim: &Claim<'_>, position: usize, buffers: &mut Buffers) -> Resul
 #[inline(never)]
 fn cite(claim: &Claim<'_>, position: usize, buffers: &mut Buffers) -> Result<bool, AllocError>
     requires may { MayCite claim.now position buffers.old.results.about buffers.old.results.results }
-    requires kept { AreKeptFor claim.now.frames.now.statements claim.now.frames.now.names buffers.old.kept }
+    requires kept { IsCacheFor claim.now.frames.now.statements claim.now.frames.now.names buffers.old.kept }
     ensures goes { IfOk result (HasCited claim.now.frames.now.statements claim.now.at claim.now.frames.now.names (LabelEntry.Assertion position) buffers.old.results.results buffers.new.results.results) }
-    ensures stays { IfOk result (λ ok. Stays ok buffers.old.results.results buffers.new.results.results) }
+    ensures stays { IfOk result (λ ok. UnchangedUnlessDone ok buffers.old.results.results buffers.new.results.results) }
     ensures about { buffers.new.results.about ≡ claim.now.pairs }
-    ensures kept { AreKeptFor claim.now.frames.now.statements claim.now.frames.now.names buffers.new.kept }
+    ensures kept { IsCacheFor claim.now.frames.now.statements claim.now.frames.now.names buffers.new.kept }
 {
     let Some(cited) = claim.frames.cited(position) else {
         return cite_long(claim, position, buffers);
@@ -194,11 +194,11 @@ fn cite_entry(
     requires ready { IsReady claim.now buffers.old.results.about }
     requires named { AreNamed claim.now.frames.now.names buffers.old.results.results }
     requires entry { (label : Name) × IsEntry claim.now.frames.now.statements claim.now.at label entry }
-    requires kept { AreKeptFor claim.now.frames.now.statements claim.now.frames.now.names buffers.old.kept }
+    requires kept { IsCacheFor claim.now.frames.now.statements claim.now.frames.now.names buffers.old.kept }
     ensures about { buffers.new.results.about ≡ claim.now.pairs }
     ensures goes { IfOk result (HasCited claim.now.frames.now.statements claim.now.at claim.now.frames.now.names entry buffers.old.results.results buffers.new.results.results) }
-    ensures stays { IfOk result (λ ok. Stays ok buffers.old.results.results buffers.new.results.results) }
-    ensures kept { AreKeptFor claim.now.frames.now.statements claim.now.frames.now.names buffers.new.kept }
+    ensures stays { IfOk result (λ ok. UnchangedUnlessDone ok buffers.old.results.results buffers.new.results.results) }
+    ensures kept { IsCacheFor claim.now.frames.now.statements claim.now.frames.now.names buffers.new.kept }
 {
     match entry {
         LabelEntry::Hypothesis(i) => buffers.results.add(&claim.pairs, claim.frames.expr(i)),
@@ -221,12 +221,12 @@ pub fn step(
     requires ready { IsReady claim.now buffers.old.results.about }
     requires known { AreKnown claim.now.frames.now.statements claim.now.at claim.now.frames.now.names table.now buffers.old.results.results }
     requires entries { (labels : List Name) × AreEntries claim.now.frames.now.statements claim.now.at labels table.now }
-    requires kept { AreKeptFor claim.now.frames.now.statements claim.now.frames.now.names buffers.old.kept }
+    requires kept { IsCacheFor claim.now.frames.now.statements claim.now.frames.now.names buffers.old.kept }
     ensures about { buffers.new.results.about ≡ claim.now.pairs }
     ensures goes { (labels : List Name) → AreEntries claim.now.frames.now.statements claim.now.at labels table.now
         → IfOk result (λ ok. StepsWithTable ok claim.now.frames.now.statements claim.now.at claim.now.frames.now.names table.now (item_of labels number) buffers.old.results.results buffers.new.results.results) }
-    ensures stays { IfOk result (λ ok. Stays ok buffers.old.results.results buffers.new.results.results) }
-    ensures kept { AreKeptFor claim.now.frames.now.statements claim.now.frames.now.names buffers.new.kept }
+    ensures stays { IfOk result (λ ok. UnchangedUnlessDone ok buffers.old.results.results buffers.new.results.results) }
+    ensures kept { IsCacheFor claim.now.frames.now.statements claim.now.frames.now.names buffers.new.kept }
 {
     if number == 0 {
         return buffers.results.mark();
@@ -258,12 +258,12 @@ pub fn step_at(
     requires ready { IsReady claim.now buffers.old.results.about }
     requires known { AreKnown claim.now.frames.now.statements claim.now.at claim.now.frames.now.names table.now buffers.old.results.results }
     requires entries { (labels : List Name) × AreEntries claim.now.frames.now.statements claim.now.at labels (viewed_entries (option_map (λ v. v.now) view) ++ table.now) }
-    requires kept { AreKeptFor claim.now.frames.now.statements claim.now.frames.now.names buffers.old.kept }
+    requires kept { IsCacheFor claim.now.frames.now.statements claim.now.frames.now.names buffers.old.kept }
     ensures about { buffers.new.results.about ≡ claim.now.pairs }
     ensures goes { (labels : List Name) → AreEntries claim.now.frames.now.statements claim.now.at labels (viewed_entries (option_map (λ v. v.now) view.entry) ++ table.now)
         → IfOk result (λ ok. StepsWithTable ok claim.now.frames.now.statements claim.now.at claim.now.frames.now.names table.now (item_of labels number) buffers.old.results.results buffers.new.results.results) }
-    ensures stays { IfOk result (λ ok. Stays ok buffers.old.results.results buffers.new.results.results) }
-    ensures kept { AreKeptFor claim.now.frames.now.statements claim.now.frames.now.names buffers.new.kept }
+    ensures stays { IfOk result (λ ok. UnchangedUnlessDone ok buffers.old.results.results buffers.new.results.results) }
+    ensures kept { IsCacheFor claim.now.frames.now.statements claim.now.frames.now.names buffers.new.kept }
 {
     match view {
         Some(view) => step_many(claim, view, table, number, buffers),
@@ -286,12 +286,12 @@ fn step_many(
     requires ready { IsReady claim.now buffers.old.results.about }
     requires known { AreKnown claim.now.frames.now.statements claim.now.at claim.now.frames.now.names table.now buffers.old.results.results }
     requires entries { (labels : List Name) × AreEntries claim.now.frames.now.statements claim.now.at labels (map Hypothesis view.now ++ table.now) }
-    requires kept { AreKeptFor claim.now.frames.now.statements claim.now.frames.now.names buffers.old.kept }
+    requires kept { IsCacheFor claim.now.frames.now.statements claim.now.frames.now.names buffers.old.kept }
     ensures about { buffers.new.results.about ≡ claim.now.pairs }
     ensures goes { (labels : List Name) → AreEntries claim.now.frames.now.statements claim.now.at labels (map Hypothesis view.now ++ table.now)
         → IfOk result (λ ok. StepsWithTable ok claim.now.frames.now.statements claim.now.at claim.now.frames.now.names table.now (item_of labels number) buffers.old.results.results buffers.new.results.results) }
-    ensures stays { IfOk result (λ ok. Stays ok buffers.old.results.results buffers.new.results.results) }
-    ensures kept { AreKeptFor claim.now.frames.now.statements claim.now.frames.now.names buffers.new.kept }
+    ensures stays { IfOk result (λ ok. UnchangedUnlessDone ok buffers.old.results.results buffers.new.results.results) }
+    ensures kept { IsCacheFor claim.now.frames.now.statements claim.now.frames.now.names buffers.new.kept }
 {
     let many = view.len();
     let number = number as usize;

@@ -4,7 +4,7 @@ ghost use Rattle.std.specs.Prelude.{◌≡◌, ◌++◌, List, length, IfOk, IfS
 ghost use Rattle.mm_lex.specs.Alphabet.{Name};
 ghost use Rattle.mm_read.specs.declared.stmt.Stmt.{Stmt as Statement};
 ghost use Rattle.proof_code.specs.ItemNumbers.{items_of};
-ghost use Rattle.verify.specs.KeptLists.{AreKeptFor};
+ghost use Rattle.verify.specs.KeptLists.{IsCacheFor};
 ghost use Rattle.verify.specs.StepsByNumber.{IsReady, without_cached};
 ghost use Rattle.verify.specs.LabelTable.{AreEntries, viewed_entries};
 ghost use Rattle.verify.specs.Right.{IsProvable, IsRight};
@@ -49,8 +49,8 @@ pub(crate) fn run_items(
 ) -> Result<usize, AllocError>
     requires ready { IsReady claim.now claim.now.pairs }
     requires entries { (labels : List Name) × AreEntries claim.now.frames.now.statements claim.now.at labels (viewed_entries (option_map (λ v. v.now) view) ++ table.now) }
-    requires kept { AreKeptFor claim.now.frames.now.statements claim.now.frames.now.names buffers.old.kept }
-    ensures kept { AreKeptFor claim.now.frames.now.statements claim.now.frames.now.names buffers.new.kept }
+    requires kept { IsCacheFor claim.now.frames.now.statements claim.now.frames.now.names buffers.old.kept }
+    ensures kept { IsCacheFor claim.now.frames.now.statements claim.now.frames.now.names buffers.new.kept }
     ensures stops { (labels : List Name) → AreEntries claim.now.frames.now.statements claim.now.at labels (viewed_entries (option_map (λ v. v.now) view.entry) ++ table.now)
         → IfOk result (λ done. StopsAt claim.now.frames.now.statements claim.now.at claim.now.frames.now.names (items_of labels numbers.now) done (without_cached (length table.now) buffers.new.results.results)) }
 {

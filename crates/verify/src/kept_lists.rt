@@ -12,7 +12,7 @@ ghost use Rattle.mm_lex.specs.Alphabet.{Name};
 ghost use Rattle.mm_read.specs.Statements.{Database};
 ghost use Rattle.mm_read.specs.declared.stmt.Stmt.{Stmt as Statement};
 ghost use Rattle.scope.specs.Active.{stmt_at};
-ghost use Rattle.verify.specs.KeptLists.{AreKeptFor, AreListsOf, AreMadeOf, IsAt, Lists, AreSameCondition, are_covered, is_paired};
+ghost use Rattle.verify.specs.KeptLists.{IsCacheFor, AreListsOf, AreMadeOf, IsAt, CitationLists, AreSameCondition, are_covered, is_paired};
 
 use crate::pair_places::{PairPlace, PairPlaces};
 use entries::buffer_part::between;
@@ -23,7 +23,7 @@ use std::collections::BTreeMap;
 use std::marker::Model;
 
 /// The number of citations of an assertion in which its long lists are made anew. After these they are kept.
-const FEW: usize = 4;
+const CITATIONS_BEFORE_KEEPING: usize = 4;
 
 /// The most numbers that are kept.
 const MOST_NUMBERS: usize = 1_048_576;
@@ -32,7 +32,8 @@ const MOST_NUMBERS: usize = 1_048_576;
 const COUNT_SIZE: usize = 8;
 
 /// The lists by which an assertion is cited: its mandatory hypotheses, and lists of variables whose images must be disjoint.
-/// These lists have each mandatory pair. A list is left out if its pairs are recorded to be all in others (`PairPlaces`).
+/// Each mandatory pair of variables is in one of these lists. A list is left out if all its pairs are recorded to be in others
+/// (`PairPlaces`).
 #[derive(Drop)]
 pub struct AssertionLists {
     /// The position of the assertion.
@@ -42,8 +43,8 @@ pub struct AssertionLists {
     /// Each hypothesis, encoded as one number.
     required: Vec<u32>,
     /// The variables of the lists, one list after another.
-    places: Vec<u32>,
-    /// The range of each list in `places`.
+    grouped_variables: Vec<u32>,
+    /// The range of each list in `grouped_variables`.
     groups: Vec<BufferPart>,
 }
 
@@ -51,13 +52,13 @@ impl Model for AssertionLists {
     ghost use Rattle.std.specs.Prelude.{length, map};
     ghost use Rattle.entries.specs.Hypotheses.{told};
     ghost use Rattle.entries.specs.Stored.Spans.{AreSpansIn, cut};
-    ghost use Rattle.verify.specs.KeptLists.{Lists};
+    ghost use Rattle.verify.specs.KeptLists.{CitationLists};
 
-    ghost Value = { Lists };
+    ghost Value = { CitationLists };
 
-    ghost view = { λ a. record { position = a.position; typecodes = a.typecodes.items; required = map told a.required.items; groups = cut a.places.items a.groups.items } };
+    ghost view = { λ a. record { position = a.position; typecodes = a.typecodes.items; required = map told a.required.items; groups = cut a.grouped_variables.items a.groups.items } };
 
-    ghost invariant = { λ a. AreSpansIn (length a.places.items) a.groups.items };
+    ghost invariant = { λ a. AreSpansIn (length a.grouped_variables.items) a.groups.items };
 }
 
 impl AssertionLists {
@@ -78,14 +79,14 @@ impl AssertionLists {
         let mut required = Vec::new(alloc);
         copy_hypotheses(&cited.hypotheses, &mut required)?;
         pairs.begin(&cited.hypotheses)?;
-        let mut places = Vec::new(alloc);
+        let mut grouped_variables = Vec::new(alloc);
         let mut groups = Vec::new(alloc);
-        copy_groups(&cited.groups, pairs, &mut places, &mut groups)?;
+        copy_groups(&cited.groups, pairs, &mut grouped_variables, &mut groups)?;
         Ok(AssertionLists {
             position,
             typecodes,
             required,
-            places,
+            grouped_variables,
             groups,
         })
     }
@@ -101,7 +102,7 @@ impl AssertionLists {
             typecodes: &self.typecodes,
             hypotheses: Hypotheses::new(&self.required),
             conclusion,
-            groups: Groups::new(&self.groups, &self.places),
+            groups: Groups::new(&self.groups, &self.grouped_variables),
         }
     }
 
@@ -111,7 +112,7 @@ impl AssertionLists {
         let groups = self.groups.len().saturating_mul(2);
         hypotheses
             .saturating_add(groups)
-            .saturating_add(self.places.len())
+            .saturating_add(self.grouped_variables.len())
     }
 }
 
@@ -130,22 +131,22 @@ fn copy_hypotheses(hypotheses: &Hypotheses<'_>, required: &mut Vec<u32>) -> Resu
 fn copy_groups(
     from: &Groups<'_>,
     pairs: &mut PairPlaces,
-    places: &mut Vec<u32>,
+    grouped_variables: &mut Vec<u32>,
     groups: &mut Vec<BufferPart>,
 ) -> Result<(), AllocError>
-    requires empty { (places.old.items ≡ []) × (groups.old.items ≡ []) }
-    ensures within { OnOk result (AreSpansIn (length places.new.items) groups.new.items) }
-    ensures same { OnOk result (AreSameCondition (cut places.new.items groups.new.items) from.now) }
-    ensures below { OnOk result ((n : ℕ) → AllBelow n from.now → AllBelow n (cut places.new.items groups.new.items)) }
+    requires empty { (grouped_variables.old.items ≡ []) × (groups.old.items ≡ []) }
+    ensures within { OnOk result (AreSpansIn (length grouped_variables.new.items) groups.new.items) }
+    ensures same { OnOk result (AreSameCondition (cut grouped_variables.new.items groups.new.items) from.now) }
+    ensures below { OnOk result ((n : ℕ) → AllBelow n from.now → AllBelow n (cut grouped_variables.new.items groups.new.items)) }
 {
     for index in 0..from.len() {
         let group = from.get(index);
         let recorded = pairs.look_up(group)?;
-        if recorded && is_covered(&Groups::new(groups, places), group, pairs) {
+        if recorded && is_covered(&Groups::new(groups, grouped_variables), group, pairs) {
             continue;
         }
         pairs.record_list(groups.len());
-        add_group(group, places, groups)?;
+        add_group(group, grouped_variables, groups)?;
     }
     Ok(())
 }
@@ -153,16 +154,16 @@ fn copy_groups(
 /// Appends a group.
 fn add_group(
     group: &[u32],
-    places: &mut Vec<u32>,
+    grouped_variables: &mut Vec<u32>,
     groups: &mut Vec<BufferPart>,
 ) -> Result<(), AllocError>
-    requires within { AreSpansIn (length places.old.items) groups.old.items }
-    ensures within { OnOk result (AreSpansIn (length places.new.items) groups.new.items) }
-    ensures added { OnOk result (cut places.new.items groups.new.items ≡ cut places.old.items groups.old.items ++ group.now ∷ []) }
+    requires within { AreSpansIn (length grouped_variables.old.items) groups.old.items }
+    ensures within { OnOk result (AreSpansIn (length grouped_variables.new.items) groups.new.items) }
+    ensures added { OnOk result (cut grouped_variables.new.items groups.new.items ≡ cut grouped_variables.old.items groups.old.items ++ group.now ∷ []) }
 {
-    let from = places.len();
-    places.extend_from_slice(group)?;
-    let span = between(from, places.len())?;
+    let from = grouped_variables.len();
+    grouped_variables.extend_from_slice(group)?;
+    let span = between(from, grouped_variables.len())?;
     groups.push(span)?;
     Ok(())
 }
@@ -233,9 +234,9 @@ pub struct KeptLists {
 }
 
 impl Model for KeptLists {
-    ghost use Rattle.verify.specs.KeptLists.{Kept};
+    ghost use Rattle.verify.specs.KeptLists.{CheckerCache};
 
-    ghost Value = { Kept };
+    ghost Value = { CheckerCache };
 
     ghost view = { λ a. record { lists = a.lists.items; facts = a.facts } };
 }
@@ -293,10 +294,10 @@ impl KeptLists {
     ///
     /// Cost: log n for n assertions whose citations are counted.
     pub fn count_citation(&mut self, position: usize) -> bool
-        ensures { (S : Database) (names : List Name) → AreKeptFor S names self.old → AreKeptFor S names self.new }
+        ensures { (S : Database) (names : List Name) → IsCacheFor S names self.old → IsCacheFor S names self.new }
     {
         let count = self.count(position);
-        if count >= FEW {
+        if count >= CITATIONS_BEFORE_KEEPING {
             return true;
         }
         let size = if count == 0 { COUNT_SIZE } else { 0 };
@@ -337,8 +338,8 @@ impl KeptLists {
         frame_buffers: &mut FrameBuffers,
     ) -> Result<(), AllocError>
         requires assertion { (s : Statement) × HasAssertion frames.now.statements position s }
-        requires kept { AreKeptFor frames.now.statements frames.now.names self.old }
-        ensures kept { AreKeptFor frames.now.statements frames.now.names self.new }
+        requires kept { IsCacheFor frames.now.statements frames.now.names self.old }
+        ensures kept { IsCacheFor frames.now.statements frames.now.names self.new }
         ensures lists { OnOk result (AreCitingLists frames.now.statements frames.now.names position frame_buffers.new) }
     {
         frames.fill_for_citing(position, &mut self.facts, frame_buffers)
@@ -349,8 +350,8 @@ impl KeptLists {
     ///
     /// Errors: an allocation fails. Cost: that of `AssertionLists::of`.
     pub fn keep(&mut self, position: usize, cited: &AssertionView<'_>) -> Result<usize, AllocError>
-        ensures kept { (S : Database) (names : List Name) → AreKeptFor S names self.old
-            → ((lists : Lists) → AreMadeOf position cited.now lists → (s : Statement) → stmt_at S position ≡ Some s → AreListsOf S names lists s) → AreKeptFor S names self.new }
+        ensures kept { (S : Database) (names : List Name) → IsCacheFor S names self.old
+            → ((lists : CitationLists) → AreMadeOf position cited.now lists → (s : Statement) → stmt_at S position ≡ Some s → AreListsOf S names lists s) → IsCacheFor S names self.new }
         ensures index { IfOk result (λ i. IsAt self.new.lists i position) }
     {
         let lists = AssertionLists::of(self.alloc, position, cited, &mut self.pairs)?;
@@ -363,7 +364,7 @@ impl KeptLists {
 
     /// Counts `size` more numbers. Removes all lists and facts first if there would be too many.
     fn make_room(&mut self, size: usize)
-        ensures { (S : Database) (names : List Name) → AreKeptFor S names self.old → AreKeptFor S names self.new }
+        ensures { (S : Database) (names : List Name) → IsCacheFor S names self.old → IsCacheFor S names self.new }
     {
         if self.size.saturating_add(size) > MOST_NUMBERS {
             self.begin();

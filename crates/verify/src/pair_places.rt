@@ -1,4 +1,4 @@
-//! The places of pairs of variables in the lists that are kept of an assertion.
+//! Where pairs of variables are in the lists that are kept of an assertion.
 
 use entries::{Hypotheses, Hypothesis};
 use std::alloc::{AllocError, Global};
@@ -27,7 +27,7 @@ const NO_PLACE: PairPlace = PairPlace {
 
 /// A place for each two variables of an assertion that were recorded to be together in a list.
 ///
-/// A place is only a guess, which is checked, so no contract says anything of it.
+/// Each place is checked when it is used, so no contract says anything about it.
 #[derive(Drop)]
 pub struct PairPlaces {
     /// The number of each variable of the assertion, from 0.
@@ -59,7 +59,7 @@ impl PairPlaces {
         }
         for index in 0..hypotheses.len() {
             if let Hypothesis::Float(variable) = hypotheses.get(index) {
-                let number = small(self.variables.len());
+                let number = saturating_u32(self.variables.len());
                 let _recorded = self.variables.insert(variable, number);
             }
         }
@@ -114,9 +114,9 @@ impl PairPlaces {
                 if let Some(index) = self.index(first, second) {
                     if let Some(place) = self.places.get_mut(index) {
                         *place = PairPlace {
-                            list: small(list),
-                            first: small(first),
-                            second: small(second),
+                            list: saturating_u32(list),
+                            first: saturating_u32(first),
+                            second: saturating_u32(second),
                         };
                     }
                 }
@@ -126,7 +126,7 @@ impl PairPlaces {
 }
 
 /// Returns the number in 32 bits, or the greatest such number if it is more.
-fn small(number: usize) -> u32 {
+fn saturating_u32(number: usize) -> u32 {
     match u32::try_from(number) {
         Ok(number) => number,
         Err(_) => u32::MAX,

@@ -132,7 +132,7 @@ pub struct Extent {
 }
 
 /// Returns the extent with that number.
-fn numbered(extents: &[Extent], number: usize) -> Extent
+fn extent_with_number(extents: &[Extent], number: usize) -> Extent
     requires { number < length extents.now }
     ensures { slice_get extents.now number ≡ Some result }
 {
@@ -150,8 +150,8 @@ fn extent_at(node: &Node, extents: &[Extent]) -> Extent
     };
     let mut nodes = 1;
     let mut depth = 1;
-    for kid in children {
-        let extent = numbered(extents, *kid);
+    for child in children {
+        let extent = extent_with_number(extents, *child);
         nodes = (nodes + extent.nodes).min(MOST_NODES + 1);
         depth = depth.max((extent.depth + 1).min(MOST_DEPTH + 1));
     }
@@ -181,7 +181,7 @@ pub fn is_small(extent: Extent) -> bool
 /// Returns the derivation that the items of a right proof of the `$p` at that position spell.
 ///
 /// Errors: `Wrong` if they are no right proof; `TooLarge` if the derivation has more than 65,536 nodes or a depth above
-/// 1,024, for which it is measured before it is made; `Memory` if an allocation fails, in place of either too.
+/// 1,024, for which it is measured before it is made; `Memory` if an allocation fails, even if one of the others applies.
 /// Cost: a check, a node for each citation, and the tree. Source: Metamath, 4.2.6 and appendix B.
 pub fn derivation(
     alloc: Global,
@@ -244,8 +244,8 @@ fn expand(alloc: Global, nodes: &[Node], number: usize) -> Result<Tree, AllocErr
         Node::Hyp(position) => Ok(Tree::Hyp(*position)),
         Node::Apply(position, children) => {
             let mut trees = Vec::with_capacity(alloc, children.len())?;
-            for kid in children {
-                trees.push(expand(alloc, nodes, *kid)?)?;
+            for child in children {
+                trees.push(expand(alloc, nodes, *child)?)?;
             }
             Ok(Tree::Apply(*position, trees))
         }

@@ -17,12 +17,12 @@ ghost use Rattle.std.specs.Map.{lookup};
 ghost use Rattle.subst.specs.Images.{AreOver};
 ghost use Rattle.entries.specs.declared.assertion_view.Hypothesis.TheVariants.{Float};
 ghost use Rattle.subst.specs.SymbolRanges.{AreInside, AreWithin, images_at, symbols_in};
-ghost use Rattle.subst.specs.Vanishing.{has_nonempty_image};
-ghost use Rattle.verify.specs.Fits.{AreDifferent, AreLeadingFloats, ArePresent, DoMatch, DoFitBefore, IsExprAt, Reads};
+ghost use Rattle.subst.specs.RemainingSymbols.{has_nonempty_image};
+ghost use Rattle.verify.specs.HypothesisResults.{AreDifferent, AreLeadingFloats, ArePresent, DoMatch, DoMatchBefore, IsExprAt, Reads};
 ghost use Rattle.verify.specs.LongHypotheses.{AreListed, AreThoseOf, IsLeftOf, IsListed};
 ghost use Rattle.verify.specs.Machine.{IsSaved, with_mark, with_result};
 ghost use Rattle.verify.specs.ReadPlaces.{BeginsWith, IsMistyped, ReadTo, ReadsAll, tail_of};
-ghost use Rattle.verify.specs.ResultPlaces.{Adds, Finds, Keeps, Marks, Stays, below, top};
+ghost use Rattle.verify.specs.ResultPlaces.{Adds, RecallsAt, CachesLast, Marks, UnchangedUnlessDone, below, top};
 ghost use Rattle.verify.specs.Right.{weight_limit};
 
 use entries::{Groups, Hypotheses, Hypothesis};
@@ -30,7 +30,7 @@ use frame::{Frames, LONG_EXPRESSION, Pairs};
 use std::alloc::{AllocError, Global};
 use std::marker::Model;
 use subst::{
-    Buffer, DisjointCache, ImageRanges, Remaining, SYMBOLS_LIMIT, SymbolRange, has_symbols,
+    Buffer, DisjointCache, ImageRanges, Remaining, SYMBOLS_LIMIT, SymbolRange, is_image_nonempty,
     range_between, symbols_at,
 };
 
@@ -46,7 +46,7 @@ pub struct Results {
     saved: Vec<SymbolRange>,
     weight: usize,
     /// How many symbols the buffer may hold.
-    share: usize,
+    symbols_limit: usize,
     /// The variables of long results, and the pairs of variables that were found to be disjoint.
     cache: DisjointCache,
 }
@@ -72,16 +72,16 @@ impl Results {
             stack: Vec::new(alloc),
             saved: Vec::new(alloc),
             weight: 0,
-            share: SYMBOLS_LIMIT,
+            symbols_limit: SYMBOLS_LIMIT,
             cache: DisjointCache::new(alloc),
         }
     }
 
-    /// Limits the buffer to `share` symbols. A call whose result would exceed them returns `AllocError`.
-    pub fn limit(&mut self, share: usize)
+    /// Limits the buffer to `symbols_limit` symbols. A call whose result would exceed them returns `AllocError`.
+    pub fn limit(&mut self, symbols_limit: usize)
         ensures { self.new ≡ self.old }
     {
-        self.share = share;
+        self.symbols_limit = symbols_limit;
     }
 
     /// Has the frames make long searches for pairs again that proofs made, so that they keep the answers.
@@ -121,13 +121,13 @@ impl Results {
         requires below { AreBelow (length pairs.now.names) expr.now }
         ensures about { self.new.about ≡ self.old.about }
         ensures adds { IfOk result (λ ok. Adds ok self.old.results self.new.results self.old.results.stack expr.now) }
-        ensures stays { IfOk result (λ ok. Stays ok self.old.results self.new.results) }
+        ensures stays { IfOk result (λ ok. UnchangedUnlessDone ok self.old.results self.new.results) }
     {
         if expr.len() > SYMBOLS_LIMIT - self.weight {
             return Ok(false);
         }
         let start = self.symbols.len();
-        if expr.len() > self.share.saturating_sub(start) {
+        if expr.len() > self.symbols_limit.saturating_sub(start) {
             return Err(AllocError);
         }
         self.symbols.extend(expr)?;
@@ -142,7 +142,7 @@ impl Results {
     pub fn cache_last(&mut self, label: usize)
         requires { label < length self.old.results.saved }
         ensures about { self.new.about ≡ self.old.about }
-        ensures keeps { Keeps self.old.results self.new.results label }
+        ensures keeps { CachesLast self.old.results self.new.results label }
     {
         if let Some(&place) = self.stack.last() {
             self.saved[label] = place;
@@ -154,7 +154,7 @@ impl Results {
     pub fn mark(&mut self) -> Result<bool, AllocError>
         ensures about { self.new.about ≡ self.old.about }
         ensures marks { IfOk result (λ ok. Marks ok self.old.results self.new.results) }
-        ensures stays { IfOk result (λ ok. Stays ok self.old.results self.new.results) }
+        ensures stays { IfOk result (λ ok. UnchangedUnlessDone ok self.old.results self.new.results) }
     {
         let Some(&place) = self.stack.last() else {
             return Ok(false);
@@ -171,8 +171,8 @@ impl Results {
     pub fn recall(&mut self, index: usize, labels: usize) -> Result<Option<bool>, AllocError>
         requires { labels ≤ length self.old.results.saved }
         ensures about { self.new.about ≡ self.old.about }
-        ensures finds { IfOk result (λ done. Finds done labels self.old.results self.new.results index) }
-        ensures stays { IfOk result (λ done. IfSome done (λ ok. Stays ok self.old.results self.new.results)) }
+        ensures finds { IfOk result (λ done. RecallsAt done labels self.old.results self.new.results index) }
+        ensures stays { IfOk result (λ done. IfSome done (λ ok. UnchangedUnlessDone ok self.old.results self.new.results)) }
     {
         if index >= self.saved.len() {
             return Ok(Some(false));
@@ -234,7 +234,7 @@ impl Results {
         requires legal { AreLegal frames.now.statements frames.now.names }
         requires assertion { (s : Statement) × HasAssertion frames.now.statements cited s }
         requires required { AreThoseOf frames.now.statements frames.now.names cited hypotheses.now }
-        requires standing { ArePresent frames.now.statements hypotheses.now }
+        requires present { ArePresent frames.now.statements hypotheses.now }
         requires count { length hypotheses.now ≤ length self.now.results.stack }
         requires over { AreOver frames.now.names self.now.images }
         requires named { AllBelow (length frames.now.names) self.now.results.stack }
@@ -273,11 +273,11 @@ impl Results {
         requires legal { AreLegal frames.now.statements frames.now.names }
         requires assertion { (s : Statement) × HasAssertion frames.now.statements cited s }
         requires required { AreThoseOf frames.now.statements frames.now.names cited hypotheses.now }
-        requires standing { ArePresent frames.now.statements hypotheses.now }
+        requires present { ArePresent frames.now.statements hypotheses.now }
         requires count { length hypotheses.now ≤ length self.now.results.stack }
         requires over { AreOver frames.now.names self.now.images }
         requires named { AllBelow (length frames.now.names) self.now.results.stack }
-        requires before { DoFitBefore from frames.now.statements (images_of_names frames.now.names self.now.images) hypotheses.now (map (decode frames.now.names) (top (length hypotheses.now) self.now.results.stack)) }
+        requires before { DoMatchBefore from frames.now.statements (images_of_names frames.now.names self.now.images) hypotheses.now (map (decode frames.now.names) (top (length hypotheses.now) self.now.results.stack)) }
         ensures { IsTrue result ↔ DoMatch frames.now.statements (images_of_names frames.now.names self.now.images) hypotheses.now (map (decode frames.now.names) (top (length hypotheses.now) self.now.results.stack)) }
     {
         let places = &self.stack[self.stack.len() - hypotheses.len()..];
@@ -347,7 +347,7 @@ impl Results {
         let Some(places) = frames.places(position) else {
             return expr;
         };
-        let Ok(found) = remaining.of(&self.images, expr, places) else {
+        let Ok(found) = remaining.find_nonempty(&self.images, expr, places) else {
             return expr;
         };
         match found {
@@ -388,11 +388,11 @@ impl Results {
         requires count { r ≤ length self.old.results.stack }
         ensures about { self.new.about ≡ self.old.about }
         ensures adds { IfOk result (λ ok. Adds ok self.old.results self.new.results (below r self.old.results.stack) (code_apply self.old.images expr.now)) }
-        ensures stays { IfOk result (λ ok. Stays ok self.old.results self.new.results) }
+        ensures stays { IfOk result (λ ok. UnchangedUnlessDone ok self.old.results self.new.results) }
     {
         let keep = self.stack.len() - r;
         let start = self.symbols.len();
-        let room = (SYMBOLS_LIMIT - self.weight).min(self.share.saturating_sub(start));
+        let room = (SYMBOLS_LIMIT - self.weight).min(self.symbols_limit.saturating_sub(start));
         if !self.symbols.add_applied(&self.images, expr, room)? {
             return if room < SYMBOLS_LIMIT - self.weight {
                 Err(AllocError)
@@ -480,11 +480,11 @@ fn list_symbols(
     requires required { AreThoseOf frames.now.statements frames.now.names cited hypotheses.now }
     ensures { OnOk result ((symbols : List ℕ) → AreListed frames.now.statements frames.now.names cited hypotheses.now (images_at symbols images.now) remaining.new.keys) }
 {
-    remaining.forget();
+    remaining.clear_listed();
     for k in 0..hypotheses.len() {
         list_hypothesis(frames, cited, images, hypotheses.get(k), remaining)?;
     }
-    remaining.order();
+    remaining.sort_listed();
     Ok(())
 }
 
@@ -506,7 +506,7 @@ fn list_hypothesis(
     let Hypothesis::Float(variable) = hypothesis else {
         return Ok(());
     };
-    if !has_symbols(images, variable) {
+    if !is_image_nonempty(images, variable) {
         return Ok(());
     }
     list_symbol(frames, cited, variable, remaining)
@@ -528,7 +528,7 @@ fn list_symbol(
 {
     let mut stack = frames.long_essentials(symbol, cited);
     while let Some(position) = stack.pop() {
-        remaining.list(position, symbol)?;
+        remaining.add_listed(position, symbol)?;
     }
     Ok(())
 }
@@ -555,8 +555,8 @@ fn find_left(frames: &Frames, position: u32, expr: &[u32], remaining: &mut Remai
     }
 }
 
-/// Returns whether the result in a range is the expression of the `$e` at a position with the images substituted. If the symbols
-/// are listed, it compares only what is left of a long expression, where that is little.
+/// Returns whether the result in a range is the expression of the `$e` at a position with the images substituted. If symbols are
+/// listed, compares only those that are left of a long expression, provided that these are few.
 fn essential_matches(
     symbols: &Buffer,
     images: &ImageRanges,
@@ -586,7 +586,7 @@ fn essential_matches(
     symbols.matches(images, remaining.left(), place)
 }
 
-/// Truncates to the first `keep` ranges and appends one, mostly by overwriting another.
+/// Truncates to the first `keep` ranges and appends one, usually by overwriting another.
 #[inline(always)]
 fn truncate_and_push(
     stack: &mut Vec<SymbolRange>,
@@ -608,7 +608,7 @@ fn truncate_and_push(
 
 /// Sets the image of a variable to a result without its first symbol, or returns `false` if this is not the typecode.
 #[inline(always)]
-fn read_one(
+fn read_float(
     images: &mut ImageRanges,
     symbols: &[u32],
     typecode: u32,
@@ -623,18 +623,18 @@ fn read_one(
     if place.start >= place.end || symbols[place.start as usize] != typecode {
         return Ok(false);
     }
-    let without_cached = SymbolRange {
+    let tail = SymbolRange {
         start: place.start + 1,
         end: place.end,
     };
-    images.set(variable, without_cached)?;
+    images.set(variable, tail)?;
     Ok(true)
 }
 
-/// Calls `read_one` for a `$f` after a `$e`.
+/// Calls `read_float` for a `$f` after a `$e`.
 #[cold]
 #[inline(never)]
-fn read_more(
+fn read_later_float(
     images: &mut ImageRanges,
     symbols: &[u32],
     typecode: u32,
@@ -646,13 +646,13 @@ fn read_more(
     ensures set { IfOk result (λ ok. IsTrue ok → (y : ℕ) → lookup (nat_eq y) images.new ≡ (if y == variable then Some (tail_of place) else lookup (nat_eq y) images.old)) }
     ensures inside { (n : ℕ) → place.end ≤ n → AreInside n images.old → AreInside n images.new }
 {
-    read_one(images, symbols, typecode, variable, place)
+    read_float(images, symbols, typecode, variable, place)
 }
 
 /// Sets the images of the variables of the `$f` that precede all other hypotheses, and returns how many these are, or `None`
 /// if a result does not begin with the typecode of its `$f`.
 #[inline(always)]
-fn read_front(
+fn read_leading_floats(
     images: &mut ImageRanges,
     symbols: &[u32],
     typecodes: &[u32],
@@ -672,7 +672,7 @@ fn read_front(
         let Hypothesis::Float(variable) = hypotheses.get(k) else {
             return Ok(Some(k));
         };
-        if !read_one(images, symbols, typecodes[k], variable, places[k])? {
+        if !read_float(images, symbols, typecodes[k], variable, places[k])? {
             return Ok(None);
         }
     }
@@ -700,12 +700,12 @@ pub fn read_off(
     ensures inside { (n : ℕ) → AreWithin n places.now → AreInside n images.new }
 {
     images.clear();
-    let Some(front) = read_front(images, symbols, typecodes, hypotheses, places)? else {
+    let Some(front) = read_leading_floats(images, symbols, typecodes, hypotheses, places)? else {
         return Ok(None);
     };
     for k in front.saturating_add(1)..hypotheses.len() {
         if let Hypothesis::Float(variable) = hypotheses.get(k) {
-            if !read_more(images, symbols, typecodes[k], variable, places[k])? {
+            if !read_later_float(images, symbols, typecodes[k], variable, places[k])? {
                 return Ok(None);
             }
         }

@@ -15,7 +15,7 @@ abbrev pub IsJob : Database → Job → Type 0
 IsJob S job = (s : Stmt) × IsProvable S job.at s
 
 -- jobs, with the statements that they are checked against, and the names that their items number
-pub record Checked : Type 0 where
+pub record JobList : Type 0 where
   pub statements : Database
   pub names : List Name
   pub jobs : List Job

@@ -1,7 +1,7 @@
 //! Proofs that are given as their items.
 
 ghost use Rattle.std.specs.Prelude.{◌≡◌, IfOk};
-ghost use Rattle.verify.specs.KeptLists.{AreKeptFor};
+ghost use Rattle.verify.specs.KeptLists.{IsCacheFor};
 ghost use Rattle.verify.specs.Right.{IsAnswerTo};
 ghost use Rattle.verify_pool.specs.Jobs.{AreJobs, IsJob, IsRightAt, IsRightJob, LeastBad};
 
@@ -56,9 +56,9 @@ struct Jobs<'a> {
 }
 
 impl<'a> Model for Jobs<'a> {
-    ghost use Rattle.verify_pool.specs.Jobs.{AreJobs, Checked};
+    ghost use Rattle.verify_pool.specs.Jobs.{AreJobs, JobList};
 
-    ghost Value = { Checked };
+    ghost Value = { JobList };
 
     ghost view = { λ a. record { statements = a.frames.now.statements; names = a.frames.now.names; jobs = a.jobs.now } };
 
@@ -67,14 +67,14 @@ impl<'a> Model for Jobs<'a> {
 
 impl<'a> Work for Jobs<'a> {
     ghost use Rattle.std.specs.Prelude.{length};
-    ghost use Rattle.verify.specs.KeptLists.{AreKeptFor};
+    ghost use Rattle.verify.specs.KeptLists.{IsCacheFor};
     ghost use Rattle.verify_pool.specs.Jobs.{IsRightAt};
 
     ghost count = { λ work. length work.jobs };
 
     ghost right = { λ work. IsRightAt work.statements work.jobs };
 
-    ghost fits = { λ work. AreKeptFor work.statements work.names };
+    ghost fits = { λ work. IsCacheFor work.statements work.names };
 
     fn count(&self) -> usize {
         self.jobs.len()
@@ -92,8 +92,8 @@ impl<'a> Work for Jobs<'a> {
 /// Returns whether the job is right.
 fn check_job(frames: &Frames, job: &Job, checker: &mut Checker) -> Result<Answer, AllocError>
     requires job { IsJob frames.now.statements job.now }
-    requires kept { AreKeptFor frames.now.statements frames.now.names checker.old }
-    ensures kept { AreKeptFor frames.now.statements frames.now.names checker.new }
+    requires kept { IsCacheFor frames.now.statements frames.now.names checker.old }
+    ensures kept { IsCacheFor frames.now.statements frames.now.names checker.new }
     ensures answer { IfOk result (λ answer. IsAnswerTo answer (IsRightJob frames.now.statements job.now)) }
 {
     match &job.code {

@@ -1,7 +1,7 @@
 //! Jobs that workers share.
 
 ghost use Rattle.std.specs.Prelude.{◌≡◌, ◌<◌, ◌^◌, ℕ, IfOk};
-ghost use Rattle.verify.specs.KeptLists.{Kept};
+ghost use Rattle.verify.specs.KeptLists.{CheckerCache};
 ghost use Rattle.verify.specs.Right.{IsAnswerTo};
 
 use std::alloc::AllocError;
@@ -16,7 +16,7 @@ pub trait Work {
     ghost right: { Self → ℕ → Type 0 };
 
     /// The results that a checker caches are right for these jobs.
-    ghost fits: { Self → Kept → Type 0 };
+    ghost fits: { Self → CheckerCache → Type 0 };
 
     /// Returns the number of jobs.
     fn count(&self) -> usize

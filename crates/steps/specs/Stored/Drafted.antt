@@ -61,12 +61,12 @@ abbrev pub codes_in : TableDraft → ℕ → List ℕ
 codes_in d k = (get_or (rows_of d) k no_row).expr
 
 -- the range of the expression of the step at a place
-abbrev pub place_in : List PlacedStep → ℕ → SymbolRange
-place_in [] k = record { start = 0; end = 0 }
-place_in (p ∷ ps) zero = p.place
-place_in (p ∷ ps) (suc k) = place_in ps k
+abbrev pub range_in : List PlacedStep → ℕ → SymbolRange
+range_in [] k = record { start = 0; end = 0 }
+range_in (p ∷ ps) zero = p.place
+range_in (p ∷ ps) (suc k) = range_in ps k
 
-pub record AreHeld (d : TableDraft) : Type 0 where
+pub record IsWellFormed (d : TableDraft) : Type 0 where
   pub inside : AreInBuffer (length d.symbols) d.placed.items
   pub stack_below : AreBelow (length d.placed.items) d.stack.items
 

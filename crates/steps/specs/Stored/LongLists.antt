@@ -16,29 +16,29 @@ HasPartsOf S names a s c = (groups : List (List ℕ)) × IsViewOf S names a s (w
 -- ---- what is kept
 
 -- the hypotheses of the assertion at a position
-pub record Listed : Type 0 where
+pub record ListedHypotheses : Type 0 where
   pub position : ℕ
   pub typecodes : List ℕ
   pub required : List Hypothesis
 
--- they are copied from this view
-pub record AreMadeOf (position : ℕ) (c : AssertionView) (l : Listed) : Type 0 where
+-- the list was copied from this view
+pub record AreMadeOf (position : ℕ) (c : AssertionView) (l : ListedHypotheses) : Type 0 where
   pub at : l.position ≡ position
   pub typecodes_same : l.typecodes ≡ c.typecodes.now
   pub hypotheses_same : l.required ≡ c.hypotheses
 
--- they are those of the assertion s at their position, whose groups of disjoint variables have symbol numbers
-pub record AreListsOf (S : Database) (names : List Name) (l : Listed) (s : Stmt) : Type 0 where
+-- the list has the hypotheses of the assertion s at its position, whose groups of disjoint variables have symbol numbers
+pub record AreListsOf (S : Database) (names : List Name) (l : ListedHypotheses) (s : Stmt) : Type 0 where
   pub hypotheses_of : AreRequired S names (hypotheses (before S l.position) s) l.typecodes l.required
   pub groups : List (List ℕ)
   pub are_groups : map (decode names) groups ≡ mandatory_groups (before S l.position) s
   pub below_names : AllBelow (length names) groups
 
-abbrev pub AreKept : Database → List Name → List Listed → Type 0
+abbrev pub AreKept : Database → List Name → List ListedHypotheses → Type 0
 AreKept S names [] = Unit {0}
 AreKept S names (l ∷ ls) = ((s : Stmt) → stmt_at S l.position ≡ Some s → AreListsOf S names l s) × AreKept S names ls
 
 -- the list of the assertion at a position has the index i
-pub record IsAt (ls : List Listed) (i position : ℕ) : Type 0 where
+pub record IsAt (ls : List ListedHypotheses) (i position : ℕ) : Type 0 where
   pub within : i < length ls
-  pub there : (l : Listed) → slice_get ls i ≡ Some l → l.position ≡ position
+  pub there : (l : ListedHypotheses) → slice_get ls i ≡ Some l → l.position ≡ position

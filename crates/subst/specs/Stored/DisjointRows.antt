@@ -6,7 +6,7 @@ use Rattle.subst.specs.Words.{bit_at, Numbered, is_pair, name_at}
 use Rattle.subst.specs.declared.disjoint_rows.RowWord.{RowWord}
 use Rattle.subst.specs.declared.place_words.PlaceWord.{PlaceWord}
 use Rattle.subst.specs.Stored.PlaceSets.{HasBit, HasPlace}
-use Rattle.subst.specs.Stored.VariablePlaces.{Places, is_kept, IsAmong}
+use Rattle.subst.specs.Stored.VariablePlaces.{Places, are_places_disjoint, IsAmong}
 
 abbrev pub no_row : RowWord
 no_row = record { place = 0; index = 0; bits = 0 }
@@ -28,7 +28,7 @@ pub record HasFact (ws : List RowWord) (p q : ℕ) : Type 0 where
 pub record IsFact (v : Numbered) (f : Places) (p q : ℕ) : Type 0 where
   pub row : p < length f.variables
   pub place : q < length f.variables
-  pub kept : is_kept v f p q ≡ true
+  pub disjoint : are_places_disjoint v f p q ≡ true
 
 -- all that is recorded is true
 pub record AreFacts (v : Numbered) (f : Places) (ws : List RowWord) : Type 0 where
@@ -46,17 +46,17 @@ pub record RecordsWord (old new : List RowWord) (p : ℕ) (w : PlaceWord) : Type
 
 -- whether the variable at p is disjoint from each of those at the places of the word
 abbrev pub DecidesWord : Numbered → Places → ℕ → PlaceWord → Bool → Type 0
-DecidesWord v f p w true = (q : ℕ) → HasBit w q → is_kept v f p q ≡ true
-DecidesWord v f p w false = (q : ℕ) × HasBit w q × (is_kept v f p q ≡ false)
+DecidesWord v f p w true = (q : ℕ) → HasBit w q → are_places_disjoint v f p q ≡ true
+DecidesWord v f p w false = (q : ℕ) × HasBit w q × (are_places_disjoint v f p q ≡ false)
 
 abbrev pub DecidesAll : Numbered → Places → ℕ → List PlaceWord → Bool → Type 0
-DecidesAll v f p ws true = (q : ℕ) → HasPlace ws q → is_kept v f p q ≡ true
-DecidesAll v f p ws false = (q : ℕ) × HasPlace ws q × (is_kept v f p q ≡ false)
+DecidesAll v f p ws true = (q : ℕ) → HasPlace ws q → are_places_disjoint v f p q ≡ true
+DecidesAll v f p ws false = (q : ℕ) × HasPlace ws q × (are_places_disjoint v f p q ≡ false)
 
 abbrev pub DecidesBits : Numbered → Places → PlaceWord → List PlaceWord → Bool → Type 0
-DecidesBits v f w ws true = (p q : ℕ) → HasBit w p → HasPlace ws q → is_kept v f p q ≡ true
-DecidesBits v f w ws false = (p : ℕ) × (q : ℕ) × HasBit w p × HasPlace ws q × (is_kept v f p q ≡ false)
+DecidesBits v f w ws true = (p q : ℕ) → HasBit w p → HasPlace ws q → are_places_disjoint v f p q ≡ true
+DecidesBits v f w ws false = (p : ℕ) × (q : ℕ) × HasBit w p × HasPlace ws q × (are_places_disjoint v f p q ≡ false)
 
 abbrev pub DecidesEach : Numbered → Places → List PlaceWord → List PlaceWord → Bool → Type 0
-DecidesEach v f own ws true = (p q : ℕ) → HasPlace own p → HasPlace ws q → is_kept v f p q ≡ true
-DecidesEach v f own ws false = (p : ℕ) × (q : ℕ) × HasPlace own p × HasPlace ws q × (is_kept v f p q ≡ false)
+DecidesEach v f own ws true = (p q : ℕ) → HasPlace own p → HasPlace ws q → are_places_disjoint v f p q ≡ true
+DecidesEach v f own ws false = (p : ℕ) × (q : ℕ) × HasPlace own p × HasPlace ws q × (are_places_disjoint v f p q ≡ false)

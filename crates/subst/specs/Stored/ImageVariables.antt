@@ -12,6 +12,8 @@ use Rattle.subst.specs.declared.image_variables.LongImage.{LongImage}
 use Rattle.subst.specs.Stored.PlaceSets.{AddsSymbols, HasBit, HasPlace, no_word}
 use Rattle.subst.specs.Stored.VariablePlaces.{Places, ArePlacesOf, IsAmong}
 
+-- words of bits, of which the first `kept` are those of long images; the words of the image that is being read; the images that
+-- were read in this citation; the long images
 pub record RecordedImages : Type 0 where
   pub words : List PlaceWord
   pub list : List PlaceWord
@@ -51,16 +53,16 @@ pub record AreRead (v : Numbered) (f : Places) (symbols : List ℕ) (images : Li
 -- ---- what the calls change
 
 -- words are appended, and the list may change
-abbrev pub KeepsMost : RecordedImages → RecordedImages → Type 0
-KeepsMost old new = (more : List PlaceWord) × (list : List PlaceWord) × (new ≡ record { words = old.words ++ more; list = list; kept = old.kept; read = old.read; long = old.long })
+abbrev pub AppendsAndChangesList : RecordedImages → RecordedImages → Type 0
+AppendsAndChangesList old new = (more : List PlaceWord) × (list : List PlaceWord) × (new ≡ record { words = old.words ++ more; list = list; kept = old.kept; read = old.read; long = old.long })
 
 -- words are appended
 abbrev pub GrowsWords : RecordedImages → RecordedImages → Type 0
 GrowsWords old new = (more : List PlaceWord) × (new.words ≡ old.words ++ more)
 
 -- only the list may change
-abbrev pub KeepsRest : RecordedImages → RecordedImages → Type 0
-KeepsRest old new = (list : List PlaceWord) × (new ≡ record { words = old.words; list = list; kept = old.kept; read = old.read; long = old.long })
+abbrev pub ChangesOnlyList : RecordedImages → RecordedImages → Type 0
+ChangesOnlyList old new = (list : List PlaceWord) × (new ≡ record { words = old.words; list = list; kept = old.kept; read = old.read; long = old.long })
 
 -- the words of the list are appended, in this range
 pub record Appends (old new : RecordedImages) (r : WordRange) : Type 0 where
@@ -77,12 +79,12 @@ abbrev pub AddsImage : Numbered → Places → RecordedImages → RecordedImages
 AddsImage v f old new image = AddsSymbols v f (HasPlace old.list) (HasPlace new.list) (length image) image
 
 -- the image of a symbol is recorded, or nothing changes
-abbrev pub KeepsImage : RecordedImages → RecordedImages → ℕ → WordRange → Type 0
-KeepsImage old new x r = (new ≡ old) ⊎ (new ≡ record { words = old.words; list = old.list; kept = old.kept; read = old.read ++ (record { symbol = x; words = r }) ∷ []; long = old.long })
+abbrev pub RecordsReadImage : RecordedImages → RecordedImages → ℕ → WordRange → Type 0
+RecordsReadImage old new x r = (new ≡ old) ⊎ (new ≡ record { words = old.words; list = old.list; kept = old.kept; read = old.read ++ (record { symbol = x; words = r }) ∷ []; long = old.long })
 
 -- the list is recorded as that of a long image, or nothing is recorded
 abbrev pub RecordsImage : RecordedImages → RecordedImages → SymbolRange → Type 0
 RecordsImage old new image =
-    KeepsMost old new
+    AppendsAndChangesList old new
     ⊎ ((list : List PlaceWord)
     × (new ≡ record { words = old.words ++ old.list; list = list; kept = length (old.words ++ old.list); read = old.read; long = old.long ++ (record { image = image; words = record { start = length old.words; end = length (old.words ++ old.list) } }) ∷ [] }))

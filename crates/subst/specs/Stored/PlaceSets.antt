@@ -1,6 +1,6 @@
 -- Sets of places as words of bits.
 -- Source: this project's representation of variables.
--- The code keeps the words that have bits, in the order in which they were met.
+-- The code keeps a list of words, and appends a word if none in the list is of the same 64 places.
 use Rattle.std.specs.Prelude.{◌≡◌, ℕ, ◌+◌, ◌*◌, ◌<◌, ◌⊎◌, List, length, get_or}
 use Rattle.subst.specs.Words.{bit_at, Numbered}
 use Rattle.subst.specs.declared.place_words.PlaceWord.{PlaceWord}
@@ -47,11 +47,11 @@ pub record AddsFirst (old new : List PlaceWord) (n : ℕ) (ws : List PlaceWord) 
 abbrev pub AddsWords : List PlaceWord → List PlaceWord → List PlaceWord → Type 0
 AddsWords old new ws = AddsFirst old new (length ws) ws
 
--- the set or the word at hand has the place
+-- the set or the current word has the place
 abbrev pub HasEither : List PlaceWord → PlaceWord → ℕ → Type 0
 HasEither ws w j = HasPlace ws j ⊎ HasBit w j
 
--- a place is added, to the set or to the word at hand
+-- a place is added, to the set or to the current word
 pub record TakesPlace (old : List PlaceWord) (w : PlaceWord) (new : List PlaceWord) (next : PlaceWord) (place : ℕ) : Type 0 where
   pub before : (j : ℕ) → HasEither old w j → HasEither new next j
   pub added : HasEither new next place

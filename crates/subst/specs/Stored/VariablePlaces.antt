@@ -5,6 +5,7 @@ use Rattle.std.specs.Prelude.{◌≡◌, ℕ, ◌<◌, ◌⊎◌, Bool, true, fa
 use Rattle.subst.specs.Words.{bit_at, All, Contains, Name, is_variable, name_at, is_pair, Numbered}
 use Rattle.subst.specs.declared.variable_places.MetSymbol.{MetSymbol}
 
+-- the symbols that were met, and the variables among them, each at its place
 pub record Places : Type 0 where
   pub symbols : List MetSymbol
   pub variables : List ℕ
@@ -13,8 +14,8 @@ abbrev pub variable_name : Numbered → Places → ℕ → Name
 variable_name v f j = name_at v.names (get_or f.variables j 0)
 
 -- the variables at these places are disjoint
-abbrev pub is_kept : Numbered → Places → ℕ → ℕ → Bool
-is_kept v f i j = is_pair v.statements (variable_name v f i) (variable_name v f j)
+abbrev pub are_places_disjoint : Numbered → Places → ℕ → ℕ → Bool
+are_places_disjoint v f i j = is_pair v.statements (variable_name v f i) (variable_name v f j)
 
 -- the variable x is at this place
 pub record IsAt (f : Places) (j x : ℕ) : Type 0 where

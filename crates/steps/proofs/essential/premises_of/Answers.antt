@@ -7,7 +7,7 @@ premises_among-requires c =
     let S = c.args.frames.now.statements in
     let rows = c.args.table.now in
     let m = c.in-Assertion.ensures in
-    let cited = (c.parts-cited.ensures m.0 m.1.0).1 in
+    let cited = (c.view_at-cited.ensures m.0 m.1.0).1 in
     ap length c.taken.ensures
     ∙ asks-all S c.args.at c.args.frames.now.names rows (get_or rows c.args.place no_row) (follows-at S c.args.at c.args.frames.now.names rows c.args.place c.requires.rows c.requires.place) c.position-position.result c.position-position.ensures
     m.0 _ _ m.1 cited.required
@@ -32,8 +32,8 @@ returns-in_ok-index-in-Assertion-clause-premises c =
     let S = c.args.frames.now.statements in
     let rows = c.args.table.now in
     let m = c.in-Assertion.ensures in
-    let cited = (c.parts-cited.ensures m.0 m.1.0).1 in
-    let hs = c.parts-cited.result.hypotheses in
+    let cited = (c.view_at-cited.ensures m.0 m.1.0).1 in
+    let hs = c.view_at-cited.result.hypotheses in
     IfOk-weaker c.premises_among.result (λ list. list.items ≡ taken_by hs c.taken.result.now) _
     (λ list e. e ∙ (ap (taken_by hs) c.taken.ensures
     ∙ sym (essential-by S c.args.at c.args.frames.now.names rows (get_or rows c.args.place no_row) (follows-at S c.args.at c.args.frames.now.names rows c.args.place c.requires.rows c.requires.place) c.position-position.result c.position-position.ensures

@@ -1,6 +1,6 @@
 use Rattle.steps.proofs.Words.{◌∙◌, ap, subst, on_ok_weaker, expr_of, IsHypothesis, has_with, with_groups, stands-within, some-same}
 use Rattle.steps.proofs.CiteLemmas.{many, typed, typecodes-count, different, assertion-draft, assertion-done, hypothesis-draft, hypothesis-done}
-use Rattle.steps.proofs.ConcludingLemmas.{standing-codes}
+use Rattle.steps.proofs.ConcludingLemmas.{symbol_places-codes}
 use Rattle.steps.proofs.DraftedItemLemmas.{never-nothing}
 use Rattle.steps.proofs.recording.cite.Goals as goal
 
@@ -9,8 +9,8 @@ cite_parts-requires-clause-many c =
     let p = c.requires.can in
     let q = p.3 in
     let m = c.in-Assertion.ensures in
-    let v = c.parts-cited.ensures p.1 p.2.stands in
-    many c.args.frames.now.statements c.args.at c.args.frames.now.names c.requires.legal c.args.draft.now c.requires.draft p.0 q.0 q.2 c.args.position p.1 (with_groups c.parts-cited.result v.0) p.2
+    let v = c.view_at-cited.ensures p.1 p.2.stands in
+    many c.args.frames.now.statements c.args.at c.args.frames.now.names c.requires.legal c.args.draft.now c.requires.draft p.0 q.0 q.2 c.args.position p.1 (with_groups c.view_at-cited.result v.0) p.2
     (has_with c.args.frames.now.statements c.args.position p.1 m.0 p.0 p.2 m.1) m.2 v.1 q.1 q.3
 
 pub cite_parts-requires-clause-typecodes : goal.cite_parts-requires-clause-typecodes
@@ -18,8 +18,8 @@ cite_parts-requires-clause-typecodes c =
     let p = c.requires.can in
     let q = p.3 in
     let m = c.in-Assertion.ensures in
-    let v = c.parts-cited.ensures p.1 p.2.stands in
-    typecodes-count c.args.frames.now.statements c.args.at c.args.frames.now.names c.requires.legal c.args.draft.now c.requires.draft p.0 q.0 q.2 c.args.position p.1 (with_groups c.parts-cited.result v.0) p.2
+    let v = c.view_at-cited.ensures p.1 p.2.stands in
+    typecodes-count c.args.frames.now.statements c.args.at c.args.frames.now.names c.requires.legal c.args.draft.now c.requires.draft p.0 q.0 q.2 c.args.position p.1 (with_groups c.view_at-cited.result v.0) p.2
     (has_with c.args.frames.now.statements c.args.position p.1 m.0 p.0 p.2 m.1) m.2 v.1 q.1 q.3
 
 pub cite_parts-requires-clause-different : goal.cite_parts-requires-clause-different
@@ -27,8 +27,8 @@ cite_parts-requires-clause-different c =
     let p = c.requires.can in
     let q = p.3 in
     let m = c.in-Assertion.ensures in
-    let v = c.parts-cited.ensures p.1 p.2.stands in
-    different c.args.frames.now.statements c.args.at c.args.frames.now.names c.requires.legal c.args.draft.now c.requires.draft p.0 q.0 q.2 c.args.position p.1 (with_groups c.parts-cited.result v.0) p.2
+    let v = c.view_at-cited.ensures p.1 p.2.stands in
+    different c.args.frames.now.statements c.args.at c.args.frames.now.names c.requires.legal c.args.draft.now c.requires.draft p.0 q.0 q.2 c.args.position p.1 (with_groups c.view_at-cited.result v.0) p.2
     (has_with c.args.frames.now.statements c.args.position p.1 m.0 p.0 p.2 m.1) m.2 v.1 q.1 q.3
 
 pub cite_parts-requires-clause-typed : goal.cite_parts-requires-clause-typed
@@ -36,8 +36,8 @@ cite_parts-requires-clause-typed c =
     let p = c.requires.can in
     let q = p.3 in
     let m = c.in-Assertion.ensures in
-    let v = c.parts-cited.ensures p.1 p.2.stands in
-    typed c.args.frames.now.statements c.args.at c.args.frames.now.names c.requires.legal c.args.draft.now c.requires.draft p.0 q.0 q.2 c.args.position p.1 (with_groups c.parts-cited.result v.0) p.2
+    let v = c.view_at-cited.ensures p.1 p.2.stands in
+    typed c.args.frames.now.statements c.args.at c.args.frames.now.names c.requires.legal c.args.draft.now c.requires.draft p.0 q.0 q.2 c.args.position p.1 (with_groups c.view_at-cited.result v.0) p.2
     (has_with c.args.frames.now.statements c.args.position p.1 m.0 p.0 p.2 m.1) m.2 v.1 q.1 q.3
 
 pub unreachable-requires : goal.unreachable-requires
@@ -72,9 +72,9 @@ returns-in_ok-index-in-Assertion-clause-draft c =
     let p = c.requires.can in
     let q = p.3 in
     let m = c.in-Assertion.ensures in
-    let v = c.parts-cited.ensures p.1 p.2.stands in
+    let v = c.view_at-cited.ensures p.1 p.2.stands in
     on_ok_weaker c.cite_parts.result
-    (λ gives. assertion-draft c.args.frames.now.statements c.args.at c.args.frames.now.names c.requires.legal c.args.draft.now c.requires.draft p.0 q.0 q.2 c.args.position p.1 (with_groups c.parts-cited.result v.0) p.2
+    (λ gives. assertion-draft c.args.frames.now.statements c.args.at c.args.frames.now.names c.requires.legal c.args.draft.now c.requires.draft p.0 q.0 q.2 c.args.position p.1 (with_groups c.view_at-cited.result v.0) p.2
     (has_with c.args.frames.now.statements c.args.position p.1 m.0 p.0 p.2 m.1) m.2 v.1 q.1 q.3 c.cite_parts.new.draft gives)
     c.cite_parts.ensures
 
@@ -83,16 +83,16 @@ returns-in_ok-index-in-Assertion-clause-done c =
     let m = c.in-Assertion.ensures in
     on_ok_weaker c.cite_parts.result
     (λ gives label s carries st next tied run.
-    let v = c.parts-cited.ensures s carries.stands in
-    assertion-done c.args.frames.now.statements c.args.at c.args.frames.now.names c.requires.legal c.args.draft.now c.requires.draft label st tied c.args.position s (with_groups c.parts-cited.result v.0) carries
+    let v = c.view_at-cited.ensures s carries.stands in
+    assertion-done c.args.frames.now.statements c.args.at c.args.frames.now.names c.requires.legal c.args.draft.now c.requires.draft label st tied c.args.position s (with_groups c.view_at-cited.result v.0) carries
     (has_with c.args.frames.now.statements c.args.position s m.0 label carries m.1) m.2 v.1 next run c.cite_parts.new.draft gives)
     c.cite_parts.ensures
 
 pub places-requires : goal.places-requires
 places-requires c = let p = c.requires.can in stands-within c.args.frames.now.statements c.args.position p.1 p.2.stands
 
-pub cite_parts-requires-clause-standing : goal.cite_parts-requires-clause-standing
-cite_parts-requires-clause-standing c =
+pub cite_parts-requires-clause-symbol_places : goal.cite_parts-requires-clause-symbol_places
+cite_parts-requires-clause-symbol_places c =
     let p = c.requires.can in
-    let is = (c.parts-cited.ensures p.1 p.2.stands).1 in
-    standing-codes c.args.frames.now.names _ (expr_of p.1) _ c.requires.legal.distinct is.conclusion_below is.conclusion (c.places.ensures.places p.1 p.2.stands)
+    let is = (c.view_at-cited.ensures p.1 p.2.stands).1 in
+    symbol_places-codes c.args.frames.now.names _ (expr_of p.1) _ c.requires.legal.distinct is.conclusion_below is.conclusion (c.places.ensures.places p.1 p.2.stands)

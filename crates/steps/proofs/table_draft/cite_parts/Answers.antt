@@ -1,4 +1,4 @@
-use Rattle.steps.proofs.Words.{◌≡◌, arith, ◌-◌, [], ◌∷◌, ◌++◌, length, map, drop, take, get_or, inr, sym, ◌∙◌, ap, subst, refl, on_ok_weaker, AreBelow, symbols_in, AreWithin, below-drop, IsTyped, AreRead, top, place_in, place_of}
+use Rattle.steps.proofs.Words.{◌≡◌, arith, ◌-◌, [], ◌∷◌, ◌++◌, length, map, drop, take, get_or, inr, sym, ◌∙◌, ap, subst, refl, on_ok_weaker, AreBelow, symbols_in, AreWithin, below-drop, IsTyped, AreRead, top, range_in, place_of}
 use Rattle.steps.proofs.DraftLemmas.{places-within, exprs-seen}
 use Rattle.steps.proofs.table_draft.cite_parts.Goals as goal
 
@@ -17,7 +17,7 @@ conclude-requires-clause-within c =
     let lens : c.len.result ≡ length stack = omega (arith, c.len.ensures) in
     let n = length c.args.cited.now.hypotheses in
     let taken = c.deref-4.ensures.value ∙ (c.in_ok-taken.ensures.tail ∙ (ap (λ l. drop (l - c.len-2.result) stack) lens ∙ ap (λ m. drop (length stack - m) stack) c.len-2.ensures)) in
-    let places = c.deref-5.ensures.value ∙ (c.in_ok-fill_ranges.ensures ∙ (ap (λ ps. map (place_in ps) c.deref-4.result.now) c.deref-3.ensures.value ∙ ap (map (place_in d.placed.items)) taken)) in
+    let places = c.deref-5.ensures.value ∙ (c.in_ok-fill_ranges.ensures ∙ (ap (λ ps. map (range_in ps) c.deref-4.result.now) c.deref-3.ensures.value ∙ ap (map (range_in d.placed.items)) taken)) in
     subst (AreWithin (length d.symbols)) (sym places) (places-within (length d.symbols) d.placed.items (top n stack) c.requires.held.inside (below-drop _ _ stack c.requires.held.stack_below))
 
 pub conclude-requires-clause-typed : goal.conclude-requires-clause-typed
@@ -28,7 +28,7 @@ conclude-requires-clause-typed c =
     let lens : c.len.result ≡ length stack = omega (arith, c.len.ensures) in
     let n = length c.args.cited.now.hypotheses in
     let taken = c.deref-4.ensures.value ∙ (c.in_ok-taken.ensures.tail ∙ (ap (λ l. drop (l - c.len-2.result) stack) lens ∙ ap (λ m. drop (length stack - m) stack) c.len-2.ensures)) in
-    let places = c.deref-5.ensures.value ∙ (c.in_ok-fill_ranges.ensures ∙ (ap (λ ps. map (place_in ps) c.deref-4.result.now) c.deref-3.ensures.value ∙ ap (map (place_in d.placed.items)) taken)) in
+    let places = c.deref-5.ensures.value ∙ (c.in_ok-fill_ranges.ensures ∙ (ap (λ ps. map (range_in ps) c.deref-4.result.now) c.deref-3.ensures.value ∙ ap (map (range_in d.placed.items)) taken)) in
     let seen = ap (map (symbols_in d.symbols)) places ∙ exprs-seen d.symbols d.placed.items (top n stack) (below-drop _ _ stack c.requires.held.stack_below) in
     subst (λ es. IsTyped (get_or c.args.cited.now.typecodes.now k 0) (get_or es k [])) (sym seen) (c.requires.typed k x kind)
 
@@ -41,7 +41,7 @@ returns c =
     let took = c.in_ok-taken.ensures.tail ∙ (ap (λ l. drop (l - c.len-2.result) stack) lens ∙ ap (λ m. drop (length stack - m) stack) c.len-2.ensures) in
     let kept = c.in_ok-taken.ensures.items ∙ (ap (λ l. take (l - c.len-2.result) stack) lens ∙ ap (λ m. take (length stack - m) stack) c.len-2.ensures) in
     let key = c.deref-2.ensures.value ∙ (c.in_ok-key.ensures ∙ ap (λ t. c.args.position ∷ t) (c.deref.ensures.value ∙ took)) in
-    let places = c.deref-5.ensures.value ∙ (c.in_ok-fill_ranges.ensures ∙ (ap (λ ps. map (place_in ps) c.deref-4.result.now) c.deref-3.ensures.value ∙ ap (map (place_in d.placed.items)) (c.deref-4.ensures.value ∙ took))) in
+    let places = c.deref-5.ensures.value ∙ (c.in_ok-fill_ranges.ensures ∙ (ap (λ ps. map (range_in ps) c.deref-4.result.now) c.deref-3.ensures.value ∙ ap (map (range_in d.placed.items)) (c.deref-4.ensures.value ∙ took))) in
     let seen = ap (map (symbols_in d.symbols)) places ∙ exprs-seen d.symbols d.placed.items (top n stack) (below-drop _ _ stack c.requires.held.stack_below) in
     let r = c.in_ok-place.ensures.added in
     on_ok_weaker c.add_step.result

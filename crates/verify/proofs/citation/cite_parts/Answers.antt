@@ -28,8 +28,8 @@ read_images-requires-clause-different c = required-different _ _ _ c.requires.ma
 pub hypotheses_match-requires-clause-required : goal.hypotheses_match-requires-clause-required
 hypotheses_match-requires-clause-required c = λ s at. (c.args.cited.now.typecodes.now, (c.requires.cited s at).required)
 
-pub hypotheses_match-requires-clause-standing : goal.hypotheses_match-requires-clause-standing
-hypotheses_match-requires-clause-standing c = required-standing _ _ _ _ _ (c.requires.cited c.requires.may.assertion.0 c.requires.may.assertion.1.0).required
+pub hypotheses_match-requires-clause-present : goal.hypotheses_match-requires-clause-present
+hypotheses_match-requires-clause-present c = required-standing _ _ _ _ _ (c.requires.cited c.requires.may.assertion.0 c.requires.may.assertion.1.0).required
 
 pub hypotheses_match-requires-clause-over : goal.hypotheses_match-requires-clause-over
 hypotheses_match-requires-clause-over c = over-read _ _ _ _ c.requires.may c.args.cited.now c.requires.cited c.read_images.new.self.images (let h = c.if-count-len.false in omega (arith, h, c.len.ensures)) (reads-as _ true _ _ _ _ (ap is_some c.in-Some.is) c.in_ok-front.ensures.read)

@@ -1,4 +1,4 @@
-use Rattle.verify.proofs.Words.{◌≡◌, Bool, true, false, Result, Ok, IfOk, get_or, length, map, take, arith, sym, subst, refl, IfOk-at_ok, item_of, without_cached, StepsWithTable, Stays, ap}
+use Rattle.verify.proofs.Words.{◌≡◌, Bool, true, false, Result, Ok, IfOk, get_or, length, map, take, arith, sym, subst, refl, IfOk-at_ok, item_of, without_cached, StepsWithTable, UnchangedUnlessDone, ap}
 use Rattle.verify.proofs.StepLemmas.{start-known, start-behind, Reached, reached-start, reached-step, items-more}
 use Rattle.verify.proofs.StopLemmas.{stops-at, stops-end}
 use Rattle.verify.proofs.failure.run_items.Goals as goal
@@ -42,7 +42,7 @@ returns-then-not-branch-clause-stops c = λ labels are.
     c.loop-done-test.true (c.loop-done.invariant.2 labels are)
     (went c.step_at.result c.in_ok-step_at.field-0 false (λ v. StepsWithTable v S at names table (item_of labels (get_or c.args.numbers.now c.loop-done.done 0)) c.loop-done.buffers.results.results c.step_at.new.buffers.results.results)
     (c.step_at.ensures.goes labels are) c.in_ok-step_at.was c.if-not-branch.true).0
-    (ap (without_cached (length table)) (went c.step_at.result c.in_ok-step_at.field-0 false (λ v. Stays v c.loop-done.buffers.results.results c.step_at.new.buffers.results.results) c.step_at.ensures.stays c.in_ok-step_at.was c.if-not-branch.true))
+    (ap (without_cached (length table)) (went c.step_at.result c.in_ok-step_at.field-0 false (λ v. UnchangedUnlessDone v c.loop-done.buffers.results.results c.step_at.new.buffers.results.results) c.step_at.ensures.stays c.in_ok-step_at.was c.if-not-branch.true))
 
 pub returns-clause-stops : goal.returns-clause-stops
 returns-clause-stops c = λ labels are.

@@ -1,4 +1,4 @@
-use Rattle.verify.proofs.Words.{◌≡◌, List, length, map, take, Name, AreLegal, item_of, without_cached, AreKnown, AreEntries, option_map, ◌++◌, viewed_entries, AreKeptFor}
+use Rattle.verify.proofs.Words.{◌≡◌, List, length, map, take, Name, AreLegal, item_of, without_cached, AreKnown, AreEntries, option_map, ◌++◌, viewed_entries, IsCacheFor}
 use Rattle.verify.proofs.StepLemmas.{Reached}
 use Rattle.verify.proofs.failure.run_items.Given as goal
 
@@ -10,4 +10,4 @@ invariant-loop-done l =
     × ((labels : List Name) → AreEntries l.claim.frames.now.statements l.claim.at labels (viewed_entries (option_map (λ v. v.now) l.view) ++ l.table)
     → Reached l.claim.frames.now.statements l.claim.frames.now.names l.claim.at legal (map (item_of labels) (take l.done l.numbers)) (without_cached (length l.table) l.buffers.results.results))
     × (l.buffers.results.about ≡ l.claim.pairs)
-    × AreKeptFor l.claim.frames.now.statements l.claim.frames.now.names l.buffers.kept
+    × IsCacheFor l.claim.frames.now.statements l.claim.frames.now.names l.buffers.kept

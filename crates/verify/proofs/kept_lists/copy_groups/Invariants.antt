@@ -3,7 +3,7 @@ use Rattle.verify.proofs.kept_lists.copy_groups.Given as goal
 
 abbrev pub invariant-loop-index : goal.invariant-loop-index
 invariant-loop-index l = record {
-  within : AreSpansIn (length l.places.items) l.groups.items;
-  same : AreSameCondition (cut l.places.items l.groups.items) (take l.index l.from);
-  below : (n : ℕ) → AllBelow n l.from → AllBelow n (cut l.places.items l.groups.items);
+  within : AreSpansIn (length l.grouped_variables.items) l.groups.items;
+  same : AreSameCondition (cut l.grouped_variables.items l.groups.items) (take l.index l.from);
+  below : (n : ℕ) → AllBelow n l.from → AllBelow n (cut l.grouped_variables.items l.groups.items);
 }

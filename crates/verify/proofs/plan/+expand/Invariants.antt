@@ -4,5 +4,5 @@ use Rattle.verify.proofs.plan.+expand.Given as goal
 abbrev pub decreases-expand : goal.decreases-expand
 decreases-expand l = l.number
 
-abbrev pub invariant-loop-kid : goal.invariant-loop-kid
-invariant-loop-kid l = map derivation_of l.trees.items ≡ map (pick (built l.nodes)) (take l.kid-index l.kid-items)
+abbrev pub invariant-loop-child : goal.invariant-loop-child
+invariant-loop-child l = map derivation_of l.trees.items ≡ map (pick (built l.nodes)) (take l.child-index l.child-items)

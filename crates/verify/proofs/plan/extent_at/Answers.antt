@@ -5,28 +5,28 @@ use Rattle.verify.proofs.plan.extent_at.Goals as goal
 larger : (a b : ℕ) → ord_max nat_cmp a b ≡ max a b
 larger a b = grind (arith, nat_tests)
 
-pub numbered-extent-requires : goal.numbered-extent-requires
-numbered-extent-requires c =
-    below-at (length c.args.extents.now) c.deref-kid-items.result.now c.loop-kid.kid-index 0 (rw (c.deref-kid-items.ensures.value) (rw c.in-Apply.is at c.requires.after)) c.loop-kid-test.true
+pub extent_with_number-extent-requires : goal.extent_with_number-extent-requires
+extent_with_number-extent-requires c =
+    below-at (length c.args.extents.now) c.deref-child-items.result.now c.loop-child.child-index 0 (rw (c.deref-child-items.ensures.value) (rw c.in-Apply.is at c.requires.after)) c.loop-child-test.true
 
 pub overflow_add-nodes : goal.overflow_add-nodes
-overflow_add-nodes c = omega (arith, (extent-low c.args.extents.now c.requires.measured.0 (get_or c.deref-kid-items.result.now c.loop-kid.kid-index 0) c.numbered-extent.result c.requires.measured.1 c.numbered-extent.ensures).0, c.loop-kid.invariant.0)
+overflow_add-nodes c = omega (arith, (extent-low c.args.extents.now c.requires.measured.0 (get_or c.deref-child-items.result.now c.loop-child.child-index 0) c.extent_with_number-extent.result c.requires.measured.1 c.extent_with_number-extent.ensures).0, c.loop-child.invariant.0)
 
 pub overflow_add-extent : goal.overflow_add-extent
-overflow_add-extent c = omega (arith, (extent-low c.args.extents.now c.requires.measured.0 (get_or c.deref-kid-items.result.now c.loop-kid.kid-index 0) c.numbered-extent.result c.requires.measured.1 c.numbered-extent.ensures).1)
+overflow_add-extent c = omega (arith, (extent-low c.args.extents.now c.requires.measured.0 (get_or c.deref-child-items.result.now c.loop-child.child-index 0) c.extent_with_number-extent.result c.requires.measured.1 c.extent_with_number-extent.ensures).1)
 
-pub loop-kid-preserved : goal.loop-kid-preserved
-loop-kid-preserved c =
-    let d : c.max-depth.result ≡ max c.loop-kid.depth c.min.result = c.max-depth.ensures ∙ larger c.loop-kid.depth c.min.result in
+pub loop-child-preserved : goal.loop-child-preserved
+loop-child-preserved c =
+    let d : c.max-depth.result ≡ max c.loop-child.depth c.min.result = c.max-depth.ensures ∙ larger c.loop-child.depth c.min.result in
     let n = c.min-nodes.ensures in
     let m = c.min.ensures in
-    let low = c.loop-kid.invariant.1 in (
+    let low = c.loop-child.invariant.1 in (
       omega (arith, n),
       omega (arith, d, m, low),
-      λ ts is. so-far-step ts c.deref-kid-items.result.now c.args.extents.now c.loop-kid.kid-index c.loop-kid.nodes c.loop-kid.depth c.min-nodes.result c.max-depth.result c.numbered-extent.result (c.loop-kid.invariant.2 ts is) is c.loop-kid-test.true
-          c.numbered-extent.ensures n (omega (arith, d, m)),
+      λ ts is. so-far-step ts c.deref-child-items.result.now c.args.extents.now c.loop-child.child-index c.loop-child.nodes c.loop-child.depth c.min-nodes.result c.max-depth.result c.extent_with_number-extent.result (c.loop-child.invariant.2 ts is) is c.loop-child-test.true
+          c.extent_with_number-extent.ensures n (omega (arith, d, m)),
     )
 
 pub returns : goal.returns
 returns c = λ ts is.
-    so-far-end ts c.deref-kid-items.result.now c.loop-kid.kid-index c.loop-kid.nodes c.loop-kid.depth _ c.in-Apply.children _ (c.loop-kid.invariant.2 ts is) (omega (arith, c.loop-kid-test.false)) c.deref-kid-items.ensures.value c.in-Apply.is
+    so-far-end ts c.deref-child-items.result.now c.loop-child.child-index c.loop-child.nodes c.loop-child.depth _ c.in-Apply.children _ (c.loop-child.invariant.2 ts is) (omega (arith, c.loop-child-test.false)) c.deref-child-items.ensures.value c.in-Apply.is

@@ -2,5 +2,5 @@ use Rattle.verify.proofs.Words.{◌≡◌, ◌≤◌, List, map, Derivation, ext
 use Rattle.verify.proofs.PlanLemmas.{IsSoFar}
 use Rattle.verify.proofs.plan.extent_at.Given as goal
 
-abbrev pub invariant-loop-kid : goal.invariant-loop-kid
-invariant-loop-kid l = (l.nodes ≤ 65537) × (l.depth ≤ 1025) × ((ts : List Derivation) → l.extents ≡ map extent_of ts → IsSoFar ts l.kid-items l.kid-index l.nodes l.depth)
+abbrev pub invariant-loop-child : goal.invariant-loop-child
+invariant-loop-child l = (l.nodes ≤ 65537) × (l.depth ≤ 1025) × ((ts : List Derivation) → l.extents ≡ map extent_of ts → IsSoFar ts l.child-items l.child-index l.nodes l.depth)

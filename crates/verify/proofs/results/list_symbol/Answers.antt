@@ -22,10 +22,10 @@ loop-position-preserved c =
     let l = c.loop-position in
     let x = c.args.symbol in
     let p = c.in-Some.position in
-    let more = c.in_ok-list.ensures in
+    let more = c.in_ok-add_listed.ensures in
     record {
       kept = λ n m. subst (In n) (sym more) (in-left n l.remaining.keys (key_of p x ∷ []) (l.invariant.kept n m));
-      each = λ s at q m. one-more x q p l.stack c.pop.new.self l.remaining.keys c.list.new.self.keys c.in-Some.ensures.some more (l.invariant.each s at q m);
+      each = λ s at q m. one-more x q p l.stack c.pop.new.self l.remaining.keys c.add_listed.new.self.keys c.in-Some.ensures.some more (l.invariant.each s at q m);
     }
 
 none-left : (q k : ℕ) (stack keys : List ℕ) → In q stack ⊎ In k keys → stack ≡ [] → In k keys

@@ -23,7 +23,7 @@ loop-k-preserved c = λ j x less at left.
 pub returns : goal.returns
 returns c = λ symbols.
     let l = c.loop-k in
-    let those = c.order.ensures in
+    let those = c.sort_listed.ensures in
     listed-images c.args.frames.now.statements c.args.frames.now.names c.args.cited c.args.hypotheses.now symbols c.args.images.now _
     (λ j x at left. listed-kept c.args.frames.now.statements c.args.frames.now.names c.args.cited x _ _ (l.invariant j x (let w = slice_get_within c.args.hypotheses.now j (Float x) at in omega (arith, w, c.loop-k-test.false, c.len-k-end.ensures)) at left) those.all)
     those.ascends

@@ -1,4 +1,4 @@
-use Rattle.library.proofs.Words.{bares, ◌∙◌, ◌<◌, ap, get_or, length, subst, sym, proof_of, is_provable, IfOk, IsAnswerTo, StandsProved, provable-bare, AreKeptFor}
+use Rattle.library.proofs.Words.{bares, ◌∙◌, ◌<◌, ap, get_or, length, subst, sym, proof_of, is_provable, IfOk, IsAnswerTo, StandsProved, provable-bare, IsCacheFor}
 use Rattle.library.proofs.ProvingLemmas.{judged-stands, not-there}
 use Rattle.library.proofs.UnprovedLemmas.{proof-at, proof-stands}
 use Rattle.library.proofs.CitedByLemmas.{not-provable}
@@ -27,10 +27,10 @@ returns-in_default-clause-answer c =
 
 pub prove-requires-clause-kept : goal.prove-requires-clause-kept
 prove-requires-clause-kept c =
-    let kept = subst (λ v. AreKeptFor (bares v.statements) v.names c.args.checker.now) (sym c.self.view_is) c.requires.kept in
-    subst (λ S. AreKeptFor S c.self.inside.frames.now.names c.args.checker.now) (sym c.self.invariant.same) kept
+    let kept = subst (λ v. IsCacheFor (bares v.statements) v.names c.args.checker.now) (sym c.self.view_is) c.requires.kept in
+    subst (λ S. IsCacheFor S c.self.inside.frames.now.names c.args.checker.now) (sym c.self.invariant.same) kept
 
 pub returns-in-Prove-clause-kept : goal.returns-in-Prove-clause-kept
 returns-in-Prove-clause-kept c =
-    let kept = subst (λ S. AreKeptFor S c.self.inside.frames.now.names c.prove.new.self) c.self.invariant.same c.prove.ensures.kept in
-    subst (λ v. AreKeptFor (bares v.statements) v.names c.prove.new.self) c.self.view_is kept
+    let kept = subst (λ S. IsCacheFor S c.self.inside.frames.now.names c.prove.new.self) c.self.invariant.same c.prove.ensures.kept in
+    subst (λ v. IsCacheFor (bares v.statements) v.names c.prove.new.self) c.self.view_is kept

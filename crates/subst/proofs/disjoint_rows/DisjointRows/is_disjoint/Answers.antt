@@ -2,10 +2,10 @@ use Rattle.subst.proofs.Words.{◌<◌, ◌^◌, get_or, rules, refl, no_word}
 use Rattle.subst.proofs.BitsLemmas.{zero-none}
 use Rattle.subst.proofs.DisjointRowLemmas.{missing-bit, told-word, told-more, told-all}
 use Rattle.subst.proofs.disjoint_rows.DisjointRows.is_disjoint.Goals as goal
-use Rattle.subst.proofs.disjoint_rows.DisjointRows.is_disjoint.Goals.{else-bits-ne0-via-then-bits-ne0+in_ok-ask+else-not-branch, else-bits-ne0-via-else-bits-ne0}
+use Rattle.subst.proofs.disjoint_rows.DisjointRows.is_disjoint.Goals.{else-bits-ne0-via-then-bits-ne0+in_ok-look_up+else-not-branch, else-bits-ne0-via-else-bits-ne0}
 
-pub ask-requires-clause-others : goal.ask-requires-clause-others
-ask-requires-clause-others c = λ b h.
+pub look_up-requires-clause-others : goal.look_up-requires-clause-others
+look_up-requires-clause-others c = λ b h.
     let k = c.loop-word.word-index in
     let ws = c.args.others.now in
     c.requires.others _ (record { word = k; there = c.loop-word-test.true; has = missing-bit (get_or ws k no_word) c.bits.result _ (record { bit = b; place = refl; set = h }) })
@@ -14,7 +14,7 @@ pub returns-then-not-branch-clause-decides : goal.returns-then-not-branch-clause
 returns-then-not-branch-clause-decides c =
     let k = c.loop-word.word-index in
     let ws = c.args.others.now in
-    let told = rw c.if-not-branch.true at c.in_ok-ask.ensures.decides in (
+    let told = rw c.if-not-branch.true at c.in_ok-look_up.ensures.decides in (
       told.0,
       record { word = k; there = c.loop-word-test.true; has = missing-bit (get_or ws k no_word) c.bits.result told.0 told.1 },
       told.2,
@@ -32,10 +32,10 @@ loop-word-preserved c =
     let fits : word.bits < 2 ^ 64 = search rules in
     let other : c.bits.result < 2 ^ 64 = search rules in
     elim c.else-bits-ne0.branch [
-      | else-bits-ne0-via-then-bits-ne0+in_ok-ask+else-not-branch w ↦
-          let told = rw w.if-not-branch.false at w.in_ok-ask.ensures.decides in
+      | else-bits-ne0-via-then-bits-ne0+in_ok-look_up+else-not-branch w ↦
+          let told = rw w.if-not-branch.false at w.in_ok-look_up.ensures.decides in
           rw w.self-is (
-            w.ask.ensures.facts,
+            w.look_up.ensures.facts,
             told-more v f p c.args.others.now k l.invariant.1 (told-word v f l.self p word c.bits.result fits other l.invariant.0 c.bits.ensures told),
           )
       | else-bits-ne0-via-else-bits-ne0 w ↦

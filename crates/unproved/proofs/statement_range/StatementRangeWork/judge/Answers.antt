@@ -1,4 +1,4 @@
-use Rattle.unproved.proofs.Words.{◌≡◌, ◌+◌, ◌-◌, ◌<◌, ◌≤◌, ◌∙◌, IfOk, Some, ap, arith, length, subst, sym, bares, proof_of, is_provable, StandsProved, not-provable, stands_index, judged-stands, not-there, provable-bare, AreKeptFor, IsAnswerTo}
+use Rattle.unproved.proofs.Words.{◌≡◌, ◌+◌, ◌-◌, ◌<◌, ◌≤◌, ◌∙◌, IfOk, Some, ap, arith, length, subst, sym, bares, proof_of, is_provable, StandsProved, not-provable, stands_index, judged-stands, not-there, provable-bare, IsCacheFor, IsAnswerTo}
 use Rattle.library.specs.Words.{stmt_at}
 use Rattle.unproved.proofs.statement_range.StatementRangeWork.judge.Goals as goal
 
@@ -27,10 +27,10 @@ returns-in_default-clause-answer c =
 
 pub prove-requires-clause-kept : goal.prove-requires-clause-kept
 prove-requires-clause-kept c =
-    let kept = subst (λ v. AreKeptFor (bares v.statements) v.names c.args.checker.now) (sym c.self.view_is) c.requires.kept in
-    subst (λ S. AreKeptFor S c.self.inside.frames.now.names c.args.checker.now) (sym c.self.invariant.same) kept
+    let kept = subst (λ v. IsCacheFor (bares v.statements) v.names c.args.checker.now) (sym c.self.view_is) c.requires.kept in
+    subst (λ S. IsCacheFor S c.self.inside.frames.now.names c.args.checker.now) (sym c.self.invariant.same) kept
 
 pub returns-in-Prove-clause-kept : goal.returns-in-Prove-clause-kept
 returns-in-Prove-clause-kept c =
-    let kept = subst (λ S. AreKeptFor S c.self.inside.frames.now.names c.prove.new.self) c.self.invariant.same c.prove.ensures.kept in
-    subst (λ v. AreKeptFor (bares v.statements) v.names c.prove.new.self) c.self.view_is kept
+    let kept = subst (λ S. IsCacheFor S c.self.inside.frames.now.names c.prove.new.self) c.self.invariant.same c.prove.ensures.kept in
+    subst (λ v. IsCacheFor (bares v.statements) v.names c.prove.new.self) c.self.view_is kept

@@ -1,11 +1,11 @@
-use Rattle.verify.proofs.Words.{◌≡◌, ◌++◌, ◌∷◌, [], ◌∙◌, refl, ap, sym, subst, arith, length, stmt_at, AreKeptFor, AreKeptLists, IsAt}
+use Rattle.verify.proofs.Words.{◌≡◌, ◌++◌, ◌∷◌, [], ◌∙◌, refl, ap, sym, subst, arith, length, stmt_at, IsCacheFor, AreKeptLists, IsAt}
 use Rattle.verify.proofs.KeptListsLemmas.{at-end, kept-more}
 use Rattle.verify.proofs.kept_lists.KeptLists.keep.Goals as goal
 
 pub returns-clause-kept : goal.returns-clause-kept
 returns-clause-kept c = λ S names old made.
     let is = c.in_ok-lists.ensures in
-    let kept = subst (AreKeptFor S names) (sym c.self-2.view_is) (c.make_room.ensures S names (subst (AreKeptFor S names) (sym c.self.view_is) old)) in
+    let kept = subst (IsCacheFor S names) (sym c.self-2.view_is) (c.make_room.ensures S names (subst (IsCacheFor S names) (sym c.self.view_is) old)) in
     kept-more S names (record { lists = c.self-2.inside.lists.items; facts = c.self-2.inside.facts }) (record { lists = c.push.new.self.items; facts = c.self-2.inside.facts }) c.in_ok-lists.lists kept
     (λ s stands. made c.in_ok-lists.lists is s (ap (stmt_at S) (sym is.at) ∙ stands)) c.in_ok-push.ensures.items refl
 
@@ -19,5 +19,5 @@ returns-clause-index c =
 
 pub returns-in_err-push-clause-kept : goal.returns-in_err-push-clause-kept
 returns-in_err-push-clause-kept c = λ S names old made.
-    let kept = subst (AreKeptFor S names) (sym c.self-2.view_is) (c.make_room.ensures S names (subst (AreKeptFor S names) (sym c.self.view_is) old)) in
+    let kept = subst (IsCacheFor S names) (sym c.self-2.view_is) (c.make_room.ensures S names (subst (IsCacheFor S names) (sym c.self.view_is) old)) in
     record { are_lists = subst (AreKeptLists S names) (sym c.in_err-push.ensures.items) kept.are_lists; are_facts = kept.are_facts }

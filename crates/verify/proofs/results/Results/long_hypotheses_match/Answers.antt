@@ -5,7 +5,7 @@ use Rattle.scope.specs.Active.{before}
 use Rattle.verify.specs.LongHypotheses.{AreListed}
 use Rattle.verify.proofs.Named.{all-drop}
 use Rattle.verify.proofs.ResultPlaceLemmas.{seen_place}
-use Rattle.verify.proofs.ReadImageLemmas.{standing-at, fits-essential, one-more}
+use Rattle.verify.proofs.ReadImageLemmas.{present-at, fits-essential, one-more}
 use Rattle.verify.proofs.LongHypothesesLemmas.{IsEssential, essential, images-iff, left-same, ok-holds}
 use Rattle.verify.proofs.results.Results.long_hypotheses_match.Goals.{In-Essential, in-Essential+else-not-matched, in_default}
 use Rattle.verify.proofs.results.Results.long_hypotheses_match.Goals as goal
@@ -18,7 +18,7 @@ loop-k-init c = record {
 
 pub expr-expr-requires : goal.expr-expr-requires
 expr-expr-requires c =
-    let s = standing-at c.args.frames.now.statements c.args.hypotheses.now c.loop-k.k (Essential c.in-Essential.position) c.requires.standing (c.get.ensures ∙ ap Some c.in-Essential.is) in
+    let s = present-at c.args.frames.now.statements c.args.hypotheses.now c.loop-k.k (Essential c.in-Essential.position) c.requires.present (c.get.ensures ∙ ap Some c.in-Essential.is) in
     stands-within c.args.frames.now.statements c.in-Essential.position s.0 s.1
 
 pub essential_matches-matched-requires-clause-place : goal.essential_matches-matched-requires-clause-place
@@ -47,7 +47,7 @@ pub returns-then-not-matched : goal.returns-then-not-matched
 returns-then-not-matched c =
     let at = c.get.ensures ∙ ap Some c.in-Essential.is in
     let place = seen_place c.self.inside.symbols c.self.inside.stack.items c.deref.result.now c.args.self.now.results.stack (c.len.result - c.len-2.result) c.len-2.result c.loop-k.k _ c.deref.ensures.value (ap (λ v. v.results.stack) c.self.view_is) (omega (arith, c.len.ensures)) (omega (arith, c.requires.count, c.len-2.ensures)) (let w = slice_get_within c.args.hypotheses.now c.loop-k.k c.get.result c.get.ensures in omega (arith, w, c.len-2.ensures)) c.self.invariant.kept.stack_within in
-    let iff = fits-essential _ _ _ _ _ _ _ _ _ _ _ c.requires.legal.distinct c.requires.standing at c.expr-expr.ensures.same c.expr-expr.ensures.codes c.requires.over (all-drop _ (length c.args.self.now.results.stack - length c.args.hypotheses.now) _ c.requires.named)
+    let iff = fits-essential _ _ _ _ _ _ _ _ _ _ _ c.requires.legal.distinct c.requires.present at c.expr-expr.ensures.same c.expr-expr.ensures.codes c.requires.over (all-drop _ (length c.args.self.now.results.stack - length c.args.hypotheses.now) _ c.requires.named)
     refl (place.1 ∙ ap (λ n. get_or (top n c.args.self.now.results.stack) c.loop-k.k []) c.len-2.ensures) (images-iff _ _ _ _ _ (ap (λ v. v.images) c.self.view_is) c.essential_matches-matched.ensures.matches) in
     (λ t. (let e : false ≡ true = t in cc), λ fit. let t = iff.1 (fit.each c.loop-k.k (Essential c.in-Essential.position) at) in let u = c.if-not-matched.true in cc)
 
@@ -58,7 +58,7 @@ loop-k-preserved c =
       | in-Essential+else-not-matched w ↦
           let at = c.get.ensures ∙ ap Some w.in-Essential.is in
           let place = seen_place c.self.inside.symbols c.self.inside.stack.items c.deref.result.now c.args.self.now.results.stack (c.len.result - c.len-2.result) c.len-2.result c.loop-k.k _ c.deref.ensures.value (ap (λ v. v.results.stack) c.self.view_is) (omega (arith, c.len.ensures)) (omega (arith, c.requires.count, c.len-2.ensures)) (let w = slice_get_within c.args.hypotheses.now c.loop-k.k c.get.result c.get.ensures in omega (arith, w, c.len-2.ensures)) c.self.invariant.kept.stack_within in
-          let iff = fits-essential _ _ _ _ _ _ _ _ _ _ _ c.requires.legal.distinct c.requires.standing at w.expr-expr.ensures.same w.expr-expr.ensures.codes c.requires.over (all-drop _ (length c.args.self.now.results.stack - length c.args.hypotheses.now) _ c.requires.named)
+          let iff = fits-essential _ _ _ _ _ _ _ _ _ _ _ c.requires.legal.distinct c.requires.present at w.expr-expr.ensures.same w.expr-expr.ensures.codes c.requires.over (all-drop _ (length c.args.self.now.results.stack - length c.args.hypotheses.now) _ c.requires.named)
           refl (place.1 ∙ ap (λ n. get_or (top n c.args.self.now.results.stack) c.loop-k.k []) c.len-2.ensures) (images-iff _ _ _ _ _ (ap (λ v. v.images) c.self.view_is) w.essential_matches-matched.ensures.matches) in
           rw w.remaining-is (record { fit = one-more P _ c.loop-k.k (Essential w.in-Essential.position) at c.loop-k.invariant.fit (iff.0 w.if-not-matched.false); are_listed = λ t. rw w.essential_matches-matched.ensures.keys (c.loop-k.invariant.are_listed t) })
       | in_default w ↦ rw w.remaining-is (record { fit = one-more P _ c.loop-k.k (Float w.in_default.field-0) (c.get.ensures ∙ ap Some w.in_default.is) c.loop-k.invariant.fit tt; are_listed = c.loop-k.invariant.are_listed })

@@ -10,16 +10,16 @@ some-below n keep (x ∷ e) b = elim (cases_Bool (keep x)) [ inl h ↦ rw h (b.0
 pub places-requires : goal.places-requires
 places-requires c = stands-within c.args.frames.now.statements c.args.position c.requires.stands.0 c.requires.stands.1.stands
 
-pub of-requires : goal.of-requires
-of-requires c =
+pub find_nonempty-requires : goal.find_nonempty-requires
+find_nonempty-requires c =
     let s = c.requires.stands.0 in
     let is = c.requires.stands.1 in
     places-of c.args.frames.now.names c.args.expr.now (expr_of s) _ c.requires.distinct c.requires.below is.same (rw c.in-Some.is at (c.places.ensures.places s is.stands))
 
 pub returns-in-Some-found-clause-same : goal.returns-in-Some-found-clause-same
-returns-in-Some-found-clause-same c = rw (← c.self.view_is) ((rw (c.in-Ok.is, c.in-Some-found.is) at c.of.ensures.same) c.self.inside.symbols)
+returns-in-Some-found-clause-same c = rw (← c.self.view_is) ((rw (c.in-Ok.is, c.in-Some-found.is) at c.find_nonempty.ensures.same) c.self.inside.symbols)
 
 pub returns-in-Some-found-clause-below : goal.returns-in-Some-found-clause-below
 returns-in-Some-found-clause-below c =
-    let left = rw (c.in-Ok.is, c.in-Some-found.is) at c.of.ensures.left in
+    let left = rw (c.in-Ok.is, c.in-Some-found.is) at c.find_nonempty.ensures.left in
     subst (AreBelow (length c.args.frames.now.names)) (sym left) (some-below (length c.args.frames.now.names) (has_nonempty_image c.self.inside.images) c.args.expr.now c.requires.below)

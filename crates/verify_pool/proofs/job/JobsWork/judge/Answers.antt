@@ -1,5 +1,5 @@
 use Rattle.verify_pool.proofs.Words.{◌≡◌, ◌<◌, Some, length, slice_get, get_or, refl, subst, sym, IfOk, slice_get_read, IsAnswerTo, IsRightAt}
-use Rattle.verify.specs.KeptLists.{AreKeptFor}
+use Rattle.verify.specs.KeptLists.{IsCacheFor}
 use Rattle.verify_pool.proofs.LeastLemmas.{job_judged}
 use Rattle.verify_pool.proofs.job.JobsWork.judge.Goals as goal
 
@@ -14,7 +14,7 @@ returns-clause-answer c =
     (job_judged c.self.inside.frames.now.statements jobs c.args.index (get_or jobs c.args.index found.result) c.check_job.result stands c.check_job.ensures.answer)
 
 pub check_job-requires-clause-kept : goal.check_job-requires-clause-kept
-check_job-requires-clause-kept c = subst (λ work. AreKeptFor work.statements work.names c.args.checker.now) (sym c.self.view_is) c.requires.kept
+check_job-requires-clause-kept c = subst (λ work. IsCacheFor work.statements work.names c.args.checker.now) (sym c.self.view_is) c.requires.kept
 
 pub returns-clause-kept : goal.returns-clause-kept
-returns-clause-kept c = subst (λ work. AreKeptFor work.statements work.names c.check_job.new.checker) c.self.view_is c.check_job.ensures.kept
+returns-clause-kept c = subst (λ work. IsCacheFor work.statements work.names c.check_job.new.checker) c.self.view_is c.check_job.ensures.kept

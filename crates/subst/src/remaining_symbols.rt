@@ -1,0 +1,307 @@
+//! An expression without the symbols whose images are empty.
+ghost use Rattle.std.specs.Prelude.{◌≡◌, ℕ, List, [], ◌∷◌, ◌++◌, ◌==◌, ◌||◌, ◌<◌, ◌≤◌, ◌^◌, true, false, get_or, length, map, slice_get, slice_index, IfOk, IfSome, IsTrue, OnOk};
+ghost use Rattle.std.specs.List.{filter_map, flat_map, list_any};
+ghost use Rattle.entries.specs.PositionSets.{Ascends};
+ghost use Rattle.entries.specs.Stored.Keys.{index_of, key_of};
+ghost use Rattle.entries.specs.SymbolPlaces.{ArePlacesOf};
+ghost use Rattle.frame.specs.Stored.Hypotheses.{In, AreThose};
+ghost use Rattle.subst.specs.RemainingSymbols.{is_among, has_nonempty_image, group_left, remaining, HasListed, HaveSameResult};
+
+use crate::image_ranges::{ImageRanges, ImageTable};
+use entries::SymbolPlaces;
+use std::alloc::{AllocError, Global};
+use std::marker::Model;
+
+/// The symbols that are left are few if they are at most one in this many. With more, reading the whole expression costs about
+/// as much.
+const FEW_LEFT_DIVISOR: usize = 4;
+
+/// A key is a position times this, plus a symbol.
+const KEY_BASE: u64 = 4_294_967_296;
+
+/// The symbols that are left of an expression without those whose images are empty, and a list of symbols, each for the
+/// statement at a position, that `find_listed` leaves in its expression. Contracts see the listed pairs of a position and a
+/// symbol, each as one number, as `keys`, and the symbols that were found last as `left`.
+#[derive(Drop)]
+pub struct Remaining {
+    /// The indexes of the symbols that are left of the expression.
+    indexes: Vec<u32>,
+    /// The symbols that are left of it.
+    symbols: Vec<u32>,
+    /// The listed pairs of a position and a symbol.
+    keys: Vec<u64>,
+    /// The symbols that are listed for one position.
+    listed: Vec<u32>,
+}
+
+impl Model for Remaining {
+    ghost use Rattle.subst.specs.RemainingSymbols.{RemainingLists};
+
+    ghost Value = { RemainingLists };
+
+    ghost view = { λ a. record { keys = a.keys.items; left = a.symbols.items } };
+}
+
+impl Remaining {
+    /// Returns empty buffers. Does not allocate.
+    pub fn new(alloc: Global) -> Remaining {
+        Remaining {
+            indexes: Vec::new(alloc),
+            symbols: Vec::new(alloc),
+            keys: Vec::new(alloc),
+            listed: Vec::new(alloc),
+        }
+    }
+
+    /// Empties the list of positions and symbols.
+    pub fn clear_listed(&mut self)
+        ensures { self.new.keys ≡ [] }
+    {
+        self.keys.clear();
+    }
+
+    /// Lists a symbol for the statement at a position.
+    ///
+    /// Errors: an allocation fails.
+    pub fn add_listed(&mut self, position: u32, symbol: u32) -> Result<(), AllocError>
+        ensures { OnOk result (self.new.keys ≡ self.old.keys ++ key_of position symbol ∷ []) }
+    {
+        self.keys.push(position as u64 * KEY_BASE + symbol as u64)?;
+        Ok(())
+    }
+
+    /// Sorts the list by positions and symbols, and removes repeated pairs.
+    ///
+    /// Cost: n log n for n symbols.
+    pub fn sort_listed(&mut self)
+        ensures { AreThose (λ k. In k self.old.keys) self.new.keys }
+    {
+        self.keys.sort_unstable();
+        self.keys.dedup();
+    }
+
+    /// Finds the occurrences of those symbols of an expression that are constants or are listed for the statement at a
+    /// position, in order, or returns `false` if they are more than a quarter of the expression. Contracts say only that these
+    /// are among the symbols that are found, and that all occurrences of each symbol are found or none.
+    ///
+    /// Errors: an allocation fails.
+    /// Cost: the occurrences that are found, times a logarithm.
+    pub fn find_listed(
+        &mut self,
+        position: u32,
+        expr: &[u32],
+        places: &SymbolPlaces,
+    ) -> Result<bool, AllocError>
+        requires places { ArePlacesOf expr.now places.now }
+        requires ordered { Ascends self.old.keys }
+        ensures keys { self.new.keys ≡ self.old.keys }
+        ensures left { IfOk result (λ few. IsTrue few → HasListed self.old.keys position places.now.constants expr.now self.new.left) }
+    {
+        self.indexes.clear();
+        read_symbols(&mut self.listed, keys_at(&self.keys, position))?;
+        let most = expr.len() / FEW_LEFT_DIVISOR;
+        if !add_groups(&mut self.indexes, places, places.constants(), most)? {
+            return Ok(false);
+        }
+        if !add_groups(&mut self.indexes, places, &self.listed, most)? {
+            return Ok(false);
+        }
+        order(&mut self.indexes);
+        read(&mut self.symbols, expr, &self.indexes)?;
+        Ok(true)
+    }
+
+    /// Returns the symbols that were found last.
+    pub fn left(&self) -> &[u32]
+        ensures { result.now ≡ self.now.left }
+    {
+        &self.symbols
+    }
+
+    /// Returns the symbols of an expression whose images are not empty, in order, or `None` if they are more than a quarter of
+    /// the expression.
+    ///
+    /// Substitution gives the same result for these symbols as for the whole expression. `None` is always allowed: the caller
+    /// then goes over the whole expression, which only costs more.
+    ///
+    /// Errors: an allocation fails.
+    /// Cost: a look-up for each distinct symbol of the expression, and t log t for the t symbols that are returned.
+    /// Source: Metamath, 4.2.6: the image of a variable may be the empty sequence of symbols.
+    pub fn find_nonempty<'a>(
+        &'a mut self,
+        images: &ImageRanges,
+        expr: &[u32],
+        places: &SymbolPlaces,
+    ) -> Result<Option<&'a [u32]>, AllocError>
+        requires { ArePlacesOf expr.now places.now }
+        ensures left { IfOk result (λ found. IfSome found (λ left. left.now ≡ remaining images.now expr.now)) }
+        ensures same { IfOk result (λ found. IfSome found (λ left. HaveSameResult images.now left.now expr.now)) }
+    {
+        let few = collect(&mut self.indexes, &images.table(), expr, places)?;
+        if !few {
+            return Ok(None);
+        }
+        order(&mut self.indexes);
+        read(&mut self.symbols, expr, &self.indexes)?;
+        Ok(Some(&self.symbols))
+    }
+}
+
+/// Returns whether the image of a symbol is not empty.
+pub fn is_image_nonempty(images: &ImageRanges, symbol: u32) -> bool
+    ensures { result ≡ has_nonempty_image images.now symbol }
+{
+    is_nonempty(&images.table(), symbol)
+}
+
+/// Returns whether the image of a symbol is not empty.
+fn is_nonempty(images: &ImageTable<'_>, symbol: u32) -> bool
+    ensures { result ≡ has_nonempty_image images.now symbol }
+{
+    match images.get(symbol) {
+        Some(place) => place.start < place.end,
+        None => true,
+    }
+}
+
+/// Returns the symbol at an index, if there is one.
+fn symbol_at(expr: &[u32], index: u32) -> Option<u32>
+    ensures { result ≡ slice_get expr.now index }
+{
+    expr.get(index as usize).copied()
+}
+
+/// Returns the index of the first symbol from `from` on whose image is not empty, or the number of symbols if there is none.
+///
+/// It is a function of its own so that the loop keeps all it needs in registers: its speed decides that of a citation with
+/// many empty images.
+#[inline(never)]
+fn next_nonempty(images: &ImageTable<'_>, symbols: &[u32], from: usize) -> usize
+    requires { from ≤ length symbols.now }
+    ensures within { (from ≤ result) × (result ≤ length symbols.now) }
+    ensures passed { (j : ℕ) → from ≤ j → j < result → has_nonempty_image images.now (slice_index symbols.now j) ≡ false }
+    ensures kept { result < length symbols.now → has_nonempty_image images.now (slice_index symbols.now result) ≡ true }
+{
+    for at in from..symbols.len() {
+        if is_nonempty(images, symbols[at]) {
+            return at;
+        }
+    }
+    symbols.len()
+}
+
+/// Collects the indexes of the symbols whose images are not empty, group by group, or returns `false` if they are more than a
+/// quarter of the expression.
+fn collect(
+    indexes: &mut Vec<u32>,
+    images: &ImageTable<'_>,
+    expr: &[u32],
+    places: &SymbolPlaces,
+) -> Result<bool, AllocError>
+    requires { ArePlacesOf expr.now places.now }
+    ensures { IfOk result (λ few. IsTrue few → indexes.new.items ≡ flat_map (group_left images.now expr.now) places.now.groups) }
+{
+    indexes.clear();
+    let most = expr.len() / FEW_LEFT_DIVISOR;
+    let symbols = places.symbols();
+    let groups = places.groups();
+    let mut at = next_nonempty(images, symbols, 0);
+    while at < symbols.len() {
+        let group = groups.get(at);
+        if group.len() > most - indexes.len() {
+            return Ok(false);
+        }
+        indexes.extend_from_slice(group)?;
+        at = next_nonempty(images, symbols, at + 1);
+    }
+    Ok(true)
+}
+
+/// Puts indexes in ascending order, each once.
+fn order(indexes: &mut Vec<u32>)
+    ensures { AreThose (λ i. In i indexes.old.items) indexes.new.items }
+{
+    indexes.sort_unstable();
+    indexes.dedup();
+}
+
+/// Reads the symbols at these indexes.
+fn read(symbols: &mut Vec<u32>, expr: &[u32], indexes: &[u32]) -> Result<(), AllocError>
+    ensures { OnOk result (symbols.new.items ≡ filter_map (slice_get expr.now) indexes.now) }
+{
+    symbols.clear();
+    for index in indexes {
+        match symbol_at(expr, *index) {
+            Some(symbol) => symbols.push(symbol)?,
+            None => {}
+        }
+    }
+    Ok(())
+}
+
+/// Adds the indexes of the occurrences of each of the symbols, or returns `false` if there would be more than `most`
+/// indexes.
+fn add_groups(
+    indexes: &mut Vec<u32>,
+    places: &SymbolPlaces,
+    symbols: &[u32],
+    most: usize,
+) -> Result<bool, AllocError>
+    requires { (expr : List ℕ) × ArePlacesOf expr places.now }
+    ensures { IfOk result (λ few. IsTrue few → (expr : List ℕ) → ArePlacesOf expr places.now → (i : ℕ) → list_any (λ j. i == j) indexes.new.items ≡ (list_any (λ j. i == j) indexes.old.items || is_among symbols.now (slice_get expr i))) }
+{
+    for symbol in symbols {
+        let group = places.group(*symbol);
+        if group.len() > most.saturating_sub(indexes.len()) {
+            return Ok(false);
+        }
+        indexes.extend_from_slice(group)?;
+    }
+    Ok(true)
+}
+
+/// Reads the symbol of each key.
+fn read_symbols(symbols: &mut Vec<u32>, keys: &[u64]) -> Result<(), AllocError>
+    ensures { OnOk result (symbols.new.items ≡ map index_of keys.now) }
+{
+    symbols.clear();
+    for key in keys {
+        symbols.push((*key % KEY_BASE) as u32)?;
+    }
+    Ok(())
+}
+
+/// Returns how many keys precede the first one that is not less than a bound.
+fn place_from(keys: &[u64], bound: u64) -> usize
+    requires { Ascends keys.now }
+    ensures within { result ≤ length keys.now }
+    ensures less { (j : ℕ) → j < result → get_or keys.now j 0 < bound }
+{
+    match keys.binary_search(&bound) {
+        Ok(at) => at,
+        Err(at) => at,
+    }
+}
+
+/// Returns how many keys precede the first one that is greater than a bound.
+fn place_above(keys: &[u64], bound: u64) -> usize
+    requires { Ascends keys.now }
+    ensures within { result ≤ length keys.now }
+    ensures greater { (j : ℕ) → result ≤ j → j < length keys.now → bound < get_or keys.now j 0 }
+{
+    match keys.binary_search(&bound) {
+        Ok(at) => at + 1,
+        Err(at) => at,
+    }
+}
+
+/// Returns the keys of the symbols that are listed for the statement at a position.
+fn keys_at(keys: &[u64], position: u32) -> &[u64]
+    requires { Ascends keys.now }
+    ensures { (s : ℕ) → s < 2 ^ 32 → In (key_of position s) keys.now → In (key_of position s) result.now }
+{
+    let first = position as u64 * KEY_BASE;
+    let from = place_from(keys, first);
+    let to = place_above(keys, first + (KEY_BASE - 1)).max(from);
+    &keys[from..to]
+}

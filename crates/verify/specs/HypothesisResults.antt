@@ -1,0 +1,63 @@
+-- The conditions on the results for the mandatory hypotheses of an assertion.
+-- Metamath, 4.2.6: the symbols after the first one of the result for a `$f` are the image of its variable.
+-- The code checks first symbols, reads the images from the results, and compares each `$e` under them with its result.
+use Rattle.std.specs.Prelude.{◌≡◌, ℕ, ◌<◌, ◌≤◌, Bool, true, false, List, [], ◌∷◌, length, drop, get_or, slice_get, Some}
+use Rattle.verify.specs.Words.{decode, Name, Stmt, Expr, Database, stmt_at, expr_of, Images, applied, CodeImages, code_image, expr_at, Hypothesis, Float, Essential, typecode_of}
+
+-- the `$f` are of different variables
+pub record AreDifferent (hs : List Hypothesis) : Type 0 where
+  pub each : (j k x : ℕ) → slice_get hs j ≡ Some (Float x) → slice_get hs k ≡ Some (Float x) → j ≡ k
+
+-- the first n are `$f`
+abbrev pub AreFloats : List Hypothesis → ℕ → Type 0
+AreFloats hs n = (k : ℕ) → k < n → (x : ℕ) × (slice_get hs k ≡ Some (Float x))
+
+-- the first n are `$f`, and the next one, if there is one, is not
+pub record AreLeadingFloats (hs : List Hypothesis) (n : ℕ) : Type 0 where
+  pub within : n ≤ length hs
+  pub floats : AreFloats hs n
+  pub last : (x : ℕ) → slice_get hs n ≡ Some (Float x) → ⊥
+
+-- there is a statement at the position of a `$e`
+abbrev pub IsPresent : Database → Hypothesis → Type 0
+IsPresent S (Float x) = Unit {0}
+IsPresent S (Essential p) = (s : Stmt) × (stmt_at S p ≡ Some s)
+
+abbrev pub ArePresent : Database → List Hypothesis → Type 0
+ArePresent S [] = Unit {0}
+ArePresent S (h ∷ hs) = IsPresent S h × ArePresent S hs
+
+-- the statement is at the position, and the codes stand for its expression
+pub record IsExprAt (S : Database) (names : List Name) (at : ℕ) (codes : List ℕ) (s : Stmt) : Type 0 where
+  pub stands : stmt_at S at ≡ Some s
+  pub same : decode names codes ≡ expr_of s
+
+-- the result begins with this typecode
+pub record IsTyped (typecode : ℕ) (r : List ℕ) : Type 0 where
+  pub some : 0 < length r
+  pub first : typecode_of r ≡ typecode
+
+-- the result for each `$f` begins with its typecode, the image of its variable is the rest of the result, and no other symbol
+-- has an image
+pub record AreRead (typecodes : List ℕ) (hs : List Hypothesis) (rs : List (List ℕ)) (σ : CodeImages) : Type 0 where
+  pub typed : (k x : ℕ) → slice_get hs k ≡ Some (Float x) → IsTyped (get_or typecodes k 0) (get_or rs k [])
+  pub image : (k x : ℕ) → slice_get hs k ≡ Some (Float x) → code_image σ x ≡ drop 1 (get_or rs k [])
+  pub own : (x : ℕ) → ((k : ℕ) → slice_get hs k ≡ Some (Float x) → ⊥) → code_image σ x ≡ x ∷ []
+
+-- the images were read, or the result for some `$f` does not begin with its typecode
+abbrev pub Reads : Bool → List ℕ → List Hypothesis → List (List ℕ) → CodeImages → Type 0
+Reads true typecodes hs rs σ = AreRead typecodes hs rs σ
+Reads false typecodes hs rs σ = (k : ℕ) × (x : ℕ) × (slice_get hs k ≡ Some (Float x)) × (IsTyped (get_or typecodes k 0) (get_or rs k []) → ⊥)
+
+-- the result for a `$e` is its expression with the images substituted
+abbrev pub HypothesisMatches : Database → Images → Hypothesis → Expr → Type 0
+HypothesisMatches S σ (Float x) r = Unit {0}
+HypothesisMatches S σ (Essential p) r = r ≡ applied σ (expr_at S p)
+
+-- so are the results for the first n hypotheses
+abbrev pub DoMatchBefore : ℕ → Database → Images → List Hypothesis → List Expr → Type 0
+DoMatchBefore n S σ hs rs = (k : ℕ) (h : Hypothesis) → k < n → slice_get hs k ≡ Some h → HypothesisMatches S σ h (get_or rs k [])
+
+-- so are the results for all
+pub record DoMatch (S : Database) (σ : Images) (hs : List Hypothesis) (rs : List Expr) : Type 0 where
+  pub each : (k : ℕ) (h : Hypothesis) → slice_get hs k ≡ Some h → HypothesisMatches S σ h (get_or rs k [])
