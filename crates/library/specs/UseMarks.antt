@@ -1,6 +1,6 @@
 -- Which positions a walk over citations has marked.
 -- Source: none; for the private functions of `axioms_used` and `cited_by`.
--- The marks are a list with one place for each position, the first for position 1.
+-- The marks are a list with one flag for each position, the first for position 1.
 use Rattle.std.specs.Prelude.{◌≡◌, ◌⊎◌, ℕ, zero, suc, ◌≤◌, Bool, true, false, List, [], ◌∷◌, length, map, if◌then◌else◌, Option, Some, None, slice_index_or, slice_set}
 use Rattle.library.specs.Words.{Name, name_eq, has_name, Stmt, Database, Carries, Item, finish}
 use Rattle.frame.specs.AtPosition.{ArePositions}
@@ -36,7 +36,7 @@ pub record AreLabelMarks (S : Database) (labels : List Name) (marks wanted : Lis
   pub named : ArePositions S labels places
   pub tests : wanted ≡ map (is_marked marks) places
 
--- the positions that pass and have a place in the list are marked, in addition to those marked before
+-- the positions that pass and have a flag in the list are marked, in addition to those marked before
 pub record Marks (Passes : ℕ → Type 0) (old new : List Bool) : Type 0 where
   pub count : length new ≡ length old
   pub kept : (a : ℕ) → IsMarked old a → IsMarked new a

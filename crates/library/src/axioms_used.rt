@@ -96,7 +96,7 @@ fn place_of(places: &[Option<usize>], number: u32) -> Option<usize>
     *places.get(index)?
 }
 
-/// Marks a position, if the marks have a place for it.
+/// Marks a position, if the marks have a flag for it.
 fn mark_position(marks: &mut [bool], position: Option<usize>)
     ensures { marks.new ≡ mark position marks.old }
 {

@@ -122,7 +122,7 @@ impl Library {
     /// the gate before each proof; the jobs are the `$p` of the text, in order; if a long text is judged ahead, those of its
     /// first part and then those of the rest, each counted from 0. No answer depends on the number of workers.
     ///
-    /// Errors and steps: those of `apply`, and out of memory if a proof is heavy and the gate keeps these out
+    /// Errors and steps: those of `apply`, and `AllocError` if a proof is heavy and the gate keeps these out
     /// (`Gate::admits_heavy`). Cost: that of the entry's own text; a large text and its proofs are divided among the workers.
     pub fn apply_with<G: Gate + Sync, R: Threads + Sync>(
         &mut self,

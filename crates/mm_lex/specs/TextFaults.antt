@@ -1,6 +1,6 @@
 -- Why a text has no tokens.
 -- Source: Metamath, 4.1.1 (the bytes of a text) and 4.1.2 (comments do not nest).
--- The code returns the first fault that it meets; here each fault has a part that describes the text before it.
+-- The code returns the first fault that it meets; here the definition of each fault also describes the text before it.
 use Rattle.std.specs.Prelude.{◌≡◌, ℕ, ◌<◌, ◌⊎◌, IsFalse, List, ◌∷◌, ◌++◌, length, take, slice_index}
 use Rattle.mm_lex.specs.declared.span.Span.{Span}
 use Rattle.mm_lex.specs.declared.fault.LexFault.{LexFault}

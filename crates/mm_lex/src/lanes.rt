@@ -26,7 +26,7 @@ pub(crate) fn count_visible(text: &[u8]) -> usize
     at + count_one_by_one(&text[at..])
 }
 
-/// Returns how many of the first 16 bytes precede the first one up to 0x20, which is white if it is allowed.
+/// Returns how many of the first 16 bytes precede the first one that is at most 0x20, which is white if it is allowed.
 fn count_in_lanes(text: &[u8]) -> usize
     requires room { 16 ≤ length text.now }
     ensures count { result ≡ position_or_len (λ b. nat_le b 32) (take 16 text.now) }

@@ -1,4 +1,5 @@
-//! The state of the rules: which variables are active, and how many were when each open block began.
+//! The state of the rules: the stacks of the active variables and of those with an active `$f`, and the heights of both at the
+//! start of each open block.
 ghost use Rattle.std.specs.Prelude.{◌≡◌, ◌==◌, ◌++◌, ◌∷◌, [], length, not, nat_lt, take, None, IfOk, IfSome, OnOk, IsTrue};
 ghost use Rattle.std.specs.List.{list_any};
 ghost use Rattle.names.specs.Codes.{codes_or_len};
@@ -24,7 +25,7 @@ use std::alloc::{AllocError, Global};
 use std::marker::Model;
 
 /// The state of the rules after the statements accepted so far, and at the mark: stacks of the numbers of symbols.
-/// Callers pass the numbering, so that frames use it too. Contracts see the statements.
+/// Callers pass the numbering of the names, which frames use too. Contracts see the statements.
 #[derive(Drop)]
 pub struct Rules {
     pub(crate) accepted: History,
@@ -92,7 +93,7 @@ impl Rules {
         self.accepted = History::same(&self.marked);
     }
 
-    /// Gives back unused room, as `entries::give_back` does.
+    /// Frees unused capacity, as `entries::give_back` does.
     pub fn shrink(&mut self)
         ensures { self.new ≡ self.old }
     {

@@ -97,7 +97,7 @@ impl Stack {
         self.numbers.truncate(len);
     }
 
-    /// Gives back the unused room of `numbers`, as `give_back` does.
+    /// Frees the unused capacity of `numbers`, as `entries::give_back` does.
     pub fn shrink(&mut self)
         ensures { self.new ≡ self.old }
     {

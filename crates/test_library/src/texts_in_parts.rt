@@ -1,4 +1,4 @@
-//! A text that is parsed in parts by several threads gives the same as by one, even if a comment contains `$.`.
+//! A text that several threads read in parts gives the same result as with one thread, even if a comment contains `$.`.
 use mm_read::ReadFault;
 use read_pool::read_in_parts;
 use std::alloc::{AllocError, Global};

@@ -1,6 +1,6 @@
 -- How the rules are stored: stacks of numbers, with their heights at the start of each open block and at the mark.
 -- Source: this project's form.
--- The model has positions and bracket counts; here each field of the code is defined as a function of the statements.
+-- The model has positions and counts of `${` and `$}`; here each field of the code is defined as a function of the statements.
 use Rattle.std.specs.Prelude.{◌≡◌, ℕ, ◌≤◌, Bool, true, false, not, ◌&&◌, ◌==◌, List, [], ◌∷◌, ◌++◌, length, take, if◌then◌else◌}
 use Rattle.scope.specs.Words.{flat_map, list_any, Stmt, Database, codes_or_len, AreNamed}
 use Rattle.scope.specs.Active.{active, stays_open, is_open, is_close, is_closed, variables, typed_by, active_variables, typed_variables}
