@@ -9,7 +9,7 @@ use std::marker::Model;
 
 /// The state of an entry whose judging has begun.
 #[derive(Clone, Copy, Drop)]
-pub enum Standing {
+pub enum EntryState {
     /// It is undecided: its judging is under way, or an allocation failed in it.
     Undecided,
     /// It was added, or refused for the cause.

@@ -1,6 +1,6 @@
 -- The answer of the reader is the only one: a text has tokens or one fault of the tokens, and its tokens read as one list of
 -- statements or have one misplaced token.
-use Rattle.mm_read.proofs.Words.{◌≡◌, ℕ, ◌⊎◌, List, Result, Ok, Err, MatchResult, IfOk, IfErr, IsErrAnd, sym, ◌∙◌, ap, refl, subst, inl, inr, Name, IsClean, words, IsFirstBadByte, IsCommentFault, AreAfter, IsClean-no_fault, AreTokens-unique, AreTokens-no_comment_fault, IsCommentFault-unique, ReadFault, Text, Shape, Memory, Database, tokens_of, HasTokens, Reads, IsShapeFault, HasShapeFault, IsReadFault, IsFaultOf}
+use Rattle.mm_read.proofs.Words.{◌≡◌, ℕ, ◌⊎◌, List, Result, Ok, Err, MatchResult, IfOk, IfErr, IsErrAnd, sym, ◌∙◌, ap, refl, subst, inl, inr, Name, HasOnlyAllowedBytes, words, IsFirstBadByte, IsCommentFault, AreAfter, HasOnlyAllowedBytes-no_fault, AreTokens-unique, AreTokens-no_comment_fault, IsCommentFault-unique, ReadFault, Text, Shape, Memory, Database, tokens_of, HasTokens, Reads, IsShapeFault, HasShapeFault, IsReadFault, IsFaultOf}
 use Rattle.mm_lex.specs.declared.fault.LexFault.TheVariants as lex
 use Rattle.mm_read.proofs.OneStatementList.{one_statement_list}
 use Rattle.mm_read.proofs.ShapeFaults.{one_shape_fault}
@@ -9,7 +9,7 @@ use Rattle.mm_read.proofs.ShapeFaults.{one_shape_fault}
 pub same_tokens : (text : List ℕ) (ts us : List Name) → HasTokens text ts → HasTokens text us → ts ≡ us
 same_tokens text ts us has also = sym has.2 ∙ (ap (words text) (AreTokens-unique text has.0 also.0 has.1 also.1) ∙ also.2)
 
-module _ (text : List ℕ) (clean : IsClean text) where
+module _ (text : List ℕ) (clean : HasOnlyAllowedBytes text) where
   -- the tokens after the first place are the tokens of the text
   all_tokens : (ts : List Name) → AreAfter text 0 ts → HasTokens text ts
   all_tokens ts are = (are.0, (clean, are.1), are.2)
@@ -28,7 +28,7 @@ module _ (text : List ℕ) (clean : IsClean text) where
 
   -- a clean text has no bad byte
   pub no_bad_byte : {P : Type 0} (offset : ℕ) → IsFirstBadByte text offset → P
-  no_bad_byte offset is = absurd (IsClean-no_fault text offset clean is)
+  no_bad_byte offset is = absurd (HasOnlyAllowedBytes-no_fault text offset clean is)
 
   module _ {V : Type 0} (items : V → Database) where
     -- if the text reads as statements, the reader returns these, or an allocation failed
@@ -68,11 +68,11 @@ module _ (text : List ℕ) (clean : IsClean text) where
 module _ (text : List ℕ) (offset : ℕ) (bad : IsFirstBadByte text offset) where
   -- it has no list of tokens
   pub bad_no_tokens : {P : Type 0} (ts : List Name) → HasTokens text ts → P
-  bad_no_tokens ts has = absurd (IsClean-no_fault text offset has.1.0 bad)
+  bad_no_tokens ts has = absurd (HasOnlyAllowedBytes-no_fault text offset has.1.0 bad)
 
   -- it has no comment fault, which only a clean text has
   pub bad_no_comment : {P : Type 0} (at : ℕ) → IsCommentFault text at → P
-  bad_no_comment at is = absurd (IsClean-no_fault text offset is.0 bad)
+  bad_no_comment at is = absurd (HasOnlyAllowedBytes-no_fault text offset is.0 bad)
 
 -- a text that reads as statements
 module _ (text : List ℕ) (T : Database) (reads : Reads text T) where

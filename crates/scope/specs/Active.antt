@@ -43,9 +43,9 @@ abbrev pub variables : Stmt → List Name
 variables (Var names) = names
 variables s = []
 
-abbrev pub separated : Stmt → List Name
-separated (Disj names) = names
-separated s = []
+abbrev pub disjoint_names : Stmt → List Name
+disjoint_names (Disj names) = names
+disjoint_names s = []
 
 abbrev pub label_of : Stmt → Option Name
 label_of (Float label constant variable) = Some label
