@@ -21,8 +21,8 @@ pub some_answer : (text : List ℕ) → SomeAnswer text
 some_answer text = by (position is_bad text) refl
   where
     clean_answer : (r : Outcome) → scan text (runs text) None ≡ r → HasOnlyAllowedBytes text → SomeAnswer text
-    clean_answer (Ok tokens) e clean = inl (tokens, AreTokens-scan text tokens clean e)
-    clean_answer (Err offset) e clean = inr (inr (offset, IsCommentFault-scan text offset clean e))
+    clean_answer (Ok tokens) e allowed = inl (tokens, AreTokens-scan text tokens allowed e)
+    clean_answer (Err offset) e allowed = inr (inr (offset, IsCommentFault-scan text offset allowed e))
 
     by : (o : Option ℕ) → position is_bad text ≡ o → SomeAnswer text
     by (Some offset) e = inr (inl (offset, IsFirstBadByte-found text offset (sym e)))

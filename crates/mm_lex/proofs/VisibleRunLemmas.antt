@@ -146,11 +146,11 @@ pub record IsFrontOf (text : List ℕ) (at n : ℕ) (bytes : List ℕ) : Type 0 
 -- the text begins with the runs of a spaced prefix, if a white byte or the end of the text follows it
 pub prefix_front : (text : List ℕ) (at n : ℕ) → HasOnlyAllowedBytes (drop at text) → starts_white (drop at text) ≡ false → n ≡ spaced_prefix_len (drop at text) → 0 < n
     → at + n ≤ length text → starts_white (drop (at + n) text) ≡ true → IsFrontOf text at n (take n (drop at text))
-prefix_front text at n clean shown e some within white =
+prefix_front text at n allowed shown e some within white =
     let bytes = take n (drop at text) in
     let more : drop n (drop at text) ≡ drop (at + n) text = drop-drop n at text in
     let split : drop at text ≡ bytes ++ drop (at + n) text = sym (take-append-drop n (drop at text)) ∙ ap (λ r. bytes ++ r) more in
-    let single_spaced : is_single_spaced bytes ≡ true = ap (λ k. is_single_spaced (take k (drop at text))) e ∙ prefix_spaced (drop at text) clean shown (omega (arith, some, e)) in
+    let single_spaced : is_single_spaced bytes ≡ true = ap (λ k. is_single_spaced (take k (drop at text))) e ∙ prefix_spaced (drop at text) allowed shown (omega (arith, some, e)) in
     let long : length bytes ≡ n = length-take-le n (drop at text) (omega (arith, within, length-drop at text)) in
     let runs = single_spaced_runs text (drop (at + n) text) at bytes split single_spaced in
     let symbols = ap (list_all is_symbol) (words_of-some bytes single_spaced) ∙ single_spaced_symbols bytes single_spaced in

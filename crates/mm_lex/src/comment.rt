@@ -21,7 +21,7 @@ pub(crate) enum CommentEnd {
 /// Returns how a comment ends. Its contents begin at `from`.
 #[inline(never)]
 pub(crate) fn comment_end(text: &[u8], from: usize) -> CommentEnd
-    requires clean { HasOnlyAllowedBytes text.now }
+    requires allowed { HasOnlyAllowedBytes text.now }
     requires place { from ≤ length text.now }
     ensures { EndsComment text.now from result }
 {

@@ -9,7 +9,7 @@ use crate::span::Span;
 
 /// Returns the first run in the text from `at` on, or `None` if only white space is left.
 pub(crate) fn next_run(text: &[u8], at: usize) -> Option<Span>
-    requires clean { HasOnlyAllowedBytes text.now }
+    requires allowed { HasOnlyAllowedBytes text.now }
     requires place { at ≤ length text.now }
     ensures run { MatchOption result (runs_from at (drop at text.now) ≡ [])
         (λ s. runs_from at (drop at text.now) ≡ s ∷ runs_from s.end (drop s.end text.now)) }
@@ -31,7 +31,7 @@ pub(crate) fn next_run(text: &[u8], at: usize) -> Option<Span>
 
 /// Returns the offset of the first byte at or after `at` that is not white, or the end of the text.
 pub(crate) fn skip_white(text: &[u8], at: usize) -> usize
-    requires clean { HasOnlyAllowedBytes text.now }
+    requires allowed { HasOnlyAllowedBytes text.now }
     requires place { at ≤ length text.now }
     ensures later { at ≤ result }
     ensures within { result ≤ length text.now }

@@ -70,9 +70,9 @@ module _ {text : List ℕ} where
 
   -- if no token is left, the text reads as the statements
   pub reads_all : (at : ℕ) (S : Database) → HasOnlyAllowedBytes text → ReadsUpTo text at S → AreAfter text at [] → Reads text S
-  reads_all at S clean are none =
+  reads_all at S allowed are none =
       let all : AreAfter text 0 (tokens_of S) = after_as 0 (append-nil (tokens_of S)) (after_on are.between none) in
-      record { shaped = are.shaped; tokens = (all.0, (clean, all.1), all.2) }
+      record { shaped = are.shaped; tokens = (all.0, (allowed, all.1), all.2) }
 
 -- the number of tokens of the text is that of the statements' tokens plus that of the tokens left
 pub count_before : (text : List ℕ) (at : ℕ) (S : Database) → ReadsUpTo text at S → (n m : ℕ) → CountAfter text at n → CountAfter text 0 m → m ≡ length (tokens_of S) + n

@@ -74,7 +74,7 @@ fn add_next(
     text: &[u8],
     at: usize,
 ) -> Result<Option<usize>, ReadFault>
-    requires clean { HasOnlyAllowedBytes text.now }
+    requires allowed { HasOnlyAllowedBytes text.now }
     requires place { at ≤ length text.now }
     ensures next { IfOk result (IsNextStep text.now at statements.old.items statements.new.items) }
     ensures fault { IfErr result (IsFaultAfter text.now [] at) }
@@ -101,7 +101,7 @@ fn grow_heap(alloc: Global, at: usize, next: usize) {
 ///
 /// Errors: the comment fault of the text, if there is one: it takes precedence over `fault`.
 fn first_fault(text: &[u8], at: usize, fault: ReadFault) -> Result<ReadFault, LexFault>
-    requires clean { HasOnlyAllowedBytes text.now }
+    requires allowed { HasOnlyAllowedBytes text.now }
     requires place { at ≤ length text.now }
     requires before { (S : Database) × ReadsUpTo text.now at S }
     requires fault { IsFaultAfter text.now [] at fault }

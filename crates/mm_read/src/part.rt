@@ -24,7 +24,7 @@ pub fn symbols_until(
     least: usize,
     end: &[u8],
 ) -> Result<(Words, usize), ReadFault>
-    requires clean { HasOnlyAllowedBytes text.now }
+    requires allowed { HasOnlyAllowedBytes text.now }
     requires place { at ≤ length text.now }
     requires number { number ≤ 3 }
     ensures symbols { IfOk result (λ r. IsTrue (list_all is_symbol r.0)) }
@@ -65,7 +65,7 @@ pub fn next_symbol(
     at: usize,
     number: usize,
 ) -> Result<(Word, usize), ReadFault>
-    requires clean { HasOnlyAllowedBytes text.now }
+    requires allowed { HasOnlyAllowedBytes text.now }
     requires place { at ≤ length text.now }
     ensures symbol { IfOk result (λ r. IsTrue (is_symbol r.0)) }
     ensures between { IfOk result (λ r. HasBetween text.now at r.1 (r.0 ∷ [])) }
@@ -86,7 +86,7 @@ pub fn next_symbol(
 /// `number` is the number of that token in its statement. Errors: `Text`, if a comment before it is malformed; `Shape`,
 /// with that number, if it is not `end` or no token is left.
 pub fn expect_token(text: &[u8], at: usize, number: usize, end: &[u8]) -> Result<usize, ReadFault>
-    requires clean { HasOnlyAllowedBytes text.now }
+    requires allowed { HasOnlyAllowedBytes text.now }
     requires place { at ≤ length text.now }
     ensures between { IfOk result (λ next. HasBetween text.now at next (end.now ∷ [])) }
     ensures fault { IfErr result (IsTokenFault text.now at number (λ w. name_eq w end.now)) }

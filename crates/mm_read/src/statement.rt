@@ -19,7 +19,7 @@ use std::alloc::Global;
 /// allocation fails.
 /// Cost: the size of the statement with its comments.
 pub fn statement(alloc: Global, text: &[u8], first: Span) -> Result<(Stmt, usize), ReadFault>
-    requires clean { HasOnlyAllowedBytes text.now }
+    requires allowed { HasOnlyAllowedBytes text.now }
     requires token { IsWordAt text.now first }
     ensures found { IfOk result (λ r. IsNextAfter text.now (word text.now first ∷ []) first.end r.0 r.1) }
     ensures fault { IfErr result (IsFaultAfter text.now (word text.now first ∷ []) first.end) }
@@ -48,7 +48,7 @@ pub fn statement(alloc: Global, text: &[u8], first: Span) -> Result<(Stmt, usize
 
 /// Returns the statement with this label, and the offset after the statement. `at` is the offset after the label.
 fn labelled(alloc: Global, text: &[u8], label: &[u8], at: usize) -> Result<(Stmt, usize), ReadFault>
-    requires clean { HasOnlyAllowedBytes text.now }
+    requires allowed { HasOnlyAllowedBytes text.now }
     requires place { at ≤ length text.now }
     requires word { IsTrue (is_word label.now) }
     requires label { IsTrue (is_label label.now) }
@@ -77,7 +77,7 @@ fn labelled(alloc: Global, text: &[u8], label: &[u8], at: usize) -> Result<(Stmt
 
 /// Returns the `$f` with this label, and the offset after the statement. `at` is the offset after the keyword.
 fn floating(alloc: Global, text: &[u8], label: &[u8], at: usize) -> Result<(Stmt, usize), ReadFault>
-    requires clean { HasOnlyAllowedBytes text.now }
+    requires allowed { HasOnlyAllowedBytes text.now }
     requires place { at ≤ length text.now }
     requires word { IsTrue (is_word label.now) }
     requires label { IsTrue (is_label label.now) }
@@ -98,7 +98,7 @@ fn floating(alloc: Global, text: &[u8], label: &[u8], at: usize) -> Result<(Stmt
 
 /// Returns the `$p` with this label, and the offset after the statement. `at` is the offset after the keyword.
 fn provable(alloc: Global, text: &[u8], label: &[u8], at: usize) -> Result<(Stmt, usize), ReadFault>
-    requires clean { HasOnlyAllowedBytes text.now }
+    requires allowed { HasOnlyAllowedBytes text.now }
     requires place { at ≤ length text.now }
     requires word { IsTrue (is_word label.now) }
     requires label { IsTrue (is_label label.now) }
