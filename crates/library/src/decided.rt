@@ -10,7 +10,7 @@ use std::marker::Model;
 /// The state of an entry whose judging has begun.
 #[derive(Clone, Copy, Drop)]
 pub enum EntryState {
-    /// It is undecided: its judging is under way, or an allocation failed in it.
+    /// It is undecided: its judging is under way, or an allocation failed during it.
     Undecided,
     /// It was added, or refused for the cause.
     Decided(Option<Cause>),

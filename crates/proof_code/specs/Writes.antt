@@ -66,7 +66,7 @@ pub record WritesCompressed (tokens mandatory : List Name) (items : List Item) :
   pub rest : List Name
   pub whole : tokens ≡ begin ∷ (listed ++ finish ∷ rest)
   pub labels : IsTrue (list_all is_label listed)
-  pub apart : IsFalse (list_any (λ label. has_name label mandatory) listed)
+  pub none_shared : IsFalse (list_any (λ label. has_name label mandatory) listed)
   pub letters : WritesRow (mandatory ++ listed) (flat_map (λ token. token) rest) items
 
 -- each token is a label, and the items cite these labels
