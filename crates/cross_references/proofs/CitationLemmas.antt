@@ -1,5 +1,5 @@
 -- The statements that items cite, as a list of positions.
-use Rattle.cross_references.proofs.Words.{◌≡◌, ◌⊎◌, ℕ, zero, suc, ◌+◌, ◌-◌, ◌<◌, ◌≤◌, true, List, [], ◌∷◌, ◌++◌, length, take, get_or, filter_map, Option, Some, None, option_map, slice_get, cons_option, sym, ◌∙◌, ap, subst, refl, arith, inl, inr, append_assoc, cases_lt, get_or_past, take_more, filter_map-append, slice_get-map, ArePositions, HasLabelsOnce, IsPosition, Carries, In, AreThose, those-by, map-back, legal-labels, Good, IsProofOf, place_of, HasItems, ItemsCite, Cites, position-is, legal-each, not-there, cites-of, cited-of, Name, Database, Stmt, Prove, item_of, items_of, Item, Cite, Recall, item-cite, item-recall, position_list, bares, is_provable, label_of, stmt_at}
+use Rattle.cross_references.proofs.Words.{◌≡◌, ◌⊎◌, ℕ, zero, suc, ◌+◌, ◌-◌, ◌<◌, ◌≤◌, true, List, [], ◌∷◌, ◌++◌, length, take, get_or, filter_map, Option, Some, None, option_map, slice_get, cons_option, sym, ◌∙◌, ap, subst, refl, arith, inl, inr, append_assoc, cases_lt, get_or_past, take_more, filter_map-append, slice_get-map, ArePositions, HasLabelsOnce, IsPosition, Carries, In, AreThose, those-by, map-back, legal-labels, Good, IsProofOf, cited_position, HasItems, ItemsCite, Cites, position-is, legal-each, not-there, cites-of, cited-of, Name, Database, Stmt, Prove, item_of, items_of, Item, Cite, Recall, item-cite, item-recall, position_list, bares, is_provable, label_of, stmt_at}
 
 -- ---- the positions of the statements that numbers cite
 
@@ -11,7 +11,7 @@ module _ (S : Database) (labels : List Name) (positions : List (Option ℕ)) (ar
     pub cites : item ≡ Cite label
     pub carries : Carries S a cited label
 
-  position-sound : (number a : ℕ) → place_of positions number ≡ Some a → CitesOne (item_of labels number) a
+  position-sound : (number a : ℕ) → cited_position positions number ≡ Some a → CitesOne (item_of labels number) a
   position-sound zero a e = absurd (let f = e in cc)
   position-sound (suc n) a e = elim (cases_lt n (length labels)) [
     | inl less ↦ (
@@ -20,7 +20,7 @@ module _ (S : Database) (labels : List Name) (positions : List (Option ℕ)) (ar
     | inr more ↦ absurd (let c = are.count in let f : None ≡ Some a = sym (get_or_past positions n None (omega (arith, more, c))) ∙ e in cc)
   ]
 
-  position-whole : (number a : ℕ) → CitesOne (item_of labels number) a → place_of positions number ≡ Some a
+  position-whole : (number a : ℕ) → CitesOne (item_of labels number) a → cited_position positions number ≡ Some a
   position-whole zero a c = absurd (let e = c.cites in cc)
   position-whole (suc n) a c = elim (cases_lt n (length labels)) [
     | inl less ↦ (
@@ -35,43 +35,43 @@ module _ (S : Database) (labels : List Name) (positions : List (Option ℕ)) (ar
     pub place : ℕ
     pub number : ℕ
     pub there : slice_get numbers place ≡ Some number
-    pub stands : place_of positions number ≡ Some a
+    pub stands : cited_position positions number ≡ Some a
 
   later : (n : ℕ) (ns : List ℕ) (a : ℕ) → HasNumber ns a → HasNumber (n ∷ ns) a
   later n ns a h = record { place = suc h.place; number = h.number; there = h.there; stands = h.stands }
 
-  in-number : (numbers : List ℕ) (a : ℕ) → In a (filter_map (place_of positions) numbers) → HasNumber numbers a
+  in-number : (numbers : List ℕ) (a : ℕ) → In a (filter_map (cited_position positions) numbers) → HasNumber numbers a
   in-number [] a i = absurd i
-  in-number (n ∷ ns) a i = by (place_of positions n) refl (λ j. later n ns a (in-number ns a j)) i
+  in-number (n ∷ ns) a i = by (cited_position positions n) refl (λ j. later n ns a (in-number ns a j)) i
     where
-      by : (o : Option ℕ) → place_of positions n ≡ o → (In a (filter_map (place_of positions) ns) → HasNumber (n ∷ ns) a) → In a (cons_option o (filter_map (place_of positions) ns)) → HasNumber (n ∷ ns) a
+      by : (o : Option ℕ) → cited_position positions n ≡ o → (In a (filter_map (cited_position positions) ns) → HasNumber (n ∷ ns) a) → In a (cons_option o (filter_map (cited_position positions) ns)) → HasNumber (n ∷ ns) a
       by None e go j = go j
       by (Some p) e go (inl same) = record { place = 0; number = n; there = refl; stands = e ∙ ap Some (sym same) }
       by (Some p) e go (inr j) = go j
 
-  number-in : (numbers : List ℕ) (a k n : ℕ) → slice_get numbers k ≡ Some n → place_of positions n ≡ Some a → In a (filter_map (place_of positions) numbers)
+  number-in : (numbers : List ℕ) (a k n : ℕ) → slice_get numbers k ≡ Some n → cited_position positions n ≡ Some a → In a (filter_map (cited_position positions) numbers)
   number-in [] a k n e at = absurd (let f = e in cc)
   number-in (m ∷ ns) a zero n e at =
       let same : m ≡ n = (let f = e in cc) in
-      subst (λ o. In a (cons_option o (filter_map (place_of positions) ns))) (sym (ap (place_of positions) same ∙ at)) (inl refl)
-  number-in (m ∷ ns) a (suc k) n e at = kept (place_of positions m) (number-in ns a k n e at)
+      subst (λ o. In a (cons_option o (filter_map (cited_position positions) ns))) (sym (ap (cited_position positions) same ∙ at)) (inl refl)
+  number-in (m ∷ ns) a (suc k) n e at = kept (cited_position positions m) (number-in ns a k n e at)
     where
-      kept : (o : Option ℕ) → In a (filter_map (place_of positions) ns) → In a (cons_option o (filter_map (place_of positions) ns))
+      kept : (o : Option ℕ) → In a (filter_map (cited_position positions) ns) → In a (cons_option o (filter_map (cited_position positions) ns))
       kept None i = i
       kept (Some p) i = inr i
 
   pub those-cited : (numbers : List ℕ) (items : List Item) (list : List ℕ) → items_of labels numbers ≡ items
-      → AreThose (λ p. In p (filter_map (place_of positions) numbers)) list → AreThose (ItemsCite S items) list
+      → AreThose (λ p. In p (filter_map (cited_position positions) numbers)) list → AreThose (ItemsCite S items) list
   those-cited numbers items list same those =
       subst (λ is. AreThose (ItemsCite S is) list) same (those-by those cites back)
     where
-      cites : (a : ℕ) → In a (filter_map (place_of positions) numbers) → ItemsCite S (items_of labels numbers) a
+      cites : (a : ℕ) → In a (filter_map (cited_position positions) numbers) → ItemsCite S (items_of labels numbers) a
       cites a i =
           let h = in-number numbers a i in
           let c = position-sound h.number a h.stands in
           record { place = h.place; label = c.label; cited = c.cited; cites = slice_get-map (item_of labels) numbers h.place ∙ (ap (option_map (item_of labels)) h.there ∙ ap Some c.cites); carries = c.carries }
 
-      back : (a : ℕ) → ItemsCite S (items_of labels numbers) a → In a (filter_map (place_of positions) numbers)
+      back : (a : ℕ) → ItemsCite S (items_of labels numbers) a → In a (filter_map (cited_position positions) numbers)
       back a c =
           let m = map-back (item_of labels) numbers c.place (Cite c.label) c.cites in
           number-in numbers a c.place m.0 m.1 (position-whole m.0 a (record { label = c.label; cited = c.cited; cites = sym m.2; carries = c.carries }))
@@ -99,21 +99,21 @@ cites-nothing S at s stands other = record {
 
 -- the positions of one more number
 pub positions-more : (positions : List (Option ℕ)) (numbers : List ℕ) (i : ℕ) → i < length numbers
-    → filter_map (place_of positions) (take (i + 1) numbers) ≡ filter_map (place_of positions) (take i numbers) ++ position_list (place_of positions (get_or numbers i 0))
+    → filter_map (cited_position positions) (take (i + 1) numbers) ≡ filter_map (cited_position positions) (take i numbers) ++ position_list (cited_position positions (get_or numbers i 0))
 positions-more positions numbers i h =
-    ap (filter_map (place_of positions)) (take_more numbers i 0 h)
-    ∙ (filter_map-append (place_of positions) (take i numbers) (get_or numbers i 0 ∷ [])
-    ∙ ap (λ l. filter_map (place_of positions) (take i numbers) ++ l) (one (place_of positions (get_or numbers i 0))))
+    ap (filter_map (cited_position positions)) (take_more numbers i 0 h)
+    ∙ (filter_map-append (cited_position positions) (take i numbers) (get_or numbers i 0 ∷ [])
+    ∙ ap (λ l. filter_map (cited_position positions) (take i numbers) ++ l) (one (cited_position positions (get_or numbers i 0))))
   where
     one : (o : Option ℕ) → cons_option o [] ≡ position_list o
     one None = refl
     one (Some p) = refl
 
 pub positions-pushed : (positions : List (Option ℕ)) (numbers : List ℕ) (i : ℕ) (start old new : List ℕ) (o : Option ℕ) → i < length numbers
-    → old ≡ start ++ filter_map (place_of positions) (take i numbers) → o ≡ place_of positions (get_or numbers i 0) → new ≡ old ++ position_list o → new ≡ start ++ filter_map (place_of positions) (take (i + 1) numbers)
+    → old ≡ start ++ filter_map (cited_position positions) (take i numbers) → o ≡ cited_position positions (get_or numbers i 0) → new ≡ old ++ position_list o → new ≡ start ++ filter_map (cited_position positions) (take (i + 1) numbers)
 positions-pushed positions numbers i start old new o h before is after =
-    let front = filter_map (place_of positions) (take i numbers) in
-    let last = place_of positions (get_or numbers i 0) in
+    let front = filter_map (cited_position positions) (take i numbers) in
+    let last = cited_position positions (get_or numbers i 0) in
     after
     ∙ (ap (λ l. l ++ position_list o) before
     ∙ (ap (λ q. (start ++ front) ++ position_list q) is

@@ -17,7 +17,7 @@ pub use Rattle.library.proofs.ProvingLemmas.{not-there}
 pub use Rattle.library.proofs.UseMarkLemmas.{position-is}
 pub use Rattle.library.specs.Good.{Good}
 pub use Rattle.library.specs.Queries.{IsProofOf}
-pub use Rattle.library.specs.UseMarks.{place_of}
+pub use Rattle.library.specs.UseMarks.{cited_position}
 pub use Rattle.library.specs.Uses.{Cites, HasItems, IsAxiomAt, IsIn, IsUser, ItemsCite, RestsOn, Rises, Uses, directly, is_axiom, through}
 pub use Rattle.mm_lex.specs.Alphabet.{Name}
 pub use Rattle.mm_read.proofs.NextLemmas.{on_ok}

@@ -3,7 +3,7 @@ ghost use Rattle.std.specs.Prelude.{◌≡◌, suc, ◌<◌, ◌++◌, length, f
 ghost use Rattle.cross_references.specs.PassState.{position_list};
 ghost use Rattle.frame.specs.AtPosition.{HasLabelsOnce};
 ghost use Rattle.frame.specs.Stored.Hypotheses.{In, AreThose};
-ghost use Rattle.library.specs.UseMarks.{place_of};
+ghost use Rattle.library.specs.UseMarks.{cited_position};
 ghost use Rattle.library.specs.Uses.{Cites, ItemsCite};
 
 use frame::Frames;
@@ -48,7 +48,7 @@ fn push_positions(
     positions: &[Option<usize>],
     numbers: &[u32],
 ) -> Result<(), AllocError>
-    ensures { OnOk result (cited.new.items ≡ cited.old.items ++ filter_map (place_of positions.now) numbers.now) }
+    ensures { OnOk result (cited.new.items ≡ cited.old.items ++ filter_map (cited_position positions.now) numbers.now) }
 {
     for number in numbers {
         push_if_some(cited, cited_position(positions, *number))?;
@@ -68,7 +68,7 @@ fn push_if_some(cited: &mut Vec<usize>, position: Option<usize>) -> Result<(), A
 
 /// Returns the position that the item with a number cites, if it cites one.
 fn cited_position(positions: &[Option<usize>], number: u32) -> Option<usize>
-    ensures { result ≡ place_of positions.now number }
+    ensures { result ≡ cited_position positions.now number }
 {
     let index = (number as usize).checked_sub(1)?;
     *positions.get(index)?

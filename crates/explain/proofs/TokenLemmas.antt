@@ -64,7 +64,7 @@ pub writes-compressed : (tokens mandatory : List Name) (index : ℕ) (rest : Lis
     → (l : IsListing tokens mandatory index finish rest) → WritesRow (mandatory ++ l.first.front) (joined rest) items → Writes tokens mandatory items
 writes-compressed tokens mandatory index rest items f c l row =
     let p = listed-labels mandatory l.first.front l.first.before in
-    inl (c, (f, record { listed = l.first.front; rest = rest; whole = l.whole ∙ ap (λ w. begin ∷ w) l.first.whole; labels = p.0; apart = p.1; letters = row }))
+    inl (c, (f, record { listed = l.first.front; rest = rest; whole = l.whole ∙ ap (λ w. begin ∷ w) l.first.whole; labels = p.0; none_shared = p.1; letters = row }))
 
 -- ---- the broken rule
 

@@ -47,7 +47,7 @@ pub use Rattle.proof_code.specs.ItemNumbers.{item_of, items_of}
 pub use Rattle.proof_code.specs.Letters.{IsNumber, is_first, is_last, number_from}
 pub use Rattle.proof_code.specs.Reading.{before_rest}
 pub use Rattle.proof_code.specs.Text.{numbers_from, starts_with_mark}
-pub use Rattle.proof_code.specs.Writes.{IsMalformed, Writes, WritesPacked, WritesRow, begin, finish, is_compressed, is_unfinished}
+pub use Rattle.proof_code.specs.Writes.{IsMalformed, Writes, WritesFinishedCompressed, WritesRow, begin, finish, is_compressed, is_unfinished}
 pub use Rattle.proof_code.specs.declared.fault.CodeFault.{CodeFault}
 pub use Rattle.proof_code.specs.declared.fault.CodeFault.TheVariants.{Malformed, Unfinished}
 pub use Rattle.proof_code.specs.declared.item.Item.{Item}

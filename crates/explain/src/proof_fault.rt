@@ -15,7 +15,7 @@ use crate::run::first_fault;
 use crate::why::WhyUnproved;
 use frame::Frames;
 use mm_lex::Words;
-use proof_code::{Items, is_compressed, normal, packed, written};
+use proof_code::{Items, is_compressed, items_or_none, normal, packed};
 use std::alloc::{AllocError, Global};
 use verify::{Answer, Checker};
 
@@ -66,9 +66,9 @@ fn items_of(alloc: Global, tokens: &Words, mandatory: &Words) -> Result<Option<I
         (λ items. Writes tokens.now mandatory.now items)) }
 {
     if is_compressed(tokens) {
-        written(packed(alloc, tokens, mandatory))
+        items_or_none(packed(alloc, tokens, mandatory))
     } else {
-        written(normal(alloc, tokens))
+        items_or_none(normal(alloc, tokens))
     }
 }
 

@@ -1,5 +1,5 @@
 -- The parts that are kept with an assertion describe it.
-use Rattle.frame.proofs.Words.{In, floats, is_typed_by, list_any, list_any-map, sym, ◌∙◌, ap, subst, arith, append_assoc, length-append, ◌≡◌, ℕ, suc, ◌+◌, ◌-◌, ◌<◌, ◌≤◌, Bool, true, false, cond, List, [], ◌∷◌, ◌++◌, length, map, filter, slice_get, Option, Some, None, refl, Name, Stmt, Database, stmt_at, before, stays_open, active_from, expr_of, separated, is_assertion, IsLegal, name_at, decode, AreDistinct, is_mandatory, is_hypothesis, hypotheses, has_two_or_more, AreBelow, AllBelow, typecode_of, IsTypecode, IsOf, IsRequired, AreRequired, AreListsOf, IsViewOf, AssertionView, Kind, Disj, Entry, Assertion, actives, actives_from, is_disj, stmt_by, stmt_of, AreAllLegal, AreNumbered, HasTwo, is_typed, typed, symbols_at, option_symbols, has_two, groups_by, typecode_at, required_by, option_required, required_at, kept_with, IsKeptAs, take-get, Hypothesis}
+use Rattle.frame.proofs.Words.{In, floats, is_typed_by, list_any, list_any-map, sym, ◌∙◌, ap, subst, arith, append_assoc, length-append, ◌≡◌, ℕ, suc, ◌+◌, ◌-◌, ◌<◌, ◌≤◌, Bool, true, false, cond, List, [], ◌∷◌, ◌++◌, length, map, filter, slice_get, Option, Some, None, refl, Name, Stmt, Database, stmt_at, before, stays_open, active_from, expr_of, disjoint_names, is_assertion, IsLegal, name_at, decode, AreDistinct, is_mandatory, is_hypothesis, hypotheses, has_two_or_more, AreBelow, AllBelow, typecode_of, IsTypecode, IsOf, IsRequired, AreRequired, AreListsOf, IsViewOf, AssertionView, Kind, Disj, Entry, Assertion, actives, actives_from, is_disj, stmt_by, stmt_of, AreAllLegal, AreNumbered, HasTwo, is_typed, typed, symbols_at, option_symbols, has_two, groups_by, typecode_at, required_by, option_required, required_at, kept_with, IsKeptAs, take-get, Hypothesis}
 use Rattle.frame.proofs.LegalAfter.{stands-at}
 use Rattle.frame.proofs.LegalLabels.{AllKept}
 use Rattle.frame.proofs.VariablePlaceLemmas.{any-in, in-any, mandatory-float}
@@ -126,18 +126,18 @@ module _ (es : List Entry) (names labels : List Name) (m a : ℕ) (e : Entry) (d
   with-group xs G = refl
 
   groups-from : (A T : Database) (n : ℕ) → front_of ≡ A ++ T → n ≡ suc (length A)
-      → map (decode names) (groups_by places (map (λ q. symbols_at es q.0) (actives_from is_disj n T))) ≡ filter has_two_or_more (map (filter (is_mandatory front_of own)) (map (λ p. separated p.1) (active_from n T)))
+      → map (decode names) (groups_by places (map (λ q. symbols_at es q.0) (actives_from is_disj n T))) ≡ filter has_two_or_more (map (filter (is_mandatory front_of own)) (map (λ p. disjoint_names p.1) (active_from n T)))
   groups-from A [] n whole at_n = refl
   groups-from A (t ∷ T) n whole at_n =
       let l = length-append A (t ∷ []) in
       by (groups-from (A ++ t ∷ []) T (n + 1) (whole ∙ sym (append_assoc A (t ∷ []) T)) (omega (arith, at_n, l))) (stays_open 0 T)
     where
       Rest : Type 0
-      Rest = map (decode names) (groups_by places (map (λ q. symbols_at es q.0) (actives_from is_disj (n + 1) T))) ≡ filter has_two_or_more (map (filter (is_mandatory front_of own)) (map (λ p. separated p.1) (active_from (n + 1) T)))
+      Rest = map (decode names) (groups_by places (map (λ q. symbols_at es q.0) (actives_from is_disj (n + 1) T))) ≡ filter has_two_or_more (map (filter (is_mandatory front_of own)) (map (λ p. disjoint_names p.1) (active_from (n + 1) T)))
 
       Fits : Stmt → Type 0
       Fits u = map (decode names) (groups_by places (map (λ q. symbols_at es q.0) (cond (is_disj u) ((n, u) ∷ actives_from is_disj (n + 1) T) (actives_from is_disj (n + 1) T))))
-          ≡ cond (has_two_or_more (filter (is_mandatory front_of own) (separated u))) (filter (is_mandatory front_of own) (separated u) ∷ filter has_two_or_more (map (filter (is_mandatory front_of own)) (map (λ p. separated p.1) (active_from (n + 1) T)))) (filter has_two_or_more (map (filter (is_mandatory front_of own)) (map (λ p. separated p.1) (active_from (n + 1) T))))
+          ≡ cond (has_two_or_more (filter (is_mandatory front_of own) (disjoint_names u))) (filter (is_mandatory front_of own) (disjoint_names u) ∷ filter has_two_or_more (map (filter (is_mandatory front_of own)) (map (λ p. disjoint_names p.1) (active_from (n + 1) T)))) (filter has_two_or_more (map (filter (is_mandatory front_of own)) (map (λ p. disjoint_names p.1) (active_from (n + 1) T))))
 
       x : IsEntryAt n A t
       x = entry-at n A t T whole at_n
@@ -150,7 +150,7 @@ module _ (es : List Entry) (names labels : List Name) (m a : ℕ) (e : Entry) (d
 
       by : Rest → (b : Bool)
           → map (decode names) (groups_by places (map (λ q. symbols_at es q.0) (filter (λ p. is_disj p.1) (cond b ((n, t) ∷ active_from (n + 1) T) (active_from (n + 1) T)))))
-          ≡ filter has_two_or_more (map (filter (is_mandatory front_of own)) (map (λ p. separated p.1) (cond b ((n, t) ∷ active_from (n + 1) T) (active_from (n + 1) T))))
+          ≡ filter has_two_or_more (map (filter (is_mandatory front_of own)) (map (λ p. disjoint_names p.1) (cond b ((n, t) ∷ active_from (n + 1) T) (active_from (n + 1) T))))
       by more false = more
       by more true = subst Fits (sym x.same) (one_group more x.entry.kind)
 

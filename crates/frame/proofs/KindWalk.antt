@@ -1,5 +1,5 @@
 -- Walking over the active statements of a kind, from the last one back.
-use Rattle.frame.proofs.Words.{list_any, sym, ◌∙◌, ap, arith, true≢false, ◌≡◌, ℕ, zero, suc, ◌-◌, ◌<◌, ◌≤◌, Bool, true, false, cond, ◌||◌, ◌==◌, nat_eq, List, [], ◌∷◌, ◌++◌, length, take, filter, slice_get, Some, refl, or-false, length-map, list_any-append, or_right, false_from_ne_true, same_Some, has-at, name_same, same_name, Name, name_eq, has_name, Stmt, Database, active, separated, variables, is_essential, name_at, decode, AreDistinct, AreBelow, actives, last_position, last_active_of_kind, last_active_of, is_var, is_disj, Kind, Var, Disj, Entry, LastActive, Storage, stmt_by, stmt_of, names_in, labels_in, statements_of, AreStored}
+use Rattle.frame.proofs.Words.{list_any, sym, ◌∙◌, ap, arith, true≢false, ◌≡◌, ℕ, zero, suc, ◌-◌, ◌<◌, ◌≤◌, Bool, true, false, cond, ◌||◌, ◌==◌, nat_eq, List, [], ◌∷◌, ◌++◌, length, take, filter, slice_get, Some, refl, or-false, length-map, list_any-append, or_right, false_from_ne_true, same_Some, has-at, name_same, same_name, Name, name_eq, has_name, Stmt, Database, active, disjoint_names, variables, is_essential, name_at, decode, AreDistinct, AreBelow, actives, last_position, last_active_of_kind, last_active_of, is_var, is_disj, Kind, Var, Disj, Entry, LastActive, Storage, stmt_by, stmt_of, names_in, labels_in, statements_of, AreStored}
 use Rattle.std.specs.Cmp.{both_ways}
 use Rattle.frame.proofs.FoundByNumber.{name_at-injective}
 use Rattle.mm_read.specs.declared.stmt.Stmt.TheVariants as stmt
@@ -148,10 +148,10 @@ module _ {kind : Stmt → Bool} {lists : Stmt → List Name} {test : List Name �
     same = sym (or-false (list_any (λ r. test (lists r.1)) (walked kind k q))) ∙ (ap (λ t. list_any (λ r. test (lists r.1)) (walked kind k q) || (t || false)) (sym h) ∙ joined);
   }
 
-entry-disj : (names labels : List Name) (e : Entry) → is_disj (stmt_of names labels e) ≡ true → separated (stmt_of names labels e) ≡ decode names e.symbols
+entry-disj : (names labels : List Name) (e : Entry) → is_disj (stmt_of names labels e) ≡ true → disjoint_names (stmt_of names labels e) ≡ decode names e.symbols
 entry-disj names labels e = by e.kind
   where
-    by : (kind : Kind) → is_disj (stmt_by kind (name_at labels e.label) (decode names e.symbols)) ≡ true → separated (stmt_by kind (name_at labels e.label) (decode names e.symbols)) ≡ decode names e.symbols
+    by : (kind : Kind) → is_disj (stmt_by kind (name_at labels e.label) (decode names e.symbols)) ≡ true → disjoint_names (stmt_by kind (name_at labels e.label) (decode names e.symbols)) ≡ decode names e.symbols
     by Disj h = refl
     by kind h = cc
 
@@ -163,7 +163,7 @@ entry-var names labels e = by e.kind
     by kind h = cc
 
 -- a statement that is no `$d` has no disjoint variables
-other-disj : (s : Stmt) → is_disj s ≡ false → separated s ≡ []
+other-disj : (s : Stmt) → is_disj s ≡ false → disjoint_names s ≡ []
 other-disj (stmt.Disj n) h = cc
 other-disj s h = refl
 
@@ -171,7 +171,7 @@ pub other-var : (s : Stmt) → is_var s ≡ false → variables s ≡ []
 other-var (stmt.Var n) h = cc
 other-var s h = refl
 
-pub disjoint_lists : AreLists is_disj separated
+pub disjoint_lists : AreLists is_disj disjoint_names
 disjoint_lists = record { stand = entry-disj; other = other-disj }
 
 pub variable_lists : AreLists is_var variables

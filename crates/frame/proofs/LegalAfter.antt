@@ -37,7 +37,7 @@ pub constant-no_variable : (S : Database) (x : Name) → AllKept S → is_consta
 constant-no_variable S x all h = false_from_ne_true (is_variable S x) (λ e. apart (kind_in (naming_of S) x) (sym told.constant ∙ h) (sym told.variable ∙ active-was 1 S x (sym (is_variable-active S x) ∙ e)))
   where
     told : MatchesKind S x (kind_in (naming_of S) x)
-    told = (naming-all S all).told x
+    told = (naming-all S all).kinds_match x
 
     apart : (kind : Option NameKind) → is_constant_kind kind ≡ true → is_variable_kind kind ≡ true → ⊥
     apart (Some Constant) c v = cc

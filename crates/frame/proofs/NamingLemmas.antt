@@ -1,5 +1,5 @@
 -- The kinds of the names that statements declare.
-use Rattle.frame.proofs.Words.{sym, ◌∙◌, ap, subst, arith, append-nil, append_assoc, take-append-drop, ◌≡◌, ℕ, suc, ◌+◌, List, [], ◌∷◌, ◌++◌, length, take, drop, ◌-◌, Result, Ok, Err, OnOk, OnErr, slice_get, refl, take-append_seam, Name, Stmt, Database, declared_with, IsLegal, symbols_of, labels_of, Declared, declared_symbols, declared_labels, is_symbol_kind, IsNumberingOf, declared_with-more, numbering-after, symbols_of-later, names_that-append, Extends, statements_of, AreAllLegal, naming_from, naming_of, Storage, AreStored, get-more, get-last, both-counts}
+use Rattle.frame.proofs.Words.{sym, ◌∙◌, ap, subst, arith, append-nil, append_assoc, take-append-drop, ◌≡◌, ℕ, suc, ◌+◌, List, [], ◌∷◌, ◌++◌, length, take, drop, ◌-◌, Result, Ok, Err, OnOk, OnErr, slice_get, refl, take-append_seam, Name, Stmt, Database, declared_with, IsLegal, symbols_of, labels_of, Declared, declared_symbols, declared_labels, is_symbol_kind, IsNumberingOf, declared_with-more, numbering-after, symbols_of-later, names_where-append, Extends, statements_of, AreAllLegal, naming_from, naming_of, Storage, AreStored, get-more, get-last, both-counts}
 
 -- ---- names are only appended
 
@@ -26,7 +26,7 @@ naming_of-front n S =
 
 -- if names are appended, symbols are appended
 pub symbols-extend : (old new : Declared) → Extends old new → Extends (declared_symbols old) (declared_symbols new)
-symbols-extend old new p = (declared_symbols p.0, ap declared_symbols p.1 ∙ names_that-append is_symbol_kind old p.0)
+symbols-extend old new p = (declared_symbols p.0, ap declared_symbols p.1 ∙ names_where-append is_symbol_kind old p.0)
 
 -- ---- legal statements
 
@@ -43,7 +43,7 @@ naming-later S (s ∷ T) names all n =
         subst (λ B. IsLegal B s) front (all (suc (length S)) s (ap (λ R. slice_get R (length S)) (sym (append_assoc S (s ∷ []) T)) ∙ get-more (S ++ s ∷ []) T (length S) s (get-last S s)))
 
 pub naming-all : (S : Database) → AreAllLegal S → IsNumberingOf S (naming_of S)
-naming-all S all = naming-later [] S [] all (record { told = λ x. record { label = refl; constant = refl; variable = refl }; symbols = refl; labels = refl })
+naming-all S all = naming-later [] S [] all (record { kinds_match = λ x. record { label = refl; constant = refl; variable = refl }; symbols = refl; labels = refl })
 
 pub stored-naming : (k : Storage) → AreStored k → IsNumberingOf (statements_of k) k.numbering
 stored-naming k stored = subst (IsNumberingOf (statements_of k)) (sym stored.numbered) (naming-all (statements_of k) stored.kept.legal)

@@ -1,5 +1,5 @@
 -- The frame collected from the active statements is that of the definition.
-use Rattle.frame.proofs.Words.{list_any, flat_map, position_or_len, ◌∙◌, ap, sym, arith, inl, inr, ◌≡◌, ℕ, ◌<◌, ◌≤◌, Bool, true, false, cond, ◌&&◌, ◌||◌, List, [], ◌∷◌, ◌++◌, map, filter, length, refl, Some, None, is_some, nat_lt, or-false, cases_lt, Name, name_eq, has_name, Stmt, Database, Expr, active, separated, expr_of, is_essential, is_variable, name_at, code_of, has-at, same_name, lt-list_any, has_name-append, FrameParts, is_mandatory, is_hypothesis, hypotheses, groups, mandatory_groups, has_two_or_more, AreMandatory, is_in_essential, is_needed, required, among, groups_among, fun_ext, stands_at, standing_of, Standing}
+use Rattle.frame.proofs.Words.{list_any, flat_map, position_or_len, ◌∙◌, ap, sym, arith, inl, inr, ◌≡◌, ℕ, ◌<◌, ◌≤◌, Bool, true, false, cond, ◌&&◌, ◌||◌, List, [], ◌∷◌, ◌++◌, map, filter, length, refl, Some, None, is_some, nat_lt, or-false, cases_lt, Name, name_eq, has_name, Stmt, Database, Expr, active, disjoint_names, expr_of, is_essential, is_variable, name_at, code_of, has-at, same_name, lt-list_any, has_name-append, FrameParts, is_mandatory, is_hypothesis, hypotheses, groups, mandatory_groups, has_two_or_more, AreMandatory, is_in_essential, is_needed, required, among, groups_among, fun_ext, as_frame_statement, frame_statements_of, FrameStatement}
 use Rattle.mm_read.specs.declared.stmt.Stmt.TheVariants.{Disj, Float, Ess}
 
 -- testing also for a name that is in the list changes nothing
@@ -20,41 +20,41 @@ pub recorded-more : (u v a r : Bool) → ((u || (v && a)) || (v && r)) ≡ (u ||
 recorded-more u v a r = grind arith
 
 any-standing : (x : Name) (es : List (ℕ × Stmt))
-    → list_any (is_in_essential x) (flat_map (λ p. stands_at p.0 p.1) es) ≡ list_any (λ p. is_essential p.1 && has_name x (expr_of p.1)) es
+    → list_any (is_in_essential x) (flat_map (λ p. as_frame_statement p.0 p.1) es) ≡ list_any (λ p. is_essential p.1 && has_name x (expr_of p.1)) es
 any-standing x [] = refl
 any-standing x ((at, Ess label expr) ∷ es) = ap (λ b. has_name x expr || b) (any-standing x es)
 any-standing x ((at, t) ∷ es) = any-standing x es
 
 -- the mandatory variables are the recorded ones of the assertion, and those of the `$e` that are not yet visited
 pub recorded-start : (S : Database) (s : Stmt) (x : Name)
-    → ((false || (is_variable S x && has_name x (expr_of s))) || (is_variable S x && list_any (is_in_essential x) (standing_of S))) ≡ is_mandatory S s x
+    → ((false || (is_variable S x && has_name x (expr_of s))) || (is_variable S x && list_any (is_in_essential x) (frame_statements_of S))) ≡ is_mandatory S s x
 recorded-start S s x =
-    recorded-more false (is_variable S x) (has_name x (expr_of s)) (list_any (is_in_essential x) (standing_of S))
+    recorded-more false (is_variable S x) (has_name x (expr_of s)) (list_any (is_in_essential x) (frame_statements_of S))
     ∙ ap (λ b. is_variable S x && (has_name x (expr_of s) || b)) (any-standing x (active S))
 
 -- ---- the parts of the frame
 
 required-all : (S : Database) (s : Stmt) (used : List Name) → AreMandatory S s used → (es : List (ℕ × Stmt))
-    → required used (flat_map (λ p. stands_at p.0 p.1) es) ≡ map (λ p. p.0) (filter (λ p. is_hypothesis S s p.1) es)
+    → required used (flat_map (λ p. as_frame_statement p.0 p.1) es) ≡ map (λ p. p.0) (filter (λ p. is_hypothesis S s p.1) es)
 required-all S s used m [] = refl
 required-all S s used m ((at, Float label constant variable) ∷ es) =
-    rw (m variable) (by (is_mandatory S s variable) (filter (λ (e : Standing). is_needed used e.stmt) (flat_map (λ p. stands_at p.0 p.1) es)) (filter (λ (p : ℕ × Stmt). is_hypothesis S s p.1) es) (required-all S s used m es))
+    rw (m variable) (by (is_mandatory S s variable) (filter (λ (e : FrameStatement). is_needed used e.stmt) (flat_map (λ p. as_frame_statement p.0 p.1) es)) (filter (λ (p : ℕ × Stmt). is_hypothesis S s p.1) es) (required-all S s used m es))
   where
-    by : (b : Bool) (xs : List Standing) (ps : List (ℕ × Stmt)) → map (λ (e : Standing). e.at) xs ≡ map (λ (p : ℕ × Stmt). p.0) ps
-        → map (λ (e : Standing). e.at) (cond b (record { at = at; stmt = Float label constant variable } ∷ xs) xs)
+    by : (b : Bool) (xs : List FrameStatement) (ps : List (ℕ × Stmt)) → map (λ (e : FrameStatement). e.at) xs ≡ map (λ (p : ℕ × Stmt). p.0) ps
+        → map (λ (e : FrameStatement). e.at) (cond b (record { at = at; stmt = Float label constant variable } ∷ xs) xs)
         ≡ map (λ (p : ℕ × Stmt). p.0) (cond b ((at, Float label constant variable) ∷ ps) ps)
     by true xs ps h = ap (λ qs. at ∷ qs) h
     by false xs ps h = h
 required-all S s used m ((at, Ess label expr) ∷ es) = ap (λ ps. at ∷ ps) (required-all S s used m es)
 required-all S s used m ((at, t) ∷ es) = required-all S s used m es
 
-pub required-hypotheses : (S : Database) (s : Stmt) (used : List Name) → AreMandatory S s used → required used (standing_of S) ≡ hypotheses S s
+pub required-hypotheses : (S : Database) (s : Stmt) (used : List Name) → AreMandatory S s used → required used (frame_statements_of S) ≡ hypotheses S s
 required-hypotheses S s used m = required-all S s used m (active S)
 
-pub groups-mandatory : (S : Database) (s : Stmt) (used : List Name) → AreMandatory S s used → groups_among used (standing_of S) ≡ mandatory_groups S s
+pub groups-mandatory : (S : Database) (s : Stmt) (used : List Name) → AreMandatory S s used → groups_among used (frame_statements_of S) ≡ mandatory_groups S s
 groups-mandatory S s used m = all (active S) ∙ ap (λ p. filter has_two_or_more (map (filter p) (groups S))) (fun_ext m)
   where
-    all : (es : List (ℕ × Stmt)) → groups_among used (flat_map (λ p. stands_at p.0 p.1) es) ≡ filter has_two_or_more (map (among used) (map (λ p. separated p.1) es))
+    all : (es : List (ℕ × Stmt)) → groups_among used (flat_map (λ p. as_frame_statement p.0 p.1) es) ≡ filter has_two_or_more (map (among used) (map (λ p. disjoint_names p.1) es))
     all [] = refl
     all ((at, Disj names) ∷ es) = ap (λ r. cond (has_two_or_more (among used names)) (among used names ∷ r) r) (all es)
     all ((at, t) ∷ es) = all es

@@ -1,5 +1,5 @@
 -- The search for an active `$d` that has two variables, and the use of one that is known to have both.
-use Rattle.frame.proofs.Words.{◌≡◌, ◌∙◌, ap, sym, subst, arith, refl, ℕ, suc, ◌+◌, ◌-◌, ◌<◌, ◌≤◌, Bool, true, false, cond, not, ◌||◌, ◌&&◌, List, [], ◌∷◌, length, map, filter, take, drop, slice_get, Some, list_any, list_any-map, has_name, name_at, before, is_pair, is_active, active, separated, stays_open, stmt_of, names_in, labels_in, statements_of, is_disj, Stmt, Storage, Entry, Kind, Disj, In, IsPlain, Name, name_eq, Expr, stmt_by, history, stack_at, AreSearched, IsLeft, are_pair, AreOfKind, IsOfKind, has_code}
+use Rattle.frame.proofs.Words.{◌≡◌, ◌∙◌, ap, sym, subst, arith, refl, ℕ, suc, ◌+◌, ◌-◌, ◌<◌, ◌≤◌, Bool, true, false, cond, not, ◌||◌, ◌&&◌, List, [], ◌∷◌, length, map, filter, take, drop, slice_get, Some, list_any, list_any-map, has_name, name_at, before, is_pair, is_active, active, disjoint_names, stays_open, stmt_of, names_in, labels_in, statements_of, is_disj, Stmt, Storage, Entry, Kind, Disj, In, IsPlain, Name, name_eq, Expr, stmt_by, history, stack_at, AreSearched, IsLeft, are_pair, AreOfKind, IsOfKind, has_code}
 use Rattle.mm_read.specs.declared.stmt.Stmt.TheVariants as stmt
 use Rattle.frame.proofs.ActivePositions.{members-active}
 use Rattle.frame.proofs.BlockWalkLemmas.{active-stays, get-take}
@@ -106,16 +106,16 @@ known-pair k at x y p s o lt stands has_x has_y =
     let T = take m (statements_of k) in
     let X = name_at (names_in k) x in
     let Y = name_at (names_in k) y in
-    let q = λ (t : Stmt). has_name X (separated t) && has_name Y (separated t) in
+    let q = λ (t : Stmt). has_name X (disjoint_names t) && has_name Y (disjoint_names t) in
     let there : slice_get T (p - 1) ≡ Some o.statement = get-take (p - 1) m (statements_of k) (omega (arith, lt, one)) ∙ o.stands in
-    let x_named = sym (code-name k s.stored s.distinct m is_disj separated disjoint_lists x s.first (p, o.statement) there o.of_kind) ∙ has_x in
-    let y_named = sym (code-name k s.stored s.distinct m is_disj separated disjoint_lists y s.second (p, o.statement) there o.of_kind) ∙ has_y in
-    let passes : q o.statement ≡ true = ap (λ b. b && has_name Y (separated o.statement)) x_named ∙ y_named in
+    let x_named = sym (code-name k s.stored s.distinct m is_disj disjoint_names disjoint_lists x s.first (p, o.statement) there o.of_kind) ∙ has_x in
+    let y_named = sym (code-name k s.stored s.distinct m is_disj disjoint_names disjoint_lists y s.second (p, o.statement) there o.of_kind) ∙ has_y in
+    let passes : q o.statement ≡ true = ap (λ b. b && has_name Y (disjoint_names o.statement)) x_named ∙ y_named in
     let up : suc (p - 1) ≡ p = omega (arith, one) in
     let stays : stays_open 0 (drop (suc (p - 1)) T) ≡ true = ap (λ n. stays_open 0 (drop n T)) up ∙ (sym (active-stays (statements_of k) p at one lt) ∙ stands) in
     let whole = cut-here T (p - 1) o.statement there in
     let among = members-active q 1 (take (p - 1) T) o.statement (drop (suc (p - 1)) T) stays passes in
     let any : list_any (λ (r : ℕ × Stmt). q r.1) (active T) ≡ true = in-any q _ (active T) (subst (λ S. In (1 + length (take (p - 1) T)) (map (λ r. r.0) (filter (λ (r : ℕ × Stmt). q r.1) (active S)))) (sym whole) among) in
     let differ : name_eq X Y ≡ false = sym (same-number (names_in k) x y s.distinct s.first s.second) ∙ s.differ in
-    ap (λ b. not b && list_any (λ names. has_name X names && has_name Y names) (map (λ (r : ℕ × Stmt). separated r.1) (active T))) differ
-    ∙ (sym (list_any-map (λ (r : ℕ × Stmt). separated r.1) (λ names. has_name X names && has_name Y names) (active T)) ∙ any)
+    ap (λ b. not b && list_any (λ names. has_name X names && has_name Y names) (map (λ (r : ℕ × Stmt). disjoint_names r.1) (active T))) differ
+    ∙ (sym (list_any-map (λ (r : ℕ × Stmt). disjoint_names r.1) (λ names. has_name X names && has_name Y names) (active T)) ∙ any)

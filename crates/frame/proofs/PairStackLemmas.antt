@@ -1,5 +1,5 @@
 -- Pairs of variables in an active `$d`, and active variables, by the stacks of symbols.
-use Rattle.frame.proofs.Words.{◌≡◌, ◌∙◌, ap, sym, subst, arith, refl, ℕ, suc, ◌+◌, ◌-◌, ◌<◌, ◌≤◌, Bool, true, false, cond, not, ◌||◌, ◌&&◌, ◌==◌, nat_eq, List, [], ◌∷◌, ◌++◌, length, map, filter, take, slice_get, slice_get_within, Option, Some, None, length-take, same_Some, list_any, or-false, append_assoc, length-append, take-get, and_comm, list_any-map, AllBelow, AreBelow, Name, name_eq, has_name, name_at, decode, AreDistinct, Stmt, Database, Entry, Storage, stays_open, active_from, actives, actives_from, is_disj, is_var, is_variable, separated, variables, is_pair, groups, names_in, labels_in, statements_of, stmt_of, AreStored, history, stack_at, symbols_at, option_symbols, has_code, having_after, positions_with, IsOfKind, AreOfKind, AreTogether, have_both}
+use Rattle.frame.proofs.Words.{◌≡◌, ◌∙◌, ap, sym, subst, arith, refl, ℕ, suc, ◌+◌, ◌-◌, ◌<◌, ◌≤◌, Bool, true, false, cond, not, ◌||◌, ◌&&◌, ◌==◌, nat_eq, List, [], ◌∷◌, ◌++◌, length, map, filter, take, slice_get, slice_get_within, Option, Some, None, length-take, same_Some, list_any, or-false, append_assoc, length-append, take-get, and_comm, list_any-map, AllBelow, AreBelow, Name, name_eq, has_name, name_at, decode, AreDistinct, Stmt, Database, Entry, Storage, stays_open, active_from, actives, actives_from, is_disj, is_var, is_variable, disjoint_names, variables, is_pair, groups, names_in, labels_in, statements_of, stmt_of, AreStored, history, stack_at, symbols_at, option_symbols, has_code, having_after, positions_with, IsOfKind, AreOfKind, AreTogether, have_both}
 use Rattle.frame.proofs.FoundByNumber.{map-back}
 use Rattle.frame.proofs.LegalAfter.{stands-at}
 use Rattle.frame.proofs.StoredOneMore.{numbered-at}
@@ -115,8 +115,8 @@ module _ (k : Storage) (stored : AreStored k) (d : AreDistinct (names_in k)) (m 
       let both : list_any (λ p. has_code k.entries y p) st ≡ list_any (λ names. has_name X names && has_name Y names) (groups T) =
       ap (list_any (λ p. has_code k.entries y p)) st_is
       ∙ (positions_with-any (λ p. has_code k.entries y p) k.entries x (actives is_disj T)
-      ∙ (same-any is_disj T (λ p. has_code k.entries x p.0 && has_code k.entries y p.0) (λ p. has_name X (separated p.1) && has_name Y (separated p.1)) (actives is_disj T) (there is_disj)
-      (λ p s o. ap (λ t. t && has_code k.entries y p.0) (code-name is_disj separated disjoint_lists x a p s o) ∙ ap (λ t. has_name X (separated p.1) && t) (code-name is_disj separated disjoint_lists y b p s o))
+      ∙ (same-any is_disj T (λ p. has_code k.entries x p.0 && has_code k.entries y p.0) (λ p. has_name X (disjoint_names p.1) && has_name Y (disjoint_names p.1)) (actives is_disj T) (there is_disj)
+      (λ p s o. ap (λ t. t && has_code k.entries y p.0) (code-name is_disj disjoint_names disjoint_lists x a p s o) ∙ ap (λ t. has_name X (disjoint_names p.1) && t) (code-name is_disj disjoint_names disjoint_lists y b p s o))
       ∙ sym (groups-any (λ names. has_name X names && has_name Y names) T refl))) in
       ap (λ t. not t && list_any (λ names. has_name X names && has_name Y names) (groups T)) (sym (same-number N x y d a b)) ∙ ap (λ t. not (nat_eq x y) && t) (sym both)
 

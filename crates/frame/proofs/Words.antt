@@ -68,19 +68,19 @@ pub use Rattle.scope.proofs.GoingBackLemmas.{all-has}
 pub use Rattle.scope.proofs.KindCountLemmas.{both-counts}
 pub use Rattle.scope.proofs.NamesLemmas.{active-was, labels_of-append, symbols-distinct, symbols_of-append, symbols_of-later}
 pub use Rattle.scope.proofs.SortsLemmas.{is_variable-active, was_symbol-either}
-pub use Rattle.scope.proofs.SymbolNameLemmas.{AreDone, names_that-append}
-pub use Rattle.scope.specs.Active.{active, active_from, bare, before, constants, count, expr_of, has_float, has_label, is_active, is_assertion, is_close, is_constant, is_essential, is_float_of, is_open, is_variable, label_of, separated, stays_open, stmt_at, variables, was_label, was_symbol, was_variable}
+pub use Rattle.scope.proofs.SymbolNameLemmas.{AreDone, names_where-append}
+pub use Rattle.scope.specs.Active.{active, active_from, bare, before, constants, count, expr_of, has_float, has_label, is_active, is_assertion, is_close, is_constant, is_essential, is_float_of, is_open, is_variable, label_of, disjoint_names, stays_open, stmt_at, variables, was_label, was_symbol, was_variable}
 pub use Rattle.scope.specs.Declares.{IsRecordedBy, declared_with}
 pub use Rattle.scope.specs.Kinds.{Declared, IsNumberOf, IsNumberingOf, MatchesKind, MatchesKinds, declared_labels, declared_symbols, is_constant_kind, is_symbol_kind, is_variable_kind, kind_in}
 pub use Rattle.scope.specs.Laws.{before_open, has_open}
 pub use Rattle.scope.specs.Legal.{IsLegal, is_fresh_label, keeps, starts_with_constant}
-pub use Rattle.scope.specs.Standing.{standing_of, stands_at}
+pub use Rattle.scope.specs.FrameStatement.{frame_statements_of, as_frame_statement}
 pub use Rattle.scope.specs.Stored.SymbolNumbers.{AreRecorded}
 pub use Rattle.scope.specs.Symbols.{AreNumbers, AreVariableNumbers, labels_of, option_list, symbols_after, symbols_by, symbols_from, symbols_in, symbols_of}
 pub use Rattle.scope.specs.declared.numbering.NameKind.{NameKind}
 pub use Rattle.scope.specs.declared.numbering.NameKind.TheVariants.{Constant}
 pub use Rattle.scope.specs.declared.rule.Rule.TheVariants.{G1, G10, G2, G3, G4, G5, G6, G7, G8, G9}
-pub use Rattle.scope.specs.declared.standing.Standing.{Standing}
+pub use Rattle.scope.specs.declared.frame_statements.FrameStatement.{FrameStatement}
 pub use Rattle.std.proofs.Common.{Bool, Bor, Err, IfNone, IfSome, IsTrue, List, None, Ok, OnErr, OnOk, Option, Result, Some, [], add-zero, ap, append-nil, append_assoc, arith, cond, drop, eqb, false, filter, get_or, get_or-set_same, get_or-take, if◌then◌else◌, inl, inr, is_some, le-leb, length, length-append, length-drop, length-set, length-take, length-take-le, lt-ltb, map, nat_cmp, nat_eq, nat_le, nat_lt, not, option_map, refl, replicate, reverse, rules, slice_get, slice_index_or, slice_range, slice_set, subst, suc, sym, take, take-append-drop, take-take, take_all, true, true≢false, zero, ℕ, ⊎_elim, ◌%◌, ◌&&◌, ◌++◌, ◌+◌, ◌-◌, ◌<◌, ◌==◌, ◌||◌, ◌∙◌, ◌∷◌, ◌≡◌, ◌≢◌, ◌≤◌, ◌⊎◌}
 pub use Rattle.std.proofs.Math.Bool.{and-false, and-or_distrib_left, and_comm, or-false, or-true, or_comm}
 pub use Rattle.std.proofs.Math.ListN.{get_or-append}

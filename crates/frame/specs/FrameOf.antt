@@ -1,6 +1,6 @@
 -- The frame of an assertion after the statements S.
 use Rattle.std.specs.Prelude.{◌≡◌, ℕ, Bool, true, false, not, ◌&&◌, ◌||◌, List, [], ◌∷◌, map, filter, Some, IsTrue}
-use Rattle.frame.specs.Words.{list_any, Name, name_eq, has_name, Stmt, Database, active, stmt_at, separated, expr_of, is_essential, is_variable, is_assertion}
+use Rattle.frame.specs.Words.{list_any, Name, name_eq, has_name, Stmt, Database, active, stmt_at, disjoint_names, expr_of, is_essential, is_variable, is_assertion}
 use Rattle.mm_read.specs.declared.stmt.Stmt.TheVariants.{Float, Ess}
 use Rattle.frame.specs.Parts.{FrameParts}
 
@@ -27,7 +27,7 @@ together groups x y = not (name_eq x y) && list_any (λ names. has_name x names 
 
 -- the lists of the active `$d`
 abbrev pub groups : Database → List (List Name)
-groups S = map (λ p. separated p.1) (active S)
+groups S = map (λ p. disjoint_names p.1) (active S)
 
 -- x and y are different and stand together in an active `$d`
 abbrev pub is_pair : Database → Name → Name → Bool

@@ -16,11 +16,11 @@ pub use Rattle.mm_lex.specs.Alphabet.{Name, has_name, name_eq}
 pub use Rattle.mm_read.specs.Statements.{Database, Expr}
 pub use Rattle.mm_read.specs.declared.stmt.Stmt.{Stmt}
 pub use Rattle.names.specs.Codes.{AreDistinct, decode, name_at}
-pub use Rattle.scope.specs.Active.{active, active_from, before, expr_of, is_active, is_assertion, is_close, is_essential, is_open, is_variable, label_of, separated, stays_open, stmt_at}
+pub use Rattle.scope.specs.Active.{active, active_from, before, expr_of, is_active, is_assertion, is_close, is_essential, is_open, is_variable, label_of, disjoint_names, stays_open, stmt_at}
 pub use Rattle.scope.specs.Declares.{declared_with}
 pub use Rattle.scope.specs.Kinds.{Declared, declared_labels, declared_symbols, is_constant_kind, is_variable_kind}
 pub use Rattle.scope.specs.Legal.{IsLegal}
 pub use Rattle.scope.specs.Symbols.{labels_of, symbols_of}
 pub use Rattle.scope.specs.declared.numbering.NameKind.{NameKind}
-pub use Rattle.scope.specs.declared.standing.Standing.{Standing}
+pub use Rattle.scope.specs.declared.frame_statements.FrameStatement.{FrameStatement}
 pub use Rattle.std.specs.List.{All, list_all, list_any}

@@ -65,7 +65,7 @@ fn record_variable(hypothesis: Hypothesis, found: &mut Stack) -> Result<(), Allo
     let Hypothesis::Float(variable) = hypothesis else {
         return Ok(());
     };
-    if found.place(variable).is_some() {
+    if found.index_of(variable).is_some() {
         return Ok(());
     }
     found.push(variable)
@@ -95,7 +95,7 @@ fn add_group(
 {
     let from = places.len();
     for code in codes {
-        if variables.place(*code).is_some() {
+        if variables.index_of(*code).is_some() {
             places.push(*code)?;
         }
     }

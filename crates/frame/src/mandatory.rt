@@ -30,7 +30,7 @@ fn add_float(
     ensures looked { OnOk result (AreLooked storage.now.entries (statements_of storage.now) looked.new list.new.items) }
 {
     let float = storage.symbols[code as usize].float;
-    if float == 0 || looked.place(code).is_some() {
+    if float == 0 || looked.index_of(code).is_some() {
         return Ok(());
     }
     looked.push(code)?;

@@ -6,7 +6,7 @@ use crate::assertion::Frame;
 use mm_lex::Words;
 use mm_read::Stmt;
 use names::NameTable;
-use scope::{Scope, Standing};
+use scope::{FrameStatement, Scope};
 use smallvec::SmallVec;
 use std::alloc::{AllocError, Global};
 
@@ -19,8 +19,8 @@ pub fn frame(alloc: Global, scope: &Scope, stmt: &Stmt) -> Result<Frame, AllocEr
     ensures { IfOk result (λ f. f ≡ frame_of scope.now.statements stmt.now) }
 {
     let used = mandatory_variables(alloc, scope, stmt)?;
-    let hypotheses = mandatory_hypotheses(alloc, scope.standing(), &used)?;
-    let groups = groups(alloc, scope.standing(), &used)?;
+    let hypotheses = mandatory_hypotheses(alloc, scope.frame_statements(), &used)?;
+    let groups = groups(alloc, scope.frame_statements(), &used)?;
     let conclusion = expression(stmt).copy(alloc)?;
     Ok(Frame {
         hypotheses,
@@ -47,7 +47,7 @@ fn mandatory_variables(alloc: Global, scope: &Scope, stmt: &Stmt) -> Result<Name
 {
     let mut used = NameTable::new(alloc);
     record_variables(alloc, scope, &mut used, expression(stmt))?;
-    for entry in scope.standing().iter() {
+    for entry in scope.frame_statements().iter() {
         if let Stmt::Ess { expr, .. } = &entry.stmt {
             record_variables(alloc, scope, &mut used, expr)?;
         }
@@ -83,13 +83,13 @@ fn record_name(alloc: Global, used: &mut NameTable, name: &[u8]) -> Result<(), A
 /// Returns the positions of the active `$e`, and of the active `$f` of the used variables.
 fn mandatory_hypotheses(
     alloc: Global,
-    standing: &[Standing],
+    frame_statements: &[FrameStatement],
     used: &NameTable,
 ) -> Result<SmallVec<usize, 8>, AllocError>
-    ensures { IfOk result (λ list. list.items ≡ required used.now standing.now) }
+    ensures { IfOk result (λ list. list.items ≡ required used.now frame_statements.now) }
 {
     let mut list = SmallVec::new(alloc);
-    for entry in standing.iter() {
+    for entry in frame_statements.iter() {
         if is_required(used, &entry.stmt) {
             list.push(entry.at)?;
         }
@@ -115,11 +115,15 @@ fn has(used: &NameTable, name: &[u8]) -> bool
 }
 
 /// Returns for each active `$d` those of its variables that are used, if they are two or more.
-fn groups(alloc: Global, standing: &[Standing], used: &NameTable) -> Result<Vec<Words>, AllocError>
-    ensures { IfOk result (λ groups. groups.items ≡ groups_among used.now standing.now) }
+fn groups(
+    alloc: Global,
+    frame_statements: &[FrameStatement],
+    used: &NameTable,
+) -> Result<Vec<Words>, AllocError>
+    ensures { IfOk result (λ groups. groups.items ≡ groups_among used.now frame_statements.now) }
 {
     let mut groups = Vec::new(alloc);
-    for entry in standing.iter() {
+    for entry in frame_statements.iter() {
         if let Stmt::Disj(names) = &entry.stmt {
             let group = group(alloc, used, names)?;
             if group.len() > 1 {

@@ -1,5 +1,5 @@
 -- A text that is judged after given statements, under a given charter, has at most one verdict.
-use Rattle.library.proofs.Words.{◌≡◌, ◌≢◌, ℕ, zero, suc, ◌+◌, ◌-◌, ◌<◌, ◌≤◌, true, false, IsTrue, IsFalse, List, ◌++◌, length, Option, Some, None, refl, sym, ◌∙◌, ap, subst, arith, Name, Stmt, Database, tokens_of, Reads, HasTokens, IsNoDatabase, BrokenRule, proof_of, first_broken, is_unfinished, Submission, Cause, TooLong, Shape, NotChartered, Rule, Proof, Unfinished, Verdict, Added, Refused, first_forbidden, Good, IsReadable, IsAllowed, IsFirstUnproved, IsFault, IsCause, LexFault, IsLexFault, IsClean-no_fault, AreTokens-no_comment_fault, one_statement_list, MOST_BYTES, some-same, same_tokens}
+use Rattle.library.proofs.Words.{◌≡◌, ◌≢◌, ℕ, zero, suc, ◌+◌, ◌-◌, ◌<◌, ◌≤◌, true, false, IsTrue, IsFalse, List, ◌++◌, length, Option, Some, None, refl, sym, ◌∙◌, ap, subst, arith, Name, Stmt, Database, tokens_of, Reads, HasTokens, IsNoDatabase, BrokenRule, proof_of, first_broken, is_unfinished, Submission, Cause, TooLong, Shape, NotChartered, Rule, Proof, Unfinished, Verdict, Added, Refused, first_forbidden, Good, IsReadable, IsAllowed, IsFirstUnproved, IsFault, IsCause, LexFault, IsLexFault, HasOnlyAllowedBytes-no_fault, AreTokens-no_comment_fault, one_statement_list, MOST_BYTES, some-same, same_tokens}
 use Rattle.mm_lex.specs.declared.fault.LexFault.TheVariants as lex
 use Rattle.library.specs.declared.verdict.Cause.TheVariants.{Text}
 use Rattle.library.proofs.GoodLemmas.{provable-after}
@@ -11,7 +11,7 @@ pub one-reading : (text : List ℕ) (S T : Database) → Reads text S → Reads 
 one-reading text S T p q = one_statement_list S T p.shaped q.shaped (same_tokens text (tokens_of S) (tokens_of T) p.tokens q.tokens)
 
 fault-or-tokens : (text : List ℕ) (tokens : List Name) (fault : LexFault) → IsLexFault text fault → fault ≢ lex.Memory → HasTokens text tokens → ⊥
-fault-or-tokens text tokens (lex.Text offset) is other has = IsClean-no_fault text offset has.1.0 is
+fault-or-tokens text tokens (lex.Text offset) is other has = HasOnlyAllowedBytes-no_fault text offset has.1.0 is
 fault-or-tokens text tokens (lex.Comment offset) is other has = AreTokens-no_comment_fault text has.0 offset has.1 is
 fault-or-tokens text tokens lex.Memory is other has = other refl
 

@@ -1,5 +1,5 @@
 -- Whether a compressed proof cites a marked statement, by its numbers and a test of each of its labels.
-use Rattle.library.proofs.Words.{◌≡◌, ◌↔◌, ℕ, zero, suc, ◌+◌, ◌-◌, ◌<◌, ◌≤◌, Bool, true, false, ◌||◌, if◌then◌else◌, List, [], ◌∷◌, ◌++◌, length, map, get_or, slice_index_or, take, drop, Option, Some, None, option_map, slice_get, refl, list_any, true≢false, length-append, sym, ◌∙◌, ap, subst, arith, append_assoc, inl, inr, slice_get-map, bytes_eq-Decides, map-append, length-map, length-drop, take_more, drop_more, get_or_append_left, append-nil, both_ways, true_from_ne_false, cases_lt, Name, name_eq, has_name, Stmt, Database, bare, bares, before, stmt_at, proof_of, hypotheses, HasLabelsOnce, IsPosition, Item, Cite, Recall, item_of, items_of, finish, Writes, WritesCompressed, WritesPacked, WritesPlain, is_compressed, label_or_none, mandatory_labels, IsProvable, Good, HasItems, is_marked, place_of, AreLabelMarks, ItemsCiteMarked, ProofCitesMarked, listed_in, ListsNone, ListsSome, get_or-map, get_or_from_slice_get, slice_get_within, get_or-append_right, take-add, cases_Bool, map-map, IsHeading, share_label, positions-end, apart-written, shared-none, item-cite, item-recall}
+use Rattle.library.proofs.Words.{◌≡◌, ◌↔◌, ℕ, zero, suc, ◌+◌, ◌-◌, ◌<◌, ◌≤◌, Bool, true, false, ◌||◌, if◌then◌else◌, List, [], ◌∷◌, ◌++◌, length, map, get_or, slice_index_or, take, drop, Option, Some, None, option_map, slice_get, refl, list_any, true≢false, length-append, sym, ◌∙◌, ap, subst, arith, append_assoc, inl, inr, slice_get-map, bytes_eq-Decides, map-append, length-map, length-drop, take_more, drop_more, get_or_append_left, append-nil, both_ways, true_from_ne_false, cases_lt, Name, name_eq, has_name, Stmt, Database, bare, bares, before, stmt_at, proof_of, hypotheses, HasLabelsOnce, IsPosition, Item, Cite, Recall, item_of, items_of, finish, Writes, WritesCompressed, WritesFinishedCompressed, WritesFinishedNormal, is_compressed, label_or_none, mandatory_labels, IsProvable, Good, HasItems, is_marked, cited_position, AreLabelMarks, ItemsCiteMarked, ProofCitesMarked, listed_in, ListsNone, ListsSome, get_or-map, get_or_from_slice_get, slice_get_within, get_or-append_right, take-add, cases_Bool, map-map, IsHeading, share_label, positions-end, apart-written, shared-none, item-cite, item-recall}
 use Rattle.library.proofs.FrontLemmas.{AreHypothesesAt, hypotheses-at}
 use Rattle.library.proofs.UseMarkLemmas.{meets-items}
 use Rattle.library.proofs.MayCiteLemmas.{kind-labelled, cited-label}
@@ -9,12 +9,12 @@ use Rattle.library.proofs.CitedByLemmas.{proof-meets}
 -- ---- the tests of labels
 
 module _ (S : Database) (marks : List Bool) where
-  wanted-end : (labels : List Name) (wanted : List Bool) (label : Name) (o : Option ℕ) → AreLabelMarks S labels marks wanted → IsPosition S label o → AreLabelMarks S (labels ++ label ∷ []) marks (wanted ++ is_marked marks o ∷ [])
-  wanted-end labels wanted label o w is =
+  label_marks-end : (labels : List Name) (label_marks : List Bool) (label : Name) (o : Option ℕ) → AreLabelMarks S labels marks label_marks → IsPosition S label o → AreLabelMarks S (labels ++ label ∷ []) marks (label_marks ++ is_marked marks o ∷ [])
+  label_marks-end labels label_marks label o w is =
       record {
-        places = w.places ++ o ∷ [];
-        named = positions-end S labels label w.places o w.named is;
-        tests = ap (λ bs. bs ++ is_marked marks o ∷ []) w.tests ∙ sym (map-append (is_marked marks) w.places (o ∷ []));
+        label_positions = w.label_positions ++ o ∷ [];
+        named = positions-end S labels label w.label_positions o w.named is;
+        tests = ap (λ bs. bs ++ is_marked marks o ∷ []) w.tests ∙ sym (map-append (is_marked marks) w.label_positions (o ∷ []));
       }
 
   named-all : (ps : List ℕ) → AreHypothesesAt S ps → (k : ℕ) → k < length (map (λ i. label_or_none (stmt_at S i)) ps) → IsPosition S (get_or (map (λ i. label_or_none (stmt_at S i)) ps) k []) (get_or (map (λ i. Some i) ps) k None)
@@ -27,22 +27,22 @@ module _ (S : Database) (marks : List Bool) where
   hypotheses-wanted : (ps : List ℕ) → AreHypothesesAt S ps → AreLabelMarks S (map (λ i. label_or_none (stmt_at S i)) ps) marks (map (λ p. is_marked marks (Some p)) ps)
   hypotheses-wanted ps h =
       record {
-        places = map (λ i. Some i) ps;
+        label_positions = map (λ i. Some i) ps;
         named = record { count = length-map ps (λ i. Some i) ∙ sym (length-map ps (λ i. label_or_none (stmt_at S i))); each = named-all ps h };
         tests = sym (map-map (is_marked marks) (λ i. Some i) ps);
       }
 
   -- the tests of the mandatory hypotheses of the assertion s
-  pub mandatory-wanted : (at : ℕ) (s : Stmt) (positions : List ℕ) (wanted : List Bool) → positions ≡ hypotheses (before S at) s → wanted ≡ map (λ p. is_marked marks (Some p)) positions
-      → AreLabelMarks S (mandatory_labels S at s) marks wanted
-  mandatory-wanted at s positions wanted are is =
+  pub mandatory-wanted : (at : ℕ) (s : Stmt) (positions : List ℕ) (label_marks : List Bool) → positions ≡ hypotheses (before S at) s → label_marks ≡ map (λ p. is_marked marks (Some p)) positions
+      → AreLabelMarks S (mandatory_labels S at s) marks label_marks
+  mandatory-wanted at s positions label_marks are is =
       subst (AreLabelMarks S (mandatory_labels S at s) marks) (sym (is ∙ ap (map (λ p. is_marked marks (Some p))) are))
       (hypotheses-wanted (hypotheses (before S at) s) (hypotheses-at S at s))
 
   -- the first n of the words are tested
-  pub record AreTested (words left : List Name) (n : ℕ) (old wanted : List Bool) : Type 0 where
+  pub record AreTested (words left : List Name) (n : ℕ) (old label_marks : List Bool) : Type 0 where
     pub rest : drop n words ≡ left
-    pub tests : (front : List Name) → AreLabelMarks S front marks old → AreLabelMarks S (front ++ take n words) marks wanted
+    pub tests : (front : List Name) → AreLabelMarks S front marks old → AreLabelMarks S (front ++ take n words) marks label_marks
 
   pub untested : (words : List Name) (old none : List Bool) → none ≡ [] → AreTested words words 0 old (old ++ none)
   untested words old none is = record {
@@ -50,17 +50,17 @@ module _ (S : Database) (marks : List Bool) where
     tests = λ front w. subst (λ ls. AreLabelMarks S ls marks (old ++ none)) (sym (append-nil front)) (subst (AreLabelMarks S front marks) (sym (ap (λ ts. old ++ ts) is ∙ append-nil old)) w);
   }
 
-  module _ (words left : List Name) (n : ℕ) (old wanted : List Bool) (tested : AreTested words left n old wanted) (within : n < length words) where
+  module _ (words left : List Name) (n : ℕ) (old label_marks : List Bool) (tested : AreTested words left n old label_marks) (within : n < length words) where
     pub word-left : left ≡ [] → ⊥
     word-left none = let l = length-drop n words in let e = ap length (tested.rest ∙ none) in omega (arith, within, l, e)
 
-    pub one-tested : (label : Name) (rest : List Name) (o : Option ℕ) (test : Bool) (more : List Bool) → left ≡ label ∷ rest → IsPosition S label o → test ≡ is_marked marks o → more ≡ wanted ++ test ∷ [] → AreTested words rest (n + 1) old more
+    pub one-tested : (label : Name) (rest : List Name) (o : Option ℕ) (test : Bool) (more : List Bool) → left ≡ label ∷ rest → IsPosition S label o → test ≡ is_marked marks o → more ≡ label_marks ++ test ∷ [] → AreTested words rest (n + 1) old more
     one-tested label rest o test more first is same grown =
         record {
           rest = let e = at_drop in let after : drop (n + 1) words ≡ rest = cc in after;
           tests = λ front w.
               subst (λ ls. AreLabelMarks S ls marks more) (append_assoc front (take n words) (label ∷ []) ∙ ap (λ ls. front ++ ls) (sym taken))
-              (subst (AreLabelMarks S ((front ++ take n words) ++ label ∷ []) marks) (sym (grown ∙ ap (λ b. wanted ++ b ∷ []) same)) (wanted-end (front ++ take n words) wanted label o (tested.tests front w) is));
+              (subst (AreLabelMarks S ((front ++ take n words) ++ label ∷ []) marks) (sym (grown ∙ ap (λ b. label_marks ++ b ∷ []) same)) (label_marks-end (front ++ take n words) label_marks label o (tested.tests front w) is));
         }
       where
         at_drop : slice_index_or words n [] ∷ drop (n + 1) words ≡ label ∷ rest
@@ -71,40 +71,40 @@ module _ (S : Database) (marks : List Bool) where
 
 -- ---- the statements that the numbers cite
 
-number-tested : (marks wanted : List Bool) (places : List (Option ℕ)) → wanted ≡ map (is_marked marks) places → (n : ℕ) → is_marked wanted (Some n) ≡ is_marked marks (place_of places n)
-number-tested marks wanted places tests zero = refl
-number-tested marks wanted places tests (suc n) = ap (λ bs. get_or bs n false) tests ∙ get_or-map (is_marked marks) places n None
+number-tested : (marks label_marks : List Bool) (label_positions : List (Option ℕ)) → label_marks ≡ map (is_marked marks) label_positions → (n : ℕ) → is_marked label_marks (Some n) ≡ is_marked marks (cited_position label_positions n)
+number-tested marks label_marks label_positions tests zero = refl
+number-tested marks label_marks label_positions tests (suc n) = ap (λ bs. get_or bs n false) tests ∙ get_or-map (is_marked marks) label_positions n None
 
 -- the test of a number is that of its mandatory hypothesis, or that of a label listed after these
-pub wanted-first : (marks : List Bool) (positions : List ℕ) (wanted : List Bool) (n position : ℕ) → (n ≡ 0 → ⊥) → slice_get positions (n - 1) ≡ Some position
-    → is_marked (map (λ p. is_marked marks (Some p)) positions ++ wanted) (Some n) ≡ is_marked marks (Some position)
-wanted-first marks positions wanted zero position n_is here = absurd (n_is refl)
-wanted-first marks positions wanted (suc k) position n_is here =
+pub label_marks-first : (marks : List Bool) (positions : List ℕ) (label_marks : List Bool) (n position : ℕ) → (n ≡ 0 → ⊥) → slice_get positions (n - 1) ≡ Some position
+    → is_marked (map (λ p. is_marked marks (Some p)) positions ++ label_marks) (Some n) ≡ is_marked marks (Some position)
+label_marks-first marks positions label_marks zero position n_is here = absurd (n_is refl)
+label_marks-first marks positions label_marks (suc k) position n_is here =
     let k_is : suc k - 1 ≡ k = omega arith in
     let there : slice_get positions k ≡ Some position = ap (slice_get positions) (sym k_is) ∙ here in
     let within = slice_get_within positions k position there in
     let test = λ (p : ℕ). is_marked marks (Some p) in
-    get_or_append_left (map test positions) wanted false k (let l = length-map positions test in omega (arith, within, l))
+    get_or_append_left (map test positions) label_marks false k (let l = length-map positions test in omega (arith, within, l))
     ∙ (get_or_from_slice_get (map test positions) k (test position) false (slice_get-map test positions k ∙ ap (option_map test) there))
 
-pub wanted-next : (marks : List Bool) (positions : List ℕ) (wanted : List Bool) (n many : ℕ) → many ≡ length positions → many < n
-    → is_marked (map (λ p. is_marked marks (Some p)) positions ++ wanted) (Some n) ≡ is_marked wanted (Some (n - many))
-wanted-next marks positions wanted zero many is above = absurd (omega (arith, above))
-wanted-next marks positions wanted (suc k) many is above =
+pub label_marks-next : (marks : List Bool) (positions : List ℕ) (label_marks : List Bool) (n many : ℕ) → many ≡ length positions → many < n
+    → is_marked (map (λ p. is_marked marks (Some p)) positions ++ label_marks) (Some n) ≡ is_marked label_marks (Some (n - many))
+label_marks-next marks positions label_marks zero many is above = absurd (omega (arith, above))
+label_marks-next marks positions label_marks (suc k) many is above =
     let test = λ (p : ℕ). is_marked marks (Some p) in
     let long : length (map test positions) ≡ many = length-map positions test ∙ sym is in
     let after : suc k - many ≡ suc (k - many) = omega (arith, above) in
-    get_or-append_right (map test positions) wanted many k false long (omega (arith, above)) ∙ sym (ap (λ i. is_marked wanted (Some i)) after)
+    get_or-append_right (map test positions) label_marks many k false long (omega (arith, above)) ∙ sym (ap (λ i. is_marked label_marks (Some i)) after)
 
 any-same : (f g : ℕ → Bool) → ((n : ℕ) → f n ≡ g n) → (ns : List ℕ) → list_any f ns ≡ list_any g ns
 any-same f g same [] = refl
 any-same f g same (n ∷ ns) = ap (λ b. b || list_any f ns) (same n) ∙ ap (λ b. g n || b) (any-same f g same ns)
 
-pub tested-meets : (S : Database) (labels : List Name) (marks wanted : List Bool) (numbers : List ℕ) (found : Bool) → HasLabelsOnce S → AreLabelMarks S labels marks wanted → found ≡ list_any (λ n. is_marked wanted (Some n)) numbers
+pub tested-meets : (S : Database) (labels : List Name) (marks label_marks : List Bool) (numbers : List ℕ) (found : Bool) → HasLabelsOnce S → AreLabelMarks S labels marks label_marks → found ≡ list_any (λ n. is_marked label_marks (Some n)) numbers
     → found ≡ true ↔ ItemsCiteMarked S (items_of labels numbers) marks
-tested-meets S labels marks wanted numbers found once w is =
-    meets-items S labels w.places w.named once numbers (items_of labels numbers) marks found refl
-    (is ∙ any-same (λ n. is_marked wanted (Some n)) (λ n. is_marked marks (place_of w.places n)) (number-tested marks wanted w.places w.tests) numbers)
+tested-meets S labels marks label_marks numbers found once w is =
+    meets-items S labels w.label_positions w.named once numbers (items_of labels numbers) marks found refl
+    (is ∙ any-same (λ n. is_marked label_marks (Some n)) (λ n. is_marked marks (cited_position w.label_positions n)) (number-tested marks label_marks w.label_positions w.tests) numbers)
 
 -- a number that cites a label also cites it when more labels follow
 item-front : (labels rest : List Name) (n : ℕ) (label : Name) → item_of labels n ≡ Cite label → item_of (labels ++ rest) n ≡ Cite label
@@ -130,21 +130,21 @@ take-split : (words : List Name) (n m : ℕ) → n ≤ m → (rest : List Name) 
 take-split words n m h = (take (m - n) (drop n words), let e : m ≡ n + (m - n) = omega (arith, h) in ap (λ k. take k words) e ∙ take-add n (m - n) words)
 
 -- if the numbers cite a marked statement by the first n labels, they do by all labels
-pub early-meets : (S : Database) (marks : List Bool) (words left : List Name) (n count : ℕ) (old wanted : List Bool) (numbers : List ℕ) → AreTested S marks words left n old wanted → n ≤ count → HasLabelsOnce S
-    → true ≡ list_any (λ n. is_marked wanted (Some n)) numbers → (front : List Name) → AreLabelMarks S front marks old → true ≡ true ↔ ItemsCiteMarked S (items_of (front ++ take count words) numbers) marks
-early-meets S marks words left n count old wanted numbers tested less once any front w =
+pub early-meets : (S : Database) (marks : List Bool) (words left : List Name) (n count : ℕ) (old label_marks : List Bool) (numbers : List ℕ) → AreTested S marks words left n old label_marks → n ≤ count → HasLabelsOnce S
+    → true ≡ list_any (λ n. is_marked label_marks (Some n)) numbers → (front : List Name) → AreLabelMarks S front marks old → true ≡ true ↔ ItemsCiteMarked S (items_of (front ++ take count words) numbers) marks
+early-meets S marks words left n count old label_marks numbers tested less once any front w =
     let r = take-split words n count less in
-    let m = (tested-meets S (front ++ take n words) marks wanted numbers true once (tested.tests front w) any).0 refl in
+    let m = (tested-meets S (front ++ take n words) marks label_marks numbers true once (tested.tests front w) any).0 refl in
     let all : ItemsCiteMarked S (items_of (front ++ take count words) numbers) marks =
     subst (λ ls. ItemsCiteMarked S (items_of ls numbers) marks) (append_assoc front (take n words) r.0 ∙ ap (λ ls. front ++ ls) (sym r.1))
     (front-meets S (front ++ take n words) r.0 marks numbers m) in
     ((λ e. all), λ m. refl)
 
-pub late-meets : (S : Database) (marks : List Bool) (words left : List Name) (n count : ℕ) (old wanted : List Bool) (numbers : List ℕ) (found : Bool) → AreTested S marks words left n old wanted → n ≡ count → HasLabelsOnce S
-    → found ≡ list_any (λ n. is_marked wanted (Some n)) numbers → (front : List Name) → AreLabelMarks S front marks old → found ≡ true ↔ ItemsCiteMarked S (items_of (front ++ take count words) numbers) marks
-late-meets S marks words left n count old wanted numbers found tested same once any front w =
+pub late-meets : (S : Database) (marks : List Bool) (words left : List Name) (n count : ℕ) (old label_marks : List Bool) (numbers : List ℕ) (found : Bool) → AreTested S marks words left n old label_marks → n ≡ count → HasLabelsOnce S
+    → found ≡ list_any (λ n. is_marked label_marks (Some n)) numbers → (front : List Name) → AreLabelMarks S front marks old → found ≡ true ↔ ItemsCiteMarked S (items_of (front ++ take count words) numbers) marks
+late-meets S marks words left n count old label_marks numbers found tested same once any front w =
     subst (λ k. found ≡ true ↔ ItemsCiteMarked S (items_of (front ++ take k words) numbers) marks) same
-    (tested-meets S (front ++ take n words) marks wanted numbers found once (tested.tests front w) any)
+    (tested-meets S (front ++ take n words) marks label_marks numbers found once (tested.tests front w) any)
 
 -- ---- the labels that a heading lists
 
@@ -183,7 +183,7 @@ listed-there label (token ∷ tokens) h = closes (name_eq token finish) refl (li
         names false r any = let there = later (sym (ap (λ b. b || has_name label (listed_in tokens)) r) ∙ any) in (suc there.0, there.1)
 
 module _ (F : Database) (tokens : List Name) (items : List Item) (marks : List Bool) where
-  some-cited : WritesPlain tokens items → ListsSome F tokens marks → ItemsCiteMarked F items marks
+  some-cited : WritesFinishedNormal tokens items → ListsSome F tokens marks → ItemsCiteMarked F items marks
   some-cited w one =
       let there = listed-there one.label tokens one.listed in (
         one.position,
@@ -197,7 +197,7 @@ module _ (F : Database) (tokens : List Name) (items : List Item) (marks : List B
         },
       )
 
-  none-cited : is_compressed tokens ≡ false → WritesPlain tokens items → ItemsCiteMarked F items marks → ListsNone F tokens marks → ⊥
+  none-cited : is_compressed tokens ≡ false → WritesFinishedNormal tokens items → ItemsCiteMarked F items marks → ListsNone F tokens marks → ⊥
   none-cited plain w m none =
       let c = m.2 in
       elim (cited-label tokens [] items (inr (plain, w)) c.place c.label c.cites) [
@@ -222,7 +222,7 @@ module _ (S F : Database) (same : F ≡ bares S) (good : Good S) (at : ℕ) (s :
       let meets = proof-meets S F same at marks m.0 (has-items S at s tokens provable e m.0 (inl (compressed, (packed.0, m.1)))) in
       ((λ f. meets.0 (m.2.0 f)), λ q. m.2.1 (meets.1 q))
     where
-      packed-of : (labels : List Name) (items : List Item) → Writes tokens labels items → WritesPacked tokens labels items
+      packed-of : (labels : List Name) (items : List Item) → Writes tokens labels items → WritesFinishedCompressed tokens labels items
       packed-of labels items written = elim written [ inl packed ↦ packed.1 | inr plain ↦ absurd (both_ways (is_compressed tokens) plain.0 compressed) ]
 
   -- for a normal proof, the search among its tokens decides whether it cites a marked statement
@@ -235,5 +235,5 @@ module _ (S F : Database) (same : F ≡ bares S) (good : Good S) (at : ℕ) (s :
         λ q. true_from_ne_false found (λ f. none-cited F tokens one.0 marks plain w (meets.1 q) (none f)),
       )
     where
-      plain-of : (labels : List Name) (items : List Item) → Writes tokens labels items → WritesPlain tokens items
+      plain-of : (labels : List Name) (items : List Item) → Writes tokens labels items → WritesFinishedNormal tokens items
       plain-of labels items written = elim written [ inl packed ↦ absurd (both_ways (is_compressed tokens) plain packed.0) | inr w ↦ w.1 ]

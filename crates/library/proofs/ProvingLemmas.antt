@@ -1,5 +1,5 @@
 -- From the answer of the verifier to whether a `$p` is proved; the labels with which its tokens write items.
-use Rattle.library.proofs.Words.{◌≡◌, ℕ, ◌⊎◌, ◌↔◌, refl, true, false, IsTrue, List, map, Option, Some, None, Result, Ok, Err, IfOk, MatchOption, sym, ◌∙◌, ap, subst, inl, inr, both_ways, Name, Stmt, Database, bare, bares, before, proof_of, stmt_at, is_provable, Item, Writes, WritesPacked, WritesPlain, IsMalformed, is_compressed, is_unfinished, label_or_none, mandatory_labels, Proves, IsProvable, IsRight, IsAnswerTo, provable-bare, StandsProved, HasItems, one_answer, malformed-none, ◌+◌, ◌<◌, [], ◌∷◌, ◌++◌, length, take, get_or, option_map, slice_get, slice_get-get_or, unwrap_or, map_more, Float, Ess, Prove, is_assertion, stmt_at-bares, hypotheses, is_hypothesis_kind, label_of-bare, CodeFault, Malformed, Answer, Proved, Wrong}
+use Rattle.library.proofs.Words.{◌≡◌, ℕ, ◌⊎◌, ◌↔◌, refl, true, false, IsTrue, List, map, Option, Some, None, Result, Ok, Err, IfOk, MatchOption, sym, ◌∙◌, ap, subst, inl, inr, both_ways, Name, Stmt, Database, bare, bares, before, proof_of, stmt_at, is_provable, Item, Writes, WritesFinishedCompressed, WritesFinishedNormal, IsMalformed, is_compressed, is_unfinished, label_or_none, mandatory_labels, Proves, IsProvable, IsRight, IsAnswerTo, provable-bare, IsProvedIfProvable, HasItems, one_answer, malformed-none, ◌+◌, ◌<◌, [], ◌∷◌, ◌++◌, length, take, get_or, option_map, slice_get, slice_get-get_or, unwrap_or, map_more, Float, Ess, Prove, is_assertion, stmt_at-bares, hypotheses, is_hypothesis_kind, label_of-bare, CodeFault, Malformed, Answer, Proved, Wrong}
 use Rattle.proof_code.specs.declared.fault.CodeFault.TheVariants.{Unfinished}
 use Rattle.library.proofs.FrontLemmas.{hypotheses-bare, IsHypothesisAt, kind-bare, hypotheses-at, hypothesis-there}
 
@@ -14,21 +14,21 @@ Written r found = MatchOption found ((r ≡ Err Unfinished) ⊎ (r ≡ Err Malfo
 
 module _ (tokens mandatory : List Name) (r : Result (List Item) CodeFault) (found : Option (List Item)) (w : Written r found)
     (unfinished : (r ≡ Err Unfinished) ↔ IsTrue (is_unfinished tokens)) where
-  pub packed-found : is_compressed tokens ≡ true → IfOk r (λ items. WritesPacked tokens mandatory items) → (r ≡ Err Malformed) ↔ IsMalformed tokens (WritesPacked tokens mandatory) → Found tokens mandatory found
+  pub packed-found : is_compressed tokens ≡ true → IfOk r (λ items. WritesFinishedCompressed tokens mandatory items) → (r ≡ Err Malformed) ↔ IsMalformed tokens (WritesFinishedCompressed tokens mandatory) → Found tokens mandatory found
   packed-found compressed items malformed = by found w
     where
       by : (found : Option (List Item)) → Written r found → Found tokens mandatory found
-      by (Some items') e = inl (compressed, subst (λ q. IfOk q (λ is. WritesPacked tokens mandatory is)) e items)
+      by (Some items') e = inl (compressed, subst (λ q. IfOk q (λ is. WritesFinishedCompressed tokens mandatory is)) e items)
       by None e = elim e [ inl u ↦ (λ other w. (one_answer tokens mandatory).finished other w (unfinished.0 u)) | inr m ↦ malformed-none tokens mandatory compressed (malformed.0 m) ]
 
-  pub normal-found : is_compressed tokens ≡ false → IfOk r (λ items. WritesPlain tokens items) → (r ≡ Err Malformed) ↔ IsMalformed tokens (WritesPlain tokens) → Found tokens mandatory found
+  pub normal-found : is_compressed tokens ≡ false → IfOk r (λ items. WritesFinishedNormal tokens items) → (r ≡ Err Malformed) ↔ IsMalformed tokens (WritesFinishedNormal tokens) → Found tokens mandatory found
   normal-found plain items malformed = by found w
     where
       none : r ≡ Err Malformed → (other : List Item) → Writes tokens mandatory other → ⊥
       none e other q = elim q [ inl p ↦ both_ways (is_compressed tokens) plain p.0 | inr p ↦ (malformed.0 e).1 other p.1 ]
 
       by : (found : Option (List Item)) → Written r found → Found tokens mandatory found
-      by (Some items') e = inr (plain, subst (λ q. IfOk q (λ is. WritesPlain tokens is)) e items)
+      by (Some items') e = inr (plain, subst (λ q. IfOk q (λ is. WritesFinishedNormal tokens is)) e items)
       by None e = elim e [ inl u ↦ (λ other w. (one_answer tokens mandatory).finished other w (unfinished.0 u)) | inr m ↦ none m ]
 
 -- ---- proofs
@@ -54,7 +54,7 @@ module _ (S F : Database) (at : ℕ) (s : Stmt) (same : F ≡ bares S) (provable
       ∙ (ap (map (λ i. label_or_none (stmt_at F i))) (hypotheses-bare (before F at) s)
       ∙ ap (λ U. mandatory_labels U at s) same)
 
-  proves-stands : (tokens : List Name) → proof_of s ≡ tokens → Proves F at tokens → StandsProved S at
+  proves-stands : (tokens : List Name) → proof_of s ≡ tokens → Proves F at tokens → IsProvedIfProvable S at
   proves-stands tokens e p r q =
       let t = provable-bare S F at s same provable in
       record {
@@ -66,7 +66,7 @@ module _ (S F : Database) (at : ℕ) (s : Stmt) (same : F ≡ bares S) (provable
         right = subst (λ U. IsRight U at p.items) same p.right;
       }
 
-  stands-proves : (tokens : List Name) → proof_of s ≡ tokens → StandsProved S at → Proves F at tokens
+  stands-proves : (tokens : List Name) → proof_of s ≡ tokens → IsProvedIfProvable S at → Proves F at tokens
   stands-proves tokens e stands =
       let p = stands s provable in
       let written = written-of S at s tokens provable e p.items (record { stmt = p.stmt; provable = p.provable; written = p.written }) in
@@ -80,7 +80,7 @@ module _ (S F : Database) (at : ℕ) (s : Stmt) (same : F ≡ bares S) (provable
 
   -- an answer for the tokens is an answer for the `$p`
   pub judged-stands : {E : Type 0} (tokens : List Name) → proof_of s ≡ tokens → (r : Result Answer E)
-      → IfOk r (λ answer. IsAnswerTo answer (Proves F at tokens)) → IfOk r (λ answer. IsAnswerTo answer (StandsProved S at))
+      → IfOk r (λ answer. IsAnswerTo answer (Proves F at tokens)) → IfOk r (λ answer. IsAnswerTo answer (IsProvedIfProvable S at))
   judged-stands tokens e (Ok Proved) h = proves-stands tokens e h
   judged-stands tokens e (Ok Wrong) h = λ stands. h (stands-proves tokens e stands)
   judged-stands tokens e (Err x) h = h

@@ -1,5 +1,5 @@
 -- The positions of the `$p` after the first statements, and the first of these that is not proved.
-use Rattle.library.proofs.Words.{◌≡◌, ℕ, zero, suc, ◌+◌, ◌-◌, ◌<◌, ◌≤◌, List, [], ◌∷◌, ◌++◌, length, get_or, Option, Some, None, slice_get, slice_get-get_or, get_or_default, ◌∙◌, ap, sym, subst, arith, inl, inr, cases_eq, cases_order, Stmt, Database, stmt_at, IsProvable, AreProofs, AreProvablesAfter, StandsProved, IsKnown, IsLeastUnproved, true, AreShaped, is_shaped, and_parts, list_all, take, drop, cases_lt, take-append-drop, IsProved, AreProvedTo, list_all-append, IsLeast}
+use Rattle.library.proofs.Words.{◌≡◌, ℕ, zero, suc, ◌+◌, ◌-◌, ◌<◌, ◌≤◌, List, [], ◌∷◌, ◌++◌, length, get_or, Option, Some, None, slice_get, slice_get-get_or, get_or_default, ◌∙◌, ap, sym, subst, arith, inl, inr, cases_eq, cases_order, Stmt, Database, stmt_at, IsProvable, AreProofs, AreProvablesAfter, IsProvedIfProvable, IsKnown, IsLeastUnproved, true, AreShaped, is_shaped, and_parts, list_all, take, drop, cases_lt, take-append-drop, IsProved, AreProvedTo, list_all-append, IsLeast}
 use Rattle.library.proofs.FrontLemmas.{stands_index}
 use Rattle.library.proofs.GoodLemmas.{provable-where, proved-later}
 
@@ -56,24 +56,24 @@ module _ (S F : Database) (ps : List ℕ) (are : AreProofs S F ps) (k at : ℕ) 
 module _ (S : Database) where
   -- the first `count` of them are proved
   abbrev pub FrontProved : ℕ → List ℕ → Type 0
-  FrontProved count ps = (k : ℕ) → k < count → StandsProved S (get_or ps k 0)
+  FrontProved count ps = (k : ℕ) → k < count → IsProvedIfProvable S (get_or ps k 0)
 
   -- the `$p` at the position is not proved, and those before it are proved
   abbrev pub IsFirst : ℕ → ℕ → ℕ → Type 0
-  IsFirst front end at = (front < at) × (at ≤ end) × (StandsProved S at → ⊥) × ((m : ℕ) → front < m → m < at → StandsProved S m)
+  IsFirst front end at = (front < at) × (at ≤ end) × (IsProvedIfProvable S at → ⊥) × ((m : ℕ) → front < m → m < at → IsProvedIfProvable S m)
 
-  all-proved : (front end : ℕ) (ps : List ℕ) → AreProvablesAfter S front end ps → FrontProved (length ps) ps → (at : ℕ) → front < at → at ≤ end → StandsProved S at
+  all-proved : (front end : ℕ) (ps : List ℕ) → AreProvablesAfter S front end ps → FrontProved (length ps) ps → (at : ℕ) → front < at → at ≤ end → IsProvedIfProvable S at
   all-proved front end [] are right at above below = λ s p. absurd (are at s above below p)
   all-proved front end (first ∷ ps) are right at above below =
       elim (cases_order at first) [
-        | inl e ↦ subst (StandsProved S) (sym e) (right 0 (omega arith))
+        | inl e ↦ subst (IsProvedIfProvable S) (sym e) (right 0 (omega arith))
         | inr other ↦ elim other [
           | inl less ↦ (λ s p. absurd (are.2 at s above less p))
           | inr more ↦ all-proved first end ps are.3 (λ k less. right (suc k) (omega (arith, less))) at more below
         ]
       ]
 
-  first-bad : (front end : ℕ) (ps : List ℕ) (i : ℕ) → AreProvablesAfter S front end ps → FrontProved i ps → i < length ps → (StandsProved S (get_or ps i 0) → ⊥) → IsFirst front end (get_or ps i 0)
+  first-bad : (front end : ℕ) (ps : List ℕ) (i : ℕ) → AreProvablesAfter S front end ps → FrontProved i ps → i < length ps → (IsProvedIfProvable S (get_or ps i 0) → ⊥) → IsFirst front end (get_or ps i 0)
   first-bad front end [] i are right less wrong = absurd (omega (arith, less))
   first-bad front end (first ∷ ps) zero are right less wrong = (are.0, are.1, wrong, (λ m above below s p. absurd (are.2 m s above below p)))
   first-bad front end (first ∷ ps) (suc i) are right less wrong =
@@ -83,7 +83,7 @@ module _ (S : Database) where
         r.1,
         r.2,
         (λ m over below. elim (cases_order m first) [
-          | inl q ↦ subst (StandsProved S) (sym q) (right 0 (omega arith))
+          | inl q ↦ subst (IsProvedIfProvable S) (sym q) (right 0 (omega arith))
           | inr other ↦ elim other [
             | inl before ↦ (λ s p. absurd (are.2 m s over before p))
             | inr more ↦ r.3 m more below
@@ -91,19 +91,19 @@ module _ (S : Database) where
         ]),
       )
 
-  module _ (front : ℕ) (ps : List ℕ) (are : AreProvablesAfter S front (length S) ps) (answer : Option ℕ) (least : IsLeast (λ k. StandsProved S (get_or ps k 0)) (length ps) answer) where
+  module _ (front : ℕ) (ps : List ℕ) (are : AreProvablesAfter S front (length S) ps) (answer : Option ℕ) (least : IsLeast (λ k. IsProvedIfProvable S (get_or ps k 0)) (length ps) answer) where
     pub none-unproved : answer ≡ None → IsLeastUnproved S front None
     none-unproved e =
-        let l = subst (IsLeast (λ k. StandsProved S (get_or ps k 0)) (length ps)) e least in
+        let l = subst (IsLeast (λ k. IsProvedIfProvable S (get_or ps k 0)) (length ps)) e least in
         all-proved front (length S) ps are (λ k less. l.before k less tt)
 
     pub some-unproved : (i : ℕ) → answer ≡ Some i → IsLeastUnproved S front (Some (get_or ps i 0))
     some-unproved i e =
-        let l = subst (IsLeast (λ k. StandsProved S (get_or ps k 0)) (length ps)) e least in
+        let l = subst (IsLeast (λ k. IsProvedIfProvable S (get_or ps k 0)) (length ps)) e least in
         first-bad front (length S) ps i are (λ k below. let w = l.wrong.0 in l.before k (omega (arith, below, w)) below) l.wrong.0 l.wrong.1
 
     pub some-within : (i : ℕ) → answer ≡ Some i → i < length ps
-    some-within i e = let l = subst (IsLeast (λ k. StandsProved S (get_or ps k 0)) (length ps)) e least in l.wrong.0
+    some-within i e = let l = subst (IsLeast (λ k. IsProvedIfProvable S (get_or ps k 0)) (length ps)) e least in l.wrong.0
 
 -- ---- first statements that were judged before
 

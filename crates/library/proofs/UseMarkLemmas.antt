@@ -1,5 +1,5 @@
 -- The positions of labels, and the marks of the statements that items cite.
-use Rattle.library.proofs.Words.{◌≡◌, ◌↔◌, ◌⊎◌, ℕ, zero, suc, ◌-◌, ◌<◌, ◌≤◌, Bool, true, false, List, [], ◌∷◌, ◌++◌, length, replicate, get_or, slice_set, Option, Some, None, option_map, slice_get, refl, list_any, sym, ◌∙◌, ap, subst, arith, inl, inr, cases_eq, cases_lt, any_passes_from_place, slice_get-map, slice_get_read, length-set, length-replicate, get_or-set_same, get_or-set_other, get_or_past, Name, Stmt, Database, Carries, IsPosition, ArePositions, HasLabelsOnce, Item, Cite, Recall, item_of, items_of, IsMarked, is_marked, mark, place_of, mark_items, ItemsCiteMarked, Marks, ItemsCite, stands-within, no-mark, map-back, item-cite, item-recall, Any-from_list_any}
+use Rattle.library.proofs.Words.{◌≡◌, ◌↔◌, ◌⊎◌, ℕ, zero, suc, ◌-◌, ◌<◌, ◌≤◌, Bool, true, false, List, [], ◌∷◌, ◌++◌, length, replicate, get_or, slice_set, Option, Some, None, option_map, slice_get, refl, list_any, sym, ◌∙◌, ap, subst, arith, inl, inr, cases_eq, cases_lt, any_passes_from_place, slice_get-map, slice_get_read, length-set, length-replicate, get_or-set_same, get_or-set_other, get_or_past, Name, Stmt, Database, Carries, IsPosition, ArePositions, HasLabelsOnce, Item, Cite, Recall, item_of, items_of, IsMarked, is_marked, mark, cited_position, mark_items, ItemsCiteMarked, Marks, ItemsCite, stands-within, no-mark, map-back, item-cite, item-recall, Any-from_list_any}
 
 -- ---- one mark
 
@@ -67,7 +67,7 @@ pub position-is : (S : Database) (label : Name) (o : Option ℕ) (a : ℕ) (s : 
 position-is S label None a s once p c = absurd (p a s c)
 position-is S label (Some i) a s once p c = ap Some (once i a p.0 s label p.1 c)
 
-module _ (S : Database) (labels : List Name) (places : List (Option ℕ)) (are : ArePositions S labels places) (once : HasLabelsOnce S) where
+module _ (S : Database) (labels : List Name) (label_positions : List (Option ℕ)) (are : ArePositions S labels label_positions) (once : HasLabelsOnce S) where
   -- an item that cites a statement
   record CitesOne (item : Item) (a : ℕ) : Type 0 where
     pub label : Name
@@ -75,36 +75,36 @@ module _ (S : Database) (labels : List Name) (places : List (Option ℕ)) (are :
     pub cites : item ≡ Cite label
     pub carries : Carries S a cited label
 
-  place-sound : (number a : ℕ) → place_of places number ≡ Some a → CitesOne (item_of labels number) a
+  place-sound : (number a : ℕ) → cited_position label_positions number ≡ Some a → CitesOne (item_of labels number) a
   place-sound zero a e = absurd (let f = e in cc)
   place-sound (suc n) a e = elim (cases_lt n (length labels)) [
     | inl less ↦ (
         let p = subst (IsPosition S (get_or labels n [])) e (are.each n less) in
         record { label = get_or labels n []; cited = p.0; cites = item-cite labels (suc n) n refl less; carries = p.1 })
-    | inr more ↦ absurd (let c = are.count in let f : None ≡ Some a = sym (get_or_past places n None (omega (arith, more, c))) ∙ e in cc)
+    | inr more ↦ absurd (let c = are.count in let f : None ≡ Some a = sym (get_or_past label_positions n None (omega (arith, more, c))) ∙ e in cc)
   ]
 
-  place-whole : (number a : ℕ) → CitesOne (item_of labels number) a → place_of places number ≡ Some a
+  place-whole : (number a : ℕ) → CitesOne (item_of labels number) a → cited_position label_positions number ≡ Some a
   place-whole zero a c = absurd (let e = c.cites in cc)
   place-whole (suc n) a c = elim (cases_lt n (length labels)) [
     | inl less ↦ (
         let e : Cite (get_or labels n []) ≡ Cite c.label = sym (item-cite labels (suc n) n refl less) ∙ c.cites in
         let same : get_or labels n [] ≡ c.label = cc in
-        position-is S (get_or labels n []) (get_or places n None) a c.cited once (are.each n less) (subst (Carries S a c.cited) (sym same) c.carries))
+        position-is S (get_or labels n []) (get_or label_positions n None) a c.cited once (are.each n less) (subst (Carries S a c.cited) (sym same) c.carries))
     | inr more ↦ absurd (let e : Recall (suc (n - length labels)) ≡ Cite c.label = sym (item-recall labels (suc n) n refl more) ∙ c.cites in cc)
   ]
 
-  items-count : (numbers : List ℕ) (old : List Bool) → length (mark_items places numbers old) ≡ length old
+  items-count : (numbers : List ℕ) (old : List Bool) → length (mark_items label_positions numbers old) ≡ length old
   items-count [] old = refl
-  items-count (n ∷ ns) old = items-count ns (mark (place_of places n) old) ∙ mark-count (place_of places n) old
+  items-count (n ∷ ns) old = items-count ns (mark (cited_position label_positions n) old) ∙ mark-count (cited_position label_positions n) old
 
-  items-kept : (numbers : List ℕ) (old : List Bool) (a : ℕ) → IsMarked old a → IsMarked (mark_items places numbers old) a
+  items-kept : (numbers : List ℕ) (old : List Bool) (a : ℕ) → IsMarked old a → IsMarked (mark_items label_positions numbers old) a
   items-kept [] old a h = h
-  items-kept (n ∷ ns) old a h = items-kept ns (mark (place_of places n) old) a (mark-kept (place_of places n) old a h)
+  items-kept (n ∷ ns) old a h = items-kept ns (mark (cited_position label_positions n) old) a (mark-kept (cited_position label_positions n) old a h)
 
   -- one of the numbers cites the statement at the position
   abbrev HasNumber : List ℕ → ℕ → Type 0
-  HasNumber numbers a = (k : ℕ) × (n : ℕ) × (slice_get numbers k ≡ Some n) × (place_of places n ≡ Some a)
+  HasNumber numbers a = (k : ℕ) × (n : ℕ) × (slice_get numbers k ≡ Some n) × (cited_position label_positions n ≡ Some a)
 
   cites-number : (numbers : List ℕ) (a : ℕ) → ItemsCite S (items_of labels numbers) a → HasNumber numbers a
   cites-number numbers a c =
@@ -116,21 +116,21 @@ module _ (S : Database) (labels : List Name) (places : List (Option ℕ)) (are :
       let c = place-sound h.1 a h.3 in
       record { place = h.0; label = c.label; cited = c.cited; cites = slice_get-map (item_of labels) numbers h.0 ∙ (ap (option_map (item_of labels)) h.2 ∙ ap Some c.cites); carries = c.carries }
 
-  items-sound : (numbers : List ℕ) (old : List Bool) (a : ℕ) → IsMarked (mark_items places numbers old) a → IsMarked old a ⊎ HasNumber numbers a
+  items-sound : (numbers : List ℕ) (old : List Bool) (a : ℕ) → IsMarked (mark_items label_positions numbers old) a → IsMarked old a ⊎ HasNumber numbers a
   items-sound [] old a h = inl h
-  items-sound (n ∷ ns) old a h = elim (items-sound ns (mark (place_of places n) old) a h) [
-    | inl m ↦ elim (mark-sound (place_of places n) old a m) [ inl before ↦ inl before | inr e ↦ inr (0, n, refl, e) ]
+  items-sound (n ∷ ns) old a h = elim (items-sound ns (mark (cited_position label_positions n) old) a h) [
+    | inl m ↦ elim (mark-sound (cited_position label_positions n) old a m) [ inl before ↦ inl before | inr e ↦ inr (0, n, refl, e) ]
     | inr c ↦ inr (suc c.0, c.1, c.2, c.3)
   ]
 
-  items-whole : (numbers : List ℕ) (old : List Bool) (a k n : ℕ) → 1 ≤ a → a ≤ length old → slice_get numbers k ≡ Some n → place_of places n ≡ Some a → IsMarked (mark_items places numbers old) a
+  items-whole : (numbers : List ℕ) (old : List Bool) (a k n : ℕ) → 1 ≤ a → a ≤ length old → slice_get numbers k ≡ Some n → cited_position label_positions n ≡ Some a → IsMarked (mark_items label_positions numbers old) a
   items-whole [] old a k n h w e at = absurd (let f = e in cc)
   items-whole (m ∷ ns) old a zero n h w e at =
       let same : m ≡ n = (let f = e in cc) in
-      items-kept ns (mark (place_of places m) old) a (subst (λ o. IsMarked (mark o old) a) (sym (ap (place_of places) same ∙ at)) (mark-whole old a h w))
-  items-whole (m ∷ ns) old a (suc k) n h w e at = items-whole ns (mark (place_of places m) old) a k n h (subst (λ l. a ≤ l) (sym (mark-count (place_of places m) old)) w) e at
+      items-kept ns (mark (cited_position label_positions m) old) a (subst (λ o. IsMarked (mark o old) a) (sym (ap (cited_position label_positions) same ∙ at)) (mark-whole old a h w))
+  items-whole (m ∷ ns) old a (suc k) n h w e at = items-whole ns (mark (cited_position label_positions m) old) a k n h (subst (λ l. a ≤ l) (sym (mark-count (cited_position label_positions m) old)) w) e at
 
-  pub marks-items : (numbers : List ℕ) (items : List Item) (old new : List Bool) → items_of labels numbers ≡ items → mark_items places [] new ≡ mark_items places numbers old → Marks (ItemsCite S items) old new
+  pub marks-items : (numbers : List ℕ) (items : List Item) (old new : List Bool) → items_of labels numbers ≡ items → mark_items label_positions [] new ≡ mark_items label_positions numbers old → Marks (ItemsCite S items) old new
   marks-items numbers items old new same after =
       subst (λ is. Marks (ItemsCite S is) old new) same
       (subst (Marks (ItemsCite S (items_of labels numbers)) old) (sym after)
@@ -148,7 +148,7 @@ module _ (S : Database) (labels : List Name) (places : List (Option ℕ)) (are :
   marked-some marks (Some a) h = (a, refl, h)
 
   abbrev Hits : List Bool → ℕ → Bool
-  Hits marks number = is_marked marks (place_of places number)
+  Hits marks number = is_marked marks (cited_position label_positions number)
 
   pub meets-items : (numbers : List ℕ) (items : List Item) (marks : List Bool) (found : Bool) → items_of labels numbers ≡ items → found ≡ list_any (Hits marks) numbers → found ≡ true ↔ ItemsCiteMarked S items marks
   meets-items numbers items marks found same is =
@@ -158,7 +158,7 @@ module _ (S : Database) (labels : List Name) (places : List (Option ℕ)) (are :
       forth : found ≡ true → ItemsCiteMarked S (items_of labels numbers) marks
       forth e =
           let h = Any-from_list_any (Hits marks) numbers (sym is ∙ e) in
-          let m = marked-some marks (place_of places h.1) h.4 in
+          let m = marked-some marks (cited_position label_positions h.1) h.4 in
           (m.0, m.2, number-cites numbers m.0 (h.0, h.1, slice_get_read numbers _ h.0 h.1 refl h.2 (sym h.3), m.1))
 
       back : ItemsCiteMarked S (items_of labels numbers) marks → found ≡ true

@@ -13,20 +13,20 @@ pub use Rattle.library.specs.Added.{AreProvedTo, IsAdded, IsAddedAfter, count_of
 pub use Rattle.library.specs.Causes.{IsAllowed, IsCause, IsFault, IsFirstUnproved, IsReadable}
 pub use Rattle.library.specs.Charters.{first_declaration, first_forbidden, is_rising, may_declare}
 pub use Rattle.library.specs.Good.{Good, IsProved}
-pub use Rattle.library.specs.Judging.{Extends, IsChecked, IsJudged, IsKnown, IsLeastUnproved, IsReading, StandsProved}
+pub use Rattle.library.specs.Judging.{Extends, IsChecked, IsJudged, IsKnown, IsLeastUnproved, IsReading, IsProvedIfProvable}
 pub use Rattle.library.specs.Laws.{without_charter}
 pub use Rattle.library.specs.LibraryOf.{Applies, AppliesAt, Decided, Decides, IsLibraryOf, Replica, Runs, author_of, decided_with, empty, serial_of, status, status_of}
-pub use Rattle.library.specs.LibraryState.{IsTableOf, IsWithinEntry, HasFewStepsText, key_cmp, verdict_of}
+pub use Rattle.library.specs.LibraryState.{IsTableOf, HasFewStepsEntry, HasFewStepsText, key_cmp, verdict_of}
 pub use Rattle.library.specs.Listed.{listed, listed_of}
 pub use Rattle.library.specs.PlainLibraryOf.{IsPlainCause, PlainApplies, PlainAppliesAt, PlainDecides, PlainReplica, PlainRuns}
 pub use Rattle.library.specs.Queries.{HasNoLabel, IsNoProof, IsTreeOf, IsUsage, NamesNoProof, NamesProof, SpellsTree}
 pub use Rattle.library.specs.Unproved.{AreProvablesAfter, AreProofs, IsRightProof}
-pub use Rattle.library.specs.UseMarks.{AreLabelMarks, IsMarked, IsMarkedAxiom, ItemsCiteMarked, ListsNone, ListsSome, Marks, ProofCitesMarked, is_marked, listed_in, mark, mark_items, place_of}
+pub use Rattle.library.specs.UseMarks.{AreLabelMarks, IsMarked, IsMarkedAxiom, ItemsCiteMarked, ListsNone, ListsSome, Marks, ProofCitesMarked, is_marked, listed_in, mark, mark_items, cited_position}
 pub use Rattle.library.specs.Uses.{AreLabelsOf, Cites, HasItems, IsAxiomAt, IsIn, IsUser, ItemsCite, RestsOn, Rises, Uses, directly, is_axiom, through}
 pub use Rattle.library.specs.Words.{is_closed}
 pub use Rattle.library.specs.contracts.decided.DecidedEntries.{the_row, the_type}
 pub use Rattle.library.specs.declared.adding.Tables.{Tables}
-pub use Rattle.library.specs.declared.decided.Standing.{Standing}
+pub use Rattle.library.specs.declared.decided.EntryState.{EntryState}
 pub use Rattle.library.specs.declared.entry.Entry.{Entry}
 pub use Rattle.library.specs.declared.entry.Entry.TheVariants.{Charter, Text}
 pub use Rattle.library.specs.declared.listed.Listed.{Listed}
@@ -38,7 +38,7 @@ pub use Rattle.library.specs.declared.verdict.Cause.{Cause}
 pub use Rattle.library.specs.declared.verdict.Cause.TheVariants.{NotChartered, Proof, Rule, Shape, Text as BadText, TooLong, Unfinished}
 pub use Rattle.library.specs.declared.verdict.Verdict.{Verdict}
 pub use Rattle.library.specs.declared.verdict.Verdict.TheVariants.{Added, Nothing, Refused, Repeat}
-pub use Rattle.mm_lex.proofs.BadByteLemmas.{IsClean-no_fault}
+pub use Rattle.mm_lex.proofs.BadByteLemmas.{HasOnlyAllowedBytes-no_fault}
 pub use Rattle.mm_lex.proofs.NameLemmas.{name_same}
 pub use Rattle.mm_lex.proofs.TokensLemmas.{AreTokens-no_comment_fault}
 pub use Rattle.mm_lex.specs.Alphabet.{Name, has_name, is_allowed, is_label, name_eq, runs, word}
@@ -57,7 +57,7 @@ pub use Rattle.proof_code.proofs.ReadProofLemmas.{apart-written, shared-none}
 pub use Rattle.proof_code.proofs.RowOfNumbers.{item-cite, item-recall}
 pub use Rattle.proof_code.specs.ItemNumbers.{item_of, items_of}
 pub use Rattle.proof_code.specs.Reading.{IsHeading, share_label}
-pub use Rattle.proof_code.specs.Writes.{AreItems, IsMalformed, Writes, WritesCompressed, WritesPacked, WritesPlain, begin, finish, is_compressed, is_unfinished}
+pub use Rattle.proof_code.specs.Writes.{AreItems, IsMalformed, Writes, WritesCompressed, WritesFinishedCompressed, WritesFinishedNormal, begin, finish, is_compressed, is_unfinished}
 pub use Rattle.proof_code.specs.declared.fault.CodeFault.{CodeFault}
 pub use Rattle.proof_code.specs.declared.fault.CodeFault.TheVariants.{Malformed}
 pub use Rattle.proof_code.specs.declared.item.Item.{Item}

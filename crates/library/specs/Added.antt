@@ -8,7 +8,7 @@ use Rattle.library.specs.Words.{Database, AreShaped, bares, is_closed, first_bro
 use Rattle.library.specs.declared.adding.Added.{Added}
 use Rattle.library.specs.declared.adding.StepCounts.{StepCounts}
 use Rattle.library.specs.declared.adding.Tables.{Tables}
-use Rattle.library.specs.Judging.{Begins, IsKnown, StandsProved}
+use Rattle.library.specs.Judging.{Begins, IsKnown, IsProvedIfProvable}
 
 -- all steps that were taken
 abbrev pub count_of : StepCounts → ℕ
@@ -16,7 +16,7 @@ count_of steps = steps.calling.count + steps.ahead.count
 
 -- each `$p` up to this position is proved
 abbrev pub AreProvedTo : Database → ℕ → Type 0
-AreProvedTo S end = (at : ℕ) → at ≤ end → StandsProved S at
+AreProvedTo S end = (at : ℕ) → at ≤ end → IsProvedIfProvable S at
 
 -- the tables took the statements T, or this rule is broken
 pub record IsAdded (old new : Tables) (T : Database) (a : Added) : Type 0 where

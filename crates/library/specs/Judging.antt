@@ -16,20 +16,20 @@ abbrev pub Begins : Database → Database → Type 0
 Begins front whole = (rest : Database) × (whole ≡ front ++ rest)
 
 -- if a `$p` is at that position, it is proved
-abbrev pub StandsProved : Database → ℕ → Type 0
-StandsProved S at = (s : Stmt) → IsProvable S at s → IsProved S at
+abbrev pub IsProvedIfProvable : Database → ℕ → Type 0
+IsProvedIfProvable S at = (s : Stmt) → IsProvable S at s → IsProved S at
 
 -- after the first statements each `$p` is proved, or this is the least that is not
 abbrev pub IsLeastUnproved : Database → ℕ → Option ℕ → Type 0
-IsLeastUnproved S front None = (at : ℕ) → front < at → at ≤ length S → StandsProved S at
+IsLeastUnproved S front None = (at : ℕ) → front < at → at ≤ length S → IsProvedIfProvable S at
 IsLeastUnproved S front (Some at) =
-    (front < at) × (at ≤ length S) × (¬ StandsProved S at) × ((m : ℕ) → front < m → m < at → StandsProved S m)
+    (front < at) × (at ≤ length S) × (¬ IsProvedIfProvable S at) × ((m : ℕ) → front < m → m < at → IsProvedIfProvable S m)
 
 -- after the first statements, up to this position, each `$p` is proved
 pub record IsKnown (S : Database) (front known : ℕ) : Type 0 where
   pub low : front ≤ known
   pub within : known ≤ length S
-  pub proved : (at : ℕ) → front < at → at ≤ known → StandsProved S at
+  pub proved : (at : ℕ) → front < at → at ≤ known → IsProvedIfProvable S at
 
 -- the statements T are good after L, or this is why they are not
 abbrev pub IsJudged : Database → Database → Option Cause → Type 0

@@ -1,6 +1,6 @@
 -- The library of a log: what its entries validly add, in order.
 -- Source: this project's profile.
--- The code keeps scopes and frames from text to text; here each text is judged with the whole list before it.
+-- The code keeps the state of the rules and the frames from text to text; here each text is judged with the whole list before it.
 use Rattle.std.specs.Prelude.{◌≡◌, ℕ, ◌*◌, true, false, ◌&&◌, ◌==◌, if◌then◌else◌, List, [], ◌∷◌, ◌++◌, length, Option, Some, None}
 use Rattle.mm_read.specs.Statements.{Database}
 use Rattle.library.specs.declared.entry.Entry.{Entry}

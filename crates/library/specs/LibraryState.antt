@@ -9,8 +9,8 @@ use Rattle.library.specs.declared.entry.Entry.TheVariants.{Text, Charter}
 use Rattle.library.specs.declared.verdict.Cause.{Cause}
 use Rattle.library.specs.declared.verdict.Verdict.{Verdict}
 use Rattle.library.specs.declared.verdict.Verdict.TheVariants.{Added, Refused}
-use Rattle.library.specs.declared.decided.Standing.{Standing}
-use Rattle.library.specs.declared.decided.Standing.TheVariants.{Undecided, Decided}
+use Rattle.library.specs.declared.decided.EntryState.{EntryState}
+use Rattle.library.specs.declared.decided.EntryState.TheVariants.{Undecided, Decided}
 use Rattle.library.specs.LibraryOf.{Decided as DecidedEntry, Replica, status, status_of}
 use Rattle.std.specs.BTreeMap.{BTreeMap, get}
 use Rattle.std.specs.Ordering.{nat_cmp, ordering_then}
@@ -25,8 +25,8 @@ abbrev pub verdict_of : Option Cause → Verdict
 verdict_of None = Added
 verdict_of (Some cause) = Refused cause
 
--- the verdict that a table of standings has on an entry
-abbrev pub verdict_at : Option Standing → Option Verdict
+-- the verdict that a state gives an entry, if it is decided
+abbrev pub verdict_at : Option EntryState → Option Verdict
 verdict_at None = None
 verdict_at (Some Undecided) = None
 verdict_at (Some (Decided cause)) = Some (verdict_of cause)
@@ -36,7 +36,7 @@ abbrev pub key_cmp : ℕ × ℕ → ℕ × ℕ → Ordering
 key_cmp a b = ordering_then (nat_cmp a.0 b.0) (nat_cmp a.1 b.1)
 
 -- the table has the first verdict on each entry
-abbrev pub IsTableOf : List DecidedEntry → BTreeMap (ℕ × ℕ) Standing → Type 0
+abbrev pub IsTableOf : List DecidedEntry → BTreeMap (ℕ × ℕ) EntryState → Type 0
 IsTableOf entries table = (author serial : ℕ) → verdict_at (get key_cmp table (author, serial)) ≡ status entries author serial
 
 -- a decided entry is added or refused
@@ -51,16 +51,16 @@ pub record HasFewStepsText (submission : Submission) (before after : ℕ) : Type
   pub unread : ((T : Database) → ¬ Reads submission.text T) → after ≡ before
 
 -- the judging of an entry that was not decided before: a charter takes no step
-abbrev pub IsWithinEntry : Entry → ℕ → ℕ → Type 0
-IsWithinEntry (Text submission) before after = HasFewStepsText submission before after
-IsWithinEntry (Charter author serial names) before after = after ≡ before
+abbrev pub HasFewStepsEntry : Entry → ℕ → ℕ → Type 0
+HasFewStepsEntry (Text submission) before after = HasFewStepsText submission before after
+HasFewStepsEntry (Charter author serial names) before after = after ≡ before
 
 -- given the verdict decided before under its author and serial number, if any
-abbrev pub IsWithinAt : Option Verdict → Entry → ℕ → ℕ → Type 0
-IsWithinAt (Some first) entry before after = after ≡ before
-IsWithinAt None entry before after = IsWithinEntry entry before after
+abbrev pub HasFewStepsAt : Option Verdict → Entry → ℕ → ℕ → Type 0
+HasFewStepsAt (Some first) entry before after = after ≡ before
+HasFewStepsAt None entry before after = HasFewStepsEntry entry before after
 
 -- how far one application may raise the count of steps: a no-operation and a repeat not at all
-abbrev pub IsWithinSteps : Replica → Option Entry → ℕ → ℕ → Type 0
-IsWithinSteps old None before after = after ≡ before
-IsWithinSteps old (Some entry) before after = IsWithinAt (status_of old entry) entry before after
+abbrev pub HasFewSteps : Replica → Option Entry → ℕ → ℕ → Type 0
+HasFewSteps old None before after = after ≡ before
+HasFewSteps old (Some entry) before after = HasFewStepsAt (status_of old entry) entry before after

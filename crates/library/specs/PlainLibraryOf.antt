@@ -1,4 +1,4 @@
--- The library of a log of texts, by a definition that knows no charter.
+-- The library of a log of texts, by a definition without charters.
 -- Source: this project's profile without charters.
 -- No code uses it; a law says that the library of a log without charters is this one.
 use Rattle.std.specs.Prelude.{◌≡◌, ◌≢◌, ◌<◌, ◌≤◌, List, [], ◌∷◌, ◌++◌, length, Option, Some, None}

@@ -7,7 +7,7 @@ use Rattle.mm_lex.specs.Alphabet.{Name}
 use Rattle.std.specs.Borrow.{Bor, MutBor}
 use Rattle.verify_pool.specs.Least.{IsLeast}
 use Rattle.verify_pool.specs.declared.checkers.Checkers.{Checkers}
-use Rattle.library.specs.Judging.{StandsProved}
+use Rattle.library.specs.Judging.{IsProvedIfProvable}
 
 -- statements, the names that their frames number, and positions of `$p` among them
 pub record ProofsAt : Type 0 where
@@ -17,7 +17,7 @@ pub record ProofsAt : Type 0 where
 
 -- the `$p` of that index is proved
 abbrev pub IsRightProof : ProofsAt → ℕ → Type 0
-IsRightProof proofs k = StandsProved proofs.statements (get_or proofs.positions k 0)
+IsRightProof proofs k = IsProvedIfProvable proofs.statements (get_or proofs.positions k 0)
 
 -- positions among these statements, given with their frames
 pub record AreProofs (S frames : Database) (positions : List ℕ) : Type 0 where

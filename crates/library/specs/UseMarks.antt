@@ -1,6 +1,6 @@
 -- Which positions a walk over citations has marked.
 -- Source: none; for the private functions of `axioms_used` and `cited_by`.
--- The marks are a list with one place for each position, the first for position 1.
+-- The marks are a list with one flag for each position, the first for position 1.
 use Rattle.std.specs.Prelude.{◌≡◌, ◌⊎◌, ℕ, zero, suc, ◌≤◌, Bool, true, false, List, [], ◌∷◌, length, map, if◌then◌else◌, Option, Some, None, slice_index_or, slice_set}
 use Rattle.library.specs.Words.{Name, name_eq, has_name, Stmt, Database, Carries, Item, finish}
 use Rattle.frame.specs.AtPosition.{ArePositions}
@@ -21,22 +21,22 @@ mark (Some (suc k)) marks = slice_set marks k true
 mark o marks = marks
 
 -- the position that the item of a number cites, where these are the positions of its labels
-abbrev pub place_of : List (Option ℕ) → ℕ → Option ℕ
-place_of places zero = None
-place_of places (suc n) = slice_index_or places n None
+abbrev pub cited_position : List (Option ℕ) → ℕ → Option ℕ
+cited_position label_positions zero = None
+cited_position label_positions (suc n) = slice_index_or label_positions n None
 
 -- the marks, with the positions that the items of these numbers cite marked too
 abbrev pub mark_items : List (Option ℕ) → List ℕ → List Bool → List Bool
-mark_items places [] marks = marks
-mark_items places (number ∷ numbers) marks = mark_items places numbers (mark (place_of places number) marks)
+mark_items label_positions [] marks = marks
+mark_items label_positions (number ∷ numbers) marks = mark_items label_positions numbers (mark (cited_position label_positions number) marks)
 
 -- for each label, whether what it names is marked
-pub record AreLabelMarks (S : Database) (labels : List Name) (marks wanted : List Bool) : Type 0 where
-  pub places : List (Option ℕ)
-  pub named : ArePositions S labels places
-  pub tests : wanted ≡ map (is_marked marks) places
+pub record AreLabelMarks (S : Database) (labels : List Name) (marks label_marks : List Bool) : Type 0 where
+  pub label_positions : List (Option ℕ)
+  pub named : ArePositions S labels label_positions
+  pub tests : label_marks ≡ map (is_marked marks) label_positions
 
--- the positions that pass and have a place in the list are marked, in addition to those marked before
+-- the positions that pass and have a flag in the list are marked, in addition to those marked before
 pub record Marks (Passes : ℕ → Type 0) (old new : List Bool) : Type 0 where
   pub count : length new ≡ length old
   pub kept : (a : ℕ) → IsMarked old a → IsMarked new a

@@ -1,4 +1,4 @@
--- The words of the layers below in which this crate is specified, passed on from one place.
+-- The names from other crates that these definitions use, exported again from one place.
 pub use Rattle.frame.specs.Citations.{Carries}
 pub use Rattle.mm_lex.specs.Alphabet.{Name, has_name, name_eq}
 pub use Rattle.mm_lex.specs.TextFaults.{IsLexFault}

@@ -1,7 +1,7 @@
 //! The axioms of a proof: the items that its tokens write, the `$a` that it cites, and those that the `$p` it cites rest on.
 ghost use Rattle.std.specs.Prelude.{◌≡◌, ◌≤◌, length, Some, IfOk, OnOk, MatchOption};
 ghost use Rattle.frame.specs.AtPosition.{HasLabelsOnce};
-ghost use Rattle.library.specs.UseMarks.{place_of, mark, Marks};
+ghost use Rattle.library.specs.UseMarks.{cited_position, mark, Marks};
 ghost use Rattle.library.specs.Uses.{HasItems, ItemsCite, Uses, AreLabelsOf};
 ghost use Rattle.mm_read.specs.declared.stmt.Stmt.{Stmt as Statement};
 ghost use Rattle.scope.specs.Active.{bares};
@@ -11,7 +11,7 @@ use crate::checked_database::CheckedDatabase;
 use frame::Frames;
 use mm_lex::{Word, Words};
 use mm_read::Stmt;
-use proof_code::{Items, is_compressed, normal, packed, written};
+use proof_code::{Items, is_compressed, items_or_none, normal, packed};
 use std::alloc::{AllocError, Global};
 
 /// Returns the items of the `$p` at a position, which are right; `None` if there is no `$p`.
@@ -26,7 +26,7 @@ pub(crate) fn items_of(database: &CheckedDatabase, at: usize) -> Result<Option<I
         return Ok(None);
     };
     if !is_compressed(proof) {
-        return written(normal(database.alloc(), proof));
+        return items_or_none(normal(database.alloc(), proof));
     }
     let mut mandatory = Vec::new(database.alloc());
     database.frames().mandatory(at, &mut mandatory)?;
@@ -37,7 +37,7 @@ pub(crate) fn items_of(database: &CheckedDatabase, at: usize) -> Result<Option<I
             _ => unreachable!(),
         }
     }
-    written(packed(database.alloc(), proof, &labels))
+    items_or_none(packed(database.alloc(), proof, &labels))
 }
 
 /// Returns the labels of the `$a` that the `$p` at a position uses, each once, in order.
@@ -81,22 +81,22 @@ fn mark_cited(frames: &Frames, items: Items, marks: &mut [bool]) -> Result<(), A
     ensures { OnOk result (Marks (ItemsCite frames.now.statements items) marks.old marks.new) }
 {
     let parts = items.parts();
-    let places = frames.positions(parts.labels)?;
+    let label_positions = frames.positions(parts.labels)?;
     for number in parts.numbers {
-        mark_position(marks, place_of(&places, *number));
+        mark_position(marks, cited_position(&label_positions, *number));
     }
     Ok(())
 }
 
 /// Returns the position that an item cites, by its number.
-fn place_of(places: &[Option<usize>], number: u32) -> Option<usize>
-    ensures { result ≡ place_of places.now number }
+fn cited_position(label_positions: &[Option<usize>], number: u32) -> Option<usize>
+    ensures { result ≡ cited_position label_positions.now number }
 {
     let index = (number as usize).checked_sub(1)?;
-    *places.get(index)?
+    *label_positions.get(index)?
 }
 
-/// Marks a position, if the marks have a place for it.
+/// Marks a position, if the marks have a flag for it.
 fn mark_position(marks: &mut [bool], position: Option<usize>)
     ensures { marks.new ≡ mark position marks.old }
 {

@@ -40,11 +40,11 @@ pub(crate) fn citing_labels(
     let mut search = Search {
         reader: Reader::new(alloc),
         mandatory: Vec::new(alloc),
-        wanted: Vec::new(alloc),
+        label_marks: Vec::new(alloc),
     };
     for index in at..statements.len() {
         if let Stmt::Prove { label, proof, .. } = database.statement(index + 1) {
-            if search.meets(database, index + 1, proof, &sought)? {
+            if search.cites_marked(database, index + 1, proof, &sought)? {
                 labels.push(label.copy(alloc)?)?;
                 sought[index] = all;
             }
@@ -60,14 +60,14 @@ struct Search {
     /// The positions of a proof's mandatory hypotheses.
     mandatory: Vec<u32>,
     /// For each label of a proof, those of mandatory hypotheses first, whether the statement is marked.
-    wanted: Vec<bool>,
+    label_marks: Vec<bool>,
 }
 
 impl Search {
     /// Returns whether the proof of the `$p` at a position, whose tokens these are, cites a marked statement. A normal proof
     /// cites the labels that it lists. The letters of a compressed one need not be read if no mandatory hypothesis and no
     /// listed label is marked.
-    fn meets(
+    fn cites_marked(
         &mut self,
         database: &CheckedDatabase,
         at: usize,
@@ -82,7 +82,7 @@ impl Search {
             return Ok(lists_marked(frames, tokens, marks));
         }
         if let Some(view) = frames.mandatory_view(at)? {
-            return self.meets_many(database, at, tokens, marks, &view);
+            return self.cites_marked_by_view(database, at, tokens, marks, &view);
         }
         self.mandatory.clear();
         frames.mandatory(at, &mut self.mandatory)?;
@@ -95,20 +95,20 @@ impl Search {
         let Some(heading) = self.reader.read(tokens, count)? else {
             return Ok(false);
         };
-        listed_cite_marked(
+        numbers_cite_marked(
             frames,
             heading,
             self.reader.numbers(),
             &self.mandatory,
             marks,
-            &mut self.wanted,
+            &mut self.label_marks,
         )
     }
 }
 
 impl Search {
-    /// Answers as `meets` does, for a proof with many mandatory hypotheses, which are read through a view.
-    fn meets_many(
+    /// Answers as `cites_marked` does, for a proof with many mandatory hypotheses, which are read through a view.
+    fn cites_marked_by_view(
         &mut self,
         database: &CheckedDatabase,
         at: usize,
@@ -126,28 +126,28 @@ impl Search {
             return Ok(false);
         };
         let numbers = self.reader.numbers();
-        listed_cite_many_marked(frames, heading, numbers, view, marks, &mut self.wanted)
+        numbers_cite_marked_by_view(frames, heading, numbers, view, marks, &mut self.label_marks)
     }
 }
 
 /// Returns whether one of the numbers cites a marked statement, from one flag for each mandatory hypothesis and then for
 /// each listed label. The first marked one is usually cited, so the numbers are searched once as soon as it is found.
-fn listed_cite_marked(
+fn numbers_cite_marked(
     frames: &Frames,
     heading: Heading<'_>,
     numbers: &[u32],
     mandatory: &[u32],
     marks: &[bool],
-    wanted: &mut Vec<bool>,
+    label_marks: &mut Vec<bool>,
 ) -> Result<bool, AllocError>
     requires once { HasLabelsOnce frames.now.statements }
     requires listed { heading.count ≤ length heading.words }
     ensures { IfOk result (λ found. (front : List Name) → AreLabelMarks frames.now.statements front marks.now (map (λ position. is_marked marks.now (Some position)) mandatory.now)
         → found ≡ true ↔ ItemsCiteMarked frames.now.statements (items_of (front ++ take heading.entry.count heading.entry.words) numbers.now) marks.now) }
 {
-    wanted.clear();
+    label_marks.clear();
     for position in mandatory {
-        wanted.push(is_marked(marks, Some(*position as usize)))?;
+        label_marks.push(is_marked(marks, Some(*position as usize)))?;
     }
     let mut words = heading.words;
     let mut tried = false;
@@ -156,54 +156,62 @@ fn listed_cite_marked(
             unreachable!();
         };
         let marked = is_marked(marks, frames.position(label));
-        wanted.push(marked)?;
+        label_marks.push(marked)?;
         if marked && !tried {
-            if has_marked(numbers, wanted) {
+            if has_marked(numbers, label_marks) {
                 return Ok(true);
             }
             tried = true;
         }
     }
-    Ok(has_marked(numbers, wanted))
+    Ok(has_marked(numbers, label_marks))
 }
 
-/// Answers as `listed_cite_marked` does, with the mandatory hypotheses read through a view, and flags for the listed labels alone.
-fn listed_cite_many_marked(
+/// Answers as `numbers_cite_marked` does, with the mandatory hypotheses read through a view, and flags for the listed labels alone.
+fn numbers_cite_marked_by_view(
     frames: &Frames,
     heading: Heading<'_>,
     numbers: &[u32],
     view: &MandatoryView<'_>,
     marks: &[bool],
-    wanted: &mut Vec<bool>,
+    label_marks: &mut Vec<bool>,
 ) -> Result<bool, AllocError>
     requires once { HasLabelsOnce frames.now.statements }
     requires listed { heading.count ≤ length heading.words }
     ensures { IfOk result (λ found. (front : List Name) → AreLabelMarks frames.now.statements front marks.now (map (λ position. is_marked marks.now (Some position)) view.now)
         → found ≡ true ↔ ItemsCiteMarked frames.now.statements (items_of (front ++ take heading.entry.count heading.entry.words) numbers.now) marks.now) }
 {
-    wanted.clear();
+    label_marks.clear();
     let mut words = heading.words;
     for _ in 0..heading.count {
         let Some(label) = words.next() else {
             unreachable!();
         };
-        wanted.push(is_marked(marks, frames.position(label)))?;
+        label_marks.push(is_marked(marks, frames.position(label)))?;
     }
-    Ok(has_wanted(view, marks, wanted, numbers))
+    Ok(has_marked_number(view, marks, label_marks, numbers))
 }
 
 /// Returns whether one of the numbers is that of a marked mandatory hypothesis or listed label.
-fn has_wanted(view: &MandatoryView<'_>, marks: &[bool], wanted: &[bool], numbers: &[u32]) -> bool
-    ensures { result ≡ list_any (λ n. is_marked (map (λ position. is_marked marks.now (Some position)) view.now ++ wanted.now) (Some n)) numbers.now }
+fn has_marked_number(
+    view: &MandatoryView<'_>,
+    marks: &[bool],
+    label_marks: &[bool],
+    numbers: &[u32],
+) -> bool
+    ensures { result ≡ list_any (λ n. is_marked (map (λ position. is_marked marks.now (Some position)) view.now ++ label_marks.now) (Some n)) numbers.now }
 {
-    numbers
-        .iter()
-        .any(|number| is_wanted(view, marks, wanted, *number as usize))
+    numbers.iter().any(|number| is_marked_number(view, marks, label_marks, *number as usize))
 }
 
 /// Returns whether the number is that of a marked mandatory hypothesis or listed label.
-fn is_wanted(view: &MandatoryView<'_>, marks: &[bool], wanted: &[bool], number: usize) -> bool
-    ensures { result ≡ is_marked (map (λ position. is_marked marks.now (Some position)) view.now ++ wanted.now) (Some number) }
+fn is_marked_number(
+    view: &MandatoryView<'_>,
+    marks: &[bool],
+    label_marks: &[bool],
+    number: usize,
+) -> bool
+    ensures { result ≡ is_marked (map (λ position. is_marked marks.now (Some position)) view.now ++ label_marks.now) (Some number) }
 {
     let many = view.len();
     if number == 0 {
@@ -212,7 +220,7 @@ fn is_wanted(view: &MandatoryView<'_>, marks: &[bool], wanted: &[bool], number: 
     if number <= many {
         return is_marked(marks, Some(view.get(number - 1) as usize));
     }
-    is_marked(wanted, Some(number - many))
+    is_marked(label_marks, Some(number - many))
 }
 
 /// Returns whether one of the positions is marked.

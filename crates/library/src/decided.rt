@@ -9,8 +9,8 @@ use std::marker::Model;
 
 /// The state of an entry whose judging has begun.
 #[derive(Clone, Copy, Drop)]
-pub enum Standing {
-    /// It is undecided: its judging is under way, or an allocation failed in it.
+pub enum EntryState {
+    /// It is undecided: its judging is under way, or an allocation failed during it.
     Undecided,
     /// It was added, or refused for the cause.
     Decided(Option<Cause>),

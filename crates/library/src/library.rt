@@ -4,7 +4,7 @@ ghost use Rattle.library.specs.Added.{Adds};
 ghost use Rattle.library.specs.Good.{Good};
 ghost use Rattle.library.specs.Judging.{ReadsTexts};
 ghost use Rattle.library.specs.LibraryOf.{Applies, empty, holding, status};
-ghost use Rattle.library.specs.LibraryState.{IsDecision, IsWithinSteps, verdict_of};
+ghost use Rattle.library.specs.LibraryState.{IsDecision, HasFewSteps, verdict_of};
 ghost use Rattle.library.specs.Unproved.{FindsLeast};
 ghost use Rattle.mm_read.specs.Statements.{AreShaped};
 ghost use Rattle.scope.specs.Active.{bares};
@@ -13,7 +13,7 @@ ghost use Rattle.std.specs.Fn.{FnReturnsAt};
 use crate::adding::{Added, Parallel, StepCounts, Tables, add_all, add_all_verifying};
 use crate::charter::Names;
 use crate::checked_database::CheckedDatabase;
-use crate::decided::{DecidedEntries, DecidedEntry, Standing};
+use crate::decided::{DecidedEntries, DecidedEntry, EntryState};
 use crate::entry::Entry;
 use crate::entry_text::{may_declare, read_text};
 use crate::unproved::Proofs;
@@ -36,7 +36,7 @@ use verify_pool::{Checkers, Gate, Workers, judge_all, judge_here};
 #[derive(Drop)]
 pub struct Library {
     database: CheckedDatabase,
-    standings: BTreeMap<(u64, u64), Standing>,
+    entry_states: BTreeMap<(u64, u64), EntryState>,
     decided: DecidedEntries,
     charter: Option<Names>,
     steps: StepCounts,
@@ -50,7 +50,7 @@ impl Model for Library {
 
     ghost view = { λ a. record { replica = record { statements = a.database; decided = a.decided.entries; charter = a.charter }; steps = count_of a.steps } };
 
-    ghost invariant = { λ a. IsTableOf a.decided.entries a.standings };
+    ghost invariant = { λ a. IsTableOf a.decided.entries a.entry_states };
 }
 
 impl Library {
@@ -61,7 +61,7 @@ impl Library {
     {
         Library {
             database: CheckedDatabase::new(alloc),
-            standings: BTreeMap::new(alloc),
+            entry_states: BTreeMap::new(alloc),
             decided: DecidedEntries::none(),
             charter: None,
             steps: StepCounts {
@@ -85,7 +85,7 @@ impl Library {
     {
         Library {
             database: CheckedDatabase::from_good(alloc, statements, rules, frames),
-            standings: BTreeMap::new(alloc),
+            entry_states: BTreeMap::new(alloc),
             decided: DecidedEntries::none(),
             charter: None,
             steps: StepCounts {
@@ -104,7 +104,7 @@ impl Library {
         ensures step { IfOk result (λ verdict. Applies self.old.replica (option_map (λ e. e.now) next.entry) verdict self.new.replica) }
         ensures same { OnErr result (self.new.replica ≡ self.old.replica) }
         ensures rises { self.old.steps ≤ self.new.steps }
-        ensures counted { IsWithinSteps self.old.replica (option_map (λ e. e.now) next.entry) self.old.steps self.new.steps }
+        ensures counted { HasFewSteps self.old.replica (option_map (λ e. e.now) next.entry) self.old.steps self.new.steps }
     {
         let alloc = self.database.alloc();
         let add = |statements: &[Stmt], tables: &mut Tables, steps: &mut StepCounts, _checkers: &mut Checkers| -> Added
@@ -122,7 +122,7 @@ impl Library {
     /// the gate before each proof; the jobs are the `$p` of the text, in order; if a long text is judged ahead, those of its
     /// first part and then those of the rest, each counted from 0. No answer depends on the number of workers.
     ///
-    /// Errors and steps: those of `apply`, and out of memory if a proof is heavy and the gate keeps these out
+    /// Errors and steps: those of `apply`, and `AllocError` if a proof is heavy and the gate keeps these out
     /// (`Gate::admits_heavy`). Cost: that of the entry's own text; a large text and its proofs are divided among the workers.
     pub fn apply_with<G: Gate + Sync, R: Threads + Sync>(
         &mut self,
@@ -134,7 +134,7 @@ impl Library {
         ensures step { IfOk result (λ verdict. Applies self.old.replica (option_map (λ e. e.now) next.entry) verdict self.new.replica) }
         ensures same { OnErr result (self.new.replica ≡ self.old.replica) }
         ensures rises { self.old.steps ≤ self.new.steps }
-        ensures counted { IsWithinSteps self.old.replica (option_map (λ e. e.now) next.entry) self.old.steps self.new.steps }
+        ensures counted { HasFewSteps self.old.replica (option_map (λ e. e.now) next.entry) self.old.steps self.new.steps }
     {
         let alloc = self.database.alloc();
         let parallel = Parallel {
@@ -171,7 +171,7 @@ impl Library {
         ensures step { IfOk result (λ verdict. Applies self.old.replica (option_map (λ e. e.now) next.entry) verdict self.new.replica) }
         ensures same { OnErr result (self.new.replica ≡ self.old.replica) }
         ensures rises { self.old.steps ≤ self.new.steps }
-        ensures counted { IsWithinSteps self.old.replica (option_map (λ e. e.now) next.entry) self.old.steps self.new.steps }
+        ensures counted { HasFewSteps self.old.replica (option_map (λ e. e.now) next.entry) self.old.steps self.new.steps }
     {
         let Some(entry) = next else {
             return Ok(Verdict::Nothing);
@@ -181,7 +181,7 @@ impl Library {
             None => {}
         }
         let key = (entry.author(), entry.serial());
-        self.standings.insert(key, Standing::Undecided)?;
+        self.entry_states.insert(key, EntryState::Undecided)?;
         let cause = match entry {
             Entry::Text(submission) => match read_text(&self.charter, submission, read)? {
                 Ok(statements) => self
@@ -198,7 +198,7 @@ impl Library {
                 }
             }
         };
-        let Ok(_) = self.standings.insert(key, Standing::Decided(cause)) else {
+        let Ok(_) = self.entry_states.insert(key, EntryState::Decided(cause)) else {
             unreachable!();
         };
         let last = DecidedEntry {
@@ -218,9 +218,9 @@ impl Library {
         ensures first { result ≡ status self.now.replica.decided author serial }
         ensures decided { IfSome result IsDecision }
     {
-        match self.standings.get(&(author, serial)) {
-            Some(Standing::Decided(cause)) => Some(verdict_of(*cause)),
-            Some(Standing::Undecided) => None,
+        match self.entry_states.get(&(author, serial)) {
+            Some(EntryState::Decided(cause)) => Some(verdict_of(*cause)),
+            Some(EntryState::Undecided) => None,
             None => None,
         }
     }

@@ -43,8 +43,8 @@ impl From<AllocError> for AskFault {
 }
 
 impl Library {
-    /// Returns the labels of the `$a` that the proof of the label cites, or that the proofs of the `$p` it cites use, each once,
-    /// in the order of the library.
+    /// Returns the labels of the `$a` on which the proof of the `$p` with the label rests: those that it cites, and those on which
+    /// the proofs of the `$p` that it cites rest. Each is returned once, in the order of the library.
     ///
     /// Errors: `NoLabel` if no statement has the label, `NotProvable` if it is no `$p`, both even if every allocation
     /// fails; else `Memory`. Cost: that of the proofs that it rests on, each read once, and a byte for each statement
@@ -78,7 +78,7 @@ impl Library {
         }
     }
 
-    /// Returns the position of the `$p` of the label, and the items that the tokens of its proof write, which are right.
+    /// Returns the position of the `$p` with the label, and the items that the tokens of its proof write, which are right.
     ///
     /// Errors: those of `trace`. Cost: the proof's own size. Source: Metamath, 4.2.6 and appendix B.
     pub fn items(&self, label: &[u8]) -> Result<(usize, Items), AskFault>
@@ -102,7 +102,7 @@ impl Library {
         self.database().frames()
     }
 
-    /// Returns the derivation that the proof of the label spells.
+    /// Returns the derivation that the proof of the `$p` with the label spells.
     ///
     /// Errors: `NoLabel` and `NotProvable` as for `trace`; `TooLarge` if the derivation has more than 65,536 nodes or a
     /// depth above 1,024; `Memory` in place of an answer or of `TooLarge`. Cost: a check of the proof, and the tree.
@@ -130,7 +130,7 @@ impl Library {
     }
 }
 
-/// Returns the position of the `$p` of the label.
+/// Returns the position of the `$p` with the label.
 fn proof_at(database: &CheckedDatabase, label: &[u8]) -> Result<usize, AskFault>
     ensures found { MatchResult result (λ at. NamesProof database.now label.now at × (¬ NamesNoProof database.now label.now)) (IsNoProof database.now label.now) }
     ensures good { Good database.now }

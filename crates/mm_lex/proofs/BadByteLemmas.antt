@@ -1,5 +1,5 @@
 -- The first byte that is not allowed.
-use Rattle.mm_lex.proofs.Prelude.{◌≡◌, ℕ, ◌+◌, ◌<◌, nat_lt, suc, zero, Bool, true, false, not, List, [], ◌∷◌, length, take, Some, None, refl, list_all, position, position_or_len, cond, ltb-true, sym, ◌∙◌, ap, arith, get_or, passes_at_first, take-length, not-true, and_parts, not-not, is_allowed, IsClean, IsFirstBadByte}
+use Rattle.mm_lex.proofs.Prelude.{◌≡◌, ℕ, ◌+◌, ◌<◌, nat_lt, suc, zero, Bool, true, false, not, List, [], ◌∷◌, length, take, Some, None, refl, list_all, position, position_or_len, cond, ltb-true, sym, ◌∙◌, ap, arith, get_or, passes_at_first, take-length, not-true, and_parts, not-not, is_allowed, HasOnlyAllowedBytes, IsFirstBadByte}
 use Rattle.mm_lex.proofs.RunsLemmas.{all_before, found_at, found_none}
 
 abbrev pub is_bad : ℕ → Bool
@@ -17,8 +17,8 @@ IsFirstBadByte-found text offset found =
       before = rw here.0 (allowed_before text);
     }
 
-pub IsClean-none : (text : List ℕ) → None ≡ position is_bad text → IsClean text
-IsClean-none text none =
+pub HasOnlyAllowedBytes-none : (text : List ℕ) → None ≡ position is_bad text → HasOnlyAllowedBytes text
+HasOnlyAllowedBytes-none text none =
     let all = found_none is_bad text none in
     ap (list_all is_allowed) (sym (take-length text) ∙ ap (λ n. take n text) (sym all)) ∙ allowed_before text
 
@@ -36,21 +36,21 @@ first_is (b ∷ text) (suc offset) inside bad before =
 pub IsFirstBadByte-place : (text : List ℕ) (offset : ℕ) → IsFirstBadByte text offset → position_or_len is_bad text ≡ offset
 IsFirstBadByte-place text offset is = first_is text offset is.inside is.bad is.before
 
--- in a clean text the search for a bad byte reaches the end
+-- in a text of allowed bytes the search for a bad byte reaches the end
 clean_is : (text : List ℕ) → list_all is_allowed text ≡ true → position_or_len is_bad text ≡ length text
 clean_is [] h = refl
 clean_is (b ∷ text) h = first_step b text (length text) (and_parts (is_allowed b) (list_all is_allowed text) h).0 (clean_is text (and_parts (is_allowed b) (list_all is_allowed text) h).1)
 
--- a text is clean or has a text fault, not both
-pub IsClean-no_fault : (text : List ℕ) (offset : ℕ) → IsClean text → IsFirstBadByte text offset → ⊥
-IsClean-no_fault text offset clean is = omega (arith, clean_is text clean, IsFirstBadByte-place text offset is, is.inside)
+-- a text has only allowed bytes or has a text fault, not both
+pub HasOnlyAllowedBytes-no_fault : (text : List ℕ) (offset : ℕ) → HasOnlyAllowedBytes text → IsFirstBadByte text offset → ⊥
+HasOnlyAllowedBytes-no_fault text offset allowed is = omega (arith, clean_is text allowed, IsFirstBadByte-place text offset is, is.inside)
 
 pub IsFirstBadByte-unique : (text : List ℕ) (a b : ℕ) → IsFirstBadByte text a → IsFirstBadByte text b → a ≡ b
 IsFirstBadByte-unique text a b is also = sym (IsFirstBadByte-place text a is) ∙ IsFirstBadByte-place text b also
 
-pub position-clean : (text : List ℕ) → IsClean text → None ≡ position is_bad text
-position-clean text clean = by (nat_lt (position_or_len is_bad text) (length text)) refl
+pub position-clean : (text : List ℕ) → HasOnlyAllowedBytes text → None ≡ position is_bad text
+position-clean text allowed = by (nat_lt (position_or_len is_bad text) (length text)) refl
   where
     by : (t : Bool) → nat_lt (position_or_len is_bad text) (length text) ≡ t → None ≡ cond t (Some (position_or_len is_bad text)) None
-    by true e = absurd (omega (arith, ltb-true _ _ e, clean_is text clean))
+    by true e = absurd (omega (arith, ltb-true _ _ e, clean_is text allowed))
     by false e = refl

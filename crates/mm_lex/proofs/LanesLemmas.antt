@@ -1,5 +1,5 @@
 -- The first white byte, found as the first byte up to the space, sixteen bytes at a time.
-use Rattle.mm_lex.proofs.Prelude.{◌≡◌, ℕ, ◌+◌, ◌<◌, ◌≤◌, Bool, true, false, not, cond, nat_le, nat_lt, List, [], ◌∷◌, length, take, drop, map, refl, list_all, position_or_len, prefix_len, sym, ◌∙◌, ap, arith, leb, ltb, eqb, replicate, w8, ◌%◌, ◌^◌, eqb-true, eqb-false, and_parts, zip2, mask_l, top, count_trailing_zeros, bitmask_splat, tops_compared, zip2_splat_left, mask_l-mod, trailing_mask_l, leading_from_mask_l, length-map, take-append-drop, length-drop, length-take-le, drop-drop, prefix_len-append, list_all-append, is_white, is_allowed, IsClean}
+use Rattle.mm_lex.proofs.Prelude.{◌≡◌, ℕ, ◌+◌, ◌<◌, ◌≤◌, Bool, true, false, not, cond, nat_le, nat_lt, List, [], ◌∷◌, length, take, drop, map, refl, list_all, position_or_len, prefix_len, sym, ◌∙◌, ap, arith, leb, ltb, eqb, replicate, w8, ◌%◌, ◌^◌, eqb-true, eqb-false, and_parts, zip2, mask_l, top, count_trailing_zeros, bitmask_splat, tops_compared, zip2_splat_left, mask_l-mod, trailing_mask_l, leading_from_mask_l, length-map, take-append-drop, length-drop, length-take-le, drop-drop, prefix_len-append, list_all-append, is_white, is_allowed, HasOnlyAllowedBytes}
 
 abbrev pub is_low : ℕ → Bool
 is_low b = nat_le b 32
@@ -14,22 +14,22 @@ is_low-white b h = by (is_low b) (is_white b) refl refl
     by false true e k = absurd (grind (arith, h, e, k))
     by false false e k = refl
 
--- ---- a part of a clean text
+-- ---- a part of a text of allowed bytes
 
-pub clean-drop : (n : ℕ) (text : List ℕ) → IsClean text → IsClean (drop n text)
-clean-drop n text clean =
-    (and_parts (list_all is_allowed (take n text)) (list_all is_allowed (drop n text)) (sym (list_all-append is_allowed (take n text) (drop n text)) ∙ (ap (list_all is_allowed) (take-append-drop n text) ∙ clean))).1
+pub allowed-drop : (n : ℕ) (text : List ℕ) → HasOnlyAllowedBytes text → HasOnlyAllowedBytes (drop n text)
+allowed-drop n text allowed =
+    (and_parts (list_all is_allowed (take n text)) (list_all is_allowed (drop n text)) (sym (list_all-append is_allowed (take n text) (drop n text)) ∙ (ap (list_all is_allowed) (take-append-drop n text) ∙ allowed))).1
 
-pub clean-take : (n : ℕ) (text : List ℕ) → IsClean text → IsClean (take n text)
-clean-take n text clean =
-    (and_parts (list_all is_allowed (take n text)) (list_all is_allowed (drop n text)) (sym (list_all-append is_allowed (take n text) (drop n text)) ∙ (ap (list_all is_allowed) (take-append-drop n text) ∙ clean))).0
+pub allowed-take : (n : ℕ) (text : List ℕ) → HasOnlyAllowedBytes text → HasOnlyAllowedBytes (take n text)
+allowed-take n text allowed =
+    (and_parts (list_all is_allowed (take n text)) (list_all is_allowed (drop n text)) (sym (list_all-append is_allowed (take n text) (drop n text)) ∙ (ap (list_all is_allowed) (take-append-drop n text) ∙ allowed))).0
 
--- in a clean text the first byte that is at most the space is the first white one
-pub low_is_white : (text : List ℕ) → IsClean text → position_or_len is_low text ≡ position_or_len is_white text
-low_is_white [] clean = refl
-low_is_white (b ∷ text) clean =
-    ap (λ t. cond (not t) (1 + position_or_len is_low text) 0) (is_low-white b (and_parts (is_allowed b) _ clean).0)
-    ∙ ap (λ n. cond (not (is_white b)) (1 + n) 0) (low_is_white text (and_parts (is_allowed b) _ clean).1)
+-- in a text of allowed bytes the first byte that is at most the space is the first white one
+pub low_is_white : (text : List ℕ) → HasOnlyAllowedBytes text → position_or_len is_low text ≡ position_or_len is_white text
+low_is_white [] allowed = refl
+low_is_white (b ∷ text) allowed =
+    ap (λ t. cond (not t) (1 + position_or_len is_low text) 0) (is_low-white b (and_parts (is_allowed b) _ allowed).0)
+    ∙ ap (λ n. cond (not (is_white b)) (1 + n) 0) (low_is_white text (and_parts (is_allowed b) _ allowed).1)
 
 abbrev pub is_high : ℕ → Bool
 is_high b = nat_lt 32 b
@@ -44,11 +44,11 @@ is_high-shown b h = by (is_high b) (is_white b) refl refl
     by false false e k = absurd (grind (arith, h, e, k))
 
 -- .. and the first byte above the space is the first that is not white
-pub high_is_shown : (text : List ℕ) → IsClean text → position_or_len is_high text ≡ position_or_len (λ b. not (is_white b)) text
-high_is_shown [] clean = refl
-high_is_shown (b ∷ text) clean =
-    ap (λ t. cond (not t) (1 + position_or_len is_high text) 0) (is_high-shown b (and_parts (is_allowed b) _ clean).0)
-    ∙ ap (λ n. cond (not (not (is_white b))) (1 + n) 0) (high_is_shown text (and_parts (is_allowed b) _ clean).1)
+pub high_is_shown : (text : List ℕ) → HasOnlyAllowedBytes text → position_or_len is_high text ≡ position_or_len (λ b. not (is_white b)) text
+high_is_shown [] allowed = refl
+high_is_shown (b ∷ text) allowed =
+    ap (λ t. cond (not t) (1 + position_or_len is_high text) 0) (is_high-shown b (and_parts (is_allowed b) _ allowed).0)
+    ∙ ap (λ n. cond (not (not (is_white b))) (1 + n) 0) (high_is_shown text (and_parts (is_allowed b) _ allowed).1)
 
 -- ---- the mask of sixteen bytes
 
@@ -95,7 +95,7 @@ first_among p n text few =
 
 -- ---- the bytes after those read so far
 
-module _ (text : List ℕ) (at : ℕ) (clean : IsClean text) (room : at + 16 ≤ length text)
+module _ (text : List ℕ) (at : ℕ) (allowed : HasOnlyAllowedBytes text) (room : at + 16 ≤ length text)
     (seen : position_or_len is_white text ≡ at + position_or_len is_white (drop at text))
     (count : ℕ) (counted : count ≡ position_or_len is_low (take 16 (drop at text))) where
   abbrev next : List ℕ
@@ -107,7 +107,7 @@ module _ (text : List ℕ) (at : ℕ) (clean : IsClean text) (room : at + 16 ≤
 
   -- the count is the number of them before the first white one
   next_white : count ≡ prefix_len (λ b. not (is_white b)) next
-  next_white = counted ∙ low_is_white next (clean-take 16 (drop at text) (clean-drop at text clean))
+  next_white = counted ∙ low_is_white next (allowed-take 16 (drop at text) (allowed-drop at text allowed))
 
   -- the number of bytes before a white one, counted in the next sixteen and, if none of these is white, after them
   parts : prefix_len (λ b. not (is_white b)) (drop at text)

@@ -1,6 +1,6 @@
 -- A list of symbols, read piece by piece and word by word.
-use Rattle.mm_lex.proofs.Prelude.{◌≡◌, ℕ, ◌+◌, ◌-◌, ◌<◌, ◌≤◌, true, false, List, [], ◌∷◌, ◌++◌, length, take, drop, refl, list_all, sym, ◌∙◌, ap, arith, append_assoc, append-nil, list_all-append, and_from, Span, Name, starts_white, word, is_symbol, words_of, AreWords, IsClean, words, runs_after, spaced_prefix_len, AreAfter, IsTokenAfter, AddsSymbols, EndsSymbols}
-use Rattle.mm_lex.proofs.LanesLemmas.{clean-drop}
+use Rattle.mm_lex.proofs.Prelude.{◌≡◌, ℕ, ◌+◌, ◌-◌, ◌<◌, ◌≤◌, true, false, List, [], ◌∷◌, ◌++◌, length, take, drop, refl, list_all, sym, ◌∙◌, ap, arith, append_assoc, append-nil, list_all-append, and_from, Span, Name, starts_white, word, is_symbol, words_of, AreWords, HasOnlyAllowedBytes, words, runs_after, spaced_prefix_len, AreAfter, IsTokenAfter, AddsSymbols, EndsSymbols}
+use Rattle.mm_lex.proofs.LanesLemmas.{allowed-drop}
 use Rattle.mm_lex.proofs.VisibleRunLemmas.{IsFrontOf, prefix_front, symbols_words}
 use Rattle.mm_lex.proofs.BetweenLemmas.{between_none, between_on, between_as, between_plain, between_runs, after_on, after_as}
 
@@ -53,11 +53,11 @@ module _ {text : List ℕ} where
 
 module _ (text : List ℕ) where
   -- a spaced prefix of the text that is left
-  module _ (start end n : ℕ) (clean : IsClean text) (shown : starts_white (drop start text) ≡ false) (is : n ≡ spaced_prefix_len (drop start text)) (some : 0 < n)
+  module _ (start end n : ℕ) (allowed : HasOnlyAllowedBytes text) (shown : starts_white (drop start text) ≡ false) (is : n ≡ spaced_prefix_len (drop start text)) (some : 0 < n)
       (same : end ≡ start + n) (within : end ≤ length text) (white : starts_white (drop end text) ≡ true) where
     -- the runs of the spaced prefix, whose words are symbols
     front : IsFrontOf text start n (take n (drop start text))
-    front = prefix_front text start n (clean-drop start text clean) shown is some (omega (arith, same, within)) (ap (λ k. starts_white (drop k text)) (sym same) ∙ white)
+    front = prefix_front text start n (allowed-drop start text allowed) shown is some (omega (arith, same, within)) (ap (λ k. starts_white (drop k text)) (sym same) ∙ white)
 
     -- the spaced prefix is as long as the piece that is copied
     width : end - start ≡ n

@@ -7,7 +7,7 @@ pub use Rattle.mm_lex.specs.Laws.{SomeAnswer}
 pub use Rattle.mm_lex.specs.Stored.SpacedPrefix.{ends_between, ends_here, lanes_end, spaced_prefix_len}
 pub use Rattle.mm_lex.specs.SymbolList.{AddsSymbols, EndsSymbols}
 pub use Rattle.mm_lex.specs.TextFaults.{IsCommentFault, IsFirstBadByte, IsNestedOpener, IsStrayCloser, IsUnclosed, IsCommentFaultOfRuns}
-pub use Rattle.mm_lex.specs.Tokens.{AllPlain, AreParts, AreTokens, SplitsInto, IsClean, IsPart, IsWordAt, Part, closer, is_plain, opener, part_spans, words}
+pub use Rattle.mm_lex.specs.Tokens.{AllPlain, AreParts, AreTokens, SplitsInto, HasOnlyAllowedBytes, IsPart, IsWordAt, Part, closer, is_plain, opener, part_spans, words}
 pub use Rattle.mm_lex.specs.Words.{AreWords, is_word, spaced, words_of}
 pub use Rattle.mm_lex.specs.declared.fault.LexFault.{LexFault}
 pub use Rattle.mm_lex.specs.declared.fault.LexFault.TheVariants.{Comment, Memory, Text}

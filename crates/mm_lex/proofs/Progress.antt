@@ -1,10 +1,10 @@
 -- How far the code has read: the result of the scan of the whole text, by the text that is left.
-use Rattle.mm_lex.proofs.Prelude.{◌≡◌, ℕ, ◌-◌, ◌<◌, ◌≤◌, Bool, true, false, not, cond, ◌||◌, List, [], ◌∷◌, ◌++◌, length, drop, Some, None, Ok, Err, refl, list_all, All, sym, ◌∙◌, ap, arith, append_assoc, true≢false, min, append-nil, length-take, length-drop, All-push, list_all-append, bytes_eq-Decides, and_from, and_parts, Span, Name, is_white, is_visible, is_allowed, runs, word, IsRunAt, is_word, opener, closer, is_plain, AllPlain, IsClean, AreTokens, IsWordAt, IsCommentFault, runs_after, PassesPlain, IsClosedAt, IsNestedAt}
-use Rattle.mm_lex.proofs.LanesLemmas.{clean-take, clean-drop}
+use Rattle.mm_lex.proofs.Prelude.{◌≡◌, ℕ, ◌-◌, ◌<◌, ◌≤◌, Bool, true, false, not, cond, ◌||◌, List, [], ◌∷◌, ◌++◌, length, drop, Some, None, Ok, Err, refl, list_all, All, sym, ◌∙◌, ap, arith, append_assoc, true≢false, min, append-nil, length-take, length-drop, All-push, list_all-append, bytes_eq-Decides, and_from, and_parts, Span, Name, is_white, is_visible, is_allowed, runs, word, IsRunAt, is_word, opener, closer, is_plain, AllPlain, HasOnlyAllowedBytes, AreTokens, IsWordAt, IsCommentFault, runs_after, PassesPlain, IsClosedAt, IsNestedAt}
+use Rattle.mm_lex.proofs.LanesLemmas.{allowed-take, allowed-drop}
 use Rattle.mm_lex.proofs.ScanRuns.{prepend, prepend-append, scan, opens, closes, scan_opener, scan_closer, scan_plain, scan_nested, scan_closing, scan_all_inside, is_opener, is_closer, closer_no_opener, scan-stops}
 use Rattle.mm_lex.proofs.ScanResults.{split-scan, stops-scan, plain}
 
--- ---- a run of a clean text is a word
+-- ---- a run of a text of allowed bytes is a word
 
 -- an allowed byte that is not white is visible
 visible_byte : (v w : Bool) → (v || w) ≡ true → not w ≡ true → v ≡ true
@@ -24,14 +24,14 @@ some_word : (bytes : Name) → 0 < length bytes → list_all is_visible bytes �
 some_word [] some h = absurd (omega (arith, some))
 some_word (b ∷ bytes) some h = h
 
-pub IsWordAt-run : (text : List ℕ) (s : Span) → IsClean text → IsRunAt text s → IsWordAt text s
-IsWordAt-run text s clean is =
+pub IsWordAt-run : (text : List ℕ) (s : Span) → HasOnlyAllowedBytes text → IsRunAt text s → IsWordAt text s
+IsWordAt-run text s allowed is =
     let long : length (word text s) ≡ min (s.end - s.start) (length text - s.start) = length-take (s.end - s.start) (drop s.start text) ∙ ap (min (s.end - s.start)) (length-drop s.start text) in
     let some : 0 < length (word text s) = omega (arith, long, is.some, is.within) in
     record {
       some = is.some;
       within = is.within;
-      word = some_word (word text s) some (all_visible (word text s) (clean-take (s.end - s.start) (drop s.start text) (clean-drop s.start text clean)) is.visible);
+      word = some_word (word text s) some (all_visible (word text s) (allowed-take (s.end - s.start) (drop s.start text) (allowed-drop s.start text allowed)) is.visible);
     }
 
 -- ---- inside a comment
@@ -121,14 +121,14 @@ module _ {text : List ℕ} {spans : List Span} {allocation_failed : Bool} {at : 
     here = so.whole ∙ ap (λ r. prepend so.tokens (scan text r None)) run
 
     -- a plain run is one more token
-    pub split_more : IsClean text → IsRunAt text s → opens text s ≡ false → closes text s ≡ false
+    pub split_more : HasOnlyAllowedBytes text → IsRunAt text s → opens text s ≡ false → closes text s ≡ false
         → (new : List Span) (r : Bool) → new ≡ cond r spans (spans ++ s ∷ []) → (allocation_failed ≡ true → r ≡ true) → SplitUpTo text new r s.end
-    split_more clean is unopened unclosed new r e stays = record {
+    split_more allowed is unopened unclosed new r e stays = record {
       tokens = so.tokens ++ s ∷ [];
       within = is.within;
       whole = here ∙ (ap (prepend so.tokens) (scan_plain text s (runs_after text s.end) unopened unclosed) ∙ prepend-append so.tokens (s ∷ []) (scan text (runs_after text s.end) None));
       kept = λ f. e ∙ kept_push allocation_failed r spans so.tokens s so.kept stays f;
-      words = rw e (words_push text r spans s so.words (IsWordAt-run text s clean is));
+      words = rw e (words_push text r spans s so.words (IsWordAt-run text s allowed is));
     }
 
     -- at a `$)` outside comments the scan of the text stops
@@ -174,11 +174,11 @@ module _ {text : List ℕ} {spans : List Span} {allocation_failed : Bool} {at : 
 
 -- ---- the answer of the code at the end
 
-pub AreTokens-scan : (text : List ℕ) (tokens : List Span) → IsClean text → scan text (runs text) None ≡ Ok tokens → AreTokens text tokens
-AreTokens-scan text tokens clean e = (clean, split-scan text (runs text) tokens e)
+pub AreTokens-scan : (text : List ℕ) (tokens : List Span) → HasOnlyAllowedBytes text → scan text (runs text) None ≡ Ok tokens → AreTokens text tokens
+AreTokens-scan text tokens allowed e = (allowed, split-scan text (runs text) tokens e)
 
-pub IsCommentFault-scan : (text : List ℕ) (offset : ℕ) → IsClean text → scan text (runs text) None ≡ Err offset → IsCommentFault text offset
-IsCommentFault-scan text offset clean e = (clean, stops-scan text (runs text) offset e)
+pub IsCommentFault-scan : (text : List ℕ) (offset : ℕ) → HasOnlyAllowedBytes text → scan text (runs text) None ≡ Err offset → IsCommentFault text offset
+IsCommentFault-scan text offset allowed e = (allowed, stops-scan text (runs text) offset e)
 
 -- the offset at which the scan stops is the only comment fault
 pub same_fault : (text : List ℕ) (a b : ℕ) → scan text (runs text) None ≡ Err a → IsCommentFault text b → a ≡ b

@@ -1,5 +1,5 @@
 -- Symbols with one space between two: a spaced prefix has this form, and the words of bytes of this form are symbols.
-use Rattle.mm_lex.proofs.Prelude.{◌≡◌, ℕ, ◌<◌, zero, suc, Bool, true, false, not, cond, ◌&&◌, ◌||◌, ◌==◌, List, [], ◌∷◌, take, refl, list_all, slice_split, onto_first, sym, ◌∙◌, ap, arith, and_from, and_parts, Name, is_white, is_visible, is_allowed, starts_white, is_symbol, has_byte, is_empty, IsClean, spaced_prefix_len, ends_here, ends_between}
+use Rattle.mm_lex.proofs.Prelude.{◌≡◌, ℕ, ◌<◌, zero, suc, Bool, true, false, not, cond, ◌&&◌, ◌||◌, ◌==◌, List, [], ◌∷◌, take, refl, list_all, slice_split, onto_first, sym, ◌∙◌, ap, arith, and_from, and_parts, Name, is_white, is_visible, is_allowed, starts_white, is_symbol, has_byte, is_empty, HasOnlyAllowedBytes, spaced_prefix_len, ends_here, ends_between}
 use Rattle.mm_lex.proofs.WordsLemmas.{first_part}
 
 abbrev pub is_space : ℕ → Bool
@@ -55,12 +55,12 @@ PrefixIsSingleSpaced b bytes = is_white b ≡ false → ends_here (b ∷ bytes) 
 
 -- the claim for two bytes, from the claim for the second one
 last_two : (b c : ℕ) → is_symbol_byte b ≡ true → is_allowed c ≡ true → PrefixIsSingleSpaced c [] → (t : Bool) → ends_here (c ∷ []) ≡ t → is_single_spaced (b ∷ rest_of (c ∷ [])) ≡ true
-last_two b c shown clean from true e = rw (prefix_off c [] e) shown
-last_two b c shown clean from false e = rw (prefix_on c [] e) (by (is_space c) refl)
+last_two b c shown allowed from true e = rw (prefix_off c [] e) shown
+last_two b c shown allowed from false e = rw (prefix_on c [] e) (by (is_space c) refl)
   where
     by : (u : Bool) → is_space c ≡ u → is_single_spaced (b ∷ c ∷ []) ≡ true
     by true k = absurd (omega (arith, space_byte c 32 k e))
-    by false k = single_spaced_cons b c [] false k shown (from (other_byte c 32 clean k e) e)
+    by false k = single_spaced_cons b c [] false k shown (from (other_byte c 32 allowed k e) e)
 
 -- the symbols do not end at a byte above `$`, whatever follows
 goes_next : (d : ℕ) (bytes : List ℕ) → 36 < d → ends_here (d ∷ bytes) ≡ false
@@ -70,8 +70,8 @@ goes_next d (e ∷ bytes) h = (above_dollar d e h).0
 -- the claim for three bytes or more, from the claim without the first byte and the claim without the first two
 two_more : (b c d : ℕ) (bytes : List ℕ) → is_symbol_byte b ≡ true → is_allowed c ≡ true → PrefixIsSingleSpaced c (d ∷ bytes) → PrefixIsSingleSpaced d bytes
     → (t : Bool) → ends_here (c ∷ d ∷ bytes) ≡ t → is_single_spaced (b ∷ rest_of (c ∷ d ∷ bytes)) ≡ true
-two_more b c d bytes shown clean from goes_on true e = rw (prefix_off c (d ∷ bytes) e) shown
-two_more b c d bytes shown clean from goes_on false e = rw (prefix_on c (d ∷ bytes) e) (by (is_space c) refl)
+two_more b c d bytes shown allowed from goes_on true e = rw (prefix_off c (d ∷ bytes) e) shown
+two_more b c d bytes shown allowed from goes_on false e = rw (prefix_on c (d ∷ bytes) e) (by (is_space c) refl)
   where
     by : (u : Bool) → is_space c ≡ u → is_single_spaced (b ∷ c ∷ rest_of (d ∷ bytes)) ≡ true
     by true k =
@@ -79,27 +79,27 @@ two_more b c d bytes shown clean from goes_on false e = rw (prefix_on c (d ∷ b
         let on = goes_next d bytes high in
         single_spaced_cons b c (rest_of (d ∷ bytes)) true k shown
         (ap (λ n. is_single_spaced (take n (d ∷ bytes))) (prefix_on d bytes on) ∙ goes_on (above_dollar d 32 high).1 on)
-    by false k = single_spaced_cons b c (rest_of (d ∷ bytes)) false k shown (from (other_byte c d clean k e) e)
+    by false k = single_spaced_cons b c (rest_of (d ∷ bytes)) false k shown (from (other_byte c d allowed k e) e)
 
 -- the claim holds for all allowed bytes
 single_spaced_from : (b : ℕ) (bytes : List ℕ) → list_all is_allowed (b ∷ bytes) ≡ true → PrefixIsSingleSpaced b bytes
-single_spaced_from b [] clean white goes = shown_byte b 32 (and_parts (is_allowed b) _ clean).0 white goes
-single_spaced_from b (c ∷ []) clean white goes =
-    let next = (and_parts (is_allowed b) _ clean).1 in
-    last_two b c (shown_byte b c (and_parts (is_allowed b) _ clean).0 white goes) (and_parts (is_allowed c) _ next).0 (single_spaced_from c [] next) (ends_here (c ∷ [])) refl
-single_spaced_from b (c ∷ d ∷ bytes) clean white goes =
-    let next = (and_parts (is_allowed b) _ clean).1 in
-    two_more b c d bytes (shown_byte b c (and_parts (is_allowed b) _ clean).0 white goes) (and_parts (is_allowed c) _ next).0
+single_spaced_from b [] allowed white goes = shown_byte b 32 (and_parts (is_allowed b) _ allowed).0 white goes
+single_spaced_from b (c ∷ []) allowed white goes =
+    let next = (and_parts (is_allowed b) _ allowed).1 in
+    last_two b c (shown_byte b c (and_parts (is_allowed b) _ allowed).0 white goes) (and_parts (is_allowed c) _ next).0 (single_spaced_from c [] next) (ends_here (c ∷ [])) refl
+single_spaced_from b (c ∷ d ∷ bytes) allowed white goes =
+    let next = (and_parts (is_allowed b) _ allowed).1 in
+    two_more b c d bytes (shown_byte b c (and_parts (is_allowed b) _ allowed).0 white goes) (and_parts (is_allowed c) _ next).0
     (single_spaced_from c (d ∷ bytes) next) (single_spaced_from d bytes (and_parts (is_allowed c) _ next).1) (ends_here (c ∷ d ∷ bytes)) refl
 
--- a spaced prefix of a clean text that does not start white is single-spaced
-pub prefix_spaced : (bytes : List ℕ) → IsClean bytes → starts_white bytes ≡ false → 0 < spaced_prefix_len bytes → is_single_spaced (take (spaced_prefix_len bytes) bytes) ≡ true
-prefix_spaced [] clean white some = absurd (omega (arith, some))
-prefix_spaced (b ∷ bytes) clean white some = by (ends_here (b ∷ bytes)) refl
+-- a spaced prefix of a text of allowed bytes that does not start white is single-spaced
+pub prefix_spaced : (bytes : List ℕ) → HasOnlyAllowedBytes bytes → starts_white bytes ≡ false → 0 < spaced_prefix_len bytes → is_single_spaced (take (spaced_prefix_len bytes) bytes) ≡ true
+prefix_spaced [] allowed white some = absurd (omega (arith, some))
+prefix_spaced (b ∷ bytes) allowed white some = by (ends_here (b ∷ bytes)) refl
   where
     by : (t : Bool) → ends_here (b ∷ bytes) ≡ t → is_single_spaced (take (spaced_prefix_len (b ∷ bytes)) (b ∷ bytes)) ≡ true
     by true e = absurd (omega (arith, some, prefix_off b bytes e))
-    by false e = rw (prefix_on b bytes e) (single_spaced_from b bytes clean white e)
+    by false e = rw (prefix_on b bytes e) (single_spaced_from b bytes allowed white e)
 
 -- ---- the words of single-spaced bytes
 

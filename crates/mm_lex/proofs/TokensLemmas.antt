@@ -1,8 +1,8 @@
 -- A text has exactly one of tokens, text fault and comment fault.
-use Rattle.mm_lex.proofs.Prelude.{◌≡◌, ℕ, List, Option, Some, None, Ok, Err, refl, position, sym, inl, inr, Span, runs, IsClean, SplitsInto, AreTokens, IsCommentFault, SomeAnswer}
+use Rattle.mm_lex.proofs.Prelude.{◌≡◌, ℕ, List, Option, Some, None, Ok, Err, refl, position, sym, inl, inr, Span, runs, HasOnlyAllowedBytes, SplitsInto, AreTokens, IsCommentFault, SomeAnswer}
 use Rattle.mm_lex.proofs.ScanRuns.{Outcome, scan, scan-split, scan-stops}
 use Rattle.mm_lex.proofs.Progress.{AreTokens-scan, IsCommentFault-scan, same_fault, no_fault}
-use Rattle.mm_lex.proofs.BadByteLemmas.{is_bad, IsFirstBadByte-found, IsClean-none}
+use Rattle.mm_lex.proofs.BadByteLemmas.{is_bad, IsFirstBadByte-found, HasOnlyAllowedBytes-none}
 
 pub SplitsInto-unique : (text : List ℕ) (spans a b : List Span) → SplitsInto text spans a → SplitsInto text spans b → a ≡ b
 SplitsInto-unique text spans a b is also = let e = scan-split text spans a is in let f = scan-split text spans b also in cc
@@ -20,10 +20,10 @@ IsCommentFault-unique text a b is also = same_fault text a b (scan-stops text (r
 pub some_answer : (text : List ℕ) → SomeAnswer text
 some_answer text = by (position is_bad text) refl
   where
-    clean_answer : (r : Outcome) → scan text (runs text) None ≡ r → IsClean text → SomeAnswer text
-    clean_answer (Ok tokens) e clean = inl (tokens, AreTokens-scan text tokens clean e)
-    clean_answer (Err offset) e clean = inr (inr (offset, IsCommentFault-scan text offset clean e))
+    clean_answer : (r : Outcome) → scan text (runs text) None ≡ r → HasOnlyAllowedBytes text → SomeAnswer text
+    clean_answer (Ok tokens) e allowed = inl (tokens, AreTokens-scan text tokens allowed e)
+    clean_answer (Err offset) e allowed = inr (inr (offset, IsCommentFault-scan text offset allowed e))
 
     by : (o : Option ℕ) → position is_bad text ≡ o → SomeAnswer text
     by (Some offset) e = inr (inl (offset, IsFirstBadByte-found text offset (sym e)))
-    by None e = clean_answer (scan text (runs text) None) refl (IsClean-none text (sym e))
+    by None e = clean_answer (scan text (runs text) None) refl (HasOnlyAllowedBytes-none text (sym e))

@@ -1,5 +1,5 @@
 -- The runs of single-spaced bytes, and the words of a spaced prefix.
-use Rattle.mm_lex.proofs.Prelude.{◌≡◌, ℕ, ◌+◌, ◌-◌, ◌<◌, ◌≤◌, suc, Bool, true, false, not, ◌||◌, ◌==◌, List, [], ◌∷◌, ◌++◌, length, take, drop, refl, list_all, onto_first, sym, ◌∙◌, ap, arith, take-append-drop, drop-drop, length-take-le, length-drop, and_from, and_parts, Span, Name, is_white, is_visible, starts_white, with_byte, runs_from, word, is_symbol, has_byte, words_of, is_word, is_plain, AllPlain, IsClean, words, spaced_prefix_len}
+use Rattle.mm_lex.proofs.Prelude.{◌≡◌, ℕ, ◌+◌, ◌-◌, ◌<◌, ◌≤◌, suc, Bool, true, false, not, ◌||◌, ◌==◌, List, [], ◌∷◌, ◌++◌, length, take, drop, refl, list_all, onto_first, sym, ◌∙◌, ap, arith, take-append-drop, drop-drop, length-take-le, length-drop, and_from, and_parts, Span, Name, is_white, is_visible, starts_white, with_byte, runs_from, word, is_symbol, has_byte, words_of, is_word, is_plain, AllPlain, HasOnlyAllowedBytes, words, spaced_prefix_len}
 use Rattle.mm_lex.proofs.PlainLemmas.{append_step}
 use Rattle.mm_lex.proofs.SingleSpacedLemmas.{is_space, is_symbol_byte, is_single_spaced, prefix_spaced, space_is, not_white, split_of, split_byte, split_gap, first_byte, after_gap, after_byte, single_spaced_symbols}
 
@@ -144,13 +144,13 @@ pub record IsFrontOf (text : List ℕ) (at n : ℕ) (bytes : List ℕ) : Type 0 
   pub plain : AllPlain text spans
 
 -- the text begins with the runs of a spaced prefix, if a white byte or the end of the text follows it
-pub prefix_front : (text : List ℕ) (at n : ℕ) → IsClean (drop at text) → starts_white (drop at text) ≡ false → n ≡ spaced_prefix_len (drop at text) → 0 < n
+pub prefix_front : (text : List ℕ) (at n : ℕ) → HasOnlyAllowedBytes (drop at text) → starts_white (drop at text) ≡ false → n ≡ spaced_prefix_len (drop at text) → 0 < n
     → at + n ≤ length text → starts_white (drop (at + n) text) ≡ true → IsFrontOf text at n (take n (drop at text))
-prefix_front text at n clean shown e some within white =
+prefix_front text at n allowed shown e some within white =
     let bytes = take n (drop at text) in
     let more : drop n (drop at text) ≡ drop (at + n) text = drop-drop n at text in
     let split : drop at text ≡ bytes ++ drop (at + n) text = sym (take-append-drop n (drop at text)) ∙ ap (λ r. bytes ++ r) more in
-    let single_spaced : is_single_spaced bytes ≡ true = ap (λ k. is_single_spaced (take k (drop at text))) e ∙ prefix_spaced (drop at text) clean shown (omega (arith, some, e)) in
+    let single_spaced : is_single_spaced bytes ≡ true = ap (λ k. is_single_spaced (take k (drop at text))) e ∙ prefix_spaced (drop at text) allowed shown (omega (arith, some, e)) in
     let long : length bytes ≡ n = length-take-le n (drop at text) (omega (arith, within, length-drop at text)) in
     let runs = single_spaced_runs text (drop (at + n) text) at bytes split single_spaced in
     let symbols = ap (list_all is_symbol) (words_of-some bytes single_spaced) ∙ single_spaced_symbols bytes single_spaced in

@@ -1,18 +1,18 @@
 -- Why a text has no tokens.
 -- Source: Metamath, 4.1.1 (the bytes of a text) and 4.1.2 (comments do not nest).
--- The code returns the first fault that it meets; here each fault has a part that describes the text before it.
+-- The code returns the first fault that it meets; here the definition of each fault also describes the text before it.
 use Rattle.std.specs.Prelude.{◌≡◌, ℕ, ◌<◌, ◌⊎◌, IsFalse, List, ◌∷◌, ◌++◌, length, take, slice_index}
 use Rattle.mm_lex.specs.declared.span.Span.{Span}
 use Rattle.mm_lex.specs.declared.fault.LexFault.{LexFault}
 use Rattle.mm_lex.specs.declared.fault.LexFault.TheVariants.{Text, Comment, Memory}
 use Rattle.mm_lex.specs.Alphabet.{is_allowed, runs, word}
-use Rattle.mm_lex.specs.Tokens.{opener, closer, AllPlain, IsClean, SplitsInto}
+use Rattle.mm_lex.specs.Tokens.{opener, closer, AllPlain, HasOnlyAllowedBytes, SplitsInto}
 
 -- the first byte that is not allowed
 pub record IsFirstBadByte (text : List ℕ) (offset : ℕ) : Type 0 where
   pub inside : offset < length text
   pub bad : IsFalse (is_allowed (slice_index text offset))
-  pub before : IsClean (take offset text)
+  pub before : HasOnlyAllowedBytes (take offset text)
 
 -- a `$)` outside comments, after runs that can be split
 pub record IsStrayCloser (text : List ℕ) (spans : List Span) (offset : ℕ) : Type 0 where
@@ -58,7 +58,7 @@ IsCommentFaultOfRuns text spans offset = IsStrayCloser text spans offset ⊎ IsN
 
 -- the comment fault of a text whose bytes are all allowed
 abbrev pub IsCommentFault : List ℕ → ℕ → Type 0
-IsCommentFault text offset = IsClean text × IsCommentFaultOfRuns text (runs text) offset
+IsCommentFault text offset = HasOnlyAllowedBytes text × IsCommentFaultOfRuns text (runs text) offset
 
 -- the meaning of a fault of the text
 abbrev pub IsLexFault : List ℕ → LexFault → Type 0

@@ -51,12 +51,12 @@ pub record SplitsInto (text : List ℕ) (spans tokens : List Span) : Type 0 wher
   pub outside : tokens ≡ first ++ flat_map (λ p. p.after) parts
 
 -- each byte is allowed
-abbrev pub IsClean : List ℕ → Type 0
-IsClean text = IsTrue (list_all is_allowed text)
+abbrev pub HasOnlyAllowedBytes : List ℕ → Type 0
+HasOnlyAllowedBytes text = IsTrue (list_all is_allowed text)
 
 -- the tokens of the text, as spans
 abbrev pub AreTokens : List ℕ → List Span → Type 0
-AreTokens text tokens = IsClean text × SplitsInto text (runs text) tokens
+AreTokens text tokens = HasOnlyAllowedBytes text × SplitsInto text (runs text) tokens
 
 -- the bytes of the tokens
 abbrev pub words : List ℕ → List Span → List Name

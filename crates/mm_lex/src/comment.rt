@@ -2,7 +2,7 @@
 ghost use Rattle.std.specs.Prelude.{◌-◌, ◌<◌, ◌≤◌, length, slice_index, IsTrue};
 ghost use Rattle.mm_lex.specs.Alphabet.{is_white};
 ghost use Rattle.mm_lex.specs.Comments.{PassesPlain, EndsComment};
-ghost use Rattle.mm_lex.specs.Tokens.{IsClean};
+ghost use Rattle.mm_lex.specs.Tokens.{HasOnlyAllowedBytes};
 
 use crate::visible_run::{is_closer, is_opener, next_run};
 use memchr::memchr;
@@ -21,7 +21,7 @@ pub(crate) enum CommentEnd {
 /// Returns how a comment ends. Its contents begin at `from`.
 #[inline(never)]
 pub(crate) fn comment_end(text: &[u8], from: usize) -> CommentEnd
-    requires clean { IsClean text.now }
+    requires allowed { HasOnlyAllowedBytes text.now }
     requires place { from ≤ length text.now }
     ensures { EndsComment text.now from result }
 {

@@ -2,7 +2,7 @@
 ghost use Rattle.std.specs.Prelude.{◌≡◌, ◌+◌, ◌-◌, ◌≤◌, not, length, take, drop, nat_le, nat_lt};
 ghost use Rattle.std.specs.List.{position, position_or_len};
 ghost use Rattle.mm_lex.specs.Alphabet.{is_white};
-ghost use Rattle.mm_lex.specs.Tokens.{IsClean};
+ghost use Rattle.mm_lex.specs.Tokens.{HasOnlyAllowedBytes};
 
 use std::simd::prelude::*;
 
@@ -11,7 +11,7 @@ pub(crate) const LANES: usize = 16;
 
 /// Returns the number of bytes before the first white one. The text has no bad byte.
 pub(crate) fn count_visible(text: &[u8]) -> usize
-    requires { IsClean text.now }
+    requires { HasOnlyAllowedBytes text.now }
     ensures count { result ≡ position_or_len is_white text.now }
     ensures within { result ≤ length text.now }
 {
@@ -26,7 +26,7 @@ pub(crate) fn count_visible(text: &[u8]) -> usize
     at + count_one_by_one(&text[at..])
 }
 
-/// Returns how many of the first 16 bytes precede the first one up to 0x20, which is white if it is allowed.
+/// Returns how many of the first 16 bytes precede the first one that is at most 0x20, which is white if it is allowed.
 fn count_in_lanes(text: &[u8]) -> usize
     requires room { 16 ≤ length text.now }
     ensures count { result ≡ position_or_len (λ b. nat_le b 32) (take 16 text.now) }
@@ -43,7 +43,7 @@ fn count_in_lanes(text: &[u8]) -> usize
 
 /// Returns the number of bytes before the first one that is not white. The text has no bad byte.
 pub(crate) fn count_white(text: &[u8]) -> usize
-    requires { IsClean text.now }
+    requires { HasOnlyAllowedBytes text.now }
     ensures count { result ≡ position_or_len (λ b. not (is_white b)) text.now }
     ensures within { result ≤ length text.now }
 {

@@ -2,7 +2,7 @@
 ghost use Rattle.std.specs.Prelude.{◌≡◌, ℕ, [], ◌∷◌, ◌++◌, not, if◌then◌else◌, IfOk, IfErr, IsTrue};
 ghost use Rattle.std.specs.List.{All, list_all, position};
 ghost use Rattle.mm_lex.specs.Alphabet.{is_allowed};
-ghost use Rattle.mm_lex.specs.Tokens.{AreTokens, IsClean, IsWordAt};
+ghost use Rattle.mm_lex.specs.Tokens.{AreTokens, HasOnlyAllowedBytes, IsWordAt};
 ghost use Rattle.mm_lex.specs.TextFaults.{IsFirstBadByte, IsCommentFault, IsLexFault};
 
 use crate::comment::{CommentEnd, comment_end};
@@ -34,7 +34,7 @@ pub fn tokens(alloc: Global, text: &[u8]) -> Result<Vec<Span>, LexFault>
 
 /// Returns the tokens of a text whose bytes are all allowed.
 fn split_tokens(alloc: Global, text: &[u8]) -> Result<Vec<Span>, LexFault>
-    requires { IsClean text.now }
+    requires { HasOnlyAllowedBytes text.now }
     ensures tokens { IfOk result (λ spans. AreTokens text.now spans.items) }
     ensures words { IfOk result (λ spans. All (IsWordAt text.now) spans.items) }
     ensures comment_fault { (offset : ℕ) → IsCommentFault text.now offset → result ≡ Err (LexFault.Comment offset) }

@@ -1,4 +1,4 @@
-//! Measures the longest start of a text that is symbols separated by single spaces, many bytes at a time.
+//! Measures the longest prefix of a text that consists of symbols separated by single spaces, many bytes at a time.
 ghost use Rattle.std.specs.Prelude.{◌≡◌, ◌+◌, ◌-◌, ◌<◌, ◌≤◌, not, length, take, drop};
 ghost use Rattle.std.specs.List.{prefix_len};
 ghost use Rattle.mm_lex.specs.Stored.SpacedPrefix.{spaced_prefix_len, ends_here, lanes_end};
@@ -6,7 +6,8 @@ ghost use Rattle.mm_lex.specs.Stored.SpacedPrefix.{spaced_prefix_len, ends_here,
 use crate::lanes::LANES;
 use std::simd::prelude::*;
 
-/// Returns the number of bytes at the start of a text that are symbols separated by single spaces.
+/// Returns the length of the longest prefix of a text that consists of symbols separated by single spaces. A single space may
+/// precede the first symbol.
 pub(crate) fn count_spaced_prefix(text: &[u8]) -> usize
     ensures count { result ≡ spaced_prefix_len text.now }
     ensures within { result ≤ length text.now }

@@ -3,7 +3,7 @@ ghost use Rattle.std.specs.Prelude.{◌≡◌, ◌≤◌, [], length, drop, IsTr
 ghost use Rattle.std.specs.List.{list_all};
 ghost use Rattle.mm_lex.specs.Alphabet.{starts_white, is_symbol};
 ghost use Rattle.mm_lex.specs.Words.{is_word};
-ghost use Rattle.mm_lex.specs.Tokens.{IsClean};
+ghost use Rattle.mm_lex.specs.Tokens.{HasOnlyAllowedBytes};
 ghost use Rattle.mm_lex.specs.Between.{IsCommentFaultOrMemoryAfter};
 ghost use Rattle.mm_lex.specs.SymbolList.{AddsSymbols, IsListEnd};
 
@@ -21,7 +21,7 @@ use std::alloc::{AllocError, Global};
 /// Errors: `Comment`, if a comment between `from` and that token is malformed; `Memory`. Cost: the size of the text up to that
 /// token.
 pub fn symbols(alloc: Global, text: &[u8], from: usize) -> Result<(Words, Option<Span>), LexFault>
-    requires clean { IsClean text.now }
+    requires allowed { HasOnlyAllowedBytes text.now }
     requires place { from ≤ length text.now }
     ensures symbols { IfOk result (λ r. IsTrue (list_all is_symbol r.0)) }
     ensures end { IfOk result (λ r. IsListEnd text.now from r.0 r.1) }
@@ -59,7 +59,7 @@ fn with_estimated_capacity(alloc: Global, text: &[u8]) -> Result<Words, AllocErr
 /// Appends symbols from `from` on, in pieces of words separated by single spaces, until no such piece follows. Returns the
 /// offset from which to go on word by word.
 fn push_pieces(words: &mut Words, text: &[u8], from: usize) -> Result<usize, AllocError>
-    requires clean { IsClean text.now }
+    requires allowed { HasOnlyAllowedBytes text.now }
     requires place { from ≤ length text.now }
     ensures { IfOk result (λ at. AddsSymbols text.now from at words.old words.new) }
 {

@@ -2,14 +2,14 @@
 ghost use Rattle.std.specs.Prelude.{◌≡◌, ◌-◌, ◌<◌, ◌≤◌, [], ◌∷◌, ℕ, not, length, take, drop, MatchOption, IfSome, IsTrue, slice_index, IsFalse};
 ghost use Rattle.std.specs.List.{position, position_or_len};
 ghost use Rattle.mm_lex.specs.Alphabet.{is_white, starts_white, runs_from, IsRunAt, name_eq};
-ghost use Rattle.mm_lex.specs.Tokens.{opener, closer, IsClean};
+ghost use Rattle.mm_lex.specs.Tokens.{opener, closer, HasOnlyAllowedBytes};
 
 use crate::lanes::{count_visible, count_white};
 use crate::span::Span;
 
 /// Returns the first run in the text from `at` on, or `None` if only white space is left.
 pub(crate) fn next_run(text: &[u8], at: usize) -> Option<Span>
-    requires clean { IsClean text.now }
+    requires allowed { HasOnlyAllowedBytes text.now }
     requires place { at ≤ length text.now }
     ensures run { MatchOption result (runs_from at (drop at text.now) ≡ [])
         (λ s. runs_from at (drop at text.now) ≡ s ∷ runs_from s.end (drop s.end text.now)) }
@@ -31,7 +31,7 @@ pub(crate) fn next_run(text: &[u8], at: usize) -> Option<Span>
 
 /// Returns the offset of the first byte at or after `at` that is not white, or the end of the text.
 pub(crate) fn skip_white(text: &[u8], at: usize) -> usize
-    requires clean { IsClean text.now }
+    requires allowed { HasOnlyAllowedBytes text.now }
     requires place { at ≤ length text.now }
     ensures later { at ≤ result }
     ensures within { result ≤ length text.now }

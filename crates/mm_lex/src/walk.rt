@@ -1,6 +1,6 @@
 //! Walks from token to token through a text, without a list of them.
 ghost use Rattle.std.specs.Prelude.{◌≤◌, length, IfOk, IfErr};
-ghost use Rattle.mm_lex.specs.Tokens.{IsClean};
+ghost use Rattle.mm_lex.specs.Tokens.{HasOnlyAllowedBytes};
 ghost use Rattle.mm_lex.specs.Between.{IsNextToken, CountAfter, IsCommentFaultAfter};
 
 use crate::comment::{CommentEnd, comment_end};
@@ -13,7 +13,7 @@ use crate::visible_run::{is_closer, is_opener, next_run};
 /// Errors: `Comment`, if a comment before the next token is malformed. Cost: the size of the text up to the token's end.
 #[inline(always)]
 pub fn next_token(text: &[u8], at: usize) -> Result<Option<Span>, LexFault>
-    requires clean { IsClean text.now }
+    requires allowed { HasOnlyAllowedBytes text.now }
     requires place { at ≤ length text.now }
     ensures next { IfOk result (IsNextToken text.now at) }
     ensures fault { IfErr result (IsCommentFaultAfter text.now at) }
@@ -40,7 +40,7 @@ pub fn next_token(text: &[u8], at: usize) -> Result<Option<Span>, LexFault>
 ///
 /// Errors: `Comment`, if a comment after `at` is malformed. Cost: the size of the rest of the text.
 pub fn count_tokens(text: &[u8], at: usize) -> Result<usize, LexFault>
-    requires clean { IsClean text.now }
+    requires allowed { HasOnlyAllowedBytes text.now }
     requires place { at ≤ length text.now }
     ensures count { IfOk result (CountAfter text.now at) }
     ensures within { IfOk result (λ count. count ≤ length text.now) }

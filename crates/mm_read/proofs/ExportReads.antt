@@ -93,14 +93,14 @@ visible_allowed (b ∷ w) h =
 white_allowed : (b : ℕ) → is_white b ≡ true → is_allowed b ≡ true
 white_allowed b h = grind (arith, nat_tests, h)
 
-clean-laid : (laid : Laid) → is_laid laid ≡ true → list_all is_allowed (laid_text laid) ≡ true
-clean-laid [] h = refl
-clean-laid (p ∷ laid) h =
+allowed-laid : (laid : Laid) → is_laid laid ≡ true → list_all is_allowed (laid_text laid) ≡ true
+allowed-laid [] h = refl
+allowed-laid (p ∷ laid) h =
     let parts : ((is_word p.0 && is_white p.1) ≡ true) × (is_laid laid ≡ true) = and_parts (is_word p.0 && is_white p.1) (is_laid laid) h in
     let own : (is_word p.0 ≡ true) × (is_white p.1 ≡ true) = and_parts (is_word p.0) (is_white p.1) parts.0 in
     list_all-append is_allowed p.0 (p.1 ∷ laid_text laid)
     ∙ and_from (list_all is_allowed p.0) (is_allowed p.1 && list_all is_allowed (laid_text laid)) (visible_allowed p.0 (word-visible p.0 own.0))
-    (and_from (is_allowed p.1) (list_all is_allowed (laid_text laid)) (white_allowed p.1 own.1) (clean-laid laid parts.1))
+    (and_from (is_allowed p.1) (list_all is_allowed (laid_text laid)) (white_allowed p.1 own.1) (allowed-laid laid parts.1))
 
 -- ---- the export form is of this kind
 
@@ -262,7 +262,7 @@ export_reads S h = record {
   tokens = (
     runs (export_of S),
     (
-      clean,
+      allowed,
       record {
         first = runs (export_of S);
         parts = [];
@@ -276,5 +276,5 @@ export_reads S h = record {
   );
 }
   where
-    clean : list_all is_allowed (export_of S) ≡ true
-    clean = ap (list_all is_allowed) (sym (export-laid S)) ∙ clean-laid (laid_of S) (export-is_laid S h)
+    allowed : list_all is_allowed (export_of S) ≡ true
+    allowed = ap (list_all is_allowed) (sym (export-laid S)) ∙ allowed-laid (laid_of S) (export-is_laid S h)

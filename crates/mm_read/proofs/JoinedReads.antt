@@ -204,11 +204,11 @@ module _ (text other : List ℕ) (apart : joins_no_words text other ≡ true) wh
   joined_tokens ts us has also =
       let one : IsSplitAs text both (runs text) (words text has.0) = same_split_words text both (runs text) has.0 (runs text) has.1.1 front in
       let two : IsSplitAs other both later (words other also.0) = same_split_words other both (runs other) also.0 later also.1.1 back in
-      let clean : list_all is_allowed both ≡ true = list_all-append is_allowed text other ∙ and_from (list_all is_allowed text) (list_all is_allowed other) has.1.0 also.1.0 in
+      let allowed : list_all is_allowed both ≡ true = list_all-append is_allowed text other ∙ and_from (list_all is_allowed text) (list_all is_allowed other) has.1.0 also.1.0 in
       let split : SplitsInto both (runs both) (one.0 ++ two.0) = splits_as both (runs both) (runs text ++ later) (one.0 ++ two.0) whole (splits_join (runs text) one.0 later two.0 one.1 two.1) in
       let first : words both one.0 ≡ ts = one.2 ∙ has.2 in
       let second : words both two.0 ≡ us = two.2 ∙ also.2 in
-      (one.0 ++ two.0, (clean, split), map-append (word both) one.0 two.0 ∙ (ap (λ r. r ++ words both two.0) first ∙ ap (λ r. ts ++ r) second))
+      (one.0 ++ two.0, (allowed, split), map-append (word both) one.0 two.0 ∙ (ap (λ r. r ++ words both two.0) first ∙ ap (λ r. ts ++ r) second))
 
 -- the law: two joined texts read as the statements of the first and then those of the second
 pub joined_reads : laws.JoinedReads

@@ -1,6 +1,6 @@
 -- Statement by statement, from place to place: the tokens between two places read as a statement, and those before as the
 -- statements so far.
-use Rattle.mm_read.proofs.Words.{◌≡◌, ℕ, ◌+◌, ◌<◌, true, List, [], ◌∷◌, ◌++◌, length, codes, Result, Ok, Err, IfOk, IfErr, refl, list_all, sym, ◌∙◌, ap, arith, length-append, append-nil, and_from, Name, is_symbol, is_label, IsClean, HasBetween, AreAfter, CountAfter, between_on, between_as, after_on, after_as, after_unique, Stmt, Float, Ess, Axiom, Prove, Database, are_symbols, is_shaped, stmt_tokens, tokens_of, Reads, IsNext, IsOneMore, ReadsUpTo}
+use Rattle.mm_read.proofs.Words.{◌≡◌, ℕ, ◌+◌, ◌<◌, true, List, [], ◌∷◌, ◌++◌, length, codes, Result, Ok, Err, IfOk, IfErr, refl, list_all, sym, ◌∙◌, ap, arith, length-append, append-nil, and_from, Name, is_symbol, is_label, HasOnlyAllowedBytes, HasBetween, AreAfter, CountAfter, between_on, between_as, after_on, after_as, after_unique, Stmt, Float, Ess, Axiom, Prove, Database, are_symbols, is_shaped, stmt_tokens, tokens_of, Reads, IsNext, IsOneMore, ReadsUpTo}
 use Rattle.mm_read.proofs.StatementsLemmas.{append_middle}
 use Rattle.mm_read.proofs.StatementByStatement.{tokens_of-append, shaped-append}
 
@@ -69,10 +69,10 @@ module _ {text : List ℕ} where
   }
 
   -- if no token is left, the text reads as the statements
-  pub reads_all : (at : ℕ) (S : Database) → IsClean text → ReadsUpTo text at S → AreAfter text at [] → Reads text S
-  reads_all at S clean are none =
+  pub reads_all : (at : ℕ) (S : Database) → HasOnlyAllowedBytes text → ReadsUpTo text at S → AreAfter text at [] → Reads text S
+  reads_all at S allowed are none =
       let all : AreAfter text 0 (tokens_of S) = after_as 0 (append-nil (tokens_of S)) (after_on are.between none) in
-      record { shaped = are.shaped; tokens = (all.0, (clean, all.1), all.2) }
+      record { shaped = are.shaped; tokens = (all.0, (allowed, all.1), all.2) }
 
 -- the number of tokens of the text is that of the statements' tokens plus that of the tokens left
 pub count_before : (text : List ℕ) (at : ℕ) (S : Database) → ReadsUpTo text at S → (n m : ℕ) → CountAfter text at n → CountAfter text 0 m → m ≡ length (tokens_of S) + n

@@ -1,5 +1,5 @@
 -- The names that the proofs of this crate use, exported again from one place.
-pub use Rattle.mm_lex.proofs.BadByteLemmas.{IsClean-no_fault, IsClean-none, IsFirstBadByte-found, IsFirstBadByte-unique}
+pub use Rattle.mm_lex.proofs.BadByteLemmas.{HasOnlyAllowedBytes-no_fault, HasOnlyAllowedBytes-none, IsFirstBadByte-found, IsFirstBadByte-unique}
 pub use Rattle.mm_lex.proofs.BetweenLemmas.{after_as, after_on, after_rest, after_unique, between_as, between_none, between_on, splits_join, stops_after}
 pub use Rattle.mm_lex.proofs.ScanRuns.{Outcome, inside, outside, prepend, scan, scan-split}
 pub use Rattle.mm_lex.proofs.ScanResults.{split-scan, splits_as}
@@ -12,7 +12,7 @@ pub use Rattle.mm_lex.specs.Alphabet.{Name, has_byte, has_name, is_allowed, is_e
 pub use Rattle.mm_lex.specs.Between.{AreAfter, CountAfter, HasBetween, IsNextToken, IsTokenAfter, IsCommentFaultAfter}
 pub use Rattle.mm_lex.specs.SymbolList.{EndsSymbols, IsListEnd}
 pub use Rattle.mm_lex.specs.TextFaults.{IsCommentFault, IsFirstBadByte}
-pub use Rattle.mm_lex.specs.Tokens.{SplitsInto, IsClean, closer, is_plain, opener, words}
+pub use Rattle.mm_lex.specs.Tokens.{SplitsInto, HasOnlyAllowedBytes, closer, is_plain, opener, words}
 pub use Rattle.mm_lex.specs.Words.{is_word, spaced, words_of}
 pub use Rattle.mm_lex.specs.declared.fault.LexFault.{LexFault}
 pub use Rattle.mm_lex.specs.declared.span.Span.{Span}

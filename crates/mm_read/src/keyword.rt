@@ -50,7 +50,7 @@ fn keyword_of_letter(letter: u8) -> Keyword
 }
 
 /// Returns the bytes of the token at a span of the text.
-pub fn token(text: &[u8], span: Span) -> &[u8]
+pub fn token_bytes(text: &[u8], span: Span) -> &[u8]
     requires ordered { span.start ≤ span.end }
     requires within { span.end ≤ length text.now }
     ensures { result.now ≡ word text.now span }

@@ -1,6 +1,6 @@
 //! The statements of a text.
 ghost use Rattle.std.specs.Prelude.{◌≡◌, ℕ, ◌≤◌, ◌⊎◌, [], IfOk, IfErr, IsErrAnd, MatchResult, length};
-ghost use Rattle.mm_lex.specs.Tokens.{IsClean};
+ghost use Rattle.mm_lex.specs.Tokens.{HasOnlyAllowedBytes};
 ghost use Rattle.mm_lex.specs.TextFaults.{IsFirstBadByte, IsCommentFault};
 ghost use Rattle.mm_lex.specs.Between.{IsCommentFaultAfter};
 ghost use Rattle.mm_read.specs.Statements.{Database};
@@ -14,11 +14,11 @@ use mm_lex::{LexFault, count_tokens, first_bad_byte, next_token};
 use std::alloc::Global;
 
 /// How many bytes of text are read between two allocations of `grow_heap`.
-const BYTES_BETWEEN_RESERVES: usize = 90_000;
+const BYTES_BETWEEN_GROWTHS: usize = 90_000;
 
-/// How many bytes `grow_heap` allocates: more than the statements of `BYTES_BETWEEN_RESERVES` bytes of text usually
+/// How many bytes `grow_heap` allocates: more than the statements of `BYTES_BETWEEN_GROWTHS` bytes of text usually
 /// take.
-const RESERVE_BYTES: usize = 120_000;
+const GROWTH_BYTES: usize = 120_000;
 
 /// Returns the statements that the text reads as.
 ///
@@ -50,7 +50,7 @@ pub fn read(alloc: Global, text: &[u8]) -> Result<Vec<Stmt>, ReadFault>
 
 /// Returns the statements that a text without a bad byte reads as.
 fn statements(alloc: Global, text: &[u8]) -> Result<Vec<Stmt>, ReadFault>
-    requires { IsClean text.now }
+    requires { HasOnlyAllowedBytes text.now }
     ensures found { IfOk result (λ statements. Reads text.now statements.items) }
     ensures fault { IfErr result (IsFaultOf text.now) }
 {
@@ -74,7 +74,7 @@ fn add_next(
     text: &[u8],
     at: usize,
 ) -> Result<Option<usize>, ReadFault>
-    requires clean { IsClean text.now }
+    requires allowed { HasOnlyAllowedBytes text.now }
     requires place { at ≤ length text.now }
     ensures next { IfOk result (IsNextStep text.now at statements.old.items statements.new.items) }
     ensures fault { IfErr result (IsFaultAfter text.now [] at) }
@@ -88,11 +88,11 @@ fn add_next(
     Ok(Some(next))
 }
 
-/// Allocates a block and frees it, once for each `BYTES_BETWEEN_RESERVES` bytes of text. A heap that otherwise grows by one
+/// Allocates a block and frees it, once for each `BYTES_BETWEEN_GROWTHS` bytes of text. A heap that otherwise grows by one
 /// request at a time, as that of a thread may, then grows once for hundreds of statements. A failed allocation is ignored.
 fn grow_heap(alloc: Global, at: usize, next: usize) {
-    if at / BYTES_BETWEEN_RESERVES != next / BYTES_BETWEEN_RESERVES {
-        let _ = Vec::<u8>::with_capacity(alloc, RESERVE_BYTES);
+    if at / BYTES_BETWEEN_GROWTHS != next / BYTES_BETWEEN_GROWTHS {
+        let _ = Vec::<u8>::with_capacity(alloc, GROWTH_BYTES);
     }
 }
 
@@ -101,7 +101,7 @@ fn grow_heap(alloc: Global, at: usize, next: usize) {
 ///
 /// Errors: the comment fault of the text, if there is one: it takes precedence over `fault`.
 fn first_fault(text: &[u8], at: usize, fault: ReadFault) -> Result<ReadFault, LexFault>
-    requires clean { IsClean text.now }
+    requires allowed { HasOnlyAllowedBytes text.now }
     requires place { at ≤ length text.now }
     requires before { (S : Database) × ReadsUpTo text.now at S }
     requires fault { IsFaultAfter text.now [] at fault }

@@ -2,12 +2,12 @@
 ghost use Rattle.std.specs.Prelude.{◌≡◌, ◌<◌, ◌≤◌, ◌∷◌, ◌++◌, [], length, nat_le, IsTrue, IfOk, IfErr};
 ghost use Rattle.std.specs.List.{list_all};
 ghost use Rattle.mm_lex.specs.Alphabet.{name_eq, is_symbol};
-ghost use Rattle.mm_lex.specs.Tokens.{IsClean};
+ghost use Rattle.mm_lex.specs.Tokens.{HasOnlyAllowedBytes};
 ghost use Rattle.mm_lex.specs.Between.{HasBetween};
 ghost use Rattle.mm_read.specs.StatementParts.{IsListFault, IsTokenFault};
 
 use crate::fault::ReadFault;
-use crate::keyword::token;
+use crate::keyword::token_bytes;
 use mm_lex::{Word, Words, is_symbol, next_token, symbols};
 use std::alloc::Global;
 
@@ -24,7 +24,7 @@ pub fn symbols_until(
     least: usize,
     end: &[u8],
 ) -> Result<(Words, usize), ReadFault>
-    requires clean { IsClean text.now }
+    requires allowed { HasOnlyAllowedBytes text.now }
     requires place { at ≤ length text.now }
     requires number { number ≤ 3 }
     ensures symbols { IfOk result (λ r. IsTrue (list_all is_symbol r.0)) }
@@ -35,7 +35,7 @@ pub fn symbols_until(
 {
     let (words, stop) = symbols(alloc, text, at)?;
     if let Some(span) = stop {
-        if token(text, span) == end && has_least(&words, least) {
+        if token_bytes(text, span) == end && has_least(&words, least) {
             return Ok((words, span.end));
         }
     }
@@ -65,14 +65,14 @@ pub fn next_symbol(
     at: usize,
     number: usize,
 ) -> Result<(Word, usize), ReadFault>
-    requires clean { IsClean text.now }
+    requires allowed { HasOnlyAllowedBytes text.now }
     requires place { at ≤ length text.now }
     ensures symbol { IfOk result (λ r. IsTrue (is_symbol r.0)) }
     ensures between { IfOk result (λ r. HasBetween text.now at r.1 (r.0 ∷ [])) }
     ensures fault { IfErr result (IsTokenFault text.now at number is_symbol) }
 {
     if let Some(span) = next_token(text, at)? {
-        let word = token(text, span);
+        let word = token_bytes(text, span);
         if is_symbol(word) {
             let symbol = Word::new(alloc, word)?;
             return Ok((symbol, span.end));
@@ -86,13 +86,13 @@ pub fn next_symbol(
 /// `number` is the number of that token in its statement. Errors: `Text`, if a comment before it is malformed; `Shape`,
 /// with that number, if it is not `end` or no token is left.
 pub fn expect_token(text: &[u8], at: usize, number: usize, end: &[u8]) -> Result<usize, ReadFault>
-    requires clean { IsClean text.now }
+    requires allowed { HasOnlyAllowedBytes text.now }
     requires place { at ≤ length text.now }
     ensures between { IfOk result (λ next. HasBetween text.now at next (end.now ∷ [])) }
     ensures fault { IfErr result (IsTokenFault text.now at number (λ w. name_eq w end.now)) }
 {
     if let Some(span) = next_token(text, at)? {
-        if token(text, span) == end {
+        if token_bytes(text, span) == end {
             return Ok(span.end);
         }
     }

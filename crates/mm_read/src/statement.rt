@@ -2,11 +2,11 @@
 ghost use Rattle.std.specs.Prelude.{◌∷◌, ◌≤◌, [], length, IsTrue, IfOk, IfErr, codes};
 ghost use Rattle.mm_lex.specs.Alphabet.{word, is_label};
 ghost use Rattle.mm_lex.specs.Words.{is_word};
-ghost use Rattle.mm_lex.specs.Tokens.{IsClean, IsWordAt};
+ghost use Rattle.mm_lex.specs.Tokens.{HasOnlyAllowedBytes, IsWordAt};
 ghost use Rattle.mm_read.specs.Next.{IsNextAfter, IsFaultAfter};
 
 use crate::fault::ReadFault;
-use crate::keyword::{Keyword, keyword_of, token};
+use crate::keyword::{Keyword, keyword_of, token_bytes};
 use crate::part::{expect_token, next_symbol, symbols_until};
 use crate::stmt::Stmt;
 use mm_lex::{Span, Word, is_label, next_token};
@@ -19,12 +19,12 @@ use std::alloc::Global;
 /// allocation fails.
 /// Cost: the size of the statement with its comments.
 pub fn statement(alloc: Global, text: &[u8], first: Span) -> Result<(Stmt, usize), ReadFault>
-    requires clean { IsClean text.now }
+    requires allowed { HasOnlyAllowedBytes text.now }
     requires token { IsWordAt text.now first }
     ensures found { IfOk result (λ r. IsNextAfter text.now (word text.now first ∷ []) first.end r.0 r.1) }
     ensures fault { IfErr result (IsFaultAfter text.now (word text.now first ∷ []) first.end) }
 {
-    let word = token(text, first);
+    let word = token_bytes(text, first);
     let at = first.end;
     match keyword_of(word) {
         Keyword::Open => Ok((Stmt::Open, at)),
@@ -48,7 +48,7 @@ pub fn statement(alloc: Global, text: &[u8], first: Span) -> Result<(Stmt, usize
 
 /// Returns the statement with this label, and the offset after the statement. `at` is the offset after the label.
 fn labelled(alloc: Global, text: &[u8], label: &[u8], at: usize) -> Result<(Stmt, usize), ReadFault>
-    requires clean { IsClean text.now }
+    requires allowed { HasOnlyAllowedBytes text.now }
     requires place { at ≤ length text.now }
     requires word { IsTrue (is_word label.now) }
     requires label { IsTrue (is_label label.now) }
@@ -58,7 +58,7 @@ fn labelled(alloc: Global, text: &[u8], label: &[u8], at: usize) -> Result<(Stmt
     let Some(key) = next_token(text, at)? else {
         return Err(ReadFault::Shape { token: 2 });
     };
-    match keyword_of(token(text, key)) {
+    match keyword_of(token_bytes(text, key)) {
         Keyword::Float => floating(alloc, text, label, key.end),
         Keyword::Ess => {
             let (expr, next) = symbols_until(alloc, text, key.end, 3, 1, b"$.")?;
@@ -77,7 +77,7 @@ fn labelled(alloc: Global, text: &[u8], label: &[u8], at: usize) -> Result<(Stmt
 
 /// Returns the `$f` with this label, and the offset after the statement. `at` is the offset after the keyword.
 fn floating(alloc: Global, text: &[u8], label: &[u8], at: usize) -> Result<(Stmt, usize), ReadFault>
-    requires clean { IsClean text.now }
+    requires allowed { HasOnlyAllowedBytes text.now }
     requires place { at ≤ length text.now }
     requires word { IsTrue (is_word label.now) }
     requires label { IsTrue (is_label label.now) }
@@ -98,7 +98,7 @@ fn floating(alloc: Global, text: &[u8], label: &[u8], at: usize) -> Result<(Stmt
 
 /// Returns the `$p` with this label, and the offset after the statement. `at` is the offset after the keyword.
 fn provable(alloc: Global, text: &[u8], label: &[u8], at: usize) -> Result<(Stmt, usize), ReadFault>
-    requires clean { IsClean text.now }
+    requires allowed { HasOnlyAllowedBytes text.now }
     requires place { at ≤ length text.now }
     requires word { IsTrue (is_word label.now) }
     requires label { IsTrue (is_label label.now) }

@@ -1,5 +1,5 @@
 -- Tokens write at most one list of items, and each proof has exactly one answer.
-use Rattle.proof_code.proofs.Words.{◌≡◌, ℕ, ◌⊎◌, Bool, true, false, List, [], ◌∷◌, ◌++◌, map, length, Option, Some, None, refl, list_all, sym, ◌∙◌, ap, true≢false, inl, inr, none-some, same_Some, bytes_eq-Decides, both_ways, cases_Bool, Name, is_label, Item, Cite, items_of, share_label, Header, header_of, numbers_from, starts_with_mark, begin, is_unfinished, is_compressed, WritesRow, WritesCompressed, WritesNormal, Writes, IsMalformed, WritesPacked, OneAnswer}
+use Rattle.proof_code.proofs.Words.{◌≡◌, ℕ, ◌⊎◌, Bool, true, false, List, [], ◌∷◌, ◌++◌, map, length, Option, Some, None, refl, list_all, sym, ◌∙◌, ap, true≢false, inl, inr, none-some, same_Some, bytes_eq-Decides, both_ways, cases_Bool, Name, is_label, Item, Cite, items_of, share_label, Header, header_of, numbers_from, starts_with_mark, begin, is_unfinished, is_compressed, WritesRow, WritesCompressed, WritesNormal, Writes, IsMalformed, WritesFinishedCompressed, OneAnswer}
 use Rattle.proof_code.proofs.LetterItemLemmas.{RowIsRead, WritesRow-read, read-WritesRow}
 use Rattle.proof_code.proofs.RowOfNumbers.{joined}
 use Rattle.proof_code.proofs.WritesLemmas.{without_header, row_after, written_after}
@@ -95,7 +95,7 @@ one_list tokens mandatory a b wa wb = elim (one_or_none tokens mandatory) [
 -- ---- one answer
 
 -- the tokens of a malformed compressed proof write no items
-pub malformed-none : (tokens mandatory : List Name) → is_compressed tokens ≡ true → IsMalformed tokens (WritesPacked tokens mandatory) → (items : List Item) → Writes tokens mandatory items → ⊥
+pub malformed-none : (tokens mandatory : List Name) → is_compressed tokens ≡ true → IsMalformed tokens (WritesFinishedCompressed tokens mandatory) → (items : List Item) → Writes tokens mandatory items → ⊥
 malformed-none tokens mandatory compressed malformed items (inl w) = malformed.1 items w.1
 malformed-none tokens mandatory compressed malformed items (inr w) = both_ways (is_compressed tokens) w.0 compressed
 

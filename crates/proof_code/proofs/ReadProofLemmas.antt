@@ -106,7 +106,7 @@ module _ (tokens before : List Name) (letters : List ℕ) (count : ℕ) (starts 
       rest = header.rest;
       whole = is.whole;
       many = found.3;
-      apart = λ labels long apart.
+      none_shared = λ labels long apart.
           written_after tokens before starts header found.1 labels (items_of (labels ++ header.listed) numbers) apart
           (WritesRow-read (labels ++ header.listed) (joined header.rest) numbers (sym first_is ∙ first)
           (ap (λ l. numbers_from l 0 (joined header.rest)) (numbered labels long) ∙ (ap (numbers_from limit 0) (sym letters_are) ∙ read)));
@@ -126,7 +126,7 @@ module _ (tokens mandatory words : List Name) (many count : ℕ) (numbers : List
 
   -- otherwise the proof writes the items of the numbers
   pub apart-written : share_label mandatory (take count words) ≡ false → WritesCompressed tokens mandatory (items_of (mandatory ++ take count words) numbers)
-  apart-written s = rw listed-is (h.apart mandatory (sym many_is) (ap (share_label mandatory) (sym listed-is) ∙ s))
+  apart-written s = rw listed-is (h.none_shared mandatory (sym many_is) (ap (share_label mandatory) (sym listed-is) ∙ s))
 
 -- ---- the table of the labels
 

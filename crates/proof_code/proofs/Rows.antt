@@ -1,5 +1,5 @@
 -- Words, numbers and items, worked out.
-use Rattle.proof_code.proofs.Words.{◌≡◌, true, [], ◌∷◌, codes, None, Some, refl, arith, words_of, Cite, Recall, Mark, IsNumber, number_of, items_of, letters_of, numbers_from, is_unfinished, is_compressed, WritesPlain, WritesPacked}
+use Rattle.proof_code.proofs.Words.{◌≡◌, true, [], ◌∷◌, codes, None, Some, refl, arith, words_of, Cite, Recall, Mark, IsNumber, number_of, items_of, letters_of, numbers_from, is_unfinished, is_compressed, WritesFinishedNormal, WritesFinishedCompressed}
 
 -- ---- the order of the words (Metamath, appendix B)
 
@@ -68,7 +68,7 @@ mark_inside_a_word = refl
 -- ---- items
 
 -- `( b ) AB ZBC` with one mandatory label: cite a, cite b, mark, cite b, recall the marked result
-compressed : WritesPacked (words_of (codes "( b ) AB ZBC")) (codes "a" ∷ []) (Cite (codes "a") ∷ Cite (codes "b") ∷ Mark ∷ Cite (codes "b") ∷ Recall 1 ∷ [])
+compressed : WritesFinishedCompressed (words_of (codes "( b ) AB ZBC")) (codes "a" ∷ []) (Cite (codes "a") ∷ Cite (codes "b") ∷ Mark ∷ Cite (codes "b") ∷ Recall 1 ∷ [])
 compressed = (
   refl,
   record {
@@ -76,7 +76,7 @@ compressed = (
     rest = words_of (codes "AB ZBC");
     whole = refl;
     labels = refl;
-    apart = refl;
+    none_shared = refl;
     letters = record {
       row = words_of (codes "A B Z B C");
       whole = refl;
@@ -91,7 +91,7 @@ numbers_over_labels : items_of (codes "a" ∷ codes "b" ∷ []) (1 ∷ 2 ∷ 0 �
 numbers_over_labels = refl
 
 -- two labels, each of which cites the statement that it names
-normal : WritesPlain (words_of (codes "tt tze")) (Cite (codes "tt") ∷ Cite (codes "tze") ∷ [])
+normal : WritesFinishedNormal (words_of (codes "tt tze")) (Cite (codes "tt") ∷ Cite (codes "tze") ∷ [])
 normal = (refl, record { labels = refl; cites = refl })
 
 -- a `?` among the letters leaves the proof unfinished

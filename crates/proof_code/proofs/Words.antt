@@ -10,7 +10,7 @@ pub use Rattle.proof_code.specs.Letters.{IsNumber, first_letters, is_first, is_l
 pub use Rattle.proof_code.specs.Listing.{are_listed, after_none, class_of, listed_count, is_listed, letters_from, more_labels}
 pub use Rattle.proof_code.specs.Reading.{IsByteEffect, IsHeading, IsLetterEffect, before_rest, share_label}
 pub use Rattle.proof_code.specs.Text.{Header, header_of, letters_of, numbers_from, starts_with_mark, with_label, with_number}
-pub use Rattle.proof_code.specs.Writes.{AreItems, IsMalformed, Writes, WritesCompressed, WritesNormal, WritesPacked, WritesPlain, WritesRow, begin, finish, is_compressed, is_unfinished, mark, question_mark, starts_with_result}
+pub use Rattle.proof_code.specs.Writes.{AreItems, IsMalformed, Writes, WritesCompressed, WritesNormal, WritesFinishedCompressed, WritesFinishedNormal, WritesRow, begin, finish, is_compressed, is_unfinished, mark, question_mark, starts_with_result}
 pub use Rattle.proof_code.specs.declared.item.Item.{Item}
 pub use Rattle.proof_code.specs.declared.item.Item.TheVariants.{Cite, Mark, Recall}
 pub use Rattle.proof_code.specs.declared.letter_numbers.TheConstants.{STEPS}

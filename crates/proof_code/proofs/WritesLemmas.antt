@@ -67,7 +67,7 @@ module _ (tokens before : List Name) (starts : tokens ≡ begin ∷ before) wher
     -- after the header a row is written, and the header lists no mandatory label
     pub row_after : (labels : List Name) (items : List Item) → WritesCompressed tokens labels items → (share_label labels header.listed ≡ false) × WritesRow (labels ++ header.listed) (joined header.rest) items
     row_after labels items w =
-        rw (← same_Some (record { listed = w.listed; rest = w.rest }) header (sym (header-is labels items w) ∙ read)) (w.apart, w.letters)
+        rw (← same_Some (record { listed = w.listed; rest = w.rest }) header (sym (header-is labels items w) ∙ read)) (w.none_shared, w.letters)
 
     -- if such a row is written after the header, the whole proof writes its items
     pub written_after : (labels : List Name) (items : List Item) → share_label labels header.listed ≡ false → WritesRow (labels ++ header.listed) (joined header.rest) items → WritesCompressed tokens labels items
@@ -78,6 +78,6 @@ module _ (tokens before : List Name) (starts : tokens ≡ begin ∷ before) wher
           rest = header.rest;
           whole = starts ∙ ap (λ ts. begin ∷ ts) is.whole;
           labels = is.labels;
-          apart = apart;
+          none_shared = apart;
           letters = row;
         }

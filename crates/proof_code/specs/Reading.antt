@@ -43,5 +43,5 @@ pub record IsHeading (tokens : List Name) (mandatory : ℕ) (words : List Name) 
   pub rest : List Name
   pub whole : words ≡ listed ++ finish ∷ rest
   pub many : length listed ≡ count
-  pub apart : (labels : List Name) → length labels ≡ mandatory → IsFalse (share_label labels listed) → WritesCompressed tokens labels (items_of (labels ++ listed) numbers)
+  pub none_shared : (labels : List Name) → length labels ≡ mandatory → IsFalse (share_label labels listed) → WritesCompressed tokens labels (items_of (labels ++ listed) numbers)
   pub shared : (labels : List Name) → IsTrue (share_label labels listed) → (items : List Item) → ¬ WritesCompressed tokens labels items

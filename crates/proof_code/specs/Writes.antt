@@ -66,7 +66,7 @@ pub record WritesCompressed (tokens mandatory : List Name) (items : List Item) :
   pub rest : List Name
   pub whole : tokens ≡ begin ∷ (listed ++ finish ∷ rest)
   pub labels : IsTrue (list_all is_label listed)
-  pub apart : IsFalse (list_any (λ label. has_name label mandatory) listed)
+  pub none_shared : IsFalse (list_any (λ label. has_name label mandatory) listed)
   pub letters : WritesRow (mandatory ++ listed) (flat_map (λ token. token) rest) items
 
 -- each token is a label, and the items cite these labels
@@ -75,16 +75,16 @@ pub record WritesNormal (tokens : List Name) (items : List Item) : Type 0 where
   pub cites : items ≡ map (λ token. Cite token) tokens
 
 -- the tokens of a compressed proof, or of a normal one, write the items
-abbrev pub WritesPacked : List Name → List Name → List Item → Type 0
-WritesPacked tokens mandatory items = IsFalse (is_unfinished tokens) × WritesCompressed tokens mandatory items
+abbrev pub WritesFinishedCompressed : List Name → List Name → List Item → Type 0
+WritesFinishedCompressed tokens mandatory items = IsFalse (is_unfinished tokens) × WritesCompressed tokens mandatory items
 
-abbrev pub WritesPlain : List Name → List Item → Type 0
-WritesPlain tokens items = IsFalse (is_unfinished tokens) × WritesNormal tokens items
+abbrev pub WritesFinishedNormal : List Name → List Item → Type 0
+WritesFinishedNormal tokens items = IsFalse (is_unfinished tokens) × WritesNormal tokens items
 
 abbrev pub Writes : List Name → List Name → List Item → Type 0
 Writes tokens mandatory items =
-    (IsTrue (is_compressed tokens) × WritesPacked tokens mandatory items)
-    ⊎ (IsFalse (is_compressed tokens) × WritesPlain tokens items)
+    (IsTrue (is_compressed tokens) × WritesFinishedCompressed tokens mandatory items)
+    ⊎ (IsFalse (is_compressed tokens) × WritesFinishedNormal tokens items)
 
 -- no token has the byte `?`, and no items are written
 abbrev pub IsMalformed : List Name → (List Item → Type 0) → Type 0

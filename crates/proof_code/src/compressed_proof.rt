@@ -1,7 +1,7 @@
 //! Compressed proofs.
 ghost use Rattle.std.specs.Prelude.{◌≡◌, ◌↔◌, ◌<◌, ◌≤◌, ◌^◌, ◌++◌, length, take, drop, IsTrue, IfOk, IfSome, Err};
 ghost use Rattle.mm_lex.specs.Alphabet.{has_name};
-ghost use Rattle.proof_code.specs.Writes.{is_unfinished, is_compressed, WritesPacked, IsMalformed};
+ghost use Rattle.proof_code.specs.Writes.{is_unfinished, is_compressed, WritesFinishedCompressed, IsMalformed};
 ghost use Rattle.proof_code.specs.Reading.{share_label};
 ghost use Rattle.proof_code.specs.LabelNames.{AreNames};
 
@@ -27,9 +27,9 @@ pub fn is_compressed(tokens: &Words) -> bool
 /// Source: Metamath, appendix B.
 pub fn packed(alloc: Global, tokens: &Words, mandatory: &Words) -> Result<Items, CodeFault>
     requires { IsTrue (is_compressed tokens.now) }
-    ensures items { IfOk result (λ items. WritesPacked tokens.now mandatory.now items) }
+    ensures items { IfOk result (λ items. WritesFinishedCompressed tokens.now mandatory.now items) }
     ensures unfinished { (result ≡ Err CodeFault.Unfinished) ↔ IsTrue (is_unfinished tokens.now) }
-    ensures malformed { (result ≡ Err CodeFault.Malformed) ↔ IsMalformed tokens.now (WritesPacked tokens.now mandatory.now) }
+    ensures malformed { (result ≡ Err CodeFault.Malformed) ↔ IsMalformed tokens.now (WritesFinishedCompressed tokens.now mandatory.now) }
 {
     if is_unfinished(tokens) {
         return Err(CodeFault::Unfinished);

@@ -28,7 +28,7 @@ pub fn is_unfinished(tokens: &Words) -> bool
 /// Returns the items, or `None` if the tokens write none.
 ///
 /// Errors: `AllocError`, if the fault is `Memory`.
-pub fn written(items: Result<Items, CodeFault>) -> Result<Option<Items>, AllocError>
+pub fn items_or_none(items: Result<Items, CodeFault>) -> Result<Option<Items>, AllocError>
     ensures found { IfOk result (λ found. MatchOption found
         ((items ≡ Err CodeFault.Unfinished) ⊎ (items ≡ Err CodeFault.Malformed)) (λ found. items ≡ Ok found)) }
     ensures only_memory { OnErr result (items ≡ Err CodeFault.Memory) }

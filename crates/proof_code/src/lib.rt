@@ -20,7 +20,7 @@ mod normal_proof;
 mod reader;
 
 pub use compressed_proof::{is_compressed, names_of, packed};
-pub use fault::{CodeFault, is_unfinished, written};
+pub use fault::{CodeFault, is_unfinished, items_or_none};
 pub use item::Item;
 pub use items::{Items, Parts};
 pub use laws::{numbers_by_formula, one_answer, one_list_of_items};

@@ -3,7 +3,7 @@ ghost use Rattle.std.specs.Prelude.{◌≡◌, ◌↔◌, IsTrue, IfOk, Err, map
 ghost use Rattle.std.specs.List.{list_all};
 ghost use Rattle.mm_lex.specs.Alphabet.{is_label};
 ghost use Rattle.proof_code.specs.declared.item.Item.TheVariants.{Cite};
-ghost use Rattle.proof_code.specs.Writes.{is_unfinished, WritesPlain, IsMalformed};
+ghost use Rattle.proof_code.specs.Writes.{is_unfinished, WritesFinishedNormal, IsMalformed};
 
 use crate::fault::{CodeFault, is_unfinished};
 use crate::items::Items;
@@ -15,9 +15,9 @@ use std::alloc::{AllocError, Global};
 /// Errors: `Unfinished` if a token has the byte `?`, else `Malformed` if a token is not a label, both even if
 /// every allocation fails; else `Memory`. Cost: the size of the tokens. Source: Metamath, 4.3.
 pub fn normal(alloc: Global, tokens: &Words) -> Result<Items, CodeFault>
-    ensures items { IfOk result (λ items. WritesPlain tokens.now items) }
+    ensures items { IfOk result (λ items. WritesFinishedNormal tokens.now items) }
     ensures unfinished { (result ≡ Err CodeFault.Unfinished) ↔ IsTrue (is_unfinished tokens.now) }
-    ensures malformed { (result ≡ Err CodeFault.Malformed) ↔ IsMalformed tokens.now (WritesPlain tokens.now) }
+    ensures malformed { (result ≡ Err CodeFault.Malformed) ↔ IsMalformed tokens.now (WritesFinishedNormal tokens.now) }
 {
     if is_unfinished(tokens) {
         return Err(CodeFault::Unfinished);

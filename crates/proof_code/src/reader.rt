@@ -88,8 +88,8 @@ impl Reader {
         Ok(Some(heading))
     }
 
-    /// Reads a proof as `read` does, and returns, beside the labels, `Ok` if the numbers were kept. Returns `None` for a proof
-    /// that writes no items even if every allocation fails.
+    /// Reads a proof as `read` does, and returns, with the labels, `Ok` if the numbers were kept. Returns `None` for a proof
+    /// that writes no items, even if every allocation fails.
     pub(crate) fn read_or_check<'a>(
         &mut self,
         tokens: &'a Words,

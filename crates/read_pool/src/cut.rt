@@ -20,7 +20,7 @@ pub(crate) fn cut_near(text: &[u8], near: usize) -> usize
     let mut found = None;
     for at in near..end {
         match &text[at..at + 2] {
-            b"$." if found.is_none() => found = end_at(text, at + 2),
+            b"$." if found.is_none() => found = cut_if_white(text, at + 2),
             b"$)" => found = None,
             b"$(" => {
                 if let Some(cut) = found {
@@ -34,7 +34,7 @@ pub(crate) fn cut_near(text: &[u8], near: usize) -> usize
 }
 
 /// Returns the offset `at` as a cut, or `None` if the byte at it is not white.
-fn end_at(text: &[u8], at: usize) -> Option<usize>
+fn cut_if_white(text: &[u8], at: usize) -> Option<usize>
     requires { at < length text.now }
     ensures { IfSome result (IsCut text.now) }
 {

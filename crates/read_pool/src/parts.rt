@@ -63,17 +63,17 @@ fn read_parts<R: Threads + Sync>(
     if parts < 2 {
         return read(alloc, text).ok();
     }
-    let fewer = parts / 2;
-    let others = parts - fewer;
-    let (front, back) = text.split_at(cut_near(text, text.len() / parts * fewer));
+    let front_parts = parts / 2;
+    let back_parts = parts - front_parts;
+    let (front, back) = text.split_at(cut_near(text, text.len() / parts * front_parts));
     let first = move || -> Option<Vec<Stmt>>
         requires { IsSync R.row }
         ensures { IfSome result (λ statements. Reads front.entry.now statements.items) }
-    { read_parts(rt, alloc, front, fewer) };
+    { read_parts(rt, alloc, front, front_parts) };
     let second = move || -> Option<Vec<Stmt>>
         requires { IsSync R.row }
         ensures { IfSome result (λ statements. Reads back.entry.now statements.items) }
-    { read_parts(rt, alloc, back, others) };
+    { read_parts(rt, alloc, back, back_parts) };
     let (first, second) = join(rt, first, second);
     concatenate(first, second)
 }

@@ -8,7 +8,7 @@ use Rattle.mm_read.specs.declared.stmt.Stmt.TheVariants.{Float, Ess, Axiom, Prov
 use Rattle.mm_read.specs.Statements.{Database, Expr}
 use Rattle.scope.specs.declared.rule.Rule.{Rule}
 use Rattle.scope.specs.declared.rule.Rule.TheVariants.{G1, G2, G3, G4, G5, G6, G7, G8, G9, G10}
-use Rattle.scope.specs.Active.{constants, variables, separated, expr_of, label_of, is_constant, is_variable, has_float}
+use Rattle.scope.specs.Active.{constants, variables, disjoint_names, expr_of, label_of, is_constant, is_variable, has_float}
 use Rattle.scope.specs.Legal.{keeps}
 use Rattle.rule_violation.specs.declared.search.Part.TheVariants as part
 use Rattle.rule_violation.specs.declared.violation.RuleViolation.{RuleViolation}
@@ -73,8 +73,8 @@ Violates S s G6 (Symbol k) = (k ≡ 0) × HoldsAt (expr_of s) k (λ x. IsFalse (
 Violates S s G7 (Symbol k) = (k ≡ 1) × HoldsAt (float_expr s) k (λ x. IsFalse (is_variable S x))
 Violates S s G7 (Earlier k i) = (k ≡ 1) × HoldsAt (float_expr s) k (λ x. IsActiveAt S i (has_name_in part.Float x))
 -- a symbol of a `$d` that is not an active variable, or that occurs twice
-Violates S s G8 (Symbol k) = HoldsAt (separated s) k (λ x. IsFalse (is_variable S x))
-Violates S s G8 (Twice j k) = IsTwice (separated s) j k
+Violates S s G8 (Symbol k) = HoldsAt (disjoint_names s) k (λ x. IsFalse (is_variable S x))
+Violates S s G8 (Twice j k) = IsTwice (disjoint_names s) j k
 -- a variable that has no active `$f`
 Violates S s G9 (Symbol k) = HoldsAt (typed_expr s) k (λ x. IsTrue (is_variable S x) × IsFalse (has_float S x))
 Violates S s rule w = ⊥

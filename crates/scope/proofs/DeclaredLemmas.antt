@@ -22,15 +22,15 @@ tells-step S s x k k' t l c v = record {
 }
 
 pub tells-nothing : (S : Database) (s : Stmt) (names : Declared) → ((x : Name) → has_label x (label_of s) ≡ false) → constants s ≡ [] → variables s ≡ [] → MatchesKinds S names → MatchesKinds (S ++ s ∷ []) names
-tells-nothing S s names l c v told x =
-    tells-step S s x (kind_in names x) (kind_in names x) (told x)
+tells-nothing S s names l c v kinds_match x =
+    tells-step S s x (kind_in names x) (kind_in names x) (kinds_match x)
     (ap (λ b. is_label_kind (kind_in names x) || b) (l x) ∙ or-false (is_label_kind (kind_in names x)))
     (ap (λ xs. is_constant_kind (kind_in names x) || has_name x xs) c ∙ or-false (is_constant_kind (kind_in names x)))
     (ap (λ xs. is_variable_kind (kind_in names x) || has_name x xs) v ∙ or-false (is_variable_kind (kind_in names x)))
 
 pub tells-constants : (S : Database) (names : Declared) (xs : List Name) → ((x : Name) → has_name x xs ≡ true → kind_in names x ≡ None) → MatchesKinds S names → MatchesKinds (S ++ Const xs ∷ []) (with_kinds names Constant xs)
-tells-constants S names xs fresh told x =
-    subst (λ (k : Option NameKind). MatchesKind (S ++ Const xs ∷ []) x k) (sym (kind_in-with_kinds names x Constant xs)) (by (kind_in names x) (has_name x xs) refl refl (told x))
+tells-constants S names xs fresh kinds_match x =
+    subst (λ (k : Option NameKind). MatchesKind (S ++ Const xs ∷ []) x k) (sym (kind_in-with_kinds names x Constant xs)) (by (kind_in names x) (has_name x xs) refl refl (kinds_match x))
   where
     by : (k : Option NameKind) (b : Bool) → kind_in names x ≡ k → has_name x xs ≡ b → MatchesKind S x k → MatchesKind (S ++ Const xs ∷ []) x (or_kind k b Constant)
     by None true p q t = tells-step S (Const xs) x None (Some Constant) t refl q refl
@@ -42,8 +42,8 @@ tells-constants S names xs fresh told x =
     by (Some k) false p q t = tells-step S (Const xs) x (Some k) (Some k) t (or-false (is_label_kind (Some k))) (ap (λ b. is_constant_kind (Some k) || b) q ∙ or-false (is_constant_kind (Some k))) (or-false (is_variable_kind (Some k)))
 
 pub tells-variables : (S : Database) (names : Declared) (xs : List Name) → ((x : Name) → has_name x xs ≡ true → (is_label_kind (kind_in names x) ≡ false) × (is_constant_kind (kind_in names x) ≡ false)) → MatchesKinds S names → MatchesKinds (S ++ Var xs ∷ []) (with_kinds names Variable xs)
-tells-variables S names xs free told x =
-    subst (λ (k : Option NameKind). MatchesKind (S ++ Var xs ∷ []) x k) (sym (kind_in-with_kinds names x Variable xs)) (by (kind_in names x) (has_name x xs) refl refl (told x))
+tells-variables S names xs free kinds_match x =
+    subst (λ (k : Option NameKind). MatchesKind (S ++ Var xs ∷ []) x k) (sym (kind_in-with_kinds names x Variable xs)) (by (kind_in names x) (has_name x xs) refl refl (kinds_match x))
   where
     by : (k : Option NameKind) (b : Bool) → kind_in names x ≡ k → has_name x xs ≡ b → MatchesKind S x k → MatchesKind (S ++ Var xs ∷ []) x (or_kind k b Variable)
     by None true p q t = tells-step S (Var xs) x None (Some Variable) t refl refl q
@@ -54,9 +54,9 @@ tells-variables S names xs free told x =
     by (Some k) false p q t = tells-step S (Var xs) x (Some k) (Some k) t (or-false (is_label_kind (Some k))) (or-false (is_constant_kind (Some k))) (ap (λ b. is_variable_kind (Some k) || b) q ∙ or-false (is_variable_kind (Some k)))
 
 pub tells-label : (S : Database) (s : Stmt) (names : Declared) (l : Name) → label_of s ≡ Some l → constants s ≡ [] → variables s ≡ [] → kind_in names l ≡ None → MatchesKinds S names → MatchesKinds (S ++ s ∷ []) (with_kinds names Label (l ∷ []))
-tells-label S s names l labelled c v fresh told x =
+tells-label S s names l labelled c v fresh kinds_match x =
     subst (λ (k : Option NameKind). MatchesKind (S ++ s ∷ []) x k) (sym (kind_in-with_kinds names x Label (l ∷ [])))
-    (by (kind_in names x) (name_eq x l) refl refl (told x))
+    (by (kind_in names x) (name_eq x l) refl refl (kinds_match x))
   where
     has : has_label x (label_of s) ≡ name_eq x l
     has = ap (has_label x) labelled
@@ -80,45 +80,45 @@ tells-label S s names l labelled c v fresh told x =
 
 numbering-nothing : (S : Database) (s : Stmt) (names : Declared) → ((x : Name) → has_label x (label_of s) ≡ false) → constants s ≡ [] → variables s ≡ [] → label_of s ≡ None → symbols_by s ≡ [] → IsNumberingOf S names → IsNumberingOf (S ++ s ∷ []) names
 numbering-nothing S s names l c v label by k = record {
-  told = tells-nothing S s names l c v k.told;
+  kinds_match = tells-nothing S s names l c v k.kinds_match;
   symbols = k.symbols ∙ sym (symbols_of-append S s ∙ ap (with_names (symbols_of S)) by);
   labels = k.labels ∙ sym (labels_of-append S (s ∷ []) ∙ (ap (λ o. labels_of S ++ option_list o []) label ∙ append-nil (labels_of S)));
 }
 
 -- the symbols of a legal `$c` are new, and those of a legal `$v` are no labels
 pub constants-free : (S : Database) (names : Declared) (xs : List Name) → broken_rule S (Const xs) ≡ None → MatchesKinds S names → (x : Name) → has_name x xs ≡ true → kind_in names x ≡ None
-constants-free S names xs legal told x h = fresh-none S names x told (all-has _ x xs (legal-constants S xs legal).0 h)
+constants-free S names xs legal kinds_match x h = fresh-none S names x kinds_match (all-has _ x xs (legal-constants S xs legal).0 h)
 
 pub variables-free : (S : Database) (names : Declared) (xs : List Name) → broken_rule S (Var xs) ≡ None → MatchesKinds S names → (x : Name) → has_name x xs ≡ true → (is_label_kind (kind_in names x) ≡ false) × (is_constant_kind (kind_in names x) ≡ false)
-variables-free S names xs legal told x h = inactive-free S names x told (all-has _ x xs (legal-variables S xs legal).0 h)
+variables-free S names xs legal kinds_match x h = inactive-free S names x kinds_match (all-has _ x xs (legal-variables S xs legal).0 h)
 
 pub numbering-constants : (S : Database) (names : Declared) (xs : List Name) → broken_rule S (Const xs) ≡ None → IsNumberingOf S names → IsNumberingOf (S ++ Const xs ∷ []) (with_kinds names Constant xs)
 numbering-constants S names xs legal k =
-    let new = constants-free S names xs legal k.told in
+    let new = constants-free S names xs legal k.kinds_match in
     record {
-      told = tells-constants S names xs new k.told;
+      kinds_match = tells-constants S names xs new k.kinds_match;
       symbols = declared_symbols-with_kinds names Constant xs refl (λ x h. ap is_label_kind (new x h)) ∙ (ap (λ ns. with_names ns xs) k.symbols ∙ sym (symbols_of-append S (Const xs)));
       labels = declared_labels-with_kinds names Constant xs refl ∙ (k.labels ∙ sym (labels_of-append S (Const xs ∷ []) ∙ append-nil (labels_of S)));
     }
 
 pub numbering-variables : (S : Database) (names : Declared) (xs : List Name) → broken_rule S (Var xs) ≡ None → IsNumberingOf S names → IsNumberingOf (S ++ Var xs ∷ []) (with_kinds names Variable xs)
 numbering-variables S names xs legal k =
-    let free = variables-free S names xs legal k.told in
+    let free = variables-free S names xs legal k.kinds_match in
     record {
-      told = tells-variables S names xs free k.told;
+      kinds_match = tells-variables S names xs free k.kinds_match;
       symbols = declared_symbols-with_kinds names Variable xs refl (λ x h. (free x h).0) ∙ (ap (λ ns. with_names ns xs) k.symbols ∙ sym (symbols_of-append S (Var xs)));
       labels = declared_labels-with_kinds names Variable xs refl ∙ (k.labels ∙ sym (labels_of-append S (Var xs ∷ []) ∙ append-nil (labels_of S)));
     }
 
 -- the label of a legal statement is new
 pub label-free : (S : Database) (names : Declared) (s : Stmt) (l : Name) → label_of s ≡ Some l → broken_rule S s ≡ None → MatchesKinds S names → kind_in names l ≡ None
-label-free S names s l is legal told = fresh-none S names l told (legal-label S s l is legal)
+label-free S names s l is legal kinds_match = fresh-none S names l kinds_match (legal-label S s l is legal)
 
 pub numbering-label : (S : Database) (names : Declared) (s : Stmt) (l : Name) → label_of s ≡ Some l → constants s ≡ [] → variables s ≡ [] → symbols_by s ≡ [] → broken_rule S s ≡ None → IsNumberingOf S names → IsNumberingOf (S ++ s ∷ []) (with_kind names Label l)
 numbering-label S names s l is c v none legal k =
-    let new = label-free S names s l is legal k.told in
+    let new = label-free S names s l is legal k.kinds_match in
     record {
-      told = tells-label S s names l is c v new k.told;
+      kinds_match = tells-label S s names l is c v new k.kinds_match;
       symbols = declared_symbols-label names l ∙ (k.symbols ∙ sym (symbols_of-append S s ∙ ap (with_names (symbols_of S)) none));
       labels = declared_labels-label names l new ∙ (ap (λ ls. ls ++ l ∷ []) k.labels ∙ sym (labels_of-append S (s ∷ []) ∙ ap (λ o. labels_of S ++ option_list o []) is));
     }
@@ -126,15 +126,15 @@ numbering-label S names s l is c v none legal k =
 -- ---- by the shape of the statement
 
 pub may-declare : (S : Database) (s : Stmt) (names : Declared) → broken_rule S s ≡ None → MatchesKinds S names → MayDeclare names s
-may-declare S (Const xs) names legal told = λ x h. ap is_label_kind (constants-free S names xs legal told x h)
-may-declare S (Var xs) names legal told = λ x h. (variables-free S names xs legal told x h).0
-may-declare S (Float label constant variable) names legal told = label-free S names (Float label constant variable) label refl legal told
-may-declare S (Ess label expr) names legal told = label-free S names (Ess label expr) label refl legal told
-may-declare S (Axiom label expr) names legal told = label-free S names (Axiom label expr) label refl legal told
-may-declare S (Prove label expr proof) names legal told = label-free S names (Prove label expr proof) label refl legal told
-may-declare S Open names legal told = tt
-may-declare S Close names legal told = tt
-may-declare S (Disj xs) names legal told = tt
+may-declare S (Const xs) names legal kinds_match = λ x h. ap is_label_kind (constants-free S names xs legal kinds_match x h)
+may-declare S (Var xs) names legal kinds_match = λ x h. (variables-free S names xs legal kinds_match x h).0
+may-declare S (Float label constant variable) names legal kinds_match = label-free S names (Float label constant variable) label refl legal kinds_match
+may-declare S (Ess label expr) names legal kinds_match = label-free S names (Ess label expr) label refl legal kinds_match
+may-declare S (Axiom label expr) names legal kinds_match = label-free S names (Axiom label expr) label refl legal kinds_match
+may-declare S (Prove label expr proof) names legal kinds_match = label-free S names (Prove label expr proof) label refl legal kinds_match
+may-declare S Open names legal kinds_match = tt
+may-declare S Close names legal kinds_match = tt
+may-declare S (Disj xs) names legal kinds_match = tt
 
 pub numbering-after : (S : Database) (s : Stmt) (names : Declared) → broken_rule S s ≡ None → IsNumberingOf S names → IsNumberingOf (S ++ s ∷ []) (declared_with names s)
 numbering-after S (Const xs) names legal k = numbering-constants S names xs legal k

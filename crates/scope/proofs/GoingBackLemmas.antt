@@ -1,5 +1,5 @@
 -- The mark, the return to it, and what the rules say of the names to be declared.
-use Rattle.scope.proofs.Words.{◌≡◌, ℕ, ◌+◌, ◌==◌, Bool, true, false, not, ◌||◌, ◌&&◌, List, [], ◌∷◌, ◌++◌, length, take, Option, Some, None, is_some, refl, list_any, list_all, flat_map, ◌∙◌, ap, sym, arith, true≢false, or-false, append-nil, map-append, take-map, take_at, nil_from_length, flat_map-append, nat_tests, and_parts, or_parts, not-true, Name, name_eq, has_name, Stmt, Database, stays_open, active_from, active, is_closed, variables, typed_by, was_label, was_symbol, is_constant, is_variable, all_different, codes_or_len, code_or_len, AreNamed, symbols_of, stands_at, standing_of, Standing, Declared, kind_in, MatchesKinds, is_label_kind, is_constant_kind, heights_of, blocks_of, can_push, IsRulesState, StackHeights, NameKind, codes_or_len-more, has_name-append, name_same, same_name}
+use Rattle.scope.proofs.Words.{◌≡◌, ℕ, ◌+◌, ◌==◌, Bool, true, false, not, ◌||◌, ◌&&◌, List, [], ◌∷◌, ◌++◌, length, take, Option, Some, None, is_some, refl, list_any, list_all, flat_map, ◌∙◌, ap, sym, arith, true≢false, or-false, append-nil, map-append, take-map, take_at, nil_from_length, flat_map-append, nat_tests, and_parts, or_parts, not-true, Name, name_eq, has_name, Stmt, Database, stays_open, active_from, active, is_closed, variables, typed_by, was_label, was_symbol, is_constant, is_variable, all_different, codes_or_len, code_or_len, AreNamed, symbols_of, as_frame_statement, frame_statements_of, FrameStatement, Declared, kind_in, MatchesKinds, is_label_kind, is_constant_kind, heights_of, blocks_of, can_push, IsRulesState, StackHeights, NameKind, codes_or_len-more, has_name-append, name_same, same_name}
 use Rattle.scope.proofs.ActiveLemmas.{active_from-later, below-deficit, no_deficit, deficit, deficit-append, left_open}
 use Rattle.scope.proofs.BlocksLemmas.{length-blocks, closed-left}
 use Rattle.scope.proofs.NamesLemmas.{symbols_of-later, active-named}
@@ -13,7 +13,7 @@ kept-mark S M vs ts n blocks mark heights closed height k = record {
   variables_are = k.variables_are;
   typed_are = k.typed_are;
   typed_known = k.typed_known;
-  standing_is = k.standing_is;
+  frame_statement_count_is = k.frame_statement_count_is;
   blocks_are = k.blocks_are;
   never_closes_unopened = k.never_closes_unopened;
   marked = record {
@@ -38,16 +38,16 @@ stack-back f S M T stack e below known is =
     ∙ (ap (λ ns. codes_or_len ns A) (ap symbols_of e ∙ more.1) ∙ codes_or_len-more (symbols_of M) more.0 A known))))
 
 -- the active `$f`, `$e` and `$d` at the mark are the first of those that are active later
-pub standing-back : (S M : Database) (vs ts : List ℕ) (n : ℕ) (blocks : List StackHeights) (mark : StackHeights) → IsRulesState S M vs ts n blocks mark → take (length (standing_of M)) (standing_of S) ≡ standing_of M
-standing-back S M vs ts n blocks mark k =
-    let f : ℕ × Stmt → List Standing = λ p. stands_at p.0 p.1 in
+pub frame_statements-back : (S M : Database) (vs ts : List ℕ) (n : ℕ) (blocks : List StackHeights) (mark : StackHeights) → IsRulesState S M vs ts n blocks mark → take (length (frame_statements_of M)) (frame_statements_of S) ≡ frame_statements_of M
+frame_statements-back S M vs ts n blocks mark k =
+    let f : ℕ × Stmt → List FrameStatement = λ p. as_frame_statement p.0 p.1 in
     let T = k.marked.later.0 in
-    ap (λ D. take (length (standing_of M)) (standing_of D)) k.marked.later.1
-    ∙ (ap (take (length (standing_of M))) (ap (flat_map f) (active_from-later 1 M T k.marked.later.2) ∙ flat_map-append f (active M) (active_from (1 + length M) T))
-    ∙ take_at (standing_of M) (flat_map f (active_from (1 + length M) T)) (length (standing_of M)) refl)
+    ap (λ D. take (length (frame_statements_of M)) (frame_statements_of D)) k.marked.later.1
+    ∙ (ap (take (length (frame_statements_of M))) (ap (flat_map f) (active_from-later 1 M T k.marked.later.2) ∙ flat_map-append f (active M) (active_from (1 + length M) T))
+    ∙ take_at (frame_statements_of M) (flat_map f (active_from (1 + length M) T)) (length (frame_statements_of M)) refl)
 
 pub kept-back : (S M : Database) (vs ts : List ℕ) (n : ℕ) (blocks : List StackHeights) (mark : StackHeights) → IsRulesState S M vs ts n blocks mark
-    → IsRulesState M M (take mark.variables vs) (take mark.typed ts) mark.standing [] mark
+    → IsRulesState M M (take mark.variables vs) (take mark.typed ts) mark.frame_statements [] mark
 kept-back S M vs ts n blocks mark k =
     let km = k.marked in
     let T = km.later.0 in
@@ -59,7 +59,7 @@ kept-back S M vs ts n blocks mark k =
       variables_are = ap (λ z. take z.variables vs) km.heights ∙ stack-back (λ p. variables p.1) S M T vs e below (active-named M) k.variables_are;
       typed_are = ap (λ z. take z.typed ts) km.heights ∙ stack-back (λ p. typed_by p.1) S M T ts e below km.typed_known k.typed_are;
       typed_known = km.typed_known;
-      standing_is = ap (λ z. z.standing) km.heights;
+      frame_statement_count_is = ap (λ z. z.frame_statements) km.heights;
       blocks_are = sym (nil_from_length (blocks_of M) (length-blocks [] 1 M ∙ none));
       never_closes_unopened = never;
       marked = record {
@@ -90,7 +90,7 @@ all-has p x (y ∷ xs) h k = by (name_eq x y) refl (and_parts (p y) (list_all p 
     by false e h k rest = rest h.1 k
 
 pub fresh-none : (S : Database) (names : Declared) (x : Name) → MatchesKinds S names → not (was_symbol S x || was_label S x) ≡ true → kind_in names x ≡ None
-fresh-none S names x told h = by (kind_in names x) (fresh-kind S x (kind_in names x) (told x) ∙ h)
+fresh-none S names x kinds_match h = by (kind_in names x) (fresh-kind S x (kind_in names x) (kinds_match x) ∙ h)
   where
     by : (k : Option NameKind) → not (is_some k) ≡ true → k ≡ None
     by None h = refl
@@ -98,9 +98,9 @@ fresh-none S names x told h = by (kind_in names x) (fresh-kind S x (kind_in name
 
 pub inactive-free : (S : Database) (names : Declared) (x : Name) → MatchesKinds S names → not (is_variable S x || is_constant S x || was_label S x) ≡ true
     → (is_label_kind (kind_in names x) ≡ false) × (is_constant_kind (kind_in names x) ≡ false)
-inactive-free S names x told h =
+inactive-free S names x kinds_match h =
     let p = or_parts (is_variable S x || is_constant S x) (was_label S x) (not-true (is_variable S x || is_constant S x || was_label S x) h) in
-    (sym (told x).label ∙ p.1, sym (told x).constant ∙ (or_parts (is_variable S x) (is_constant S x) p.0).1)
+    (sym (kinds_match x).label ∙ p.1, sym (kinds_match x).constant ∙ (or_parts (is_variable S x) (is_constant S x) p.0).1)
 
 pub inactive-not : (S : Database) (x : Name) → not (is_variable S x || is_constant S x || was_label S x) ≡ true → is_variable S x ≡ false
 inactive-not S x h =

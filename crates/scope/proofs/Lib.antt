@@ -10,7 +10,7 @@ pub mod EntryLemmas
 pub mod DeclaredLemmas
 pub mod StackFollows
 pub mod GoingBackLemmas
-pub mod StandingLemmas
+pub mod FrameStatementLemmas
 pub mod LegalLemmas
 pub mod AcceptLemmas
 pub mod StackLemmas

@@ -1,5 +1,5 @@
 -- The stacks of a scope after a statement that opens or closes no block, after a `${` and after a `$}`.
-use Rattle.scope.proofs.Words.{◌≡◌, ℕ, zero, suc, ◌+◌, ◌≤◌, Bool, true, false, cond, ◌||◌, nat_lt, List, [], ◌∷◌, ◌++◌, length, take, refl, flat_map, ◌∙◌, ap, sym, arith, append_assoc, true≢false, length-append, append-nil, map-append, take-map, same_from_push, flat_map-append, nat_tests, eqb-true, Name, has_name, Stmt, Open, Close, Database, stays_open, active_from, active, is_open, is_close, is_closed, count, variables, typed_by, codes_or_len, code_or_len, AreNamed, stands_at, standing_of, symbols_of, heights_of, blocks_from, blocks_of, IsRulesState, IsMarked, StackHeights, has_open, before_open, codes_or_len-more, has-more, has_name-append}
+use Rattle.scope.proofs.Words.{◌≡◌, ℕ, zero, suc, ◌+◌, ◌≤◌, Bool, true, false, cond, ◌||◌, nat_lt, List, [], ◌∷◌, ◌++◌, length, take, refl, flat_map, ◌∙◌, ap, sym, arith, append_assoc, true≢false, length-append, append-nil, map-append, take-map, same_from_push, flat_map-append, nat_tests, eqb-true, Name, has_name, Stmt, Open, Close, Database, stays_open, active_from, active, is_open, is_close, is_closed, count, variables, typed_by, codes_or_len, code_or_len, AreNamed, as_frame_statement, frame_statements_of, symbols_of, heights_of, blocks_from, blocks_of, IsRulesState, IsMarked, StackHeights, has_open, before_open, codes_or_len-more, has-more, has_name-append}
 use Rattle.scope.proofs.ActiveLemmas.{active_from-append, active_from-close, stays_open-append, flat_map-taken, from_open, split_open, below-deficit, no_deficit, deficit-close, left_open, count-left_open, count-append, none-left}
 use Rattle.scope.proofs.BlocksLemmas.{blocks_from-append, blocks-close}
 use Rattle.scope.proofs.NamesLemmas.{symbols_of-later, symbols_of-append, active-named}
@@ -41,18 +41,18 @@ marked-more S M s mark h k = record {
 }
 
 -- a statement that is no `$}` adds its entries to the active `$f`, `$e` and `$d`
-pub standing-more : (S : Database) (s : Stmt) → is_close s ≡ false → standing_of (S ++ s ∷ []) ≡ standing_of S ++ stands_at (1 + length S) s
-standing-more S s h = flat_map-more (λ p. stands_at p.0 p.1) S s h
+pub frame_statements-more : (S : Database) (s : Stmt) → is_close s ≡ false → frame_statements_of (S ++ s ∷ []) ≡ frame_statements_of S ++ as_frame_statement (1 + length S) s
+frame_statements-more S s h = flat_map-more (λ p. as_frame_statement p.0 p.1) S s h
 
 pub kept-more : (S M : Database) (s : Stmt) (vs ts : List ℕ) (n m : ℕ) (blocks : List StackHeights) (mark : StackHeights) → is_close s ≡ false → is_open s ≡ false
-    → AreNamed (symbols_of (S ++ s ∷ [])) (typed_by s) → length (stands_at (1 + length S) s) ≡ m
+    → AreNamed (symbols_of (S ++ s ∷ [])) (typed_by s) → length (as_frame_statement (1 + length S) s) ≡ m
     → IsRulesState S M vs ts n blocks mark
     → IsRulesState (S ++ s ∷ []) M (vs ++ codes_or_len (symbols_of (S ++ s ∷ [])) (variables s)) (ts ++ codes_or_len (symbols_of (S ++ s ∷ [])) (typed_by s)) (n + m) blocks mark
 kept-more S M s vs ts n m blocks mark shut plain known stand k = record {
   variables_are = stack-more (λ p. variables p.1) S s vs shut (active-named S) k.variables_are;
   typed_are = stack-more (λ p. typed_by p.1) S s ts shut k.typed_known k.typed_are;
   typed_known = known-more (λ p. typed_by p.1) S s shut k.typed_known known;
-  standing_is = let long = ap length (standing-more S s shut) ∙ length-append (standing_of S) (stands_at (1 + length S) s) in let is = k.standing_is in omega (arith, long, is, stand);
+  frame_statement_count_is = let long = ap length (frame_statements-more S s shut) ∙ length-append (frame_statements_of S) (as_frame_statement (1 + length S) s) in let is = k.frame_statement_count_is in omega (arith, long, is, stand);
   blocks_are = k.blocks_are ∙ sym (ap (blocks_from []) (active_from-append 1 S s shut) ∙ (blocks_from-append [] (active S) ((1 + length S, s) ∷ [])
       ∙ (ap (λ b. blocks_of S ++ cond b (heights_of (active S) ∷ []) []) plain ∙ append-nil (blocks_of S))));
   never_closes_unopened = stays_open-append 0 S s shut ∙ k.never_closes_unopened;
@@ -67,7 +67,7 @@ kept-open S M vs ts n blocks mark heights height k = record {
   variables_are = sym (append-nil vs) ∙ stack-more (λ p. variables p.1) S Open vs refl (active-named S) k.variables_are;
   typed_are = sym (append-nil ts) ∙ stack-more (λ p. typed_by p.1) S Open ts refl k.typed_known k.typed_are;
   typed_known = known-more (λ p. typed_by p.1) S Open refl k.typed_known (λ x h. absurd (true≢false (sym h)));
-  standing_is = k.standing_is ∙ ap length (sym (append-nil (standing_of S)) ∙ sym (standing-more S Open refl));
+  frame_statement_count_is = k.frame_statement_count_is ∙ ap length (sym (append-nil (frame_statements_of S)) ∙ sym (frame_statements-more S Open refl));
   blocks_are = ap (λ b. b ++ heights ∷ []) k.blocks_are ∙ (ap (λ z. blocks_of S ++ z ∷ []) height ∙ sym (ap (blocks_from []) (active_from-append 1 S Open refl) ∙ blocks_from-append [] (active S) ((1 + length S, Open) ∷ [])));
   never_closes_unopened = stays_open-append 0 S Open refl ∙ k.never_closes_unopened;
   marked = marked-more S M Open mark refl k.marked;
@@ -130,7 +130,7 @@ known-close f S none known x h =
 
 pub kept-close : (S M : Database) (vs ts : List ℕ) (n : ℕ) (blocks front : List StackHeights) (mark last : StackHeights) → nat_lt (count is_close S) (count is_open S) ≡ true
     → blocks ≡ front ++ last ∷ [] → IsRulesState S M vs ts n blocks mark
-    → IsRulesState (S ++ Close ∷ []) M (take last.variables vs) (take last.typed ts) last.standing front mark
+    → IsRulesState (S ++ Close ∷ []) M (take last.variables vs) (take last.typed ts) last.frame_statements front mark
 kept-close S M vs ts n blocks front mark last legal split k =
     let some = some_open S k.never_closes_unopened legal in
     let ends : front ++ last ∷ [] ≡ blocks_from [] (before_open (active S)) ++ heights_of (before_open (active S)) ∷ [] =
@@ -140,7 +140,7 @@ kept-close S M vs ts n blocks front mark last legal split k =
       variables_are = ap (λ z. take z.variables vs) both.1 ∙ stack-close (λ p. variables p.1) S vs refl k.variables_are;
       typed_are = ap (λ z. take z.typed ts) both.1 ∙ stack-close (λ p. typed_by p.1) S ts refl k.typed_are;
       typed_known = known-close (λ p. typed_by p.1) S refl k.typed_known;
-      standing_is = ap (λ z. z.standing) both.1 ∙ ap length (sym (flat_map-close (λ p. stands_at p.0 p.1) S refl));
+      frame_statement_count_is = ap (λ z. z.frame_statements) both.1 ∙ ap length (sym (flat_map-close (λ p. as_frame_statement p.0 p.1) S refl));
       blocks_are = both.0 ∙ sym (ap (blocks_from []) (active_from-close 1 S) ∙ (blocks_from-append [] (before_open (active S)) ((1 + length S, Close) ∷ []) ∙ append-nil (blocks_from [] (before_open (active S)))));
       never_closes_unopened = below-deficit 0 (S ++ Close ∷ []) (omega (arith, deficit-close S, no_deficit S k.never_closes_unopened, some));
       marked = let km = k.marked in record {

@@ -1,15 +1,15 @@
 -- The names that are no labels are the declared symbols.
-use Rattle.scope.proofs.Words.{◌≡◌, ℕ, zero, suc, ◌<◌, Bool, true, false, cond, ◌||◌, ◌&&◌, nat_lt, List, [], ◌∷◌, ◌++◌, length, take, Option, Some, None, is_some, refl, list_all, ◌∙◌, ap, sym, arith, true≢false, length-append, append-nil, map-append, list_all-append, or_right, lt-ltb, ltb-true, and_parts, same_Some, Name, name_eq, has_name, Expr, name_at, decode, with_name, with_names, AreCodes, Declared, declared_names, names_that, declared_symbols, declared_labels, kind_in, with_kind, with_kinds, is_label_kind, is_symbol_kind, is_label, IsNumberOf, AreRecorded, IsAppended, NameKind, Label, Constant, Variable, name_same, same_name, name_at-more}
+use Rattle.scope.proofs.Words.{◌≡◌, ℕ, zero, suc, ◌<◌, Bool, true, false, cond, ◌||◌, ◌&&◌, nat_lt, List, [], ◌∷◌, ◌++◌, length, take, Option, Some, None, is_some, refl, list_all, ◌∙◌, ap, sym, arith, true≢false, length-append, append-nil, map-append, list_all-append, or_right, lt-ltb, ltb-true, and_parts, same_Some, Name, name_eq, has_name, Expr, name_at, decode, with_name, with_names, AreCodes, Declared, declared_names, names_where, declared_symbols, declared_labels, kind_in, with_kind, with_kinds, is_label_kind, is_symbol_kind, is_label, IsNumberOf, AreRecorded, IsAppended, NameKind, Label, Constant, Variable, name_same, same_name, name_at-more}
 use Rattle.scope.proofs.NamesLemmas.{or_kind, kind_in-with_kinds}
 
 -- ---- the names that are no labels, and the labels
 
-pub names_that-append : (own : NameKind → Bool) (names more : Declared) → names_that own (names ++ more) ≡ names_that own names ++ names_that own more
-names_that-append own [] more = refl
-names_that-append own (p ∷ names) more = by (own p.1) (names_that-append own names more)
+pub names_where-append : (own : NameKind → Bool) (names more : Declared) → names_where own (names ++ more) ≡ names_where own names ++ names_where own more
+names_where-append own [] more = refl
+names_where-append own (p ∷ names) more = by (own p.1) (names_where-append own names more)
   where
-    by : (b : Bool) → names_that own (names ++ more) ≡ names_that own names ++ names_that own more
-        → cond b (p.0 ∷ names_that own (names ++ more)) (names_that own (names ++ more)) ≡ cond b (p.0 ∷ names_that own names) (names_that own names) ++ names_that own more
+    by : (b : Bool) → names_where own (names ++ more) ≡ names_where own names ++ names_where own more
+        → cond b (p.0 ∷ names_where own (names ++ more)) (names_where own (names ++ more)) ≡ cond b (p.0 ∷ names_where own names) (names_where own names) ++ names_where own more
     by true e = ap (λ r. p.0 ∷ r) e
     by false e = e
 
@@ -19,7 +19,7 @@ declared_symbols-label names l = by (is_some (kind_in names l))
   where
     by : (b : Bool) → declared_symbols (cond b names (names ++ (l, Label) ∷ [])) ≡ declared_symbols names
     by true = refl
-    by false = names_that-append is_symbol_kind names ((l, Label) ∷ []) ∙ append-nil (declared_symbols names)
+    by false = names_where-append is_symbol_kind names ((l, Label) ∷ []) ∙ append-nil (declared_symbols names)
 
 -- the kind of a symbol is not that of a label
 no_label : (kind : NameKind) → is_symbol_kind kind ≡ true → is_label kind ≡ false
@@ -32,7 +32,7 @@ declared_labels-symbol names kind x own = by (is_some (kind_in names x))
   where
     by : (b : Bool) → declared_labels (cond b names (names ++ (x, kind) ∷ [])) ≡ declared_labels names
     by true = refl
-    by false = names_that-append is_label names ((x, kind) ∷ []) ∙ (ap (λ b. declared_labels names ++ cond b (x ∷ []) []) (no_label kind own) ∙ append-nil (declared_labels names))
+    by false = names_where-append is_label names ((x, kind) ∷ []) ∙ (ap (λ b. declared_labels names ++ cond b (x ∷ []) []) (no_label kind own) ∙ append-nil (declared_labels names))
 
 pub declared_labels-with_kinds : (names : Declared) (kind : NameKind) (xs : List Name) → is_symbol_kind kind ≡ true → declared_labels (with_kinds names kind xs) ≡ declared_labels names
 declared_labels-with_kinds names kind [] own = refl
@@ -40,7 +40,7 @@ declared_labels-with_kinds names kind (x ∷ xs) own = declared_labels-with_kind
 
 -- a new label comes last
 pub declared_labels-label : (names : Declared) (l : Name) → kind_in names l ≡ None → declared_labels (with_kind names Label l) ≡ declared_labels names ++ l ∷ []
-declared_labels-label names l new = ap (λ k. declared_labels (cond (is_some k) names (names ++ (l, Label) ∷ []))) new ∙ names_that-append is_label names ((l, Label) ∷ [])
+declared_labels-label names l new = ap (λ k. declared_labels (cond (is_some k) names (names ++ (l, Label) ∷ []))) new ∙ names_where-append is_label names ((l, Label) ∷ [])
 
 -- a name that is no label is among the symbols exactly if it has a kind
 has-symbol : (names : Declared) (x : Name) (k : Option NameKind) → kind_in names x ≡ k → is_label_kind k ≡ false → has_name x (declared_symbols names) ≡ is_some k
@@ -66,7 +66,7 @@ declared_symbols-with_kind names kind x own free =
   where
     by : (b : Bool) → declared_symbols (cond b names (names ++ (x, kind) ∷ [])) ≡ cond b (declared_symbols names) (declared_symbols names ++ x ∷ [])
     by true = refl
-    by false = names_that-append is_symbol_kind names ((x, kind) ∷ []) ∙ ap (λ b. declared_symbols names ++ cond b (x ∷ []) []) own
+    by false = names_where-append is_symbol_kind names ((x, kind) ∷ []) ∙ ap (λ b. declared_symbols names ++ cond b (x ∷ []) []) own
 
 -- if a name is declared as a symbol, no name becomes a label
 pub label_free : (names : Declared) (kind : NameKind) (x y : Name) → is_symbol_kind kind ≡ true → is_label_kind (kind_in names y) ≡ false → is_label_kind (kind_in (with_kind names kind x) y) ≡ false
@@ -93,12 +93,12 @@ declared_symbols-with_kinds names kind (x ∷ xs) own free =
 
 -- the number of a name among those of some kinds is the count of those before its index
 pub number-at : (own : NameKind → Bool) (names : Declared) (x : Name) (n : ℕ) (k : NameKind) → n < length (declared_names names) → name_at (declared_names names) n ≡ x → ((m : ℕ) → m < n → name_at (declared_names names) m ≡ x → ⊥)
-    → kind_in names x ≡ Some k → own k ≡ true → IsNumberOf (names_that own names) x (length (names_that own (take n names)))
+    → kind_in names x ≡ Some k → own k ≡ true → IsNumberOf (names_where own names) x (length (names_where own (take n names)))
 number-at own [] x n k lt e first h is = absurd (omega (arith, lt))
 number-at own (p ∷ names) x zero k lt e first h is =
     by (own p.1) (ap own (same_Some p.1 k (ap (λ b. cond b (Some p.1) (kind_in names x)) (sym (ap (name_eq x) e ∙ name_same x)) ∙ h)) ∙ is)
   where
-    by : (b : Bool) → b ≡ true → IsNumberOf (cond b (p.0 ∷ names_that own names) (names_that own names)) x 0
+    by : (b : Bool) → b ≡ true → IsNumberOf (cond b (p.0 ∷ names_where own names) (names_where own names)) x 0
     by true f = (omega arith, e)
     by false f = cc
 number-at own (p ∷ names) x (suc n) k lt e first h is =
@@ -108,8 +108,8 @@ number-at own (p ∷ names) x (suc n) k lt e first h is =
     other false q = q
     other true q = absurd (first 0 (omega arith) (sym (same_name x p.0 q)))
 
-    by : (b : Bool) → IsNumberOf (names_that own names) x (length (names_that own (take n names)))
-        → IsNumberOf (cond b (p.0 ∷ names_that own names) (names_that own names)) x (length (cond b (p.0 ∷ names_that own (take n names)) (names_that own (take n names))))
+    by : (b : Bool) → IsNumberOf (names_where own names) x (length (names_where own (take n names)))
+        → IsNumberOf (cond b (p.0 ∷ names_where own names) (names_where own names)) x (length (cond b (p.0 ∷ names_where own (take n names)) (names_where own (take n names))))
     by true is = let lt = is.0 in (omega (arith, lt), is.1)
     by false is = is
 

@@ -11,12 +11,12 @@ pub use Rattle.names.specs.Codes.{AreCodes, AreDistinct, AreNamed, code_of, deco
 pub use Rattle.scope.specs.Accepted.{Accepted}
 pub use Rattle.scope.specs.Active.{active, active_from, active_variables, bare, bares, constants, count, has_float, has_label, is_active, is_close, is_closed, is_constant, is_float_of, is_open, is_variable, label_of, stays_open, stmt_at, typed_by, typed_variables, variables, was_label, was_symbol, was_variable}
 pub use Rattle.scope.specs.Declares.{IsRecordedBy, MayDeclare, declared_with}
-pub use Rattle.scope.specs.Kinds.{Declared, IsNumberOf, IsNumberingOf, MatchesKind, MatchesKinds, declared_labels, declared_names, declared_symbols, is_constant_kind, is_label_kind, is_label, is_symbol_kind, is_variable_kind, kind_in, names_of_kind, names_that, symbols_before, with_kind, with_kinds, zip_kinds}
+pub use Rattle.scope.specs.Kinds.{Declared, IsNumberOf, IsNumberingOf, MatchesKind, MatchesKinds, declared_labels, declared_names, declared_symbols, is_constant_kind, is_label_kind, is_label, is_symbol_kind, is_variable_kind, kind_in, names_of_kind, names_where, symbols_before, with_kind, with_kinds, zip_kinds}
 pub use Rattle.scope.specs.Laws.{NeverCloses, before_open, between, has_open}
 pub use Rattle.scope.specs.Legal.{AllLegal, IsLegal, all_different, are_typed, broken_rule, end_rule, first_broken, starts_with_constant}
 pub use Rattle.scope.specs.Sorts.{IsSort, is_constant_sort, is_symbol_sort, is_untyped_sort, sort_by, broken_by_sorts}
-pub use Rattle.scope.specs.Standing.{standing_of, stands_at}
-pub use Rattle.scope.specs.Stored.KindCounts.{AreCounted, count_after, kinds_of, indexes_that}
+pub use Rattle.scope.specs.FrameStatement.{frame_statements_of, as_frame_statement}
+pub use Rattle.scope.specs.Stored.KindCounts.{AreCounted, count_after, kinds_of, indexes_where}
 pub use Rattle.scope.specs.Stored.Ordered.{DifferFromNext, HasEqualNeighbours}
 pub use Rattle.scope.specs.Stored.Stacks.{IsRulesState, IsMarked, IsPlain, IsScope, blocks_from, blocks_of, can_push, heights_of}
 pub use Rattle.scope.specs.Stored.SymbolNumbers.{AreRecorded, IsAppended, are_numbers_distinct}
@@ -29,7 +29,7 @@ pub use Rattle.scope.specs.declared.numbering.NameKind.TheVariants.{Constant, La
 pub use Rattle.scope.specs.declared.rule.Rule.{Rule}
 pub use Rattle.scope.specs.declared.rule.Rule.TheVariants.{G1, G10, G2, G3, G4, G5, G6, G7, G8, G9}
 pub use Rattle.scope.specs.declared.stack_heights.StackHeights.{StackHeights}
-pub use Rattle.scope.specs.declared.standing.Standing.{Standing}
+pub use Rattle.scope.specs.declared.frame_statements.FrameStatement.{FrameStatement}
 pub use Rattle.scope.specs.declared.steps.Steps.{Steps}
 pub use Rattle.std.proofs.Common.{Bor, Equal, Err, Greater, IfSome, IsPermutation, IsSorted, Less, MutBor, Ok, OnOk, Ordering, Result, add-zero, ap, append_assoc, arith, drop, get_or, inl, inr, is_eq, is_lt, length, length-append, map, nat_cmp, nat_le, rules, subst, sym, true≢false, vec_len, ◌^◌, ◌∙◌, ◌≡◌, ◌⊎◌}
 pub use Rattle.std.proofs.Math.Bool.{and-false, and-true, not-not, or-false, or_comm}

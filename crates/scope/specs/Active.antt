@@ -1,6 +1,6 @@
 -- The statements that are active after a list of statements. Positions count from 1.
 -- Source: Metamath, 4.2.8 (scoping statements) and 4.2.
--- The code keeps stacks, with their heights at the start of each open block; the model counts brackets after a statement.
+-- The code keeps stacks, with their heights at the start of each open block; the model counts the `${` and `$}` after a statement.
 use Rattle.std.specs.Prelude.{ℕ, zero, suc, ◌+◌, ◌-◌, Bool, true, false, ◌&&◌, ◌||◌, ◌==◌, nat_le, nat_lt, if◌then◌else◌, List, [], ◌∷◌, take, drop, map, Option, Some, None, slice_get}
 use Rattle.scope.specs.Words.{list_any, flat_map, Name, name_eq, has_name, Stmt, Open, Close, Const, Var, Disj, Float, Ess, Axiom, Prove, Expr, Database}
 
@@ -43,9 +43,9 @@ abbrev pub variables : Stmt → List Name
 variables (Var names) = names
 variables s = []
 
-abbrev pub separated : Stmt → List Name
-separated (Disj names) = names
-separated s = []
+abbrev pub disjoint_names : Stmt → List Name
+disjoint_names (Disj names) = names
+disjoint_names s = []
 
 abbrev pub label_of : Stmt → Option Name
 label_of (Float label constant variable) = Some label

@@ -47,18 +47,18 @@ is_label Label = true
 is_label kind = false
 
 -- the names whose kind passes the test, in order
-abbrev pub names_that : (NameKind → Bool) → Declared → List Name
-names_that test [] = []
-names_that test (p ∷ names) =
-    if test p.1 then p.0 ∷ names_that test names else names_that test names
+abbrev pub names_where : (NameKind → Bool) → Declared → List Name
+names_where test [] = []
+names_where test (p ∷ names) =
+    if test p.1 then p.0 ∷ names_where test names else names_where test names
 
 -- the names that are not labels, in order
 abbrev pub declared_symbols : Declared → List Name
-declared_symbols names = names_that is_symbol_kind names
+declared_symbols names = names_where is_symbol_kind names
 
 -- the labels, in order
 abbrev pub declared_labels : Declared → List Name
-declared_labels names = names_that is_label names
+declared_labels names = names_where is_label names
 
 -- the list in which a name of this kind has its number
 abbrev pub names_of_kind : NameKind → Declared → List Name
@@ -84,7 +84,7 @@ MatchesKinds S names = (x : Name) → MatchesKind S x (kind_in names x)
 
 -- the names are the labels and the symbols of the statements, each with its kind
 pub record IsNumberingOf (S : Database) (names : Declared) : Type 0 where
-  pub told : MatchesKinds S names
+  pub kinds_match : MatchesKinds S names
   pub symbols : declared_symbols names ≡ symbols_of S
   pub labels : declared_labels names ≡ labels_of S
 

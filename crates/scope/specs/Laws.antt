@@ -1,6 +1,6 @@
 -- Laws about active statements and about the rules, in the book's words.
 -- Source: Metamath, 4.2.8 (scoping statements) and 4.2.
--- `is_active` recurses on the statements; the law counts brackets in each prefix of them.
+-- `is_active` recurses on the statements; the law counts the `${` and `$}` in each prefix of them.
 use Rattle.std.specs.Prelude.{◌≡◌, ℕ, ◌+◌, ◌-◌, ◌≤◌, ◌<◌, ◌↔◌, Bool, false, IsTrue, if◌then◌else◌, List, [], ◌∷◌, ◌++◌, length, take, drop}
 use Rattle.scope.specs.Words.{list_any, Stmt, Close, Database}
 use Rattle.scope.specs.Active.{count, is_open, is_close, is_active, active, active_from, bare, bares}

@@ -3,7 +3,7 @@ pub mod Active
 pub mod Legal
 pub mod Accepted
 pub mod Kinds
-pub mod Standing
+pub mod FrameStatement
 pub mod Sorts
 pub mod Laws
 pub mod Symbols

@@ -63,7 +63,7 @@ impl Rules {
             Some(heights) => {
                 self.variables.truncate(heights.variables);
                 self.typed.truncate(heights.typed);
-                self.standing = heights.standing;
+                self.frame_statement_count = heights.frame_statements;
                 self.accepted = History::after(&self.accepted, stmt);
             }
             None => unreachable!(),
@@ -94,22 +94,22 @@ impl Rules {
     {
         let number = second(numbers);
         self.typed.push(number)?;
-        self.standing += 1;
+        self.frame_statement_count += 1;
         self.accepted = History::after(&self.accepted, stmt);
         Ok(())
     }
 
     /// Appends a statement that neither opens nor closes a block, and neither declares a variable nor gives one a typecode.
-    /// `standing` is 1 for a `$e` or `$d`, else 0.
-    fn accept_plain(&mut self, stmt: &Stmt, standing: usize) -> Result<(), AllocError>
-        requires plain { IsPlain stmt.now standing }
-        requires one { standing ≤ 1 }
+    /// `added` is 1 for a `$e` or `$d`, else 0.
+    fn accept_plain(&mut self, stmt: &Stmt, added: usize) -> Result<(), AllocError>
+        requires plain { IsPlain stmt.now added }
+        requires one { added ≤ 1 }
         requires room { length self.old.statements + 1 < 2 ^ 64 }
         ensures ok { OnOk result (self.new.statements ≡ self.old.statements ++ bare stmt.now ∷ []) }
         ensures err { OnErr result (self.new.statements ≡ self.old.statements) }
         ensures marked { self.new.marked ≡ self.old.marked }
     {
-        self.standing += standing;
+        self.frame_statement_count += added;
         self.accepted = History::after(&self.accepted, stmt);
         Ok(())
     }

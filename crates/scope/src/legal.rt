@@ -21,8 +21,8 @@ use mm_read::Stmt;
 use std::alloc::{AllocError, Global};
 use std::marker::Model;
 
-/// Lists of fewer words are compared pair by pair.
-const FEW: usize = 16;
+/// The least length of a list of names that is sorted to find equal ones. In a shorter list each pair is compared.
+const MIN_SORTED_LEN: usize = 16;
 
 /// The sort of a name: a constant, an active variable with or without an active `$f`, a label, or
 /// none of these.
@@ -170,7 +170,7 @@ impl<'a> RuleChecker<'a> {
         if !self.is_undeclared(label.as_bytes()) {
             return Some(Rule::G4);
         }
-        let Some((constant_first, typed)) = self.are_symbols(expr, recorded) else {
+        let Some((constant_first, typed)) = self.check_symbols(expr, recorded) else {
             return Some(Rule::G5);
         };
         if !constant_first {
@@ -184,7 +184,7 @@ impl<'a> RuleChecker<'a> {
 
     /// Returns whether the first symbol is a constant, and whether each variable has an active `$f`, or `None` if a
     /// symbol is neither a constant nor an active variable.
-    fn are_symbols(&self, expr: &Words, recorded: &mut SymbolNumbers) -> Option<(bool, bool)>
+    fn check_symbols(&self, expr: &Words, recorded: &mut SymbolNumbers) -> Option<(bool, bool)>
         requires { AreRecorded (symbols_of self.now.statements) [] recorded.old }
         ensures symbols { result ≡ (if list_all (λ x. is_constant self.now.statements x || is_variable self.now.statements x) expr.now then Some (starts_with_constant self.now.statements expr.now, are_typed self.now.statements expr.now) else None) }
         ensures recorded { is_some result ≡ true → AreRecorded (symbols_of self.now.statements) expr.now recorded.new }
@@ -240,7 +240,7 @@ impl<'a> RuleChecker<'a> {
         ensures { result ≡ all_different symbols.now }
     {
         if let Some(numbers) = recorded.numbers() {
-            if numbers.len() < FEW {
+            if numbers.len() < MIN_SORTED_LEN {
                 return are_numbers_distinct(numbers);
             }
         }
@@ -332,17 +332,17 @@ fn are_numbers_distinct(numbers: &[u32]) -> bool
 fn are_words_distinct(alloc: Global, words: &Words) -> bool
     ensures { result ≡ all_different words.now }
 {
-    if words.len() < FEW {
-        return differ_pair_by_pair(words);
+    if words.len() < MIN_SORTED_LEN {
+        return are_distinct_pairwise(words);
     }
-    match differ_by_order(alloc, words) {
+    match are_distinct_by_sorting(alloc, words) {
         Ok(differ) => differ,
-        Err(AllocError) => differ_pair_by_pair(words),
+        Err(AllocError) => are_distinct_pairwise(words),
     }
 }
 
 /// Returns whether the words are distinct, by sorting them, so that equal words are neighbours.
-fn differ_by_order(alloc: Global, words: &Words) -> Result<bool, AllocError>
+fn are_distinct_by_sorting(alloc: Global, words: &Words) -> Result<bool, AllocError>
     ensures { IfOk result (λ differ. differ ≡ all_different words.now) }
 {
     let mut ordered = Vec::new(alloc);
@@ -367,7 +367,7 @@ fn are_neighbours_distinct(words: &[&[u8]]) -> bool
 }
 
 /// Returns whether the words are distinct, without allocating. Cost: the square of their count.
-fn differ_pair_by_pair(words: &Words) -> bool
+fn are_distinct_pairwise(words: &Words) -> bool
     ensures { result ≡ all_different words.now }
 {
     if words.len() < 2 {

@@ -165,7 +165,7 @@ impl Numbering {
         Ok(number_of_entry(entry, index as u32))
     }
 
-    /// Reserves room for `labels` more labels, if allocation succeeds.
+    /// Reserves capacity for `labels` more labels, if allocation succeeds.
     pub fn reserve(&mut self, alloc: Global, labels: usize)
         ensures { self.new ≡ self.old }
     {
@@ -188,7 +188,7 @@ impl Numbering {
         self.labels.truncate(len - earlier_symbols);
     }
 
-    /// Gives back unused room, as `entries::give_back` does.
+    /// Frees unused capacity, as `entries::give_back` does.
     ///
     /// Cost: that of `NameTable::shrink`.
     pub fn shrink(&mut self, alloc: Global)

@@ -1,11 +1,11 @@
 //! The queries of a scope: how many statements it has, and which variables, `$f`, `$e` and `$d` are active.
 ghost use Rattle.std.specs.Prelude.{◌≡◌, length};
 ghost use Rattle.scope.specs.Active.{is_variable};
-ghost use Rattle.scope.specs.Standing.{standing_of};
+ghost use Rattle.scope.specs.FrameStatement.{frame_statements_of};
 
+use crate::frame_statements::FrameStatement;
 use crate::legal::Sort;
 use crate::scope::Scope;
-use crate::standing::Standing;
 
 impl Scope {
     /// Returns how many statements were accepted.
@@ -23,9 +23,9 @@ impl Scope {
     }
 
     /// Returns the active `$f`, `$e` and `$d` in order, with their positions.
-    pub fn standing(&self) -> &[Standing]
-        ensures { result.now ≡ standing_of self.now.statements }
+    pub fn frame_statements(&self) -> &[FrameStatement]
+        ensures { result.now ≡ frame_statements_of self.now.statements }
     {
-        self.standing.as_slice()
+        self.frame_statements.as_slice()
     }
 }

@@ -1,4 +1,5 @@
-//! The state of the rules: which variables are active, and how many were when each open block began.
+//! The state of the rules: the stacks of the active variables and of those with an active `$f`, and the heights of both at the
+//! start of each open block.
 ghost use Rattle.std.specs.Prelude.{◌≡◌, ◌==◌, ◌++◌, ◌∷◌, [], length, not, nat_lt, take, None, IfOk, IfSome, OnOk, IsTrue};
 ghost use Rattle.std.specs.List.{list_any};
 ghost use Rattle.names.specs.Codes.{codes_or_len};
@@ -6,7 +7,7 @@ ghost use Rattle.scope.specs.Active.{active, active_variables, typed_variables, 
 ghost use Rattle.scope.specs.Kinds.{IsNumberingOf};
 ghost use Rattle.scope.specs.Legal.{broken_rule, end_rule};
 ghost use Rattle.scope.specs.Sorts.{sort_by};
-ghost use Rattle.scope.specs.Standing.{standing_of};
+ghost use Rattle.scope.specs.FrameStatement.{frame_statements_of};
 ghost use Rattle.scope.specs.Stored.SymbolNumbers.{AreRecorded};
 ghost use Rattle.scope.specs.Stored.Stacks.{heights_of};
 ghost use Rattle.scope.specs.Symbols.{symbols_of, symbols_after, symbols_in};
@@ -24,14 +25,14 @@ use std::alloc::{AllocError, Global};
 use std::marker::Model;
 
 /// The state of the rules after the statements accepted so far, and at the mark: stacks of the numbers of symbols.
-/// Callers pass the numbering, so that frames use it too. Contracts see the statements.
+/// Callers pass the numbering of the names, which frames use too. Contracts see the statements.
 #[derive(Drop)]
 pub struct Rules {
     pub(crate) accepted: History,
     pub(crate) marked: History,
     pub(crate) variables: Stack,
     pub(crate) typed: Stack,
-    pub(crate) standing: usize,
+    pub(crate) frame_statement_count: usize,
     pub(crate) blocks: Vec<StackHeights>,
     pub(crate) mark: StackHeights,
 }
@@ -44,7 +45,7 @@ impl Model for Rules {
 
     ghost view = { λ a. record { statements = a.accepted.statements; marked = a.marked.statements } };
 
-    ghost invariant = { λ a. IsRulesState a.accepted.statements a.marked.statements a.variables a.typed a.standing a.blocks.items a.mark };
+    ghost invariant = { λ a. IsRulesState a.accepted.statements a.marked.statements a.variables a.typed a.frame_statement_count a.blocks.items a.mark };
 }
 
 impl Rules {
@@ -58,12 +59,12 @@ impl Rules {
             marked: History::new(),
             variables: Stack::new(alloc),
             typed: Stack::new(alloc),
-            standing: 0,
+            frame_statement_count: 0,
             blocks: Vec::new(alloc),
             mark: StackHeights {
                 variables: 0,
                 typed: 0,
-                standing: 0,
+                frame_statements: 0,
             },
         }
     }
@@ -83,16 +84,16 @@ impl Rules {
         ensures statements { self.new.statements ≡ self.old.marked }
         ensures marked { self.new.marked ≡ self.old.marked }
         // The `$f`, `$e` and `$d` that are active at the mark are a prefix of those that were active before the call.
-        ensures standing { take (length (standing_of self.old.marked)) (standing_of self.old.statements) ≡ standing_of self.old.marked }
+        ensures frame_statements { take (length (frame_statements_of self.old.marked)) (frame_statements_of self.old.statements) ≡ frame_statements_of self.old.marked }
     {
         self.variables.truncate(self.mark.variables);
         self.typed.truncate(self.mark.typed);
-        self.standing = self.mark.standing;
+        self.frame_statement_count = self.mark.frame_statements;
         self.blocks.clear();
         self.accepted = History::same(&self.marked);
     }
 
-    /// Gives back unused room, as `entries::give_back` does.
+    /// Frees unused capacity, as `entries::give_back` does.
     pub fn shrink(&mut self)
         ensures { self.new ≡ self.old }
     {
@@ -112,7 +113,7 @@ impl Rules {
             marked: History::same(&self.marked),
             variables: self.variables.copy(alloc)?,
             typed: self.typed.copy(alloc)?,
-            standing: self.standing,
+            frame_statement_count: self.frame_statement_count,
             blocks: Vec::from_slice(alloc, self.blocks.as_slice())?,
             mark: self.mark,
         })
@@ -170,10 +171,10 @@ impl Rules {
     }
 
     /// Returns how many `$f`, `$e` and `$d` are active.
-    pub(crate) fn standing(&self) -> usize
-        ensures { result ≡ length (standing_of self.now.statements) }
+    pub(crate) fn frame_statement_count(&self) -> usize
+        ensures { result ≡ length (frame_statements_of self.now.statements) }
     {
-        self.standing
+        self.frame_statement_count
     }
 
     /// Returns the sort of a symbol that was declared as a variable, by its number.
@@ -181,9 +182,9 @@ impl Rules {
     pub(crate) fn sort_of_variable(&self, number: u32) -> Sort
         ensures { result ≡ sort_by (list_any (λ n. n == number) (codes_or_len (symbols_of self.now.statements) (active_variables self.now.statements))) (list_any (λ n. n == number) (codes_or_len (symbols_of self.now.statements) (typed_variables self.now.statements))) }
     {
-        if self.variables.place(number).is_none() {
+        if self.variables.index_of(number).is_none() {
             Sort::Other
-        } else if self.typed.place(number).is_some() {
+        } else if self.typed.index_of(number).is_some() {
             Sort::Typed
         } else {
             Sort::Untyped
@@ -197,7 +198,7 @@ impl Rules {
         StackHeights {
             variables: self.variables.len(),
             typed: self.typed.len(),
-            standing: self.standing,
+            frame_statements: self.frame_statement_count,
         }
     }
 }

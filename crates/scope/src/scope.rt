@@ -4,17 +4,17 @@ ghost use Rattle.mm_read.specs.Statements.{IsShaped};
 ghost use Rattle.scope.specs.Active.{bare, is_closed};
 ghost use Rattle.scope.specs.Legal.{IsLegal, broken_rule, end_rule};
 ghost use Rattle.scope.specs.Kinds.{Declared, IsNumberingOf};
-ghost use Rattle.scope.specs.Standing.{standing_of};
+ghost use Rattle.scope.specs.FrameStatement.{frame_statements_of};
 ghost use Rattle.scope.specs.Stored.SymbolNumbers.{AreRecorded};
-ghost use Rattle.scope.specs.declared.standing.Standing.{Standing as Standings};
+ghost use Rattle.scope.specs.declared.frame_statements.FrameStatement.{FrameStatement as FrameStatementView};
 ghost use Rattle.scope.specs.Symbols.{symbols_after, symbols_in};
 
 use crate::declare::declare_names;
+use crate::frame_statements::{FrameStatement, copy_frame_statements, push_frame_statement};
 use crate::legal::RuleChecker;
 use crate::numbering::Numbering;
 use crate::rule::Rule;
 use crate::rules::Rules;
-use crate::standing::{Standing, copy_standing, push_standing};
 use crate::steps::Steps;
 use crate::symbol_numbers::SymbolNumbers;
 use mm_read::Stmt;
@@ -28,7 +28,7 @@ pub struct Scope {
     alloc: Global,
     pub(crate) rules: Rules,
     pub(crate) names: Numbering,
-    pub(crate) standing: Vec<Standing>,
+    pub(crate) frame_statements: Vec<FrameStatement>,
     pub(crate) count: usize,
     marked_names: usize,
     marked_count: usize,
@@ -43,7 +43,7 @@ impl Model for Scope {
 
     ghost view = { λ a. a.rules };
 
-    ghost invariant = { λ a. IsScope a.rules.statements a.rules.marked a.names a.marked_names a.standing.items a.count a.marked_count };
+    ghost invariant = { λ a. IsScope a.rules.statements a.rules.marked a.names a.marked_names a.frame_statements.items a.count a.marked_count };
 }
 
 impl Scope {
@@ -56,7 +56,7 @@ impl Scope {
             alloc,
             rules: Rules::new(alloc),
             names: Numbering::new(alloc),
-            standing: Vec::new(alloc),
+            frame_statements: Vec::new(alloc),
             count: 0,
             marked_names: 0,
             marked_count: 0,
@@ -93,19 +93,19 @@ impl Scope {
             return Err(Rule::Memory);
         }
         let names = self.names.len();
-        let standing = self.standing.len();
+        let frame_statements = self.frame_statements.len();
         let taken = append_legal(
             self.alloc,
             &mut self.rules,
             &mut self.names,
-            &mut self.standing,
+            &mut self.frame_statements,
             self.count + 1,
             stmt,
             &mut self.recorded,
         );
         if taken.is_err() {
             self.names.truncate(names);
-            self.standing.truncate(standing);
+            self.frame_statements.truncate(frame_statements);
             return Err(Rule::Memory);
         }
         self.count += 1;
@@ -165,7 +165,8 @@ impl Scope {
     {
         self.rules.back();
         self.names.truncate(self.marked_names);
-        self.standing.truncate(self.rules.standing());
+        self.frame_statements
+            .truncate(self.rules.frame_statement_count());
         self.count = self.marked_count;
     }
 
@@ -179,7 +180,7 @@ impl Scope {
             alloc: self.alloc,
             rules: self.rules.copy(self.alloc)?,
             names: self.names.copy(self.alloc)?,
-            standing: copy_standing(self.alloc, self.standing.as_slice())?,
+            frame_statements: copy_frame_statements(self.alloc, self.frame_statements.as_slice())?,
             count: self.count,
             marked_names: self.marked_names,
             marked_count: self.marked_count,
@@ -190,19 +191,19 @@ impl Scope {
 
 /// Appends a legal statement; the recorded numbers are those of its symbols.
 ///
-/// Errors: an allocation fails; the rules are then unchanged, and `names` and `standing` may have items appended.
+/// Errors: an allocation fails; the rules are then unchanged, and `names` and `frame_statements` may have items appended.
 fn append_legal(
     alloc: Global,
     rules: &mut Rules,
     names: &mut Numbering,
-    standing: &mut Vec<Standing>,
+    frame_statements: &mut Vec<FrameStatement>,
     at: usize,
     stmt: &Stmt,
     recorded: &mut SymbolNumbers,
 ) -> Result<(), AllocError>
     requires legal { IsLegal rules.old.statements stmt.now }
     requires numbering { IsNumberingOf rules.old.statements names.old }
-    requires standing { standing.old.items ≡ standing_of rules.old.statements }
+    requires frame_statements { frame_statements.old.items ≡ frame_statements_of rules.old.statements }
     requires at { at ≡ length rules.old.statements + 1 }
     requires recorded { AreRecorded (symbols_after rules.old.statements stmt.now) (symbols_in stmt.now) recorded.old }
     ensures added { OnOk result (rules.new.statements ≡ rules.old.statements ++ bare stmt.now ∷ []) }
@@ -210,15 +211,15 @@ fn append_legal(
     ensures marked { rules.new.marked ≡ rules.old.marked }
     ensures numbering { OnOk result (IsNumberingOf (rules.old.statements ++ bare stmt.now ∷ []) names.new) }
     ensures names { (more : Declared) × (names.new ≡ names.old ++ more) }
-    ensures standing { OnOk result (standing.new.items ≡ standing_of (rules.old.statements ++ bare stmt.now ∷ [])) }
-    ensures grows { OnErr result ((more : List Standings) × (standing.new.items ≡ standing.old.items ++ more)) }
+    ensures frame_statements { OnOk result (frame_statements.new.items ≡ frame_statements_of (rules.old.statements ++ bare stmt.now ∷ [])) }
+    ensures grows { OnErr result ((more : List FrameStatementView) × (frame_statements.new.items ≡ frame_statements.old.items ++ more)) }
 {
-    push_standing(standing, alloc, at, stmt)?;
+    push_frame_statement(frame_statements, alloc, at, stmt)?;
     declare_names(names, alloc, stmt, recorded)?;
     match recorded.numbers() {
         Some(numbers) => rules.accept(stmt, numbers)?,
         None => return Err(AllocError),
     }
-    standing.truncate(rules.standing());
+    frame_statements.truncate(rules.frame_statement_count());
     Ok(())
 }

@@ -8,12 +8,12 @@ use std::marker::Model;
 
 /// A stack of distinct numbers. Contracts see the list.
 ///
-/// `places` has an index for each number. It is valid only if the number is at that index, so
-/// truncating the stack leaves `places` as it is.
+/// `indexes` has an index for each number. It is valid only if the number is at that index, so
+/// truncating the stack leaves `indexes` as it is.
 #[derive(Drop)]
 pub struct Stack {
     numbers: Vec<u32>,
-    places: Vec<usize>,
+    indexes: Vec<usize>,
 }
 
 impl Model for Stack {
@@ -23,7 +23,7 @@ impl Model for Stack {
 
     ghost view = { λ a. a.numbers.items };
 
-    ghost invariant = { λ a. (k n : ℕ) → slice_get a.numbers.items k ≡ Some n → slice_get a.places.items n ≡ Some k };
+    ghost invariant = { λ a. (k n : ℕ) → slice_get a.numbers.items k ≡ Some n → slice_get a.indexes.items n ≡ Some k };
 }
 
 impl Stack {
@@ -33,7 +33,7 @@ impl Stack {
     {
         Stack {
             numbers: Vec::new(alloc),
-            places: Vec::new(alloc),
+            indexes: Vec::new(alloc),
         }
     }
 
@@ -42,8 +42,8 @@ impl Stack {
         ensures { IfOk result (λ stack. stack ≡ self.now) }
     {
         let numbers = Vec::from_slice(alloc, self.numbers.as_slice())?;
-        let places = Vec::from_slice(alloc, self.places.as_slice())?;
-        Ok(Stack { numbers, places })
+        let indexes = Vec::from_slice(alloc, self.indexes.as_slice())?;
+        Ok(Stack { numbers, indexes })
     }
 
     /// Returns how many numbers there are.
@@ -61,19 +61,19 @@ impl Stack {
     }
 
     /// Returns the index of a number, or `None` if it is not on the stack. Cost: constant.
-    pub fn place(&self, number: u32) -> Option<usize>
+    pub fn index_of(&self, number: u32) -> Option<usize>
         ensures found { IfSome result (λ k. slice_get self.now k ≡ Some number) }
         ensures member { is_some result ≡ list_any (λ n. n == number) self.now }
     {
-        if self.places.len() <= number as usize {
+        if self.indexes.len() <= number as usize {
             return None;
         }
-        let place = self.places[number as usize];
-        if self.numbers.len() <= place {
+        let at = self.indexes[number as usize];
+        if self.numbers.len() <= at {
             return None;
         }
-        let there = self.numbers[place];
-        if there == number { Some(place) } else { None }
+        let there = self.numbers[at];
+        if there == number { Some(at) } else { None }
     }
 
     /// Pushes a number that is not on the stack.
@@ -84,8 +84,8 @@ impl Stack {
         ensures ok { OnOk result (self.new ≡ self.old ++ number ∷ []) }
         ensures err { OnErr result (self.new ≡ self.old) }
     {
-        let place = self.numbers.len();
-        record_place(&mut self.places, number, place)?;
+        let at = self.numbers.len();
+        record_index(&mut self.indexes, number, at)?;
         self.numbers.push(number)?;
         Ok(())
     }
@@ -97,7 +97,7 @@ impl Stack {
         self.numbers.truncate(len);
     }
 
-    /// Gives back the unused room of `numbers`, as `give_back` does.
+    /// Frees the unused capacity of `numbers`, as `entries::give_back` does.
     pub fn shrink(&mut self)
         ensures { self.new ≡ self.old }
     {
@@ -106,13 +106,13 @@ impl Stack {
 }
 
 /// Records the index of a number.
-fn record_place(places: &mut Vec<usize>, number: u32, place: usize) -> Result<(), AllocError>
-    ensures recorded { OnOk result (slice_get places.new.items number ≡ Some place) }
-    ensures others { (n k : ℕ) → n ≢ number → slice_get places.old.items n ≡ Some k → slice_get places.new.items n ≡ Some k }
+fn record_index(indexes: &mut Vec<usize>, number: u32, index: usize) -> Result<(), AllocError>
+    ensures recorded { OnOk result (slice_get indexes.new.items number ≡ Some index) }
+    ensures others { (n k : ℕ) → n ≢ number → slice_get indexes.old.items n ≡ Some k → slice_get indexes.new.items n ≡ Some k }
 {
-    if places.len() <= number as usize {
-        places.resize(number as usize + 1, 0)?;
+    if indexes.len() <= number as usize {
+        indexes.resize(number as usize + 1, 0)?;
     }
-    places[number as usize] = place;
+    indexes[number as usize] = index;
     Ok(())
 }

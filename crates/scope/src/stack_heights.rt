@@ -6,5 +6,5 @@
 pub struct StackHeights {
     pub variables: usize,
     pub typed: usize,
-    pub standing: usize,
+    pub frame_statements: usize,
 }

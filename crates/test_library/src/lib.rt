@@ -1,6 +1,7 @@
-//! Tests of the crates up to `library` that rows cannot express: spans of tokens and items of proof tokens, texts parsed in
-//! parts, copies of a scope, worked frames, simultaneous substitution, trees of the book's first theorem, verdicts by several
-//! workers in parallel, texts of the greatest length, and verdicts after a failed allocation.
+//! Tests of the crates up to `library` that the rows of the crate `rows`, inputs with their printed outputs, cannot express:
+//! spans of tokens and items of proof tokens, texts read in parts, copies of a scope, worked frames, simultaneous
+//! substitution, trees of the book's first theorem, verdicts by several workers in parallel, texts of the greatest length, and
+//! verdicts after a failed allocation.
 #![tactic(auto)]
 
 #[cfg(test)]

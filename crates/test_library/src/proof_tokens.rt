@@ -47,7 +47,7 @@ fn faults_are_told_apart(rt: HostRuntime) {
     }
 }
 
-/// The number of a long letter group exceeds every limit.
+/// The number of a long word of letters exceeds every limit.
 #[test]
 fn word_of_100_000_letters(rt: HostRuntime) {
     assert!(rt; is_too_long(rt.alloc()));

@@ -1,4 +1,4 @@
-//! A text that is parsed in parts by several threads gives the same as by one, even if a comment contains `$.`.
+//! A text that several threads read in parts gives the same result as with one thread, even if a comment contains `$.`.
 use mm_read::ReadFault;
 use read_pool::read_in_parts;
 use std::alloc::{AllocError, Global};
@@ -14,7 +14,7 @@ const LINES: usize = 200_000;
 fn texts_in_parts_read_alike(rt: HostRuntime) {
     for workers in [1usize, 2, 3, 16] {
         assert!(rt; reads_all(&rt, rt.alloc(), workers), "{workers}");
-        assert!(rt; refuses_unended(&rt, rt.alloc(), workers), "{workers}");
+        assert!(rt; refuses_incomplete(&rt, rt.alloc(), workers), "{workers}");
     }
 }
 
@@ -29,7 +29,7 @@ fn reads_all<R: Threads + Sync>(rt: &R, alloc: Global, workers: usize) -> bool {
 }
 
 /// Returns whether a text whose last statement has no end is refused.
-fn refuses_unended<R: Threads + Sync>(rt: &R, alloc: Global, workers: usize) -> bool {
+fn refuses_incomplete<R: Threads + Sync>(rt: &R, alloc: Global, workers: usize) -> bool {
     let Ok(mut text) = lines(alloc) else {
         return false;
     };

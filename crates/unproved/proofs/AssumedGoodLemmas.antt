@@ -1,5 +1,5 @@
 -- Legal statements are good if exactly their unproved `$p` are replaced with `$a`.
-use Rattle.unproved.proofs.Words.{◌≡◌, ℕ, zero, suc, ◌+◌, ◌-◌, ◌<◌, ◌≤◌, IsTrue, List, [], ◌∷◌, ◌++◌, length, get_or, slice_get, slice_set, Some, refl, ◌∙◌, ap, sym, subst, arith, inl, inr, cases_lt, map-append, stands-within, Good, IsProved, StandsProved, AllLegal, Database, IsProvable, Stmt, Writes, bares, is_provable, mandatory_labels, proof_of, Open, Close, Const, Var, Disj, Float, Ess, Axiom, Prove, bare, broken_rule, numbered, or_later, some-same, AreUnproved, as_axiom, assumed}
+use Rattle.unproved.proofs.Words.{◌≡◌, ℕ, zero, suc, ◌+◌, ◌-◌, ◌<◌, ◌≤◌, IsTrue, List, [], ◌∷◌, ◌++◌, length, get_or, slice_get, slice_set, Some, refl, ◌∙◌, ap, sym, subst, arith, inl, inr, cases_lt, map-append, stands-within, Good, IsProved, IsProvedIfProvable, AllLegal, Database, IsProvable, Stmt, Writes, bares, is_provable, mandatory_labels, proof_of, Open, Close, Const, Var, Disj, Float, Ess, Axiom, Prove, bare, broken_rule, numbered, or_later, some-same, AreUnproved, as_axiom, assumed}
 use Rattle.library.specs.Words.{first_broken}
 use Rattle.unproved.proofs.PlainLemmas.{broken_rule-plains, end_rule-plains, plains}
 use Rattle.unproved.proofs.PlainRightLemmas.{labels-same, right-same}
@@ -93,7 +93,7 @@ left S (x ∷ list) at s p =
     (v.0, (v.1, w.1))
 
 -- a position that is not in the list is that of a proved `$p`, if there is a `$p`
-proved-else : (S : Database) (start end : ℕ) (list : List ℕ) (at : ℕ) → AreUnproved S start end list → start < at → at ≤ end → Avoids at list → StandsProved S at
+proved-else : (S : Database) (start end : ℕ) (list : List ℕ) (at : ℕ) → AreUnproved S start end list → start < at → at ≤ end → Avoids at list → IsProvedIfProvable S at
 proved-else S start end [] at are above below avoids = are at above below
 proved-else S start end (x ∷ list) at are above below avoids = elim (cases_lt x at) [
   | inl more ↦ proved-else S x end list at are.4 more below avoids.1

@@ -1,10 +1,10 @@
 -- Lists of positions of unproved `$p`, with one more position or with more statements.
-use Rattle.unproved.proofs.Words.{Result, Ok, Err, IfOk, Vec, All, Global, All-nil, All-cons, ◌≡◌, ℕ, ◌+◌, ◌-◌, ◌<◌, ◌≤◌, List, [], ◌∷◌, ◌++◌, Option, Some, None, inl, inr, refl, subst, arith, cases_lt, Database, StandsProved, IsLeastIn, AreUnproved, IsPositionOf}
+use Rattle.unproved.proofs.Words.{Result, Ok, Err, IfOk, Vec, All, Global, All-nil, All-cons, ◌≡◌, ℕ, ◌+◌, ◌-◌, ◌<◌, ◌≤◌, List, [], ◌∷◌, ◌++◌, Option, Some, None, inl, inr, refl, subst, arith, cases_lt, Database, IsProvedIfProvable, IsLeastIn, AreUnproved, IsPositionOf}
 
 module _ (S : Database) where
   -- each `$p` after position `start` up to `end` is proved
   abbrev pub AreProved : ℕ → ℕ → Type 0
-  AreProved start end = (m : ℕ) → start < m → m ≤ end → StandsProved S m
+  AreProved start end = (m : ℕ) → start < m → m ≤ end → IsProvedIfProvable S m
 
   -- the list stays the same for further statements whose `$p` are all proved
   pub none-more : (start end later : ℕ) (list : List ℕ) → end ≤ later → AreUnproved S start end list → AreProved end later → AreUnproved S start later list
@@ -14,8 +14,8 @@ module _ (S : Database) where
       (are.0, omega (arith, low, order), are.2, are.3, none-more at end later list order are.4 proved)
 
   -- the list with the position of the next unproved `$p` appended
-  pub one-more : (start end at : ℕ) (list : List ℕ) → start ≤ end → AreUnproved S start end list → end < at → (StandsProved S at → ⊥)
-      → ((m : ℕ) → end < m → m < at → StandsProved S m) → AreUnproved S start at (list ++ at ∷ [])
+  pub one-more : (start end at : ℕ) (list : List ℕ) → start ≤ end → AreUnproved S start end list → end < at → (IsProvedIfProvable S at → ⊥)
+      → ((m : ℕ) → end < m → m < at → IsProvedIfProvable S m) → AreUnproved S start at (list ++ at ∷ [])
   one-more start end at [] order are above wrong between = (
     omega (arith, order, above),
     omega arith,
@@ -32,18 +32,18 @@ module _ (S : Database) where
     pub least-none : IsLeastIn S start end None → AreProved start end
     least-none least m above below =
         let e : start + (m - start - 1) + 1 ≡ m = omega (arith, above) in
-        subst (StandsProved S) e (least.before (m - start - 1) (omega (arith, above, below)) tt)
+        subst (IsProvedIfProvable S) e (least.before (m - start - 1) (omega (arith, above, below)) tt)
 
     -- the first `$p` of a range that is unproved
     module _ (i : ℕ) (least : IsLeastIn S start end (Some i)) where
       pub least-within : start + i + 1 ≤ end
       least-within = let w = least.wrong.0 in omega (arith, w)
 
-      pub least-between : (m : ℕ) → start < m → m < start + i + 1 → StandsProved S m
+      pub least-between : (m : ℕ) → start < m → m < start + i + 1 → IsProvedIfProvable S m
       least-between m above below =
           let e : start + (m - start - 1) + 1 ≡ m = omega (arith, above) in
           let w = least.wrong.0 in
-          subst (StandsProved S) e (least.before (m - start - 1) (omega (arith, above, below, w)) (omega (arith, above, below)))
+          subst (IsProvedIfProvable S) e (least.before (m - start - 1) (omega (arith, above, below, w)) (omega (arith, above, below)))
 
       pub least-more : (list : List ℕ) → AreUnproved S 0 start list → AreUnproved S 0 (start + i + 1) (list ++ (start + i + 1) ∷ [])
       least-more list are = one-more 0 start (start + i + 1) list (omega arith) are (omega arith) least.wrong.1 least-between

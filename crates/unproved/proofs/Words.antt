@@ -9,13 +9,13 @@ pub use Rattle.library.proofs.FrontLemmas.{stands_index}
 pub use Rattle.library.proofs.ProvingLemmas.{judged-stands, not-there}
 pub use Rattle.library.proofs.Words.{map-append, stands-within}
 pub use Rattle.library.specs.Good.{Good, IsProved}
-pub use Rattle.library.specs.Judging.{StandsProved}
+pub use Rattle.library.specs.Judging.{IsProvedIfProvable}
 pub use Rattle.library.specs.Words.{AllLegal, AreShaped, Database, IsProvable, Stmt, Writes, bares, is_provable, mandatory_labels, proof_of}
 pub use Rattle.mm_lex.specs.Alphabet.{Name, has_name, name_eq}
 pub use Rattle.mm_read.specs.Statements.{Expr, is_shaped}
 pub use Rattle.mm_read.specs.declared.stmt.Stmt.TheVariants.{Axiom, Close, Const, Disj, Ess, Float, Open, Prove, Var}
 pub use Rattle.proof_code.specs.declared.item.Item.{Item}
-pub use Rattle.scope.specs.Active.{active, active_from, bare, before, constants, count, expr_of, has_float, has_label, is_active, is_assertion, is_close, is_constant, is_essential, is_float_of, is_open, is_variable, label_of, separated, stays_open, stmt_at, variables, was_label, was_symbol}
+pub use Rattle.scope.specs.Active.{active, active_from, bare, before, constants, count, expr_of, has_float, has_label, is_active, is_assertion, is_close, is_constant, is_essential, is_float_of, is_open, is_variable, label_of, disjoint_names, stays_open, stmt_at, variables, was_label, was_symbol}
 pub use Rattle.scope.specs.Legal.{all_different, broken_rule, end_rule, first_broken, numbered, or_later}
 pub use Rattle.scope.specs.contracts.rule.Rule.{the_type}
 pub use Rattle.scope.specs.declared.rule.Rule.TheVariants.{G1, G10, G2, G3, G4, G5, G6, G7, G8, G9, Memory}

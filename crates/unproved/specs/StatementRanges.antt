@@ -4,7 +4,7 @@
 use Rattle.std.specs.Prelude.{◌≡◌, ℕ, ◌+◌, ◌-◌, ◌≤◌, List, length, Option}
 use Rattle.mm_lex.specs.Alphabet.{Name}
 use Rattle.library.specs.Words.{Database, bares}
-use Rattle.library.specs.Judging.{StandsProved}
+use Rattle.library.specs.Judging.{IsProvedIfProvable}
 use Rattle.verify_pool.specs.Least.{IsLeast}
 
 -- statements, the names that their frames number, and the range of them after position `start`, up to `end`
@@ -22,9 +22,9 @@ pub record IsRange (frames S : Database) (start end : ℕ) : Type 0 where
 
 -- the statement at that index of the range is proved, if it is a `$p`
 abbrev pub IsProvedIn : RangeView → ℕ → Type 0
-IsProvedIn range k = StandsProved range.statements (range.start + k + 1)
+IsProvedIn range k = IsProvedIfProvable range.statements (range.start + k + 1)
 
 -- the answer is the index, in the range, of the first `$p` that is not proved
 abbrev pub IsLeastIn : Database → ℕ → ℕ → Option ℕ → Type 0
 IsLeastIn S start end answer =
-    IsLeast (λ k. StandsProved S (start + k + 1)) (end - start) answer
+    IsLeast (λ k. IsProvedIfProvable S (start + k + 1)) (end - start) answer

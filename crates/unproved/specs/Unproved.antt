@@ -4,16 +4,16 @@
 use Rattle.std.specs.Prelude.{◌≡◌, ℕ, ◌-◌, ◌<◌, ◌≤◌, List, [], ◌∷◌, get_or, slice_set, IsTrue, IsFalse, Some}
 use Rattle.library.specs.Words.{AllLegal, AreShaped, Stmt, Database, Prove, Axiom, bares, proof_of, stmt_at, is_unfinished}
 use Rattle.mm_read.specs.declared.stmt.Stmt.TheVariants.{Open}
-use Rattle.library.specs.Judging.{StandsProved}
+use Rattle.library.specs.Judging.{IsProvedIfProvable}
 use Rattle.library.specs.declared.verdict.Cause.{Cause}
 use Rattle.library.specs.declared.verdict.Cause.TheVariants.{Proof, Unfinished}
 
 -- the positions after `start`, up to `end`, of exactly the `$p` that are not proved, in order
 abbrev pub AreUnproved : Database → ℕ → ℕ → List ℕ → Type 0
-AreUnproved S start end [] = (at : ℕ) → start < at → at ≤ end → StandsProved S at
+AreUnproved S start end [] = (at : ℕ) → start < at → at ≤ end → IsProvedIfProvable S at
 AreUnproved S start end (at ∷ list) =
-    (start < at) × (at ≤ end) × (¬ StandsProved S at)
-    × ((m : ℕ) → start < m → m < at → StandsProved S m) × AreUnproved S at end list
+    (start < at) × (at ≤ end) × (¬ IsProvedIfProvable S at)
+    × ((m : ℕ) → start < m → m < at → IsProvedIfProvable S m) × AreUnproved S at end list
 
 -- the cause for the `$p` at that position: unfinished exactly if a token of its proof has the byte `?`
 abbrev pub CauseAt : Database → ℕ → Cause → Type 0

@@ -12,7 +12,7 @@ use std::alloc::{AllocError, Global};
 use std::thread::Threads;
 use verify_pool::{Checkers, OpenGate, Workers, judge_all, judge_here};
 
-/// The largest number of statements in a range, whose proofs are judged in parallel.
+/// The largest number of statements in a range. The proofs of a range are judged in parallel.
 const MOST_IN_RANGE: usize = 2_048;
 
 /// Fewer statements than this are judged on the calling thread: starting threads would cost more.

@@ -86,7 +86,7 @@ module _ (S : Database) (at : ℕ) (s : Stmt) (tokens : List Name) (provable : I
         apart = ap (share_label (mandatory_labels S at s)) (sym listed-is) ∙ not-true (share_label (mandatory_labels S at s) (take count words)) (sym is ∙ e)
 
         writes : WritesCompressed tokens (mandatory_labels S at s) (items_of (mandatory_labels S at s ++ take count words) numbers)
-        writes = subst (λ l. WritesCompressed tokens (mandatory_labels S at s) (items_of (mandatory_labels S at s ++ l) numbers)) (sym listed-is) (heading.apart (mandatory_labels S at s) long apart)
+        writes = subst (λ l. WritesCompressed tokens (mandatory_labels S at s) (items_of (mandatory_labels S at s ++ l) numbers)) (sym listed-is) (heading.none_shared (mandatory_labels S at s) long apart)
 
         written : Writes tokens (mandatory_labels S at s) (items_of (mandatory_labels S at s ++ take count words) numbers)
         written = inl (compressed, (compressed_finished tokens (mandatory_labels S at s) (items_of (mandatory_labels S at s ++ take count words) numbers) writes, writes))

@@ -1,7 +1,7 @@
 -- The frame of one assertion, collected from the active statements.
 -- The code's own form: no public clause cites it.
 use Rattle.std.specs.Prelude.{◌≡◌, ℕ, Bool, true, false, ◌&&◌, ◌||◌, List, map, filter}
-use Rattle.frame.specs.Words.{Name, has_name, Stmt, Expr, Database, separated, expr_of, is_essential, is_variable, Standing}
+use Rattle.frame.specs.Words.{Name, has_name, Stmt, Expr, Database, disjoint_names, expr_of, is_essential, is_variable, FrameStatement}
 use Rattle.mm_read.specs.declared.stmt.Stmt.TheVariants.{Float, Ess}
 use Rattle.frame.specs.FrameOf.{is_mandatory, has_two_or_more}
 
@@ -14,7 +14,7 @@ abbrev pub AreMandatory : Database → Stmt → List Name → Type 0
 AreMandatory S s used = (x : Name) → has_name x used ≡ is_mandatory S s x
 
 -- the statement is an `$e` that has the name
-abbrev pub is_in_essential : Name → Standing → Bool
+abbrev pub is_in_essential : Name → FrameStatement → Bool
 is_in_essential x e = is_essential e.stmt && has_name x (expr_of e.stmt)
 
 -- the statement is an `$e`, or the `$f` of one of the used variables
@@ -23,12 +23,12 @@ is_needed used (Ess label expr) = true
 is_needed used (Float label constant variable) = has_name variable used
 is_needed used other = false
 
-abbrev pub required : List Name → List Standing → List ℕ
-required used standing = map (λ e. e.at) (filter (λ e. is_needed used e.stmt) standing)
+abbrev pub required : List Name → List FrameStatement → List ℕ
+required used frame_statements = map (λ e. e.at) (filter (λ e. is_needed used e.stmt) frame_statements)
 
 -- those of the names that are among the used variables
 abbrev pub among : List Name → List Name → List Name
 among used names = filter (λ x. has_name x used) names
 
-abbrev pub groups_among : List Name → List Standing → List (List Name)
-groups_among used standing = filter has_two_or_more (map (λ e. among used (separated e.stmt)) standing)
+abbrev pub groups_among : List Name → List FrameStatement → List (List Name)
+groups_among used frame_statements = filter has_two_or_more (map (λ e. among used (disjoint_names e.stmt)) frame_statements)

@@ -1,4 +1,4 @@
--- The longest start of a text that is symbols separated by single spaces.
+-- The longest prefix of a text that consists of symbols separated by single spaces. A single space may precede the first symbol.
 -- Source: this project's choice; such symbols are copied at once.
 -- The code compares many bytes at a time; the definition one byte and the next.
 use Rattle.std.specs.Prelude.{ℕ, zero, suc, Bool, true, ◌||◌, ◌&&◌, ◌==◌, if◌then◌else◌, List, [], ◌∷◌, nat_lt, nat_le}

@@ -19,14 +19,14 @@ AreCounted n [] = Unit {0}
 AreCounted n (e ∷ entries) = (e.earlier_symbols ≡ n) × AreCounted (count_after e) entries
 
 -- the indexes of the entries whose kind passes the test, if the first entry has the index n
-abbrev pub indexes_that : (NameKind → Bool) → ℕ → List CountedKind → List ℕ
-indexes_that test n [] = []
-indexes_that test n (e ∷ entries) =
-    if test e.kind then n ∷ indexes_that test (n + 1) entries else indexes_that test (n + 1) entries
+abbrev pub indexes_where : (NameKind → Bool) → ℕ → List CountedKind → List ℕ
+indexes_where test n [] = []
+indexes_where test n (e ∷ entries) =
+    if test e.kind then n ∷ indexes_where test (n + 1) entries else indexes_where test (n + 1) entries
 
 -- an entry for each name, and the indexes of the symbols and of the labels
 pub record IsCounted (names : List Name) (entries : List CountedKind) (symbols labels : List ℕ) : Type 0 where
   pub same : length entries ≡ length names
   pub counted : AreCounted 0 entries
-  pub symbols_are : symbols ≡ indexes_that is_symbol_kind 0 entries
-  pub labels_are : labels ≡ indexes_that is_label 0 entries
+  pub symbols_are : symbols ≡ indexes_where is_symbol_kind 0 entries
+  pub labels_are : labels ≡ indexes_where is_label 0 entries

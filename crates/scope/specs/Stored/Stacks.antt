@@ -1,18 +1,18 @@
 -- How the rules are stored: stacks of numbers, with their heights at the start of each open block and at the mark.
 -- Source: this project's form.
--- The model has positions and bracket counts; here each field of the code is defined as a function of the statements.
+-- The model has positions and counts of `${` and `$}`; here each field of the code is defined as a function of the statements.
 use Rattle.std.specs.Prelude.{◌≡◌, ℕ, ◌≤◌, Bool, true, false, not, ◌&&◌, ◌==◌, List, [], ◌∷◌, ◌++◌, length, take, if◌then◌else◌}
 use Rattle.scope.specs.Words.{flat_map, list_any, Stmt, Database, codes_or_len, AreNamed}
 use Rattle.scope.specs.Active.{active, stays_open, is_open, is_close, is_closed, variables, typed_by, active_variables, typed_variables}
 use Rattle.scope.specs.Kinds.{Declared, IsNumberingOf}
-use Rattle.scope.specs.Standing.{stands_at, standing_of}
+use Rattle.scope.specs.FrameStatement.{as_frame_statement, frame_statements_of}
 use Rattle.scope.specs.Symbols.{symbols_of}
 use Rattle.scope.specs.declared.stack_heights.StackHeights.{StackHeights}
-use Rattle.scope.specs.declared.standing.Standing.{Standing}
+use Rattle.scope.specs.declared.frame_statements.FrameStatement.{FrameStatement}
 
 -- the heights of the stacks after these active statements
 abbrev pub heights_of : List (ℕ × Stmt) → StackHeights
-heights_of es = record { variables = length (flat_map (λ p. variables p.1) es); typed = length (flat_map (λ p. typed_by p.1) es); standing = length (flat_map (λ p. stands_at p.0 p.1) es) }
+heights_of es = record { variables = length (flat_map (λ p. variables p.1) es); typed = length (flat_map (λ p. typed_by p.1) es); frame_statements = length (flat_map (λ p. as_frame_statement p.0 p.1) es) }
 
 -- their heights before each of the open blocks
 abbrev pub blocks_from : List (ℕ × Stmt) → List (ℕ × Stmt) → List StackHeights
@@ -35,7 +35,7 @@ pub record IsPlain (s : Stmt) (n : ℕ) : Type 0 where
   pub no_close : is_close s ≡ false
   pub no_variables : variables s ≡ []
   pub untyped : typed_by s ≡ []
-  pub stand : (at : ℕ) → length (stands_at at s) ≡ n
+  pub stand : (at : ℕ) → length (as_frame_statement at s) ≡ n
 
 -- the marked statements are a prefix without an open block, and the later ones close none of its blocks
 pub record IsMarked (S M : Database) (mark : StackHeights) : Type 0 where
@@ -44,20 +44,20 @@ pub record IsMarked (S M : Database) (mark : StackHeights) : Type 0 where
   pub heights : mark ≡ heights_of (active M)
   pub typed_known : AreNamed (symbols_of M) (typed_variables M)
 
-pub record IsRulesState (S M : Database) (variable_stack typed_stack : List ℕ) (standing : ℕ) (blocks : List StackHeights) (mark : StackHeights) : Type 0 where
+pub record IsRulesState (S M : Database) (variable_stack typed_stack : List ℕ) (frame_statement_count : ℕ) (blocks : List StackHeights) (mark : StackHeights) : Type 0 where
   pub variables_are : variable_stack ≡ codes_or_len (symbols_of S) (active_variables S)
   pub typed_are : typed_stack ≡ codes_or_len (symbols_of S) (typed_variables S)
   pub typed_known : AreNamed (symbols_of S) (typed_variables S)
-  pub standing_is : standing ≡ length (standing_of S)
+  pub frame_statement_count_is : frame_statement_count ≡ length (frame_statements_of S)
   pub blocks_are : blocks ≡ blocks_of S
   pub never_closes_unopened : stays_open 0 S ≡ true
   pub marked : IsMarked S M mark
 
 -- the other parts of a scope: the numbering and its marked part, the active `$f`, `$e` and `$d`, and the counts of statements
-pub record IsScope (S M : Database) (names : Declared) (marked_names : ℕ) (standing : List Standing) (count marked_count : ℕ) : Type 0 where
+pub record IsScope (S M : Database) (names : Declared) (marked_names : ℕ) (frame_statements : List FrameStatement) (count marked_count : ℕ) : Type 0 where
   pub numbering : IsNumberingOf S names
   pub marked_numbering : IsNumberingOf M (take marked_names names)
   pub marked_within : marked_names ≤ length names
-  pub standing_are : standing ≡ standing_of S
+  pub frame_statements_are : frame_statements ≡ frame_statements_of S
   pub count_is : count ≡ length S
   pub marked_count_is : marked_count ≡ length M

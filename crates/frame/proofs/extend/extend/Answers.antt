@@ -10,7 +10,7 @@ use Rattle.frame.proofs.extend.extend.Goals.{In-Some}
 pub declare_next-requires-clause-free : goal.declare_next-requires-clause-free
 declare_next-requires-clause-free c =
     let k = c.args.storage.now in
-    may-declare (statements_of k) c.args.stmt.now k.numbering c.requires.legal (stored-naming k c.requires.stored).told
+    may-declare (statements_of k) c.args.stmt.now k.numbering c.requires.legal (stored-naming k c.requires.stored).kinds_match
 
 abbrev header : In-Some → EntryHeader
 header c = record { kind = c.kind-kind.result; before = record { label = c.in_ok-place.field-0; names = c.symbol_count.result; last_active = c.args.storage.now.last_active } }

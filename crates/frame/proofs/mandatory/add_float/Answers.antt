@@ -35,7 +35,7 @@ returns-then-float-eq0-clause-more c = record {
   stays = λ p i. i;
   all = λ p f. elim c.then-float-eq0.branch [
     | then-float-eq0-via-then-float-eq0 w ↦ absurd (f.some (f.last ∙ (sym (last c.args.storage.now c.args.code c.index.result.now c.requires.stored c.requires.code c.index.ensures) ∙ w.if-float-eq0.true)))
-    | then-float-eq0-via-else-float-eq0+then-is_some w ↦ c.requires.looked c.args.code p (sym w.place.ensures.member ∙ (sym w.is_some.ensures ∙ w.if-is_some.true)) f
+    | then-float-eq0-via-else-float-eq0+then-is_some w ↦ c.requires.looked c.args.code p (sym w.index_of.ensures.member ∙ (sym w.is_some.ensures ∙ w.if-is_some.true)) f
   ];
   only = λ p i. inl i;
 }

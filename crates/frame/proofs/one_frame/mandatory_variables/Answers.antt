@@ -10,6 +10,6 @@ loop-entry-init c = λ x.
     c.in_ok-record_variables.ensures x
     ∙ (ap (λ u. has_name x u || (is_variable S x && has_name x c.expression.result.now)) c.new-used.ensures
     ∙ ap (λ e. false || (is_variable S x && has_name x e)) c.expression.ensures) in
-    ap (λ b. b || (is_variable S x && list_any (is_in_essential x) c.standing-entry-items.result.now)) own
-    ∙ (ap (λ es. (false || (is_variable S x && has_name x (expr_of s))) || (is_variable S x && list_any (is_in_essential x) es)) c.standing-entry-items.ensures
+    ap (λ b. b || (is_variable S x && list_any (is_in_essential x) c.frame_statements-entry-items.result.now)) own
+    ∙ (ap (λ es. (false || (is_variable S x && has_name x (expr_of s))) || (is_variable S x && list_any (is_in_essential x) es)) c.frame_statements-entry-items.ensures
     ∙ recorded-start S s x)

@@ -9,10 +9,10 @@ returns-in_default c = not-there c.args.database.now c.args.at c.statement.resul
 
 pub returns-then-not-is_compressed : goal.returns-then-not-is_compressed
 returns-then-not-is_compressed c =
-    on_ok c.written.result
+    on_ok c.items_or_none.result
     (λ found told. found-good c.args.database.now (bares c.args.database.now) refl c.args.at c.statement.result.now c.in-Prove.proof c.statement.ensures.good (record { stands = c.statement.ensures.stands; provable = ap is_provable c.in-Prove.is }) (ap proof_of c.in-Prove.is) found
     (normal-found c.in-Prove.proof _ c.normal.result found told c.normal.ensures.unfinished (sym c.is_compressed.ensures ∙ c.if-not-is_compressed.true) c.normal.ensures.items c.normal.ensures.malformed))
-    c.written.ensures.found
+    c.items_or_none.ensures.found
 
 pub mandatory-requires-clause-assertion : goal.mandatory-requires-clause-assertion
 mandatory-requires-clause-assertion c = has-assertion _ _ _ c.statement.result.now c.frames.ensures.same (record { stands = c.statement.ensures.stands; provable = ap is_provable c.in-Prove.is })
@@ -37,8 +37,8 @@ pub returns : goal.returns
 returns c =
     let labels = labels-all c.args.database.now c.frames.result.now.statements c.args.at c.statement.result.now c.as_slice-position-items.result.now c.loop-position.position-index c.loop-position.labels c.frames.ensures.same (record { stands = c.statement.ensures.stands; provable = ap is_provable c.in-Prove.is }) (λ x h. c.as_slice-position-items.ensures.value ∙ c.in_ok-mandatory.ensures.listed x h)
     (take_all _ _ (omega (arith, c.loop-position-test.false))) c.loop-position.invariant in
-    on_ok c.written-2.result
+    on_ok c.items_or_none-2.result
     (λ found told. found-good c.args.database.now (bares c.args.database.now) refl c.args.at c.statement.result.now c.in-Prove.proof c.statement.ensures.good (record { stands = c.statement.ensures.stands; provable = ap is_provable c.in-Prove.is }) (ap proof_of c.in-Prove.is) found
     (subst (λ labels. Found c.in-Prove.proof labels found) labels
     (packed-found c.in-Prove.proof c.loop-position.labels c.packed.result found told c.packed.ensures.unfinished (sym c.is_compressed.ensures ∙ c.if-not-is_compressed.false) c.packed.ensures.items c.packed.ensures.malformed)))
-    c.written-2.ensures.found
+    c.items_or_none-2.ensures.found

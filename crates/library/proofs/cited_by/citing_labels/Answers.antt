@@ -1,7 +1,7 @@
 use Rattle.library.proofs.Words.{◌<◌, sym, ap, subst, ◌-◌, ◌∙◌, Some, true, false, replicate, length, slice_set, arith, proof_of, is_provable, label_or_none}
 use Rattle.library.proofs.CitedByLemmas.{IsSearched, search-start, search-past, search-miss, search-user, search-end}
 use Rattle.library.proofs.cited_by.citing_labels.Goals as goal
-use Rattle.library.proofs.cited_by.citing_labels.Goals.{in-Prove+in_ok-meets+then-branch+in_ok-copy+in_ok-push, in-Prove+in_ok-meets+else-branch, in_default}
+use Rattle.library.proofs.cited_by.citing_labels.Goals.{in-Prove+in_ok-cites_marked+then-branch+in_ok-copy+in_ok-push, in-Prove+in_ok-cites_marked+else-branch, in_default}
 
 pub loop-index-init : goal.loop-index-init
 loop-index-init c =
@@ -14,8 +14,8 @@ pub statement-requires : goal.statement-requires
 statement-requires c =
     (omega arith, omega (arith, c.loop-index-test.true, ap length c.statements-statements.ensures.statements))
 
-pub meets-requires : goal.meets-requires
-meets-requires c = (c.statement.result.now, record { stands = c.statement.ensures.stands; provable = ap is_provable c.in-Prove.is }, ap proof_of c.in-Prove.is)
+pub cites_marked-requires : goal.cites_marked-requires
+cites_marked-requires c = (c.statement.result.now, record { stands = c.statement.ensures.stands; provable = ap is_provable c.in-Prove.is }, ap proof_of c.in-Prove.is)
 
 pub loop-index-preserved : goal.loop-index-preserved
 loop-index-preserved c =
@@ -27,11 +27,11 @@ loop-index-preserved c =
     let good = c.statements-statements.ensures.good in
     let within : p < length S = omega (arith, c.loop-index-test.true, ap length c.statements-statements.ensures.statements) in
     elim c.match-statement.branch [
-      | in-Prove+in_ok-meets+then-branch+in_ok-copy+in_ok-push w ↦ rw (w.sought-is, w.labels-is, w.in_ok-push.ensures.items)
-          (search-user S c.args.all c.args.at p ms labels good within c.loop-index.invariant w.in_ok-meets.field-0 w.deref.result.now w.deref.ensures.value w.in_ok-meets.ensures s _ c.statement.ensures.stands
+      | in-Prove+in_ok-cites_marked+then-branch+in_ok-copy+in_ok-push w ↦ rw (w.sought-is, w.labels-is, w.in_ok-push.ensures.items)
+          (search-user S c.args.all c.args.at p ms labels good within c.loop-index.invariant w.in_ok-cites_marked.field-0 w.deref.result.now w.deref.ensures.value w.in_ok-cites_marked.ensures s _ c.statement.ensures.stands
           (ap (λ r. label_or_none (Some r)) w.in-Prove.is ∙ sym w.in_ok-copy.ensures) c.loop-index.auto.index w.if-branch.true)
-      | in-Prove+in_ok-meets+else-branch w ↦ rw (w.sought-is, w.labels-is)
-          (search-miss S c.args.all c.args.at p ms labels good within c.loop-index.invariant w.in_ok-meets.field-0 w.deref.result.now w.deref.ensures.value w.in_ok-meets.ensures w.if-branch.false)
+      | in-Prove+in_ok-cites_marked+else-branch w ↦ rw (w.sought-is, w.labels-is)
+          (search-miss S c.args.all c.args.at p ms labels good within c.loop-index.invariant w.in_ok-cites_marked.field-0 w.deref.result.now w.deref.ensures.value w.in_ok-cites_marked.ensures w.if-branch.false)
       | in_default w ↦ rw (w.sought-is, w.labels-is) (search-past S c.args.all c.args.at p ms labels good within c.loop-index.invariant s c.statement.ensures.stands w.in_default.not-Prove)
     ]
 

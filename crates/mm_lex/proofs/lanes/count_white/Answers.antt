@@ -1,6 +1,6 @@
 use Rattle.mm_lex.proofs.Prelude.{◌<◌, ◌∙◌, ap, sym, arith, length, take, position_or_len, unwrap_or, length-take-le}
 use Rattle.mm_lex.proofs.RunsLemmas.{unwrap_or-position, is_shown}
-use Rattle.mm_lex.proofs.LanesLemmas.{high_is_shown, clean-take, first_among}
+use Rattle.mm_lex.proofs.LanesLemmas.{high_is_shown, allowed-take, first_among}
 use Rattle.mm_lex.proofs.lanes.count_white.Goals as goal
 
 pub returns-then-count-lt-LANES-clause-count : goal.returns-then-count-lt-LANES-clause-count
@@ -8,7 +8,7 @@ returns-then-count-lt-LANES-clause-count c =
     let text = c.args.text.now in
     let first = take 16 text in
     let long = length-take-le 16 text (omega (arith, c.if-text-ge-LANES.true)) in
-    let counted = c.count_low_in_lanes-count.ensures.count ∙ high_is_shown first (clean-take 16 text c.requires) in
+    let counted = c.count_low_in_lanes-count.ensures.count ∙ high_is_shown first (allowed-take 16 text c.requires) in
     let few : position_or_len is_shown first < length first = omega (arith, counted, long, c.if-count-lt-LANES.true) in
     counted ∙ sym (first_among is_shown 16 text few)
 

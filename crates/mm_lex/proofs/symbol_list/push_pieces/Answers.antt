@@ -15,7 +15,7 @@ push_text-requires c =
     let some : 0 < n = omega (arith, c.if-start-end.false) in
     let within : start + n ≤ length text = omega (arith, c.count_spaced_prefix.ensures.within, ap length rest, length-drop start text, c.skip_white-start.ensures.within) in
     let shown : starts_white (drop start text) ≡ false = c.skip_white-start.ensures.shown (omega (arith, some, within)) in
-    prefix_words text start (start + n) n c.requires.clean shown is some refl within (sym c.if-not-is_word_end.ensures)
+    prefix_words text start (start + n) n c.requires.allowed shown is some refl within (sym c.if-not-is_word_end.ensures)
 
 pub loop-at-preserved : goal.loop-at-preserved
 loop-at-preserved c =
@@ -29,4 +29,4 @@ loop-at-preserved c =
     let shown : starts_white (drop start text) ≡ false = c.skip_white-start.ensures.shown (omega (arith, some, within)) in
     let white = c.skip_white-start.ensures in
     adds_on c.loop-at.invariant (adds_on (adds_white c.loop-at.at start c.loop-at.words white.later white.within white.runs)
-    (prefix_adds text start (start + n) n c.requires.clean shown is some refl within (sym c.if-not-is_word_end.ensures) _ _ c.in_ok-push_text.ensures.ok))
+    (prefix_adds text start (start + n) n c.requires.allowed shown is some refl within (sym c.if-not-is_word_end.ensures) _ _ c.in_ok-push_text.ensures.ok))

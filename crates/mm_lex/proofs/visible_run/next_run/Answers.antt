@@ -1,18 +1,18 @@
 use Rattle.mm_lex.proofs.Prelude.{◌∙◌, ap, ◌-◌, ◌<◌, length, take, drop, refl, arith, position_or_len, take_rest, is_white}
 use Rattle.mm_lex.proofs.RunsLemmas.{is_shown, no_run, next_run-whole, next_run-place}
-use Rattle.mm_lex.proofs.LanesLemmas.{clean-drop, clean-take}
+use Rattle.mm_lex.proofs.LanesLemmas.{allowed-drop, allowed-take}
 use Rattle.mm_lex.proofs.visible_run.next_run.Goals as goal
 
 pub count_white-white-requires : goal.count_white-white-requires
-count_white-white-requires c = clean-take (length c.args.text.now - c.args.at) (drop c.args.at c.args.text.now) (clean-drop c.args.at c.args.text.now c.requires.clean)
+count_white-white-requires c = allowed-take (length c.args.text.now - c.args.at) (drop c.args.at c.args.text.now) (allowed-drop c.args.at c.args.text.now c.requires.allowed)
 
 pub count_visible-visible-requires : goal.count_visible-visible-requires
 count_visible-visible-requires c =
     let text = c.args.text.now in
     let rest = take (length text - c.args.at) (drop c.args.at text) in
     let white = c.count_white-white.result in
-    let clean = clean-take (length text - c.args.at) (drop c.args.at text) (clean-drop c.args.at text c.requires.clean) in
-    clean-take (length rest - white) (drop white rest) (clean-drop white rest clean)
+    let allowed = allowed-take (length text - c.args.at) (drop c.args.at text) (allowed-drop c.args.at text c.requires.allowed) in
+    allowed-take (length rest - white) (drop white rest) (allowed-drop white rest allowed)
 
 pub returns-then-white-rest-clause-run : goal.returns-then-white-rest-clause-run
 returns-then-white-rest-clause-run c =

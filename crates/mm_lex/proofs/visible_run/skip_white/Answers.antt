@@ -1,10 +1,10 @@
 use Rattle.mm_lex.proofs.Prelude.{◌∙◌, ap, length, drop, ◌-◌, position_or_len, take_rest}
 use Rattle.mm_lex.proofs.RunsLemmas.{is_shown, skip_white, shown_after}
-use Rattle.mm_lex.proofs.LanesLemmas.{clean-drop, clean-take}
+use Rattle.mm_lex.proofs.LanesLemmas.{allowed-drop, allowed-take}
 use Rattle.mm_lex.proofs.visible_run.skip_white.Goals as goal
 
 pub count_white-requires : goal.count_white-requires
-count_white-requires c = clean-take (length c.args.text.now - c.args.at) (drop c.args.at c.args.text.now) (clean-drop c.args.at c.args.text.now c.requires.clean)
+count_white-requires c = allowed-take (length c.args.text.now - c.args.at) (drop c.args.at c.args.text.now) (allowed-drop c.args.at c.args.text.now c.requires.allowed)
 
 pub returns-clause-runs : goal.returns-clause-runs
 returns-clause-runs c =

@@ -10,7 +10,7 @@ loop-run-init c = between_none c.args.at c.requires.place
 pub returns-then-not-is_opener-clause-next : goal.returns-then-not-is_opener-clause-next
 returns-then-not-is_opener-clause-next c =
     let run = c.in-Some.ensures in
-    next_is c.loop-run.invariant c.in-Some.run' run.run c.requires.clean run.place run.later (plain c.args.text.now c.in-Some.run' (sym c.if-not-is_opener.ensures) (sym c.if-is_closer.ensures))
+    next_is c.loop-run.invariant c.in-Some.run' run.run c.requires.allowed run.place run.later (plain c.args.text.now c.in-Some.run' (sym c.if-not-is_opener.ensures) (sym c.if-is_closer.ensures))
 
 pub loop-run-preserved : goal.loop-run-preserved
 loop-run-preserved c =

@@ -8,7 +8,7 @@ returns-else-eq-clause-fault c =
     let at = c.args.at in
     let end = c.args.end.now in
     let next : IsTokenAfter text at c.in-Some.span = subst (IsNextToken text at) c.in-Some.is c.in_ok-span.ensures.next in
-    (refl, starts_other at (λ w. name_eq w end) c.in-Some.span next (ap (λ w. name_eq w end) (sym c.token.ensures) ∙ sym c.if-eq.ensures))
+    (refl, starts_other at (λ w. name_eq w end) c.in-Some.span next (ap (λ w. name_eq w end) (sym c.token_bytes.ensures) ∙ sym c.if-eq.ensures))
 
 pub returns-in_default-clause-fault : goal.returns-in_default-clause-fault
 returns-in_default-clause-fault c =

@@ -11,7 +11,7 @@ returns-clause-fault c =
       | in-Some+else-is_symbol w ↦ (
         refl,
         let next : IsTokenAfter text at w.in-Some.span = subst (IsNextToken text at) w.in-Some.is c.in_ok-span.ensures.next in
-            starts_other at is_symbol w.in-Some.span next (ap is_symbol (sym w.token-word.ensures) ∙ sym w.if-is_symbol.ensures),
+            starts_other at is_symbol w.in-Some.span next (ap is_symbol (sym w.token_bytes-word.ensures) ∙ sym w.if-is_symbol.ensures),
       )
       | in_default w ↦ (
         refl,

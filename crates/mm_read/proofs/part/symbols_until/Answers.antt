@@ -18,7 +18,7 @@ returns-clause-fault c =
           let ends : EndsSymbols text at ws s = subst (IsListEnd text at ws) w.in-Some.is c.in_ok-words.ensures.end in
           elim w.else-eq.branch [
             | else-eq-via-then-eq+else-has_least v ↦ stops_otherwise at ws c.in_ok-words.ensures.symbols number least end s ends (inl (leb-false least (length ws) (sym v.if-has_least.ensures)))
-            | else-eq-via-else-eq v ↦ stops_otherwise at ws c.in_ok-words.ensures.symbols number least end s ends (inr (ap (λ w. name_eq w end) (sym w.token.ensures) ∙ sym v.if-eq.ensures))
+            | else-eq-via-else-eq v ↦ stops_otherwise at ws c.in_ok-words.ensures.symbols number least end s ends (inr (ap (λ w. name_eq w end) (sym w.token_bytes.ensures) ∙ sym v.if-eq.ensures))
           ]
       | in_default w ↦
           let none : AreAfter text at ws = subst (IsListEnd text at ws) w.in_default.is c.in_ok-words.ensures.end in

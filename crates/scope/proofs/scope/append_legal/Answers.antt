@@ -1,11 +1,11 @@
-use Rattle.scope.proofs.Words.{◌∙◌, ap, sym, subst, length, take, ◌++◌, ◌∷◌, [], ◌+◌, Option, List, ℕ, bare, Declared, IsNumberingOf, stands_at, standing_of, IsRecordedBy, AreRecorded, symbols_after, symbols_in, AreNumbers, AreVariableNumbers, Name, Stmt, Open, Close, Const, Var, Disj, Float, Ess, Axiom, Prove}
+use Rattle.scope.proofs.Words.{◌∙◌, ap, sym, subst, length, take, ◌++◌, ◌∷◌, [], ◌+◌, Option, List, ℕ, bare, Declared, IsNumberingOf, as_frame_statement, frame_statements_of, IsRecordedBy, AreRecorded, symbols_after, symbols_in, AreNumbers, AreVariableNumbers, Name, Stmt, Open, Close, Const, Var, Disj, Float, Ess, Axiom, Prove}
 use Rattle.scope.proofs.BareLemmas.{declared_with-bare, legal-bare}
 use Rattle.scope.proofs.DeclaredLemmas.{may-declare, numbering-after, recorded-after}
-use Rattle.scope.proofs.StandingLemmas.{standing-after, stands-bare}
+use Rattle.scope.proofs.FrameStatementLemmas.{frame_statements-after, stands-bare}
 use Rattle.scope.proofs.scope.append_legal.Goals as goal
 
 pub declare_names-requires : goal.declare_names-requires
-declare_names-requires c = may-declare c.args.rules.now.statements c.args.stmt.now c.args.names.now c.requires.legal c.requires.numbering.told
+declare_names-requires c = may-declare c.args.rules.now.statements c.args.stmt.now c.args.names.now c.requires.legal c.requires.numbering.kinds_match
 
 -- the numbers of all symbols of a statement are the numbers that are required
 asked : (symbols : List Name) (s : Stmt) (numbers : List ℕ) → AreNumbers symbols (symbols_in s) numbers → AreVariableNumbers symbols s numbers
@@ -31,10 +31,10 @@ returns-clause-numbering c =
     let S = c.args.rules.now.statements in let s = c.args.stmt.now in
     subst (λ (names : Declared). IsNumberingOf (S ++ bare s ∷ []) names) (declared_with-bare c.args.names.now s ∙ sym c.in_ok-declare_names.ensures.names) (numbering-after S (bare s) c.args.names.now (legal-bare S s c.requires.legal) c.requires.numbering)
 
-pub returns-clause-standing : goal.returns-clause-standing
-returns-clause-standing c =
+pub returns-clause-frame_statements : goal.returns-clause-frame_statements
+returns-clause-frame_statements c =
     let S = c.args.rules.now.statements in let s = c.args.stmt.now in
     c.truncate.ensures.items
-    ∙ (ap (λ st. take c.standing.result st) (c.in_ok-push_standing.ensures.ok ∙ (ap (λ st. st ++ stands_at c.args.at s) c.requires.standing ∙ ap (λ at. standing_of S ++ stands_at at s) c.requires.at))
-    ∙ (ap (λ n. take n (standing_of S ++ stands_at (length S + 1) s)) (c.standing.ensures ∙ ap (λ D. length (standing_of D)) c.in_ok-accept-in-Some.ensures.ok)
-    ∙ (ap (λ st. take (length (standing_of (S ++ bare s ∷ []))) (standing_of S ++ st)) (sym (stands-bare (length S + 1) s)) ∙ standing-after S (bare s))))
+    ∙ (ap (λ st. take c.frame_statement_count.result st) (c.in_ok-push_frame_statement.ensures.ok ∙ (ap (λ st. st ++ as_frame_statement c.args.at s) c.requires.frame_statements ∙ ap (λ at. frame_statements_of S ++ as_frame_statement at s) c.requires.at))
+    ∙ (ap (λ n. take n (frame_statements_of S ++ as_frame_statement (length S + 1) s)) (c.frame_statement_count.ensures ∙ ap (λ D. length (frame_statements_of D)) c.in_ok-accept-in-Some.ensures.ok)
+    ∙ (ap (λ st. take (length (frame_statements_of (S ++ bare s ∷ []))) (frame_statements_of S ++ st)) (sym (stands-bare (length S + 1) s)) ∙ frame_statements-after S (bare s))))

@@ -24,7 +24,7 @@ below c = omega (arith, ap length c.self.invariant.stored.kept.positions_kept, l
 pub returns-in_err-number : goal.returns-in_err-number
 returns-in_err-number c =
     let k = c.self.inside.storage in
-    rw (c.from_residual.ensures, ← c.self.view_is) (none (statements_of k) c.args.label.now (((stored-naming k c.self.invariant.stored).told c.args.label.now).label ∙ c.in_err-number.ensures.none))
+    rw (c.from_residual.ensures, ← c.self.view_is) (none (statements_of k) c.args.label.now (((stored-naming k c.self.invariant.stored).kinds_match c.args.label.now).label ∙ c.in_err-number.ensures.none))
 
 pub index-requires : goal.index-requires
 index-requires c = omega (arith, below (goal.at.index-requires c).In_ok-number, c.self.inside.storage.positions.ok.0)

@@ -18,7 +18,7 @@ returns-clause-number c =
     let x = c.args.name.now in
     let own = stored-naming k c.self.invariant.0 in
     is-code c.symbol_number.result (names_in k) x c.self.invariant.1 c.symbol_number.ensures.found
-    (where_none c.symbol_number.result (no-number (statements_of k) k.numbering x own.told own.symbols) c.symbol_number.ensures.none)
+    (where_none c.symbol_number.result (no-number (statements_of k) k.numbering x own.kinds_match own.symbols) c.symbol_number.ensures.none)
     ∙ ap (λ (v : Numbered). code_of v.names x) c.self.view_is
 
 pub returns-clause-unnamed : goal.returns-clause-unnamed
@@ -28,5 +28,5 @@ returns-clause-unnamed c =
     let own = stored-naming k c.self.invariant.0 in
     where_none c.symbol_number.result
     (λ none. ap (λ (v : Numbered). is_variable v.statements x) (sym c.self.view_is)
-    ∙ unnamed-none (names_in k) (labels_in k) (length (labels_in k)) (c.self.inside.at - 1) x k.entries (no-number (statements_of k) k.numbering x own.told own.symbols none) c.self.invariant.0.kept.coded)
+    ∙ unnamed-none (names_in k) (labels_in k) (length (labels_in k)) (c.self.inside.at - 1) x k.entries (no-number (statements_of k) k.numbering x own.kinds_match own.symbols none) c.self.invariant.0.kept.coded)
     c.symbol_number.ensures.none

@@ -1,4 +1,4 @@
-use Rattle.library.proofs.Words.{◌≡◌, ℕ, ◌+◌, ◌*◌, ◌≤◌, List, length, Option, Some, None, refl, subst, ap, sym, ◌∙◌, arith, Database, Submission, Text, Cause, TooLong, BadText, Shape, NotChartered, IsAllowed, IsFault, IsCause, IsReading, Extends, Decides, Replica, status, decided_with, count_of, author_of, serial_of, HasFewStepsText, IsWithinEntry, verdict_of}
+use Rattle.library.proofs.Words.{◌≡◌, ℕ, ◌+◌, ◌*◌, ◌≤◌, List, length, Option, Some, None, refl, subst, ap, sym, ◌∙◌, arith, Database, Submission, Text, Cause, TooLong, BadText, Shape, NotChartered, IsAllowed, IsFault, IsCause, IsReading, Extends, Decides, Replica, status, decided_with, count_of, author_of, serial_of, HasFewStepsText, HasFewStepsEntry, verdict_of}
 use Rattle.library.proofs.CausesLemmas.{one-reading}
 use Rattle.library.proofs.DecidedLemmas.{opened, settled as settled-table}
 use Rattle.library.proofs.library.Library.apply_by.Goals as goal
@@ -33,24 +33,24 @@ returns-in_err-cause-in-Ok-clause-counted g c =
 pub invariant_of-self-in_err-statements-in-Text : goal.invariant_of-self-in_err-statements-in-Text
 invariant_of-self-in_err-statements-in-Text g c =
     let new : status c.args.self.now.replica.decided (author_of c.in-Some.entry.now) (serial_of c.in-Some.entry.now) ≡ None = sym (rw (c.author.ensures, c.serial.ensures) at c.in-None.ensures.first) in
-    opened c.self.inside.decided.entries c.self.inside.standings c.insert.new.self _ _ c.self.invariant (rw (← c.self.view_is) at new) (rw (c.author-2.ensures, c.serial-2.ensures) at c.in_ok-insert.ensures.updates)
+    opened c.self.inside.decided.entries c.self.inside.entry_states c.insert.new.self _ _ c.self.invariant (rw (← c.self.view_is) at new) (rw (c.author-2.ensures, c.serial-2.ensures) at c.in_ok-insert.ensures.updates)
 
 pub invariant_of-self-in_err-cause-in-Ok : goal.invariant_of-self-in_err-cause-in-Ok
 invariant_of-self-in_err-cause-in-Ok g c =
     let new : status c.args.self.now.replica.decided (author_of c.in-Some.entry.now) (serial_of c.in-Some.entry.now) ≡ None = sym (rw (c.author.ensures, c.serial.ensures) at c.in-None.ensures.first) in
-    opened c.self.inside.decided.entries c.self.inside.standings c.insert.new.self _ _ c.self.invariant (rw (← c.self.view_is) at new) (rw (c.author-2.ensures, c.serial-2.ensures) at c.in_ok-insert.ensures.updates)
+    opened c.self.inside.decided.entries c.self.inside.entry_states c.insert.new.self _ _ c.self.invariant (rw (← c.self.view_is) at new) (rw (c.author-2.ensures, c.serial-2.ensures) at c.in_ok-insert.ensures.updates)
 
 pub invariant_of-self-in_err-copy-in-Charter : goal.invariant_of-self-in_err-copy-in-Charter
 invariant_of-self-in_err-copy-in-Charter g c =
     let new : status c.args.self.now.replica.decided (author_of c.in-Some.entry.now) (serial_of c.in-Some.entry.now) ≡ None = sym (rw (c.author.ensures, c.serial.ensures) at c.in-None.ensures.first) in
-    opened c.self.inside.decided.entries c.self.inside.standings c.insert.new.self _ _ c.self.invariant (rw (← c.self.view_is) at new) (rw (c.author-2.ensures, c.serial-2.ensures) at c.in_ok-insert.ensures.updates)
+    opened c.self.inside.decided.entries c.self.inside.entry_states c.insert.new.self _ _ c.self.invariant (rw (← c.self.view_is) at new) (rw (c.author-2.ensures, c.serial-2.ensures) at c.in_ok-insert.ensures.updates)
 
 -- for each kind of entry: its verdict is decided, and the table has the entry as undecided
 settled : (g : Rattle.library.proofs.library.Library.apply_by.Given.Over) (c : goal.After-verdict_of g) → let V = c.self.inside in
     let old : Replica = record { statements = V.database; decided = V.decided.entries; charter = V.charter } in let entry = c.in-Some.entry.now in let verdict = verdict_of c.match-entry.cause in
     Decides old entry verdict (record { statements = c.match-entry.self-inside.database; decided = decided_with old entry verdict; charter = c.match-entry.self-inside.charter })
-    × (c.match-entry.self-inside.decided.entries ≡ V.decided.entries) × (c.match-entry.self-inside.standings ≡ c.insert.new.self)
-    × IsWithinEntry c.in-Some.entry.now (count_of V.steps) (count_of c.match-entry.self-inside.steps) × (count_of V.steps ≤ count_of c.match-entry.self-inside.steps)
+    × (c.match-entry.self-inside.decided.entries ≡ V.decided.entries) × (c.match-entry.self-inside.entry_states ≡ c.insert.new.self)
+    × HasFewStepsEntry c.in-Some.entry.now (count_of V.steps) (count_of c.match-entry.self-inside.steps) × (count_of V.steps ≤ count_of c.match-entry.self-inside.steps)
 settled g c =
     let V = c.self.inside in
     elim c.match-entry.branch [
@@ -80,7 +80,7 @@ invariant_of-self-2 g c =
     let V = c.self.inside in let told = settled g c in
     let new : status c.args.self.now.replica.decided (author_of c.in-Some.entry.now) (serial_of c.in-Some.entry.now) ≡ None = sym (rw (c.author.ensures, c.serial.ensures) at c.in-None.ensures.first) in
     let none = rw (← c.self.view_is) at new in
-    let before = opened V.decided.entries V.standings c.insert.new.self _ _ c.self.invariant none (rw (c.author-2.ensures, c.serial-2.ensures) at c.in_ok-insert.ensures.updates) in
+    let before = opened V.decided.entries V.entry_states c.insert.new.self _ _ c.self.invariant none (rw (c.author-2.ensures, c.serial-2.ensures) at c.in_ok-insert.ensures.updates) in
     let after = settled-table V.decided.entries c.insert.new.self c.insert-2.new.self _ _ c.match-entry.cause before none (rw (told.2, c.author-2.ensures, c.serial-2.ensures) at c.in-Ok-insert.ensures.updates) in
     rw (c.after-self-inside.ensures, told.1, c.author-2.ensures, c.serial-2.ensures) after
 

@@ -10,5 +10,5 @@ pub returns : goal.returns
 returns c =
     flip _ _ c.is_none.ensures
     ∙ (ap not (some_second c.find.result ∙ ap is_some c.find.ensures.kind)
-    ∙ (fresh-kind c.self.inside.rules.now.statements c.args.name.now (kind_in c.self.inside.names.now c.args.name.now) (c.self.invariant.told c.args.name.now)
+    ∙ (fresh-kind c.self.inside.rules.now.statements c.args.name.now (kind_in c.self.inside.names.now c.args.name.now) (c.self.invariant.kinds_match c.args.name.now)
     ∙ ap (λ v. not (was_symbol v.statements c.args.name.now || was_label v.statements c.args.name.now)) c.self.view_is))

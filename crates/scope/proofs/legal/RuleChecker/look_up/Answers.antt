@@ -6,25 +6,25 @@ use Rattle.scope.proofs.legal.RuleChecker.look_up.Goals as goal
 
 -- the kind of a name in the numbering is the one that the statements declare it as
 tells : (S : Database) (names : Declared) (x : Name) (k : Option NameKind) → MatchesKinds S names → k ≡ kind_in names x → MatchesKind S x k
-tells S names x k told is = subst (λ (k : Option NameKind). MatchesKind S x k) (sym is) (told x)
+tells S names x k kinds_match is = subst (λ (k : Option NameKind). MatchesKind S x k) (sym is) (kinds_match x)
 
 pub returns-in-Some-default-Constant-clause-sort : goal.returns-in-Some-default-Constant-clause-sort
 returns-in-Some-default-Constant-clause-sort c =
     let S = c.self.inside.rules.now.statements in let x = c.args.name.now in let s = c.in-Some-default-Constant in
     subst (λ (v : Accepted). IsSort v.statements x sort.Constant) c.self.view_is
-    (constant-sort S x (tells S c.self.inside.names.now x (Some Constant) c.self.invariant.told (ap Some (sym s.field-0-1-is) ∙ s.ensures.kind)))
+    (constant-sort S x (tells S c.self.inside.names.now x (Some Constant) c.self.invariant.kinds_match (ap Some (sym s.field-0-1-is) ∙ s.ensures.kind)))
 
 pub returns-in-Some-default-Label-clause-sort : goal.returns-in-Some-default-Label-clause-sort
 returns-in-Some-default-Label-clause-sort c =
     let S = c.self.inside.rules.now.statements in let x = c.args.name.now in let s = c.in-Some-default-Label in
     subst (λ (v : Accepted). IsSort v.statements x sort.Label) c.self.view_is
-    (label-sort S x (tells S c.self.inside.names.now x (Some Label) c.self.invariant.told (ap Some (sym s.field-0-1-is) ∙ s.ensures.kind)))
+    (label-sort S x (tells S c.self.inside.names.now x (Some Label) c.self.invariant.kinds_match (ap Some (sym s.field-0-1-is) ∙ s.ensures.kind)))
 
 pub returns-in-None-clause-sort : goal.returns-in-None-clause-sort
 returns-in-None-clause-sort c =
     let S = c.self.inside.rules.now.statements in let x = c.args.name.now in
     subst (λ (v : Accepted). IsSort v.statements x sort.Other) c.self.view_is
-    (no-sort S x (tells S c.self.inside.names.now x None c.self.invariant.told c.in-None.ensures.kind))
+    (no-sort S x (tells S c.self.inside.names.now x None c.self.invariant.kinds_match c.in-None.ensures.kind))
 
 -- the sort of a variable, by whether its number is on each of the two stacks
 variable : (S : Database) (x : Name) (n : ℕ) (r : Sort) → MatchesKind S x (Some Variable) → IsNumberOf (symbols_of S) x n
@@ -41,6 +41,6 @@ pub returns-in-Some-default-Variable-clause-sort : goal.returns-in-Some-default-
 returns-in-Some-default-Variable-clause-sort c =
     let S = c.self.inside.rules.now.statements in let x = c.args.name.now in let s = c.in-Some-default-Variable in let names = c.self.inside.names.now in
     subst (λ (v : Accepted). IsSort v.statements x c.sort_of_variable.result) c.self.view_is
-    (variable S x s.number c.sort_of_variable.result (tells S names x (Some Variable) c.self.invariant.told (ap Some (sym s.field-0-1-is) ∙ s.ensures.kind))
+    (variable S x s.number c.sort_of_variable.result (tells S names x (Some Variable) c.self.invariant.kinds_match (ap Some (sym s.field-0-1-is) ∙ s.ensures.kind))
     (subst (λ (N : List Name). IsNumberOf N x s.number) c.self.invariant.symbols (subst (λ (k : NameKind). IsNumberOf (names_of_kind k names) x s.number) s.field-0-1-is s.ensures.number))
     c.sort_of_variable.ensures)

@@ -1,4 +1,4 @@
-use Rattle.scope.proofs.Words.{◌∙◌, ap, sym, subst, arith, length, take, slice_get, take-map, take_all, zip_kinds, declared_symbols, declared_labels, is_symbol_kind, is_label, kinds_of, AreCounted, indexes_that}
+use Rattle.scope.proofs.Words.{◌∙◌, ap, sym, subst, arith, length, take, slice_get, take-map, take_all, zip_kinds, declared_symbols, declared_labels, is_symbol_kind, is_label, kinds_of, AreCounted, indexes_where}
 use Rattle.scope.proofs.KindsLemmas.{their-take, length-seen}
 use Rattle.scope.proofs.KindCountLemmas.{kinds-length, counted-take, take-same, indexes-take}
 use Rattle.scope.proofs.EntryLemmas.{symbols-earlier_symbols, labels-earlier_symbols, earlier_symbols-within}
@@ -37,7 +37,7 @@ invariant_of-self c =
       same = ap length c.truncate-2.ensures.items ∙ (take-same c.args.len a.entries.items a.names c.self.invariant.same ∙ ap length (sym c.truncate.ensures));
       counted = subst (AreCounted 0) (sym c.truncate-2.ensures.items) (counted-take 0 c.args.len a.entries.items c.self.invariant.counted);
       symbols_are = c.truncate-3.ensures.items ∙ (ap (λ n. take n a.symbols.items) symbols ∙ (ap (take (length (declared_symbols D))) c.self.invariant.symbols_are
-          ∙ (sym (indexes-take is_symbol_kind 0 c.args.len a.names a.entries.items c.self.invariant.same) ∙ ap (indexes_that is_symbol_kind 0) (sym c.truncate-2.ensures.items))));
+          ∙ (sym (indexes-take is_symbol_kind 0 c.args.len a.names a.entries.items c.self.invariant.same) ∙ ap (indexes_where is_symbol_kind 0) (sym c.truncate-2.ensures.items))));
       labels_are = c.truncate-4.ensures.items ∙ (ap (λ n. take n a.labels.items) labels ∙ (ap (take (length (declared_labels D))) c.self.invariant.labels_are
-          ∙ (sym (indexes-take is_label 0 c.args.len a.names a.entries.items c.self.invariant.same) ∙ ap (indexes_that is_label 0) (sym c.truncate-2.ensures.items))));
+          ∙ (sym (indexes-take is_label 0 c.args.len a.names a.entries.items c.self.invariant.same) ∙ ap (indexes_where is_label 0) (sym c.truncate-2.ensures.items))));
     }

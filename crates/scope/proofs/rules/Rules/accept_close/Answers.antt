@@ -12,7 +12,7 @@ invariant_of-self c =
     let a = c.self.inside in let S = a.accepted.statements in
     let legal : broken_rule S shape.Close ≡ None = ap (λ v. broken_rule v.statements shape.Close) c.self.view_is ∙ (ap (broken_rule c.args.self.now.statements) (sym c.requires.close) ∙ c.requires.legal) in
     same-kept (sym (c.after-self-inside.ensures ∙ ap (λ s. S ++ bare s ∷ []) c.requires.close)) (sym c.truncate.ensures) (sym c.truncate-in-Some.ensures) refl refl
-    (kept-close S a.marked.statements a.variables a.typed a.standing a.blocks.items c.pop.new.self.items a.mark c.in-Some.heights (legal-close S legal) c.in-Some.ensures.items c.self.invariant)
+    (kept-close S a.marked.statements a.variables a.typed a.frame_statement_count a.blocks.items c.pop.new.self.items a.mark c.in-Some.heights (legal-close S legal) c.in-Some.ensures.items c.self.invariant)
 
 pub unreachable-requires : goal.unreachable-requires
 unreachable-requires c =

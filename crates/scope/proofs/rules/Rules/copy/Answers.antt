@@ -10,4 +10,4 @@ invariant_of-result c =
     let typed : a.typed ≡ c.in_ok-copy-2.field-0 = sym c.in_ok-copy-2.ensures in
     let blocks : a.blocks.items ≡ c.in_ok-from_slice.field-0.items = sym (c.in_ok-from_slice.ensures.items ∙ c.as_slice.ensures.value) in
     same-kept same variables typed refl blocks
-    (subst (λ (M : Database). IsRulesState S M a.variables a.typed a.standing a.blocks.items a.mark) (sym c.same-2.ensures) c.self.invariant)
+    (subst (λ (M : Database). IsRulesState S M a.variables a.typed a.frame_statement_count a.blocks.items a.mark) (sym c.same-2.ensures) c.self.invariant)

@@ -1,7 +1,7 @@
 use Rattle.std.proofs.Common.{◌∙◌, ap, sym, subst, ◌++◌, map, append-nil, IsPermutation, IsSorted, Bor}
 use Rattle.mm_lex.specs.Alphabet.{Name}
 use Rattle.scope.proofs.OrderedLemmas.{order, differ-told}
-use Rattle.scope.proofs.legal.differ_by_order.Goals as goal
+use Rattle.scope.proofs.legal.are_distinct_by_sorting.Goals as goal
 
 pub returns : goal.returns
 returns c =

@@ -1,6 +1,6 @@
 use Rattle.scope.proofs.Words.{◌≡◌, ◌∙◌, ap, sym, arith, false, not, ◌&&◌, take, ◌++◌, ◌∷◌, [], length, append_assoc, ◌+◌, has_name, all_different}
 use Rattle.scope.proofs.SortsLemmas.{short_differ, first-length, first-more, all_different-append, all_different-front}
-use Rattle.scope.proofs.legal.differ_pair_by_pair.Goals as goal
+use Rattle.scope.proofs.legal.are_distinct_pairwise.Goals as goal
 
 pub returns-then-len-lt2 : goal.returns-then-len-lt2
 returns-then-len-lt2 c = sym (short_differ c.args.words.now (omega arith))

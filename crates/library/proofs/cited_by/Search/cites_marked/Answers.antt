@@ -2,7 +2,7 @@ use Rattle.library.proofs.Words.{◌≡◌, ◌↔◌, ◌++◌, ◌∙◌, true
 use Rattle.library.proofs.ProvingLemmas.{has-assertion, stands-bare}
 use Rattle.library.proofs.MayCiteLemmas.{meets-nothing}
 use Rattle.library.proofs.MeetingLemmas.{labels-long, mandatory-wanted, tells-heading, tells-nothing, told-meets, listed-meets}
-use Rattle.library.proofs.cited_by.Search.meets.Goals as goal
+use Rattle.library.proofs.cited_by.Search.cites_marked.Goals as goal
 
 pub returns-then-not-is_compressed : goal.returns-then-not-is_compressed
 returns-then-not-is_compressed c =
@@ -37,17 +37,17 @@ returns c =
     let marks = c.args.marks.now in
     let labels = mandatory_labels F c.args.at (bare p.0) in
     let listed = c.in_ok-mandatory.ensures.listed (bare p.0) (stands-bare c.args.database.now F c.args.at p.0 c.frames-frames.ensures.same p.1) in
-    on_ok c.listed_cite_marked.result
+    on_ok c.numbers_cite_marked.result
     (λ found told. told-meets c.args.database.now F c.frames-frames.ensures.same c.frames-frames.ensures.good c.args.at p.0 c.args.tokens.now p.1 p.2 marks (sym c.is_compressed.ensures ∙ c.if-not-is_compressed.false) found
     (tells-heading c.args.tokens.now _ _ _ _ (rw c.in-Some-2.is at c.in_ok-heading.ensures.read) F labels marks found
     (labels-long F c.args.at (bare p.0) c.as_slice-count.result.now (c.as_slice-count.ensures.value ∙ listed))
     (subst (λ ns. found ≡ true ↔ ItemsCiteMarked F (items_of (labels ++ take c.in-Some-2.heading.count c.in-Some-2.heading.words) ns) marks) c.numbers.ensures
     (told labels (mandatory-wanted F marks c.args.at (bare p.0) c.deref-2.result.now _ (c.deref-2.ensures.value ∙ listed) refl)))))
-    c.listed_cite_marked.ensures
+    c.numbers_cite_marked.ensures
 
 pub mandatory_view-requires : goal.mandatory_view-requires
 mandatory_view-requires c = has-assertion c.args.database.now c.frames-frames.result.now.statements c.args.at c.requires.0 c.frames-frames.ensures.same c.requires.1
 
-pub meets_many-requires-clause-view : goal.meets_many-requires-clause-view
-meets_many-requires-clause-view c = λ s provable.
+pub cites_marked_by_view-requires-clause-view : goal.cites_marked_by_view-requires-clause-view
+cites_marked_by_view-requires-clause-view c = λ s provable.
     rw (← c.frames-frames.ensures.same) (rw c.in-Some.is at (c.in_ok-view.ensures (bare s) (stands-bare c.args.database.now c.frames-frames.result.now.statements c.args.at s c.frames-frames.ensures.same provable)))

@@ -1,6 +1,6 @@
 use Rattle.scope.proofs.Words.{◌≡◌, ◌&&◌, ◌||◌, list_all, is_constant, is_variable, are_typed, starts_with_constant, is_constant_sort, symbols_of}
 use Rattle.scope.proofs.SymbolNameLemmas.{AreDone}
-use Rattle.scope.proofs.legal.RuleChecker.are_symbols.Given as goal
+use Rattle.scope.proofs.legal.RuleChecker.check_symbols.Given as goal
 
 abbrev pub invariant-loop-symbol : goal.invariant-loop-symbol
 invariant-loop-symbol l = record {

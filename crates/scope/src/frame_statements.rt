@@ -1,27 +1,27 @@
-//! The active `$f`, `$e` and `$d`.
+//! The frame statements, `$f`, `$e` and `$d`, that are active.
 ghost use Rattle.std.specs.Prelude.{◌≡◌, ◌++◌, IfOk, OnOk, OnErr};
 ghost use Rattle.std.specs.List.{flat_map};
-ghost use Rattle.scope.specs.Standing.{stands_at};
+ghost use Rattle.scope.specs.FrameStatement.{as_frame_statement};
 
 use mm_read::Stmt;
 use std::alloc::{AllocError, Global};
 
-/// A `$f`, `$e` or `$d` with its position, counted from 1 in the whole list.
+/// A statement that a frame may have, a `$f`, `$e` or `$d`, with its position, counted from 1 in the whole list.
 #[derive(Drop)]
-pub struct Standing {
+pub struct FrameStatement {
     pub at: usize,
     pub stmt: Stmt,
 }
 
 /// Appends a copy of a `$f`, `$e` or `$d`; ignores other statements.
-pub(crate) fn push_standing(
-    standing: &mut Vec<Standing>,
+pub(crate) fn push_frame_statement(
+    frame_statements: &mut Vec<FrameStatement>,
     alloc: Global,
     at: usize,
     stmt: &Stmt,
 ) -> Result<(), AllocError>
-    ensures ok { OnOk result (standing.new.items ≡ standing.old.items ++ stands_at at stmt.now) }
-    ensures err { OnErr result (standing.new.items ≡ standing.old.items) }
+    ensures ok { OnOk result (frame_statements.new.items ≡ frame_statements.old.items ++ as_frame_statement at stmt.now) }
+    ensures err { OnErr result (frame_statements.new.items ≡ frame_statements.old.items) }
 {
     match stmt {
         Stmt::Float {
@@ -34,18 +34,18 @@ pub(crate) fn push_standing(
                 constant: constant.copy(alloc)?,
                 variable: variable.copy(alloc)?,
             };
-            standing.push(Standing { at, stmt })?;
+            frame_statements.push(FrameStatement { at, stmt })?;
         }
         Stmt::Ess { label, expr } => {
             let stmt = Stmt::Ess {
                 label: label.copy(alloc)?,
                 expr: expr.copy(alloc)?,
             };
-            standing.push(Standing { at, stmt })?;
+            frame_statements.push(FrameStatement { at, stmt })?;
         }
         Stmt::Disj(names) => {
             let stmt = Stmt::Disj(names.copy(alloc)?);
-            standing.push(Standing { at, stmt })?;
+            frame_statements.push(FrameStatement { at, stmt })?;
         }
         Stmt::Open => {}
         Stmt::Close => {}
@@ -58,15 +58,15 @@ pub(crate) fn push_standing(
 }
 
 /// Returns a copy of the list.
-pub(crate) fn copy_standing(
+pub(crate) fn copy_frame_statements(
     alloc: Global,
-    standing: &[Standing],
-) -> Result<Vec<Standing>, AllocError>
-    ensures { IfOk result (λ copied. copied.items ≡ flat_map (λ e. stands_at e.at e.stmt) standing.now) }
+    frame_statements: &[FrameStatement],
+) -> Result<Vec<FrameStatement>, AllocError>
+    ensures { IfOk result (λ copied. copied.items ≡ flat_map (λ e. as_frame_statement e.at e.stmt) frame_statements.now) }
 {
     let mut copied = Vec::new(alloc);
-    for entry in standing.iter() {
-        push_standing(&mut copied, alloc, entry.at, &entry.stmt)?;
+    for entry in frame_statements.iter() {
+        push_frame_statement(&mut copied, alloc, entry.at, &entry.stmt)?;
     }
     Ok(copied)
 }

@@ -1,5 +1,5 @@
 use Rattle.scope.proofs.Words.{◌+◌, ◌<◌, ◌≡◌, true, take, ◌++◌, length, ◌^◌, all_different}
-use Rattle.scope.proofs.legal.differ_pair_by_pair.Given as goal
+use Rattle.scope.proofs.legal.are_distinct_pairwise.Given as goal
 
 abbrev pub invariant-loop-i : goal.invariant-loop-i
 invariant-loop-i l = record {
