@@ -1,4 +1,5 @@
-//! The mandatory hypotheses that the active `$e` bring along, as sets that are kept with each `$e`.
+//! The mandatory hypotheses that the active `$e` bring along, which are the `$e` themselves and the `$f` of their variables, as
+//! sets that are kept with each `$e`.
 ghost use Rattle.std.specs.Prelude.{◌≡◌, ◌+◌, ◌-◌, ◌<◌, ◌≤◌, ◌++◌, ℕ, List, [], length, take, IfOk, OnErr, OnOk};
 ghost use Rattle.entries.specs.PositionSets.{Ascends, set_at};
 ghost use Rattle.entries.specs.Stored.Spans.{Extends};
@@ -24,8 +25,8 @@ pub struct EssentialSet {
     pub before: u32,
 }
 
-/// The mandatory hypotheses that the active `$e` up to each `$e` bring along, as a set if they are many. If they are few,
-/// they are collected by a walk over the `$e`.
+/// For each `$e`, the mandatory hypotheses that it and the active `$e` before it bring along, as a set if they are many. If
+/// they are few, they are collected by a walk over the `$e`.
 #[derive(Drop)]
 pub struct EssentialSets {
     pub alloc: Global,

@@ -222,6 +222,7 @@ impl Frames {
         ensures same { OnErr result (self.new ≡ self.old) }
         ensures counted { steps.new.count ≡ steps.old.count + 1 }
     {
+        // Only the contract reads the scope.
         let _scope = scope;
         self.recorded.forget();
         steps.tick();

@@ -13,7 +13,7 @@ use std::marker::Model;
 /// Contracts see them in the form in which the parts of an assertion are kept.
 #[derive(Drop)]
 pub struct FrameBuffers {
-    /// Whether the parts are whole, or only those that the assertion adds to what is active.
+    /// Whether the parts are whole, as `AssertionParts` says; not set if the groups are made pair by pair.
     pub(crate) whole: bool,
     /// The symbols whose `$f` were looked up; later the variables of the hypotheses.
     pub(crate) recorded: Stack,

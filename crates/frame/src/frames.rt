@@ -24,7 +24,7 @@ use scope::{Numbering, SymbolNumbers};
 use std::alloc::{AllocError, Global};
 use std::marker::Model;
 
-/// The largest number of mandatory hypotheses that the active `$e` bring along without a view of them being made.
+/// The largest number of mandatory hypotheses, brought along by the active `$e`, for which no view is made.
 const LONG: usize = 64;
 
 /// The statements of a database by position, without their proofs, with their symbols as numbers.
@@ -35,7 +35,7 @@ const LONG: usize = 64;
 pub struct Frames {
     pub(crate) alloc: Global,
     pub(crate) storage: Storage,
-    /// The mandatory hypotheses that the active `$e` up to each `$e` bring along, as sets.
+    /// For each `$e`, the mandatory hypotheses that it and the active `$e` before it bring along, as a set.
     pub(crate) given: EssentialSets,
     pub(crate) facts: KeptFacts,
     /// Buffers for the parts of the next assertion.
@@ -315,6 +315,7 @@ impl Frames {
             set,
             self.storage.entries.hypotheses(a - 1),
         )?;
+        // The proof needs it: there are fewer than 2^32 positions.
         let _count = self.storage.entries.len();
         Ok(Some(MandatoryView { sets, set, own }))
     }
