@@ -1,5 +1,5 @@
 -- Statements in shared buffers: appending changes no statement, and the buffers can be truncated where a statement begins.
-use Rattle.entries.proofs.Words.{◌≡◌, ℕ, zero, suc, ◌<◌, ◌≤◌, List, [], ◌∷◌, ◌++◌, length, take, slice_get, slice_range, Some, refl, ◌⊎◌, ◌∙◌, ap, arith, inl, inr, same_Some, StatementRecord, BufferPart, Extends, end_by, groups_by, run_by, spans_by, bodies_of, AreKept}
+use Rattle.entries.proofs.Words.{◌≡◌, ℕ, zero, suc, ◌<◌, ◌≤◌, List, [], ◌∷◌, ◌++◌, length, take, slice_get, slice_range, Some, refl, ◌⊎◌, ◌∙◌, ap, arith, inl, inr, same_Some, StatementRecord, BufferPart, Extends, end_by, groups_by, numbers_by, spans_by, bodies_of, AreKept}
 use Rattle.entries.proofs.SpanLemmas.{range-extends, extends-length}
 
 pub get-push : {A : Type 0} (xs : List A) (x y : A) (i : ℕ) → slice_get (xs ++ x ∷ []) i ≡ Some y → ((i < length xs) × (slice_get xs i ≡ Some y)) ⊎ ((i ≡ length xs) × (x ≡ y))
@@ -28,7 +28,7 @@ module _ (a b : List ℕ) (g h : List BufferPart) (s : StatementRecord) (ts : Li
   next-groups [] = groups
   next-groups (r ∷ rs) = refl
 
-  run-same : (q : StatementRecord) (rs : List StatementRecord) → q.from ≤ end_by a (slice_get rs 0) → end_by a (slice_get rs 0) ≤ length a → run_by b q (slice_get (rs ++ s ∷ ts) 0) ≡ run_by a q (slice_get rs 0)
+  run-same : (q : StatementRecord) (rs : List StatementRecord) → q.from ≤ end_by a (slice_get rs 0) → end_by a (slice_get rs 0) ≤ length a → numbers_by b q (slice_get (rs ++ s ∷ ts) 0) ≡ numbers_by a q (slice_get rs 0)
   run-same q rs le in_a = ap (slice_range b q.from) (next-end rs) ∙ range-extends a b q.from (end_by a (slice_get rs 0)) more le in_a
 
   spans-same : (q : StatementRecord) (rs : List StatementRecord) → q.groups ≤ groups_by g (slice_get rs 0) → groups_by g (slice_get rs 0) ≤ length g → spans_by h q (slice_get (rs ++ s ∷ ts) 0) ≡ spans_by g q (slice_get rs 0)

@@ -69,7 +69,7 @@ module _ (es : List Entry) (names labels : List Name) (m a : ℕ) (e : Entry) (d
   one-required : (p : ℕ) → IsHyp front_of own p → IsRequired all names p (typecode_at es p) (required_at es p)
   one-required p h =
       let x = hyp-at p h in
-      let k = required-kind names x.entry.kind (name_at labels x.entry.label) x.entry.symbols p front_of own x.codes x.two (sym (ap (is_hypothesis front_of own) x.same) ∙ h.passes) in
+      let k = required-kind names x.entry.kind (name_at labels x.entry.label_count) x.entry.symbols p front_of own x.codes x.two (sym (ap (is_hypothesis front_of own) x.same) ∙ h.passes) in
       record {
         stmt = h.stmt;
         stands = ap (stmt_at all) h.at ∙ x.stands_at;
@@ -101,7 +101,7 @@ module _ (es : List Entry) (names labels : List Name) (m a : ℕ) (e : Entry) (d
           let a = active-members front_of (is_hypothesis front_of own) r.0 [] front_of 1 refl refl (subst (In r.0) hyps-are r.1) in
           let x = entry-at r.0 a.front a.stmt a.rest a.whole a.at in
           let passes : floats c x.entry ≡ true = sym (code-floats c r.0 x.entry.kind x.entry.symbols x.two) ∙ (ap (λ o. is_typed_by c (option_required r.0 o)) (sym x.found) ∙ r.2) in
-          let y = floats-is names c x.entry (name_at labels x.entry.label) passes in
+          let y = floats-is names c x.entry (name_at labels x.entry.label_count) passes in
           ap (is_hypothesis front_of own) (sym (x.same ∙ y.1)) ∙ a.passes
 
       back : is_mandatory front_of own (name_at names c) ≡ true → list_any (λ p. is_typed_by c (required_at es p)) d.hypotheses ≡ true
@@ -110,7 +110,7 @@ module _ (es : List Entry) (names labels : List Name) (m a : ℕ) (e : Entry) (d
           let x = entry-at (suc (length f.front)) f.front (Float f.label f.constant (name_at names c)) f.rest f.whole refl in
           in-any (λ p. is_typed_by c (required_at es p)) d.hypotheses (suc (length f.front)) (subst (In (suc (length f.front))) (sym hyps-are) f.listed)
           (ap (λ o. is_typed_by c (option_required (suc (length f.front)) o)) x.found ∙ (code-floats c (suc (length f.front)) x.entry.kind x.entry.symbols x.two
-          ∙ is-floats names c x.entry (name_at labels x.entry.label) f.constant f.label distinct x.codes x.two low (sym x.same)))
+          ∙ is-floats names c x.entry (name_at labels x.entry.label_count) f.constant f.label distinct x.codes x.two low (sym x.same)))
 
   typed-stands : (codes : List ℕ) → AreBelow (length names) codes → decode names (typed places codes) ≡ filter (is_mandatory front_of own) (decode names codes)
   typed-stands [] b = refl
@@ -142,7 +142,7 @@ module _ (es : List Entry) (names labels : List Name) (m a : ℕ) (e : Entry) (d
       x : IsEntryAt n A t
       x = entry-at n A t T whole at_n
 
-      one_group : Rest → (k : Kind) → Fits (stmt_by k (name_at labels x.entry.label) (decode names x.entry.symbols))
+      one_group : Rest → (k : Kind) → Fits (stmt_by k (name_at labels x.entry.label_count) (decode names x.entry.symbols))
       one_group more Disj =
           rw (x.found, ← typed-stands x.entry.symbols x.codes, ← more)
           (with-group (typed places x.entry.symbols) (groups_by places (map (λ q. symbols_at es q.0) (actives_from is_disj (n + 1) T))))

@@ -5,16 +5,16 @@ use Rattle.mm_read.specs.declared.stmt.Stmt.TheVariants as stmt
 
 -- ---- an entry keeps its meaning if names and labels are appended
 
-pub stmt-more : (names names' labels labels' : List Name) (e : Entry) → Extends names names' → Extends labels labels' → AreBelow (length names) e.symbols → IsLabelBelow e.kind e.label (length labels)
+pub stmt-more : (names names' labels labels' : List Name) (e : Entry) → Extends names names' → Extends labels labels' → AreBelow (length names) e.symbols → IsLabelBelow e.kind e.label_count (length labels)
     → stmt_of names' labels' e ≡ stmt_of names labels e
 stmt-more names names' labels labels' e p q below label =
-    ap (stmt_by e.kind (name_at labels' e.label)) (decode-extends names names' e.symbols p below) ∙ by e.kind label
+    ap (stmt_by e.kind (name_at labels' e.label_count)) (decode-extends names names' e.symbols p below) ∙ by e.kind label
   where
-    by : (kind : Kind) → IsLabelBelow kind e.label (length labels) → stmt_by kind (name_at labels' e.label) (decode names e.symbols) ≡ stmt_by kind (name_at labels e.label) (decode names e.symbols)
-    by Float h = ap (λ x. stmt_by Float x (decode names e.symbols)) (name_at-extends labels labels' e.label q (h refl))
-    by Ess h = ap (λ x. stmt_by Ess x (decode names e.symbols)) (name_at-extends labels labels' e.label q (h refl))
-    by Axiom h = ap (λ x. stmt_by Axiom x (decode names e.symbols)) (name_at-extends labels labels' e.label q (h refl))
-    by Prove h = ap (λ x. stmt_by Prove x (decode names e.symbols)) (name_at-extends labels labels' e.label q (h refl))
+    by : (kind : Kind) → IsLabelBelow kind e.label_count (length labels) → stmt_by kind (name_at labels' e.label_count) (decode names e.symbols) ≡ stmt_by kind (name_at labels e.label_count) (decode names e.symbols)
+    by Float h = ap (λ x. stmt_by Float x (decode names e.symbols)) (name_at-extends labels labels' e.label_count q (h refl))
+    by Ess h = ap (λ x. stmt_by Ess x (decode names e.symbols)) (name_at-extends labels labels' e.label_count q (h refl))
+    by Axiom h = ap (λ x. stmt_by Axiom x (decode names e.symbols)) (name_at-extends labels labels' e.label_count q (h refl))
+    by Prove h = ap (λ x. stmt_by Prove x (decode names e.symbols)) (name_at-extends labels labels' e.label_count q (h refl))
     by kind h = refl
 
 pub statements-more : (names names' labels labels' : List Name) (es : List Entry) → Extends names names' → Extends labels labels' → AreNumbered (length names) (length labels) es
@@ -24,7 +24,7 @@ statements-more names names' labels labels' (e ∷ es) p q h =
     ap (λ s. s ∷ map (stmt_of names' labels') es) (stmt-more names names' labels labels' e p q h.0 h.1)
     ∙ ap (λ r. stmt_of names labels e ∷ r) (statements-more names names' labels labels' es p q h.2)
 
-pub numbered-push : (n n' m m' : ℕ) (es : List Entry) (e : Entry) → n ≤ n' → m ≤ m' → AreNumbered n m es → AreBelow n' e.symbols → IsLabelBelow e.kind e.label m' → HasTwo e.kind e.symbols → AreNumbered n' m' (es ++ e ∷ [])
+pub numbered-push : (n n' m m' : ℕ) (es : List Entry) (e : Entry) → n ≤ n' → m ≤ m' → AreNumbered n m es → AreBelow n' e.symbols → IsLabelBelow e.kind e.label_count m' → HasTwo e.kind e.symbols → AreNumbered n' m' (es ++ e ∷ [])
 numbered-push n n' m m' [] e le le' h b l t = (b, l, tt, t)
 numbered-push n n' m m' (d ∷ es) e le le' h b l t =
     (below-more n n' d.symbols le h.0, λ k. let lt = h.1 k in omega (arith, lt, le'), numbered-push n n' m m' es e le le' h.2 b l t, h.3)

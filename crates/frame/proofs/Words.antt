@@ -7,9 +7,9 @@ pub use Rattle.entries.proofs.PositionSetLemmas.{above-all, ascends-with, count-
 pub use Rattle.entries.proofs.SetNodeLemmas.{cut-back, set_at-extends}
 pub use Rattle.entries.proofs.SpanLemmas.{cut-more, cut-push, extends-length, extends-refl, extends-take, extends-trans, range-behind, spans-push, spans-reverse}
 pub use Rattle.entries.proofs.StatementRecordLemmas.{get-last, get-more}
-pub use Rattle.entries.specs.Entries.{AreWhole, Assertion, Entry, assertion_of, made, partless, seen}
-pub use Rattle.entries.specs.Histories.{AreKeptUntil, AreSame, AreUntil, IsUntil, StackVersion, gone_back, history, kept_until, pushed, stack_at}
-pub use Rattle.entries.specs.Hypotheses.{told}
+pub use Rattle.entries.specs.Entries.{IsWholeView, Assertion, Entry, assertion_of, entry_by, no_parts, entry_from_ref}
+pub use Rattle.entries.specs.Histories.{AreKeptUntil, AreSame, AreUntil, IsUntil, StackVersion, reverted, history, kept_until, pushed, stack_at}
+pub use Rattle.entries.specs.Hypotheses.{decoded_hypothesis}
 pub use Rattle.entries.specs.PositionSets.{AreAbove, Ascends, IsSet, count_below, has_position, set_at, with_position}
 pub use Rattle.entries.specs.Stored.Spans.{AreSpansIn, Extends, cut}
 pub use Rattle.entries.specs.SymbolPlaces.{ArePlacesOf, SymbolGroups, without_float}

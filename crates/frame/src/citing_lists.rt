@@ -28,7 +28,7 @@ const MOST_TRIES: usize = 16;
 /// one for each `$d`.
 ///
 /// Errors: an allocation fails.
-pub fn fill_for_citation(
+pub fn fill_citing_lists(
     alloc: Global,
     storage: &Storage,
     kept: &PairFacts,
@@ -148,7 +148,7 @@ fn find_pairs(
         if !has_more_symbols(storage, at, most) {
             return Ok(false);
         }
-        facts.allow(most);
+        facts.set_budget(most);
         if add_pairs(storage, kept, at, facts, buffers, variables, counts)? {
             return Ok(true);
         }
@@ -245,7 +245,7 @@ fn add_pairs_of(
     ensures same { IfOk result (λ all. HasSameHypotheses buffers.old buffers.new) }
 {
     for index in 0..others.len() {
-        if facts.is_spent() {
+        if facts.is_budget_spent() {
             return Ok(false);
         }
         let pair = sought_pair(x, others, index, counts);

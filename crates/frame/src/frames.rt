@@ -3,7 +3,7 @@ ghost use Rattle.std.specs.Prelude.{◌≡◌, ◌≤◌, ◌<◌, [], true, IfO
 ghost use Rattle.{mm_read.specs.declared.stmt.Stmt.Stmt as Statement, names.specs.Codes.name_at, names.specs.Codes.decode, scope.specs.Active.before, scope.specs.Active.stmt_at, scope.specs.Active.label_of, scope.specs.Active.expr_of, frame.specs.AtPosition.IsPosition, frame.specs.AtPosition.ArePositions, frame.specs.AtPosition.AreLegal, frame.specs.AtPosition.IsMeaning, frame.specs.FrameOf.HasAssertion, frame.specs.FrameOf.hypotheses, frame.specs.AssertionView.AreBuffersOf, frame.specs.AssertionView.AreCitingLists, frame.specs.AssertionView.IsCited, frame.specs.AssertionView.IsViewOf, frame.specs.PairFacts.AreFacts, frame.specs.ExprPlaces.AreExprPlaces, frame.specs.Below.AreBelow, frame.specs.LongEssentials.HasConstants, frame.specs.LongEssentials.long_essentials, scope.specs.Active.is_essential};
 
 use crate::at_position::{is_active_at, last_active_at};
-use crate::citing_lists::fill_for_citation;
+use crate::citing_lists::fill_citing_lists;
 use crate::essential_sets::EssentialSets;
 use crate::frame_buffers::FrameBuffers;
 use crate::kept_facts::KeptFacts;
@@ -25,7 +25,7 @@ use std::alloc::{AllocError, Global};
 use std::marker::Model;
 
 /// The largest number of mandatory hypotheses, brought along by the active `$e`, for which no view is made.
-const LONG: usize = 64;
+const MOST_WITHOUT_VIEW: usize = 64;
 
 /// The statements of a database by position, without their proofs, with their symbols as numbers.
 ///
@@ -36,8 +36,9 @@ pub struct Frames {
     pub(crate) alloc: Global,
     pub(crate) storage: Storage,
     /// For each `$e`, the mandatory hypotheses that it and the active `$e` before it bring along, as a set.
-    pub(crate) given: EssentialSets,
-    pub(crate) facts: KeptFacts,
+    pub(crate) essential_sets: EssentialSets,
+    /// Facts about pairs of variables, which stay true as statements are added.
+    pub(crate) kept_facts: KeptFacts,
     /// Buffers for the parts of the next assertion.
     pub(crate) buffers: FrameBuffers,
     /// A buffer for the numbers of the symbols of the next statement.
@@ -51,7 +52,7 @@ impl Model for Frames {
 
     ghost view = { λ a. numbered a.storage };
 
-    ghost invariant = { λ a. AreFramesAndFacts a.storage a.given a.facts };
+    ghost invariant = { λ a. AreFramesAndFacts a.storage a.essential_sets a.kept_facts };
 }
 
 impl Frames {
@@ -79,8 +80,8 @@ impl Frames {
                     disjoint: 0,
                 },
             },
-            given: EssentialSets::new(alloc),
-            facts: KeptFacts::new(alloc),
+            essential_sets: EssentialSets::new(alloc),
+            kept_facts: KeptFacts::new(alloc),
             buffers: FrameBuffers::new(alloc),
             recorded: SymbolNumbers::new(alloc),
         }
@@ -197,7 +198,7 @@ impl Frames {
     {
         Pairs {
             storage: &self.storage,
-            facts: &self.facts.facts,
+            facts: &self.kept_facts.facts,
             at,
         }
     }
@@ -232,7 +233,7 @@ impl Frames {
             typecodes: &frame_buffers.typecodes,
             hypotheses: Hypotheses::new(&frame_buffers.required),
             conclusion: self.expr(a),
-            groups: Groups::new(&frame_buffers.groups, &frame_buffers.places),
+            groups: Groups::new(&frame_buffers.groups, &frame_buffers.grouped_variables),
         }
     }
 
@@ -255,10 +256,10 @@ impl Frames {
     {
         buffers.clear();
         self.mandatory(a, &mut buffers.hypotheses)?;
-        fill_for_citation(
+        fill_citing_lists(
             self.alloc,
             &self.storage,
-            &self.facts.facts,
+            &self.kept_facts.facts,
             a,
             facts,
             buffers,
@@ -275,7 +276,7 @@ impl Frames {
             typecodes: &buffers.typecodes,
             hypotheses: Hypotheses::new(&buffers.required),
             conclusion: self.expr(a),
-            groups: Groups::new(&buffers.groups, &buffers.places),
+            groups: Groups::new(&buffers.groups, &buffers.grouped_variables),
         }
     }
 
@@ -292,7 +293,7 @@ impl Frames {
         if self.storage.entries.is_whole(a - 1) {
             Ok(())
         } else {
-            self.given.add(&self.storage, a, list)
+            self.essential_sets.add(&self.storage, a, list)
         }
     }
 
@@ -304,11 +305,16 @@ impl Frames {
         requires { (s : Statement) × HasAssertion self.now.statements a s }
         ensures { (s : Statement) → stmt_at self.now.statements a ≡ Some s → IfOk result (λ view. IfSome view (λ list. list ≡ hypotheses (before self.now.statements a) s)) }
     {
-        let set = self.given.set(last_active_at(&self.storage, a).essential);
-        if set == 0 || self.given.count(set) <= LONG || self.storage.entries.is_whole(a - 1) {
+        let set = self
+            .essential_sets
+            .set(last_active_at(&self.storage, a).essential);
+        if set == 0
+            || self.essential_sets.count(set) <= MOST_WITHOUT_VIEW
+            || self.storage.entries.is_whole(a - 1)
+        {
             return Ok(None);
         }
-        let sets = &self.given.sets;
+        let sets = &self.essential_sets.sets;
         let own = missing(
             self.alloc,
             sets,
@@ -327,7 +333,7 @@ impl Frames {
     {
         let entry = self.storage.entries.entry(at - 1);
         if has_label(entry.kind) {
-            Some(self.storage.numbering.label(entry.before.label))
+            Some(self.storage.numbering.label(entry.before.label_count))
         } else {
             None
         }

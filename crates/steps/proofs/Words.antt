@@ -1,6 +1,6 @@
 -- The definitions and lemmas of other crates that the proofs of this crate use, re-exported from one place.
 pub use Rattle.entries.proofs.StatementRecordLemmas.{get-last}
-pub use Rattle.entries.specs.Hypotheses.{told}
+pub use Rattle.entries.specs.Hypotheses.{decoded_hypothesis}
 pub use Rattle.entries.specs.SymbolPlaces.{ArePlacesOf, SymbolGroups}
 pub use Rattle.entries.specs.declared.assertion_view.AssertionView.{AssertionView}
 pub use Rattle.entries.specs.declared.assertion_view.Hypothesis.{Hypothesis}

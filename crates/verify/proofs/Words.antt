@@ -1,7 +1,7 @@
 -- Re-exports of the definitions and lemmas with which this crate is proved.
 pub use Prim.Native.String.{String}
 pub use Rattle.entries.proofs.SpanLemmas.{cut-more, cut-push, extends-refl, range-behind, spans-push}
-pub use Rattle.entries.specs.Hypotheses.{told}
+pub use Rattle.entries.specs.Hypotheses.{decoded_hypothesis}
 pub use Rattle.entries.specs.Stored.Spans.{AreSpansIn, cut}
 pub use Rattle.entries.specs.SymbolPlaces.{ArePlacesOf, SymbolGroups}
 pub use Rattle.entries.specs.declared.assertion_view.AssertionView.{AssertionView}

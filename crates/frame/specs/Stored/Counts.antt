@@ -22,13 +22,13 @@ HasTwo kind codes = Unit {0}
 
 abbrev pub AreNumbered : ℕ → ℕ → List Entry → Type 0
 AreNumbered n m [] = Unit {0}
-AreNumbered n m (e ∷ es) = AreBelow n e.symbols × IsLabelBelow e.kind e.label m × AreNumbered n m es × HasTwo e.kind e.symbols
+AreNumbered n m (e ∷ es) = AreBelow n e.symbols × IsLabelBelow e.kind e.label_count m × AreNumbered n m es × HasTwo e.kind e.symbols
 
 -- the entry e has the counts of the names and of the labels before it: earlier entries use no others
 pub record KeepsCounts (names labels : List Name) (entries : List Entry) (i : ℕ) (e : Entry) : Type 0 where
-  pub numbered : AreNumbered e.names e.label (take i entries)
-  pub label_count : e.label ≡ length (labels_of (take i (map (stmt_of names labels) entries)))
-  pub name_count : e.names ≡ length (symbols_of (take i (map (stmt_of names labels) entries)))
+  pub numbered : AreNumbered e.symbol_count e.label_count (take i entries)
+  pub label_count : e.label_count ≡ length (labels_of (take i (map (stmt_of names labels) entries)))
+  pub name_count : e.symbol_count ≡ length (symbols_of (take i (map (stmt_of names labels) entries)))
 
 -- the statement neither opens nor closes a block
 abbrev pub IsPlain : Option Stmt → Type 0

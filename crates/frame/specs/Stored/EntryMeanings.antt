@@ -19,7 +19,7 @@ stmt_by Axiom label names = stmt.Axiom label names
 stmt_by Prove label names = stmt.Prove label names []
 
 abbrev pub stmt_of : List Name → List Name → Entry → Stmt
-stmt_of names labels e = stmt_by e.kind (name_at labels e.label) (decode names e.symbols)
+stmt_of names labels e = stmt_by e.kind (name_at labels e.label_count) (decode names e.symbols)
 
 -- the symbols and the labels of a storage, by number
 abbrev pub names_in : Storage → List Name

@@ -48,8 +48,8 @@ pub record AreStacksOfStorage (of : Kind) (entries : List Entry) (last_active : 
 -- h is the header of the next statement
 pub record IsEntryHeader (k : Storage) (s : Stmt) (h : EntryHeader) : Type 0 where
   pub kind : h.kind ≡ kind_of s
-  pub label : h.before.label ≡ length (labels_in k)
-  pub names : h.before.names ≡ length (names_in k)
+  pub label : h.before.label_count ≡ length (labels_in k)
+  pub names : h.before.symbol_count ≡ length (names_in k)
   pub last_active : h.before.last_active ≡ k.last_active
 
 -- the parts are kept as those of the next statement s

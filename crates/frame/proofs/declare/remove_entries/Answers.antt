@@ -1,4 +1,4 @@
-use Rattle.frame.proofs.Words.{◌≡◌, ◌+◌, ◌-◌, ◌++◌, ◌∙◌, ap, sym, subst, arith, refl, ℕ, List, append-nil, length, length-append, length-map, map, take, take_all, [], ◌∷◌, Some, AreBelow, Entry, seen, last_of, declared_by, take-append_seam, replaced_of, symbol_of, labels_in, names_in, statements_of, AreBlockEnds}
+use Rattle.frame.proofs.Words.{◌≡◌, ◌+◌, ◌-◌, ◌++◌, ◌∙◌, ap, sym, subst, arith, refl, ℕ, List, append-nil, length, length-append, length-map, map, take, take_all, [], ◌∷◌, Some, AreBelow, Entry, entry_from_ref, last_of, declared_by, take-append_seam, replaced_of, symbol_of, labels_in, names_in, statements_of, AreBlockEnds}
 use Rattle.frame.proofs.EndLemmas.{block-fits, ends-taken, length-with, stored-blocks}
 use Rattle.frame.proofs.DeclareLemmas.{symbol_of-push, IsLeft, left, recorded-last, replaced_of-push, restored}
 use Rattle.frame.proofs.StoredOneMore.{numbered-at}
@@ -10,7 +10,7 @@ abbrev front : After-entry-entry → List Entry
 front c = take (c.len-last.result - 1) c.loop-storage.storage.entries
 
 abbrev last : After-entry-entry → Entry
-last c = seen c.entry-entry.result c.entry-entry.ensures.0
+last c = entry_from_ref c.entry-entry.result c.entry-entry.ensures.0
 
 gone : (c : After-entry-entry) → IsLeft c.args.storage.now.entries c.loop-storage.storage.entries (front c) (last c)
 gone c = left c.len-last.result (last c) c.loop-storage.invariant.front c.len-last.ensures.len (omega (arith, c.len-last.ensures.len, c.loop-storage-test.true, c.len.ensures.len)) c.entry-entry.ensures.1

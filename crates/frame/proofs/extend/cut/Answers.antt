@@ -1,4 +1,4 @@
-use Rattle.frame.proofs.Words.{◌≡◌, ◌∙◌, ap, sym, subst, arith, length, take, ◌<◌, ◌≤◌, is_disj, is_var, AreStored, Extends, length-take-le, take-length, slice_get_within, names_in, labels_in, statements_of, ReadsAs, replaced_of, symbol_of, declared_symbols, declared_labels, naming_of, seen, AreKeptUntil}
+use Rattle.frame.proofs.Words.{◌≡◌, ◌∙◌, ap, sym, subst, arith, length, take, ◌<◌, ◌≤◌, is_disj, is_var, AreStored, Extends, length-take-le, take-length, slice_get_within, names_in, labels_in, statements_of, ReadsAs, replaced_of, symbol_of, declared_symbols, declared_labels, naming_of, entry_from_ref, AreKeptUntil}
 use Rattle.frame.proofs.StackLemmas.{essentials-front, stacks-front}
 use Rattle.frame.proofs.EndLemmas.{ends-front, stored-blocks}
 use Rattle.frame.proofs.CutStorage.{IsCut, kept-cut, cut-statements, names-front, front-naming, numbering-front}
@@ -9,7 +9,7 @@ left : (c : After-roll_back) → AreStored c.roll_back.new.storage × (statement
 left c =
     let k = c.args.storage.now in
     let n = c.args.len in
-    let e = seen c.entry-first.result c.entry-first.ensures.0 in
+    let e = entry_from_ref c.entry-first.result c.entry-first.ensures.0 in
     let away = c.remove_entries.ensures in
     let between = c.remove_entries.new.storage.symbols.items in
     let left = c.remove_entries.new.storage.replaced.items in

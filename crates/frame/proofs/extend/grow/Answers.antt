@@ -6,7 +6,7 @@ use Rattle.frame.proofs.extend.grow.Goals as goal
 pub record_set-kept-requires-clause-sets : goal.record_set-kept-requires-clause-sets
 record_set-kept-requires-clause-sets c =
     let old = c.args.storage.now in let new = c.extend_whole.new.storage in
-    sets-more c.args.given.now old.entries new.entries (statements_of old) (statements_of new) c.requires.kept.sets (as-many old) c.in_ok-extend_whole.ensures.more (bare c.args.stmt.now ∷ [], c.in_ok-extend_whole.ensures.added)
+    sets-more c.args.essential_sets.now old.entries new.entries (statements_of old) (statements_of new) c.requires.kept.sets (as-many old) c.in_ok-extend_whole.ensures.more (bare c.args.stmt.now ∷ [], c.in_ok-extend_whole.ensures.added)
 
 pub record_set-kept-requires-clause-next : goal.record_set-kept-requires-clause-next
 record_set-kept-requires-clause-next c =
@@ -21,14 +21,14 @@ returns-in_err-extend_whole-clause-kept c =
     let statements = c.in_err-extend_whole.ensures.same in
     record {
       stored = c.extend_whole.ensures.stored;
-      sets = subst (λ es. AreEssentialSets c.args.given.now es (statements_of new)) (sym entries) (subst (AreEssentialSets c.args.given.now old.entries) (sym statements) c.requires.kept.sets);
+      sets = subst (λ es. AreEssentialSets c.args.essential_sets.now es (statements_of new)) (sym entries) (subst (AreEssentialSets c.args.essential_sets.now old.entries) (sym statements) c.requires.kept.sets);
       count = c.requires.kept.count ∙ sym (ap length entries);
     }
 
 pub returns-then-is_err-clause-kept : goal.returns-then-is_err-clause-kept
 returns-then-is_err-clause-kept c =
     let old = c.args.storage.now in let mid = c.extend_whole.new.storage in let new = c.cut.new.storage in
-    let g = c.args.given.now in let h = c.record_set-kept.new.self in let front = c.len-front.result in
+    let g = c.args.essential_sets.now in let h = c.record_set-kept.new.self in let front = c.len-front.result in
     let kept : h.kept.items ≡ g.kept.items = on-err c.record_set-kept.result (h.kept.items ≡ g.kept.items) (sym c.is_err.ensures.value ∙ c.if-is_err.true) c.record_set-kept.ensures.same in
     let many = ap length kept ∙ c.requires.kept.count in
     let at = c.len-front.ensures.len in

@@ -1,4 +1,4 @@
-use Rattle.frame.proofs.Words.{◌-◌, arith, get_or, length, seen, names_in, labels_in}
+use Rattle.frame.proofs.Words.{◌-◌, arith, get_or, length, entry_from_ref, names_in, labels_in}
 use Rattle.frame.proofs.StoredReading.{two-of}
 use Rattle.frame.proofs.MakeLemmas.{hypothesis-at}
 use Rattle.frame.proofs.make.describe.Goals as goal
@@ -16,4 +16,4 @@ hypothesis-requires c =
     let k = c.args.storage.now in
     let i = c.loop-position.position-index in
     let p = get_or c.args.hypotheses.now i 0 in
-    two-of (length (names_in k)) (length (labels_in k)) k.entries c.requires.stored.kept.coded (p - 1) (seen c.entry-entry.result c.entry-entry.ensures.0) c.entry-entry.ensures.1
+    two-of (length (names_in k)) (length (labels_in k)) k.entries c.requires.stored.kept.coded (p - 1) (entry_from_ref c.entry-entry.result c.entry-entry.ensures.0) c.entry-entry.ensures.1

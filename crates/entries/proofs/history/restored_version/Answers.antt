@@ -1,6 +1,6 @@
 use Rattle.entries.proofs.Words.{◌∙◌, ap, sym, length, Version}
 use Rattle.entries.proofs.VersionLemmas.{version-at, stack-again}
-use Rattle.entries.proofs.history.again.Goals as goal
+use Rattle.entries.proofs.history.restored_version.Goals as goal
 
 none : Version
 none = record { since = 0; top = 0; below = 0; height = 0 }

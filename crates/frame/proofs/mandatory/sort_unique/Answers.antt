@@ -1,6 +1,6 @@
 use Rattle.frame.proofs.Words.{eqb, dedup_is}
 use Rattle.frame.proofs.CollectLemmas.{ordered}
-use Rattle.frame.proofs.mandatory.order.Goals as goal
+use Rattle.frame.proofs.mandatory.sort_unique.Goals as goal
 
 pub returns : goal.returns
 returns c =

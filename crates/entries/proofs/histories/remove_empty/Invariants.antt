@@ -1,5 +1,5 @@
 use Rattle.entries.proofs.Words.{length, AreSame}
-use Rattle.entries.proofs.histories.narrow.Given as goal
+use Rattle.entries.proofs.histories.remove_empty.Given as goal
 
 abbrev pub invariant-loop-histories : goal.invariant-loop-histories
 invariant-loop-histories l = AreSame l.fn.histories.items l.histories.items

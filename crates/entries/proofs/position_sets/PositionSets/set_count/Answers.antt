@@ -1,9 +1,9 @@
 use Rattle.entries.proofs.Words.{ap, subst, length, arith, [], ◌∷◌, Ascends, IsSet, set_at}
 use Rattle.entries.proofs.SetNodeLemmas.{all-ascend, empty, sets-length}
-use Rattle.entries.proofs.position_sets.PositionSets.size.Goals as goal
+use Rattle.entries.proofs.position_sets.PositionSets.set_count.Goals as goal
 
-pub returns-clause-size : goal.returns-clause-size
-returns-clause-size c = let view = ap length c.self.view_is in let l = sets-length ([] ∷ []) c.self.inside.nodes.items in omega arith
+pub returns-clause-set_count : goal.returns-clause-set_count
+returns-clause-set_count c = let view = ap length c.self.view_is in let l = sets-length ([] ∷ []) c.self.inside.nodes.items in omega arith
 
 pub returns-clause-empty : goal.returns-clause-empty
 returns-clause-empty c = subst (λ sets. IsSet sets [] 0) c.self.view_is (empty c.self.inside.nodes.items)

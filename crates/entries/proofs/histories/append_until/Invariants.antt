@@ -1,5 +1,5 @@
 use Rattle.entries.proofs.Words.{◌-◌, ◌+◌, length, AreSame}
-use Rattle.entries.proofs.histories.widen.Given as goal
+use Rattle.entries.proofs.histories.append_until.Given as goal
 
 abbrev pub invariant-loop-alloc : goal.invariant-loop-alloc
 invariant-loop-alloc l = AreSame l.fn.histories.items l.histories.items

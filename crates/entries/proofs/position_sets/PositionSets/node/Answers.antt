@@ -1,7 +1,7 @@
-use Rattle.entries.proofs.Words.{ap, subst, sym, ◌≡◌, ◌-◌, ◌∙◌, length, slice_get, Some, [], arith, IsSet, IsTop}
-use Rattle.entries.proofs.SetNodeLemmas.{top, empty, past}
-use Rattle.entries.proofs.position_sets.PositionSets.top.Goals as goal
-use Rattle.entries.proofs.position_sets.PositionSets.top.Goals.{then-set-eq0-via-then-set-eq0, then-set-eq0-via-else-set-eq0+then-nodes-set}
+use Rattle.entries.proofs.Words.{ap, subst, sym, ◌≡◌, ◌-◌, ◌∙◌, length, slice_get, Some, [], arith, IsSet, IsNodeOf}
+use Rattle.entries.proofs.SetNodeLemmas.{node-of, empty, past}
+use Rattle.entries.proofs.position_sets.PositionSets.node.Goals as goal
+use Rattle.entries.proofs.position_sets.PositionSets.node.Goals.{then-set-eq0-via-then-set-eq0, then-set-eq0-via-else-set-eq0+then-nodes-set}
 
 pub returns-then-set-eq0-clause-none : goal.returns-then-set-eq0-clause-none
 returns-then-set-eq0-clause-none c =
@@ -17,8 +17,8 @@ returns-clause-some c =
     let nodes = c.self.inside.nodes.items in
     let here : slice_get nodes (c.args.set - 1) ≡ Some c.item.result =
     ap (λ ns. slice_get ns (c.args.set - 1)) (sym c.as_slice-nodes.ensures.value) ∙ c.item.ensures in
-    subst (λ sets. IsTop sets c.args.set c.item.result) c.self.view_is
-    (top nodes c.args.set c.item.result c.self.invariant (omega arith) here)
+    subst (λ sets. IsNodeOf sets c.args.set c.item.result) c.self.view_is
+    (node-of nodes c.args.set c.item.result c.self.invariant (omega arith) here)
 
 pub returns-then-set-eq0-clause-empty : goal.returns-then-set-eq0-clause-empty
 returns-then-set-eq0-clause-empty c = subst (λ sets. IsSet sets [] 0) c.self.view_is (empty c.self.inside.nodes.items)
