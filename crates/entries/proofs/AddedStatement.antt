@@ -9,7 +9,7 @@ use Rattle.entries.proofs.BufferPlaceLemmas.{bodies-before, kept-before, kept-cu
 -- the numbers and groups are as many as the layout says
 pub record IsLaid (at : Layout) (run : List ℕ) (spans : List BufferPart) : Type 0 where
   pub whole : at.end ≡ length run
-  pub count : at.groups ≡ length spans
+  pub count : at.group_count ≡ length spans
   pub grouped : AreSpansIn (at.end - at.grouped_variables) spans
 
 module _ (ns ms : List ℕ) (gs hs : List BufferPart) (rs qs : List StatementRecord) (h : Kind) (t whole : Bool) (run : List ℕ) (spans : List BufferPart)
@@ -104,7 +104,7 @@ module _ (ms : List ℕ) (hs : List BufferPart) (us : List StatementRecord) (n :
   a = take s.from ms
 
   abbrev g : List BufferPart
-  g = take s.groups hs
+  g = take s.groups_from hs
 
   split : take n us ++ s ∷ drop (n + 1) us ≡ us
   split =
@@ -114,11 +114,11 @@ module _ (ms : List ℕ) (hs : List BufferPart) (us : List StatementRecord) (n :
   from-length : s.from ≡ length a
   from-length = let k = (kept-at ms hs s us n packed.kept here).placed in sym (length-take-le s.from ms (omega arith))
 
-  groups-length : s.groups ≡ length g
-  groups-length = let k = (kept-at ms hs s us n packed.kept here).grouped in sym (length-take-le s.groups hs (omega arith))
+  groups-length : s.groups_from ≡ length g
+  groups-length = let k = (kept-at ms hs s us n packed.kept here).grouped in sym (length-take-le s.groups_from hs (omega arith))
 
   kept-fewer : AreKept a g (take n us)
-  kept-fewer = kept-cut a ms g hs s (drop (n + 1) us) (extends-take s.from ms) (extends-take s.groups hs) from-length groups-length (take n us) (subst (AreKept ms hs) (sym split) packed.kept)
+  kept-fewer = kept-cut a ms g hs s (drop (n + 1) us) (extends-take s.from ms) (extends-take s.groups_from hs) from-length groups-length (take n us) (subst (AreKept ms hs) (sym split) packed.kept)
 
   fewer-length : length (take n us) ≡ n
   fewer-length = let w = slice_get_within us n s here in length-take-le n us (omega arith)
@@ -130,7 +130,7 @@ module _ (ms : List ℕ) (hs : List BufferPart) (us : List StatementRecord) (n :
   bodies-fewer =
       let es = bodies_of a g (take n us) in
       let more = bodies_of ms hs (s ∷ drop (n + 1) us) in
-      let e = bodies-before a ms g hs s (drop (n + 1) us) (extends-take s.from ms) (extends-take s.groups hs) from-length groups-length (take n us) kept-fewer in
+      let e = bodies-before a ms g hs s (drop (n + 1) us) (extends-take s.from ms) (extends-take s.groups_from hs) from-length groups-length (take n us) kept-fewer in
       sym (ap (λ xs. take n (bodies_of ms hs xs)) (sym split) ∙ (ap (take n) e ∙ (ap (λ k. take k (es ++ more)) (sym (bodies-length a g (take n us) ∙ fewer-length)) ∙ take-append_seam es more)))
 
 -- ---- the outcome of an allocation

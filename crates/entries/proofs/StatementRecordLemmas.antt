@@ -72,13 +72,13 @@ module _ (numbers : List ℕ) (groups : List BufferPart) (r : StatementRecord) (
   layout : layout_in r.has_parts (numbers_by numbers r next) ≡ at
   layout = sym (laid ∙ ap (layout_in r.has_parts) same)
 
-  pub groups-count : r.groups + at.groups ≡ groups_by groups next
-  groups-count = ap (λ (x : Layout). r.groups + x.groups) (sym layout) ∙ a.kept.grouped.count
+  pub groups-count : r.groups_from + at.group_count ≡ groups_by groups next
+  groups-count = ap (λ (x : Layout). r.groups_from + x.group_count) (sym layout) ∙ a.kept.grouped.count
 
-  pub is-stored : (spans : Bor (List BufferPart)) (k : StateBefore) → spans.now ≡ slice_range groups r.groups (r.groups + at.groups) → behind ≡ Some k → IsStored found (record { kept = r; before = k; numbers = run; at = at; groups = spans })
+  pub is-stored : (spans : Bor (List BufferPart)) (k : StateBefore) → spans.now ≡ slice_range groups r.groups_from (r.groups_from + at.group_count) → behind ≡ Some k → IsStored found (record { kept = r; before = k; numbers = run; at = at; groups = spans })
   is-stored spans k part there =
       let p = a.kept.placed in let w = a.kept.grouped in
-      let of_next : spans.now ≡ spans_by groups r next = part ∙ ap (slice_range groups r.groups) groups-count in
+      let of_next : spans.now ≡ spans_by groups r next = part ∙ ap (slice_range groups r.groups_from) groups-count in
       record {
         ordered = rw laid (ordered r.has_parts run.now);
         whole = sym (ap (λ (x : Layout). x.end) layout) ∙ (p.whole ∙ sym (ap length same));

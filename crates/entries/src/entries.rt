@@ -140,8 +140,8 @@ impl Entries {
     {
         let kept = item(&self.records, index);
         let (numbers, at) = numbers_at(&self.records, &self.numbers, index, kept);
-        let from = kept.groups as usize;
-        let groups = part(&self.groups, from, from + at.groups);
+        let from = kept.groups_from as usize;
+        let groups = part(&self.groups, from, from + at.group_count);
         let before = item(&self.states_before, index);
         Stored {
             kept,
@@ -193,7 +193,7 @@ impl Entries {
         if len < self.records.len() {
             let first = item(&self.records, len);
             self.numbers.truncate(first.from as usize);
-            self.groups.truncate(first.groups as usize);
+            self.groups.truncate(first.groups_from as usize);
             self.records.truncate(len);
             self.states_before.truncate(len);
         }
@@ -268,7 +268,7 @@ fn add(
         records,
         &[StatementRecord {
             from,
-            groups: first,
+            groups_from: first,
             kind: header.kind,
             has_parts,
             whole: parts.whole,

@@ -26,21 +26,21 @@ pub struct Layout {
     /// Where the variables of its groups end.
     pub end: usize,
     /// How many groups it has.
-    pub groups: usize,
+    pub group_count: usize,
 }
 
-/// Returns the layout of `count` hypotheses, `symbols` symbols, `groups` groups and `grouped_variables` variables of groups,
-/// the first part of which begins at `typecodes`.
+/// Returns the layout of `count` hypotheses, `symbols` symbols, `group_count` groups and `grouped_variables` variables of
+/// groups, the first part of which begins at `typecodes`.
 #[inline(always)]
 pub fn layout_by_counts(
     typecodes: usize,
     count: usize,
     symbols: usize,
-    groups: usize,
+    group_count: usize,
     grouped_variables: usize,
 ) -> Layout
-    requires { (layout_of_counts typecodes count symbols groups grouped_variables).end < 2 ^ 64 }
-    ensures { result ≡ layout_of_counts typecodes count symbols groups grouped_variables }
+    requires { (layout_of_counts typecodes count symbols group_count grouped_variables).end < 2 ^ 64 }
+    ensures { result ≡ layout_of_counts typecodes count symbols group_count grouped_variables }
 {
     let required = typecodes + count;
     let hypotheses = required + count + symbols;
@@ -51,7 +51,7 @@ pub fn layout_by_counts(
         hypotheses,
         grouped_variables: hypotheses + count,
         end: hypotheses + count + grouped_variables,
-        groups,
+        group_count,
     }
 }
 

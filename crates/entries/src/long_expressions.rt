@@ -9,8 +9,9 @@ use crate::symbol_places::SymbolPlaces;
 use std::alloc::{AllocError, Global};
 use std::marker::Model;
 
-/// For each long expression, by the index of its statement, the places of its symbols. The caller decides which are long. Contracts see the list of the indexes, in ascending order, each with the symbols of the statement's
-/// expression, their groups, and the constants among them.
+/// For each long expression, by the index of its statement, the places of its symbols. The caller decides which are long.
+/// Contracts see the list of the indexes, in ascending order, each with the symbols of the statement's expression, their
+/// groups, and the constants among them.
 #[derive(Drop)]
 pub struct LongExpressions {
     alloc: Global,

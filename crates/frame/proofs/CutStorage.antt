@@ -1,5 +1,5 @@
 -- The storage after it is cut to its first statements, and after added statements are removed again.
-use Rattle.frame.proofs.Words.{sym, ◌∙◌, ap, subst, arith, take-take, ◌≡◌, ℕ, ◌+◌, ◌<◌, ◌≤◌, true, List, length, map, take, drop, slice_get, Some, refl, suc, [], ◌∷◌, Option, None, length-take-le, take-map, take-append-drop, take_at, length-map, Name, Database, IsNumberingOf, Declared, declared_symbols, declared_labels, stays_open, label_of, symbols_of, labels_of, option_list, LastActive, Entry, Symbol, is_disj, is_var, last_active_of, stmt_of, statements_of, positions_from, AreAllLegal, ReadsAs, replaced_of, symbol_of, names_in, labels_in, option_position, AreNumbered, KeepsCounts, IsAfter, Storage, naming_of, AreKept, AreStored, Extends, has_parts, IsKeptAs, extends-length, extends-take, take-get, labels_of-append, AreKeptUntil}
+use Rattle.frame.proofs.Words.{sym, ◌∙◌, ap, subst, arith, take-take, ◌≡◌, ℕ, ◌+◌, ◌<◌, ◌≤◌, true, List, length, map, take, drop, slice_get, Some, refl, suc, [], ◌∷◌, Option, None, length-take-le, take-map, take-append-drop, take_at, length-map, Name, Database, IsNumberingOf, Declared, declared_symbols, declared_labels, stays_open, label_of, symbols_of, labels_of, option_list, LastActive, Entry, LastDeclarations, is_disj, is_var, last_active_of, stmt_of, statements_of, positions_from, AreAllLegal, ReadsAs, replaced_of, last_declarations_of, names_in, labels_in, option_position, AreNumbered, KeepsCounts, IsAfter, Storage, naming_of, AreKept, AreStored, Extends, has_parts, IsKeptAs, extends-length, extends-take, take-get, labels_of-append, AreKeptUntil}
 use Rattle.frame.proofs.StackLemmas.{essentials-back, stacks-back}
 use Rattle.frame.proofs.BlockWalkLemmas.{get-take}
 use Rattle.frame.proofs.DeclaredSymbolLemmas.{symbols_of-front}
@@ -33,8 +33,8 @@ positions-front n S =
 
 -- ---- the parts after the cut, where e is the entry after the first n
 
-pub record IsCut (names labels : List Name) (positions : List ℕ) (symbols : List Symbol) (entries : List Entry)
-    (names' labels' : List Name) (positions' : List ℕ) (between symbols' : List Symbol) (replaced' : List ℕ) (entries' : List Entry) (links' : LastActive) (n : ℕ) (e : Entry) : Type 0 where
+pub record IsCut (names labels : List Name) (positions : List ℕ) (symbols : List LastDeclarations) (entries : List Entry)
+    (names' labels' : List Name) (positions' : List ℕ) (between symbols' : List LastDeclarations) (replaced' : List ℕ) (entries' : List Entry) (links' : LastActive) (n : ℕ) (e : Entry) : Type 0 where
   pub at : slice_get entries n ≡ Some e
   pub names_cut : names' ≡ symbols_of (take n (map (stmt_of names labels) entries))
   pub labels_cut : labels' ≡ labels_of (take n (map (stmt_of names labels) entries))
@@ -42,12 +42,12 @@ pub record IsCut (names labels : List Name) (positions : List ℕ) (symbols : Li
   pub between_count : length between ≡ length symbols
   pub symbols_cut : symbols' ≡ take e.symbol_count between
   pub entries_cut : entries' ≡ take n entries
-  pub declared : ReadsAs between (symbol_of entries')
+  pub declared : ReadsAs between (last_declarations_of entries')
   pub recorded : replaced' ≡ replaced_of entries'
   pub last_active_back : links' ≡ e.last_active
 
-module _ {names labels : List Name} {positions : List ℕ} {symbols : List Symbol} {replaced : List ℕ} {entries : List Entry} {last_active : LastActive}
-    {names' labels' : List Name} {positions' : List ℕ} {between symbols' : List Symbol} {replaced' : List ℕ} {entries' : List Entry} {links' : LastActive} {n : ℕ} {e : Entry}
+module _ {names labels : List Name} {positions : List ℕ} {symbols : List LastDeclarations} {replaced : List ℕ} {entries : List Entry} {last_active : LastActive}
+    {names' labels' : List Name} {positions' : List ℕ} {between symbols' : List LastDeclarations} {replaced' : List ℕ} {entries' : List Entry} {links' : LastActive} {n : ℕ} {e : Entry}
     (k : AreKept names labels positions symbols replaced entries last_active)
     (p : IsCut names labels positions symbols entries names' labels' positions' between symbols' replaced' entries' links' n e) where
   abbrev pub S : Database
@@ -93,7 +93,7 @@ module _ {names labels : List Name} {positions : List ℕ} {symbols : List Symbo
   there i d h = take-get n i entries d (ap (λ r. slice_get r i) (sym p.entries_cut) ∙ h)
 
   -- each symbol that remains has the last of its declarations that remain
-  symbols'' : (c : ℕ) → c < length names' → slice_get symbols' c ≡ Some (symbol_of entries' c)
+  symbols'' : (c : ℕ) → c < length names' → slice_get symbols' c ≡ Some (last_declarations_of entries' c)
   symbols'' c lt =
       let a = names-count in let b = p.between_count in let d = k.count in let w = within in
       ap (λ r. slice_get r c) p.symbols_cut ∙ (get-take c e.symbol_count between (omega (arith, lt, a)) ∙ p.declared c (omega (arith, lt, a, b, d, w)))

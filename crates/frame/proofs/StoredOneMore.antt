@@ -1,5 +1,5 @@
 -- The parts of the storage after a statement is appended: numbers, labels, positions, symbols.
-use Rattle.frame.proofs.Words.{list_any, sym, ◌∙◌, ap, subst, arith, inl, inr, add-zero, ◌≡◌, ℕ, zero, suc, ◌+◌, ◌-◌, ◌<◌, ◌≤◌, Bool, true, false, cond, not, ◌&&◌, ◌||◌, ◌==◌, nat_lt, ◌⊎◌, List, [], ◌∷◌, ◌++◌, length, map, take, slice_get, Option, Some, None, refl, and-false, take-append-le, cases_lt, ltb-true, take-append_seam, Name, Stmt, Database, before, label_of, stays_open, is_close, is_open, count, IsLegal, G10, name_at, decode, AreBelow, LastActive, Kind, Float, Ess, Axiom, Prove, Entry, Symbol, stmt_by, stmt_of, positions_from, option_position, AreAllLegal, symbol_of, ReadsAs, floats, declares, second_is, is_float_kind, is_var_kind, last_from, IsLabelBelow, HasTwo, AreNumbered, AreUndeclared, AreZeroAfter, undeclared_symbol, AreKept, Extends, get-more, place, stays_open-append, below-deficit, no_deficit, deficit-close, count-left_open, get-push}
+use Rattle.frame.proofs.Words.{list_any, sym, ◌∙◌, ap, subst, arith, inl, inr, add-zero, ◌≡◌, ℕ, zero, suc, ◌+◌, ◌-◌, ◌<◌, ◌≤◌, Bool, true, false, cond, not, ◌&&◌, ◌||◌, ◌==◌, nat_lt, ◌⊎◌, List, [], ◌∷◌, ◌++◌, length, map, take, slice_get, Option, Some, None, refl, and-false, take-append-le, cases_lt, ltb-true, take-append_seam, Name, Stmt, Database, before, label_of, stays_open, is_close, is_open, count, IsLegal, G10, name_at, decode, AreBelow, LastActive, Kind, Float, Ess, Axiom, Prove, Entry, LastDeclarations, stmt_by, stmt_of, positions_from, option_position, AreAllLegal, last_declarations_of, ReadsAs, floats, declares, second_is, is_float_kind, is_var_kind, last_from, IsLabelBelow, HasTwo, AreNumbered, AreUndeclared, AreZeroAfter, undeclared_symbol, AreKept, Extends, get-more, place, stays_open-append, below-deficit, no_deficit, deficit-close, count-left_open, get-push}
 use Rattle.frame.proofs.SymbolNumberLemmas.{decode-extends, name_at-extends, below-more}
 use Rattle.mm_read.specs.declared.stmt.Stmt.TheVariants as stmt
 
@@ -95,14 +95,14 @@ numbered-at n m [] h k e g = cc
 numbered-at n m (d ∷ es) h zero e g = let same : d ≡ e = cc in subst (λ x. AreBelow n x.symbols) same h.0
 numbered-at n m (d ∷ es) h (suc k) e g = numbered-at n m es h.2 k e g
 
-pub symbol_of-above : (n m : ℕ) (es : List Entry) (c : ℕ) → AreNumbered n m es → n ≤ c → symbol_of es c ≡ undeclared_symbol
-symbol_of-above n m es c h le =
+pub last_declarations_of-above : (n m : ℕ) (es : List Entry) (c : ℕ) → AreNumbered n m es → n ≤ c → last_declarations_of es c ≡ undeclared_symbol
+last_declarations_of-above n m es c h le =
     rw (
       none-from (floats c) 0 1 es (λ e k g. ap (λ b. is_float_kind e.kind && b) (above-second n c e.symbols (numbered-at n m es h k e g) le) ∙ and-false (is_float_kind e.kind)),
       none-from (declares c) 0 1 es (λ e k g. ap (λ b. is_var_kind e.kind && b) (above-any n c e.symbols (numbered-at n m es h k e g) le) ∙ and-false (is_var_kind e.kind)),
     ) refl
 
-get-zero : (old more : List Symbol) (c : ℕ) → AreUndeclared more → length old ≤ c → c < length (old ++ more) → slice_get (old ++ more) c ≡ Some undeclared_symbol
+get-zero : (old more : List LastDeclarations) (c : ℕ) → AreUndeclared more → length old ≤ c → c < length (old ++ more) → slice_get (old ++ more) c ≡ Some undeclared_symbol
 get-zero [] [] c z le lt = absurd (omega (arith, lt))
 get-zero [] (x ∷ more) zero z le lt = ap Some z.0
 get-zero [] (x ∷ more) (suc c) z le lt = get-zero [] more c z.1 (omega arith) (omega (arith, lt))
@@ -110,15 +110,15 @@ get-zero (x ∷ old) more zero z le lt = absurd (omega (arith, le))
 get-zero (x ∷ old) more (suc c) z le lt = get-zero old more c z (omega (arith, le)) (omega (arith, lt))
 
 -- the symbols, followed by symbols that nothing declares, have the same declarations
-pub still-reads : (names labels : List Name) (positions : List ℕ) (symbols : List Symbol) (replaced : List ℕ) (entries : List Entry) (last_active : LastActive) (between : List Symbol)
-    → AreKept names labels positions symbols replaced entries last_active → AreZeroAfter symbols between → ReadsAs between (symbol_of entries)
+pub still-reads : (names labels : List Name) (positions : List ℕ) (symbols : List LastDeclarations) (replaced : List ℕ) (entries : List Entry) (last_active : LastActive) (between : List LastDeclarations)
+    → AreKept names labels positions symbols replaced entries last_active → AreZeroAfter symbols between → ReadsAs between (last_declarations_of entries)
 still-reads names labels positions symbols replaced entries last_active between k z c lt = by (cases_lt c (length names))
   where
-    by : (c < length names) ⊎ (length names ≤ c) → slice_get between c ≡ Some (symbol_of entries c)
-    by (inl l) = ap (λ r. slice_get r c) z.1 ∙ get-more symbols z.0 c (symbol_of entries c) (k.symbols_kept c l)
+    by : (c < length names) ⊎ (length names ≤ c) → slice_get between c ≡ Some (last_declarations_of entries c)
+    by (inl l) = ap (λ r. slice_get r c) z.1 ∙ get-more symbols z.0 c (last_declarations_of entries c) (k.symbols_kept c l)
     by (inr ge) =
         let size : length between ≡ length (symbols ++ z.0) = ap length z.1 in
         let a = k.count in
         ap (λ r. slice_get r c) z.1
         ∙ (get-zero symbols z.0 c z.2 (omega (arith, a, ge)) (omega (arith, size, lt))
-        ∙ ap Some (sym (symbol_of-above (length names) (length labels) entries c k.coded ge)))
+        ∙ ap Some (sym (last_declarations_of-above (length names) (length labels) entries c k.coded ge)))

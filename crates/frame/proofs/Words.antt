@@ -35,7 +35,7 @@ pub use Rattle.frame.specs.Parts.{FrameParts, Numbered}
 pub use Rattle.frame.specs.Stored.AssertionParts.{IsKeptAs, floats_in, groups_by, has_parts, has_two, is_float_in, is_typed, is_typed_by, kept_with, option_required, option_symbols, recorded_in, required_at, required_by, symbols_at, typecode_at, typed}
 pub use Rattle.frame.specs.Stored.Counts.{AreNumbered, AreUndeclared, AreZeroAfter, HasMoreNames, HasRoom, HasTwo, IsAfter, IsLabelBelow, IsPlain, KeepsCounts, kind_of, next_last_active, with_declared, with_entry, undeclared_symbol}
 pub use Rattle.frame.specs.Stored.Ends.{AreBlocks, AreEnds, AreBlockEnds, end_from, end_of, with_end}
-pub use Rattle.frame.specs.Stored.EntryMeanings.{AreAllLegal, ReadsAs, declared_by, declares, floats, is_float_kind, is_var_kind, labels_in, last_from, last_of, last_where, names_in, option_position, positions_from, replaced_after, replaced_by, replaced_of, second_is, statements_of, stmt_by, stmt_of, symbol_of, with_last}
+pub use Rattle.frame.specs.Stored.EntryMeanings.{AreAllLegal, ReadsAs, declared_by, declares, floats, is_float_kind, is_var_kind, labels_in, last_from, last_of, last_where, names_in, option_position, positions_from, replaced_after, replaced_by, replaced_of, second_is, statements_of, stmt_by, stmt_of, last_declarations_of, with_last}
 pub use Rattle.frame.specs.Stored.EssentialSets.{AreFrames, AreEssentialSets, IsSetFromEssentials, IsEssentialSet, kept_set, option_set}
 pub use Rattle.frame.specs.Stored.Hypotheses.{AreCollected, AreDescribed, AreFloats, AreHypotheses, AreLooked, AreThose, AreWith, HasMore, In, IsFilledFrom, IsFloatOf, IsFromEssentials, IsWith, OfSome, SomeFloat, is_hypothesis_entry, kept_at, option_kept}
 pub use Rattle.frame.specs.Stored.Labels.{is_label_kind}
@@ -50,7 +50,7 @@ pub use Rattle.frame.specs.declared.essential_sets.EssentialSets.{EssentialSets}
 pub use Rattle.frame.specs.declared.essential_sets.EssentialSet.{EssentialSet}
 pub use Rattle.frame.specs.declared.stacks.NextStatement.{NextStatement}
 pub use Rattle.frame.specs.declared.storage.Storage.{Storage}
-pub use Rattle.frame.specs.declared.storage.Symbol.{Symbol}
+pub use Rattle.frame.specs.declared.storage.LastDeclarations.{LastDeclarations}
 pub use Rattle.mm_lex.specs.Alphabet.{Name, has_name, name_eq}
 pub use Rattle.mm_lex.specs.Words.{AreWords}
 pub use Rattle.mm_read.specs.Statements.{Database, Expr}

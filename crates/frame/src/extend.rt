@@ -113,7 +113,7 @@ fn extend_whole(
 /// Appends the statement, and records the mandatory hypotheses that its active `$e` bring along.
 ///
 /// If an allocation fails, the storage is as before.
-fn grow(
+fn extend_with_sets(
     alloc: Global,
     storage: &mut Storage,
     essential_sets: &mut EssentialSets,
@@ -133,13 +133,13 @@ fn grow(
     extend_whole(alloc, storage, essential_sets, buffers, stmt, recorded)?;
     let kept = essential_sets.record_set(storage);
     if kept.is_err() {
-        cut(storage, front);
+        truncate_storage(storage, front);
     }
     kept
 }
 
 /// Truncates the storage to its first `len` statements.
-fn cut(storage: &mut Storage, len: usize)
+fn truncate_storage(storage: &mut Storage, len: usize)
     requires stored { AreStored storage.old }
     ensures stored { AreStored storage.new }
     ensures statements { statements_of storage.new ≡ take len (statements_of storage.old) }
@@ -226,7 +226,7 @@ impl Frames {
         let _scope = scope;
         self.recorded.forget();
         steps.tick();
-        grow(
+        extend_with_sets(
             self.alloc,
             &mut self.storage,
             &mut self.essential_sets,
@@ -267,7 +267,7 @@ impl Frames {
             return Err(rule);
         }
         let front = self.storage.entries.len();
-        grow(
+        extend_with_sets(
             self.alloc,
             &mut self.storage,
             &mut self.essential_sets,
@@ -293,7 +293,7 @@ impl Frames {
         ensures names { Extends self.new.names self.old.names }
         ensures symbols { self.new.names ≡ symbols_of self.new.statements }
     {
-        cut(&mut self.storage, len);
+        truncate_storage(&mut self.storage, len);
         self.essential_sets.truncate(len);
         self.kept_facts.truncate(len);
     }

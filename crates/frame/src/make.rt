@@ -37,7 +37,7 @@ pub fn hypothesis(entry: EntryRef<'_>, position: u32) -> Hypothesis
 }
 
 /// Appends the hypotheses, each as one number, and their typecodes.
-pub fn describe(
+pub fn encode_hypotheses(
     storage: &Storage,
     hypotheses: &[u32],
     required: &mut Vec<u32>,
@@ -121,7 +121,7 @@ pub fn fill_from_hypotheses(
     requires undescribed { (buffers.old.required ≡ []) × (buffers.old.typecodes ≡ []) × (buffers.old.groups ≡ []) }
     ensures { OnOk result (IsFilledFrom storage.now.entries (take (at - 1) (statements_of storage.now)) buffers.old.hypotheses buffers.new) }
 {
-    describe(
+    encode_hypotheses(
         storage,
         &buffers.hypotheses,
         &mut buffers.required,
@@ -171,7 +171,7 @@ pub fn fill_parts(
         codes,
     )?;
     if is_essential(stmt) || !are_few(storage, essential_sets, buffers.hypotheses.len()) {
-        return describe(
+        return encode_hypotheses(
             storage,
             &buffers.hypotheses,
             &mut buffers.required,
@@ -200,7 +200,7 @@ fn fill_own(storage: &Storage, buffers: &mut FrameBuffers, codes: &[u32]) -> Res
         &mut buffers.hypotheses,
         codes,
     )?;
-    describe(
+    encode_hypotheses(
         storage,
         &buffers.hypotheses,
         &mut buffers.required,

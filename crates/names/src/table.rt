@@ -211,7 +211,7 @@ pub(crate) fn free_slot_index(slots: &[Slot], key: u64) -> Option<usize>
 
 /// Makes new slots for the texts, with room for as many again, or for `more` if that is greater. A text in the overflow stays
 /// there.
-pub(crate) fn table(
+pub(crate) fn build_slots(
     alloc: Global,
     texts: &Texts,
     name_keys: &mut NameKeys,

@@ -25,7 +25,7 @@ layout_of_counts from h s g p = record {
   hypotheses = from + h + h + s;
   grouped_variables = from + h + h + s + h;
   end = from + h + h + s + h + p;
-  groups = g;
+  group_count = g;
 }
 
 -- the first numbers of an assertion with its parts are their counts; else there are symbols alone
@@ -46,7 +46,7 @@ numbers_of true p = ((((counts_of p ++ p.typecodes.now) ++ p.required.now) ++ p.
 numbers_of false p = p.symbols.now
 
 abbrev pub record_by : Kind → Bool → Bool → ℕ → ℕ → StatementRecord
-record_by kind has_parts whole from groups = record { from = from; groups = groups; kind = kind; has_parts = has_parts; whole = whole }
+record_by kind has_parts whole from groups = record { from = from; groups_from = groups; kind = kind; has_parts = has_parts; whole = whole }
 
 -- a statement without the state before it
 pub record Body : Type 0 where
@@ -82,13 +82,13 @@ end_by numbers (Some next) = next.from
 
 abbrev pub groups_by : List BufferPart → Option StatementRecord → ℕ
 groups_by groups None = length groups
-groups_by groups (Some next) = next.groups
+groups_by groups (Some next) = next.groups_from
 
 abbrev pub numbers_by : List ℕ → StatementRecord → Option StatementRecord → List ℕ
 numbers_by numbers r next = slice_range numbers r.from (end_by numbers next)
 
 abbrev pub spans_by : List BufferPart → StatementRecord → Option StatementRecord → List BufferPart
-spans_by groups r next = slice_range groups r.groups (groups_by groups next)
+spans_by groups r next = slice_range groups r.groups_from (groups_by groups next)
 
 abbrev pub bodies_of : List ℕ → List BufferPart → List StatementRecord → List Body
 bodies_of numbers groups [] = []
@@ -108,7 +108,7 @@ pub record IsPlaced (numbers : List ℕ) (r : StatementRecord) (next : Option St
 
 -- a statement's groups are as many as its layout has, and parts of its grouped variables
 pub record IsGrouped (groups : List BufferPart) (r : StatementRecord) (next : Option StatementRecord) (at : Layout) : Type 0 where
-  pub count : r.groups + at.groups ≡ groups_by groups next
+  pub count : r.groups_from + at.group_count ≡ groups_by groups next
   pub end : groups_by groups next ≤ length groups
   pub spans : AreSpansIn (at.end - at.grouped_variables) (spans_by groups r next)
 

@@ -31,8 +31,8 @@ returns-then-branch-clause-filled c =
     let k = c.args.storage.now in
     let old = c.args.buffers.now in
     let found = c.in_ok-find_pairs.ensures.pairs c.if-branch.true in
-    let told = c.describe_all.ensures in
-    both-ok c.describe_all.result
-    (λ required typecodes. inr (described-pairs k c.args.at old.hypotheses c.deref-3.result.now old c.find_pairs.new.buffers c.describe_all.new.buffers found c.requires.undescribed.2 refl told.hypotheses told.groups required typecodes
+    let told = c.encode_all_hypotheses.ensures in
+    both-ok c.encode_all_hypotheses.result
+    (λ required typecodes. inr (described-pairs k c.args.at old.hypotheses c.deref-3.result.now old c.find_pairs.new.buffers c.encode_all_hypotheses.new.buffers found c.requires.undescribed.2 refl told.hypotheses told.groups required typecodes
     (λ d. ap (list_any (λ n. n == d)) c.deref-3.ensures.value ∙ typed (goal.at.returns-then-branch-clause-filled c).In_ok-variables d)))
     told.required told.typecodes

@@ -1,7 +1,7 @@
 use Rattle.frame.proofs.Words.{◌≡◌, ◌∙◌, ap, sym, subst, arith, refl, length, length-append, length-take-le, take, extends-length, on-err, [], ◌∷◌, bare, statements_of, AreEssentialSets}
 use Rattle.frame.proofs.EssentialSetLemmas.{sets-front, sets-more}
 use Rattle.frame.proofs.KindWalk.{as-many}
-use Rattle.frame.proofs.extend.grow.Goals as goal
+use Rattle.frame.proofs.extend.extend_with_sets.Goals as goal
 
 pub record_set-kept-requires-clause-sets : goal.record_set-kept-requires-clause-sets
 record_set-kept-requires-clause-sets c =
@@ -27,7 +27,7 @@ returns-in_err-extend_whole-clause-kept c =
 
 pub returns-then-is_err-clause-kept : goal.returns-then-is_err-clause-kept
 returns-then-is_err-clause-kept c =
-    let old = c.args.storage.now in let mid = c.extend_whole.new.storage in let new = c.cut.new.storage in
+    let old = c.args.storage.now in let mid = c.extend_whole.new.storage in let new = c.truncate_storage.new.storage in
     let g = c.args.essential_sets.now in let h = c.record_set-kept.new.self in let front = c.len-front.result in
     let kept : h.kept.items ≡ g.kept.items = on-err c.record_set-kept.result (h.kept.items ≡ g.kept.items) (sym c.is_err.ensures.value ∙ c.if-is_err.true) c.record_set-kept.ensures.same in
     let many = ap length kept ∙ c.requires.kept.count in
@@ -35,7 +35,7 @@ returns-then-is_err-clause-kept c =
     let longer = extends-length old.entries mid.entries c.in_ok-extend_whole.ensures.more in
     let sets = sets-front h h mid.entries (statements_of mid) front c.record_set-kept.ensures.sets refl refl (omega (arith, many, at)) in
     record {
-      stored = c.cut.ensures.stored;
-      sets = subst (λ es. AreEssentialSets h es (statements_of new)) (sym c.cut.ensures.entries) (subst (AreEssentialSets h (take front mid.entries)) (sym c.cut.ensures.statements) sets);
-      count = many ∙ (sym at ∙ (sym (length-take-le front mid.entries (omega (arith, at, longer))) ∙ sym (ap length c.cut.ensures.entries)));
+      stored = c.truncate_storage.ensures.stored;
+      sets = subst (λ es. AreEssentialSets h es (statements_of new)) (sym c.truncate_storage.ensures.entries) (subst (AreEssentialSets h (take front mid.entries)) (sym c.truncate_storage.ensures.statements) sets);
+      count = many ∙ (sym at ∙ (sym (length-take-le front mid.entries (omega (arith, at, longer))) ∙ sym (ap length c.truncate_storage.ensures.entries)));
     }

@@ -1,5 +1,5 @@
 use Rattle.names.specs.Stored.Table.{AreNameKeys, OverflowGrows, AreReachable}
-use Rattle.names.proofs.table.table.Given as goal
+use Rattle.names.proofs.table.build_slots.Given as goal
 
 abbrev pub invariant-loop-code : goal.invariant-loop-code
 invariant-loop-code l = record {

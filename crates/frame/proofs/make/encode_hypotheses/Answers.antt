@@ -1,7 +1,7 @@
 use Rattle.frame.proofs.Words.{◌-◌, arith, get_or, length, entry_from_ref, names_in, labels_in}
 use Rattle.frame.proofs.StoredReading.{two-of}
 use Rattle.frame.proofs.MakeLemmas.{hypothesis-at}
-use Rattle.frame.proofs.make.describe.Goals as goal
+use Rattle.frame.proofs.make.encode_hypotheses.Goals as goal
 
 pub overflow_sub-position : goal.overflow_sub-position
 overflow_sub-position c = (hypothesis-at c.args.storage.now.entries c.args.hypotheses.now c.loop-position.position-index c.requires.hypotheses (omega arith)).0

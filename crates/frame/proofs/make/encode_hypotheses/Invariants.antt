@@ -1,5 +1,5 @@
 use Rattle.frame.proofs.Words.{◌≡◌, take, map, decoded_hypothesis, required_at, typecode_at}
-use Rattle.frame.proofs.make.describe.Given as goal
+use Rattle.frame.proofs.make.encode_hypotheses.Given as goal
 
 abbrev pub invariant-loop-position : goal.invariant-loop-position
 invariant-loop-position l = record {

@@ -1,9 +1,9 @@
-use Rattle.frame.proofs.Words.{◌≡◌, ◌∙◌, ap, sym, subst, arith, length, take, ◌<◌, ◌≤◌, is_disj, is_var, AreStored, Extends, length-take-le, take-length, slice_get_within, names_in, labels_in, statements_of, ReadsAs, replaced_of, symbol_of, declared_symbols, declared_labels, naming_of, entry_from_ref, AreKeptUntil}
+use Rattle.frame.proofs.Words.{◌≡◌, ◌∙◌, ap, sym, subst, arith, length, take, ◌<◌, ◌≤◌, is_disj, is_var, AreStored, Extends, length-take-le, take-length, slice_get_within, names_in, labels_in, statements_of, ReadsAs, replaced_of, last_declarations_of, declared_symbols, declared_labels, naming_of, entry_from_ref, AreKeptUntil}
 use Rattle.frame.proofs.StackLemmas.{essentials-front, stacks-front}
 use Rattle.frame.proofs.EndLemmas.{ends-front, stored-blocks}
 use Rattle.frame.proofs.CutStorage.{IsCut, kept-cut, cut-statements, names-front, front-naming, numbering-front}
-use Rattle.frame.proofs.extend.cut.Goals as goal
-use Rattle.frame.proofs.extend.cut.Goals.{After-roll_back}
+use Rattle.frame.proofs.extend.truncate_storage.Goals as goal
+use Rattle.frame.proofs.extend.truncate_storage.Goals.{After-roll_back}
 
 left : (c : After-roll_back) → AreStored c.roll_back.new.storage × (statements_of c.roll_back.new.storage ≡ take c.args.len (statements_of c.args.storage.now)) × Extends (names_in c.roll_back.new.storage) (names_in c.args.storage.now)
 left c =
@@ -29,7 +29,7 @@ left c =
       between_count = away.count;
       symbols_cut = back.symbols ∙ ap (λ m. take m between) (ap length names ∙ sym counts.name_count);
       entries_cut = back.entries ∙ away.entries;
-      declared = subst (λ v. ReadsAs between (symbol_of v)) (sym back.entries) away.declared;
+      declared = subst (λ v. ReadsAs between (last_declarations_of v)) (sym back.entries) away.declared;
       recorded = back.replaced ∙ (ap (λ m. take m left) all ∙ (take-length left ∙ (away.recorded ∙ ap (λ v. replaced_of v) (sym back.entries))));
       last_active_back = back.last_active;
     } in
