@@ -109,7 +109,7 @@ impl Entries {
 
     /// Returns the symbols and the parts of the statement at an index, without the positions of its hypotheses, or
     /// `None` if its parts are not whole.
-    pub fn cited(&self, index: usize) -> Option<AssertionView<'_>>
+    pub fn kept_view(&self, index: usize) -> Option<AssertionView<'_>>
         requires { index < length self.now }
         ensures parts { (e : Entry) → slice_get self.now index ≡ Some e → IfSome result (IsWholeView e) }
         ensures none { (e : Entry) → slice_get self.now index ≡ Some e → IfNone result (e.assertion.whole ≡ false) }

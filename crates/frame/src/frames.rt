@@ -204,11 +204,11 @@ impl Frames {
     }
 
     /// Returns the parts of the assertion at a position, by numbers, or `None` if they are too many to be kept whole.
-    pub fn cited(&self, a: usize) -> Option<AssertionView<'_>>
+    pub fn kept_view(&self, a: usize) -> Option<AssertionView<'_>>
         requires { (s : Statement) × HasAssertion self.now.statements a s }
         ensures { (s : Statement) → stmt_at self.now.statements a ≡ Some s → IfSome result (IsViewOf self.now.statements self.now.names a s) }
     {
-        self.storage.entries.cited(a - 1)
+        self.storage.entries.kept_view(a - 1)
     }
 
     /// Fills the buffers with the parts of the assertion at a position, whose parts need not be kept whole.
@@ -224,7 +224,11 @@ impl Frames {
     }
 
     /// Returns the parts of the assertion at a position, from the buffers that `fill_buffers` filled.
-    pub fn cited_from<'a>(&'a self, a: usize, frame_buffers: &'a FrameBuffers) -> AssertionView<'a>
+    pub fn buffered_view<'a>(
+        &'a self,
+        a: usize,
+        frame_buffers: &'a FrameBuffers,
+    ) -> AssertionView<'a>
         requires assertion { (s : Statement) × HasAssertion self.now.statements a s }
         requires frame_buffers { AreBuffersOf self.now.statements self.now.names a frame_buffers.now }
         ensures { (s : Statement) → stmt_at self.now.statements a ≡ Some s → IsViewOf self.now.statements self.now.names a s result }
@@ -267,7 +271,7 @@ impl Frames {
     }
 
     /// Returns the parts by which the assertion at a position can be cited, from the buffers that `fill_for_citing` filled.
-    pub fn cited_by<'a>(&'a self, a: usize, buffers: &'a FrameBuffers) -> AssertionView<'a>
+    pub fn citing_view<'a>(&'a self, a: usize, buffers: &'a FrameBuffers) -> AssertionView<'a>
         requires assertion { (s : Statement) × HasAssertion self.now.statements a s }
         requires lists { AreCitingLists self.now.statements self.now.names a buffers.now }
         ensures { (s : Statement) → stmt_at self.now.statements a ≡ Some s → IsCited self.now.statements self.now.names a s result }

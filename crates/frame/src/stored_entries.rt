@@ -89,12 +89,12 @@ impl StoredEntries {
 
     /// Returns the parts of the assertion at an index, or `None` if they are not whole.
     #[inline(always)]
-    pub fn cited(&self, index: usize) -> Option<AssertionView<'_>>
+    pub fn kept_view(&self, index: usize) -> Option<AssertionView<'_>>
         requires { index < length self.now }
         ensures parts { (e : Entry) → slice_get self.now index ≡ Some e → IfSome result (IsWholeView e) }
         ensures none { (e : Entry) → slice_get self.now index ≡ Some e → IfNone result (e.assertion.whole ≡ false) }
     {
-        self.list.cited(index)
+        self.list.kept_view(index)
     }
 
     /// Returns where each symbol of the expression at an index stands, if the expression is long. Its constants are the symbols

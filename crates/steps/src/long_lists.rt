@@ -1,5 +1,5 @@
 //! The mandatory hypotheses of assertions with long lists, listed once for each assertion of a table. An assertion has long
-//! lists if `Frames::cited` returns `None` for it.
+//! lists if `Frames::kept_view` returns `None` for it.
 ghost use Rattle.std.specs.Prelude.{◌≡◌, [], false, map, is_some, Some, IfOk, IfSome, OnOk};
 ghost use Rattle.mm_read.specs.declared.stmt.Stmt.{Stmt as Statement};
 ghost use Rattle.scope.specs.Active.{stmt_at};
@@ -134,7 +134,7 @@ impl LongLists {
         ensures index { IfOk result (λ i. IsAt self.new.lists.items i position) }
     {
         frames.fill_buffers(position, &mut self.buffers)?;
-        let cited = frames.cited_from(position, &self.buffers);
+        let cited = frames.buffered_view(position, &self.buffers);
         let list = HypothesisList::of(self.alloc, position, &cited)?;
         let index = self.lists.len();
         self.lists.push(list)?;

@@ -327,7 +327,7 @@ impl KeptLists {
         &self.lists[index]
     }
 
-    /// Fills the buffers with the lists of the assertion at a position, for a citation by `Frames::cited_by`.
+    /// Fills the buffers with the lists of the assertion at a position, for a citation by `Frames::citing_view`.
     ///
     /// Errors: an allocation fails. Cost: that of `Frames::fill_for_citing`.
     pub fn fill(

@@ -1,6 +1,6 @@
 use Rattle.frame.proofs.Words.{◌∙◌, ap, refl, map, decoded_hypothesis, cut}
 use Rattle.frame.proofs.KeptStatementLemmas.{lists-cited}
-use Rattle.frame.proofs.frames.Frames.cited_from.Goals as goal
+use Rattle.frame.proofs.frames.Frames.buffered_view.Goals as goal
 
 pub returns : goal.returns
 returns c = λ s h.

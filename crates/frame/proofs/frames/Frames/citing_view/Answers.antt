@@ -1,6 +1,6 @@
 use Rattle.frame.proofs.Words.{◌∙◌, ap, refl, map, decoded_hypothesis, cut}
 use Rattle.frame.proofs.CitingListLemmas.{lists-cite}
-use Rattle.frame.proofs.frames.Frames.cited_by.Goals as goal
+use Rattle.frame.proofs.frames.Frames.citing_view.Goals as goal
 
 pub returns : goal.returns
 returns c = λ s h.
