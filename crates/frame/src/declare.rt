@@ -12,7 +12,7 @@ use scope::{SymbolNumbers, declare_names};
 use std::alloc::{AllocError, Global};
 
 /// There are fewer symbols than this, so numbers fit in 32 bits.
-const NAMES_LIMIT: usize = 2147483648;
+const SYMBOL_NUMBERS_LIMIT: usize = 2147483648;
 
 /// Declares the names of the next statement, and appends its position if it has a label. Records the numbers of the
 /// symbols of a `$c` or `$v`.
@@ -32,7 +32,7 @@ pub fn declare_next(
 {
     declare_names(&mut storage.numbering, alloc, stmt, recorded)?;
     let count = storage.numbering.symbol_count();
-    if count >= NAMES_LIMIT {
+    if count >= SYMBOL_NUMBERS_LIMIT {
         return Err(AllocError);
     }
     let undeclared = LastDeclarations {

@@ -9,7 +9,7 @@ pub use Rattle.frame.proofs.ActiveDisjointLemmas.{below-at}
 pub use Rattle.frame.proofs.FoundByNumber.{decode-injective, map-at, some-same}
 pub use Rattle.frame.proofs.PositionLemmas.{get-front}
 pub use Rattle.frame.proofs.SymbolNumberLemmas.{below-more, below-push, below-take}
-pub use Rattle.frame.specs.AssertionView.{AreRequired, IsOf, IsViewOf}
+pub use Rattle.frame.specs.AssertionView.{AreNumberedHypotheses, IsStatementOf, IsViewOf}
 pub use Rattle.frame.specs.AtPosition.{AreLegal, ArePositions, HasLabelsOnce, IsMeaning, IsPosition}
 pub use Rattle.frame.specs.Below.{AllBelow, AreBelow}
 pub use Rattle.frame.specs.Bound.{IsBound}
