@@ -1,5 +1,5 @@
 -- A statement is appended, or the last ones are removed: the numbers and groups of the others stay.
-use Rattle.entries.proofs.Words.{◌≡◌, ℕ, ◌+◌, ◌-◌, ◌<◌, ◌^◌, true, false, Bool, List, [], ◌∷◌, ◌++◌, length, slice_get, slice_range, take, drop, Some, None, refl, Result, Ok, Err, OnOk, OnErr, is_err, ◌∙◌, ap, sym, subst, arith, length-append, length-take-le, take-append-drop, drop_more, nil_from_length, slice_get_within, get_or_from_slice_get, take-append_seam, take-length, BufferPart, StatementRecord, Layout, AreShapedParts, assertion_of, AreSpansIn, Extends, counts_of, has_parts, run_of, record_by, layout_in, run_by, spans_by, body_of, bodies_of, IsKept, AreKept, ArePacked, ltb-false, Kind, AssertionParts}
+use Rattle.entries.proofs.Words.{◌≡◌, ℕ, ◌+◌, ◌-◌, ◌<◌, ◌^◌, true, false, Bool, List, [], ◌∷◌, ◌++◌, length, slice_get, slice_range, take, drop, Some, None, refl, Result, Ok, Err, OnOk, OnErr, is_err, ◌∙◌, ap, sym, subst, arith, length-append, length-take-le, take-append-drop, drop_more, nil_from_length, slice_get_within, get_or_from_slice_get, take-append_seam, take-length, BufferPart, StatementRecord, Layout, AreShapedParts, assertion_of, AreSpansIn, Extends, counts_of, has_parts, numbers_of, record_by, layout_in, numbers_by, spans_by, body_of, bodies_of, IsKept, AreKept, ArePacked, ltb-false, Kind, AssertionParts}
 use Rattle.entries.proofs.SpanLemmas.{range-behind, extends-refl, extends-take, extends-trans}
 use Rattle.entries.proofs.StatementRecordLemmas.{bodies-length, kept-at}
 use Rattle.entries.proofs.BufferPlaceLemmas.{bodies-before, kept-before, kept-cut}
@@ -9,15 +9,15 @@ use Rattle.entries.proofs.BufferPlaceLemmas.{bodies-before, kept-before, kept-cu
 -- the numbers and groups are as many as the layout says
 pub record IsLaid (at : Layout) (run : List ℕ) (spans : List BufferPart) : Type 0 where
   pub whole : at.end ≡ length run
-  pub count : at.groups ≡ length spans
-  pub grouped : AreSpansIn (at.end - at.places) spans
+  pub count : at.group_count ≡ length spans
+  pub grouped : AreSpansIn (at.end - at.grouped_variables) spans
 
 module _ (ns ms : List ℕ) (gs hs : List BufferPart) (rs qs : List StatementRecord) (h : Kind) (t whole : Bool) (run : List ℕ) (spans : List BufferPart)
     (packed : ArePacked ns gs rs) (numbers : ms ≡ ns ++ run) (groups : hs ≡ gs ++ spans) (records : qs ≡ rs ++ record_by h t whole (length ns) (length gs) ∷ []) where
   abbrev last : StatementRecord
   last = record_by h t whole (length ns) (length gs)
 
-  last-run : run_by ms last None ≡ run
+  last-run : numbers_by ms last None ≡ run
   last-run = range-behind ns run ms ms (length ns) (length ms) refl numbers refl (extends-refl ms)
 
   last-spans : spans_by hs last None ≡ spans
@@ -58,43 +58,43 @@ bare p shaped none =
     let s = shaped in
     record { hypotheses = nil_from_length _ (omega arith); required = nil_from_length _ (omega arith); typecodes = nil_from_length _ (omega arith); groups = nil_from_length _ (omega arith) }
 
-pub run-laid : (p : AssertionParts) (t : Bool) → AreShapedParts p → has_parts p ≡ t → IsLaid (layout_in t (run_of t p)) (run_of t p) p.groups.now
+pub run-laid : (p : AssertionParts) (t : Bool) → AreShapedParts p → has_parts p ≡ t → IsLaid (layout_in t (numbers_of t p)) (numbers_of t p) p.groups.now
 run-laid p true shaped e =
-    let n : length p.places.now ≡ (layout_in true (run_of true p)).end - (layout_in true (run_of true p)).places = omega arith in
+    let n : length p.grouped_variables.now ≡ (layout_in true (numbers_of true p)).end - (layout_in true (numbers_of true p)).grouped_variables = omega arith in
     let s = shaped in
     record { whole = simp length-append (omega arith); count = refl; grouped = subst (λ m. AreSpansIn m p.groups.now) n shaped.grouped }
 run-laid p false shaped e =
     let b = bare p shaped e in
     record { whole = omega arith; count = sym (ap length b.groups); grouped = rw b.groups tt }
 
-pub run-body : (h : Kind) (p : AssertionParts) (from groups : ℕ) (t : Bool) → AreShapedParts p → has_parts p ≡ t → body_of (record_by h t p.whole from groups) (run_of t p) p.groups.now ≡ record { kind = h; symbols = p.symbols.now; assertion = assertion_of p }
+pub run-body : (h : Kind) (p : AssertionParts) (from groups : ℕ) (t : Bool) → AreShapedParts p → has_parts p ≡ t → body_of (record_by h t p.whole from groups) (numbers_of t p) p.groups.now ≡ record { kind = h; symbols = p.symbols.now; assertion = assertion_of p }
 run-body h p from groups true shaped e =
     let s = shaped in
     let typecodes = counts_of p ++ p.typecodes.now in
     let required = typecodes ++ p.required.now in
     let symbols = required ++ p.symbols.now in
     let hypotheses = symbols ++ p.hypotheses.now in
-    let run = hypotheses ++ p.places.now in
-    let to_hypotheses : Extends hypotheses run = (p.places.now, refl) in
+    let run = hypotheses ++ p.grouped_variables.now in
+    let to_hypotheses : Extends hypotheses run = (p.grouped_variables.now, refl) in
     let to_symbols : Extends symbols run = extends-trans symbols hypotheses run (p.hypotheses.now, refl) to_hypotheses in
     let to_required : Extends required run = extends-trans required symbols run (p.symbols.now, refl) to_symbols in
     let to_typecodes : Extends typecodes run = extends-trans typecodes required run (p.required.now, refl) to_required in
     let l = layout_in true run in
     let i = length-append (counts_of p) p.typecodes.now in let j = length-append typecodes p.required.now in let k = length-append required p.symbols.now in
-    let m = length-append symbols p.hypotheses.now in let n = length-append hypotheses p.places.now in
+    let m = length-append symbols p.hypotheses.now in let n = length-append hypotheses p.grouped_variables.now in
     let u = range-behind (counts_of p) p.typecodes.now typecodes run l.typecodes l.required (omega arith) refl (omega arith) to_typecodes in
     let v = range-behind typecodes p.required.now required run l.required l.symbols (omega arith) refl (omega arith) to_required in
     let w = range-behind required p.symbols.now symbols run l.symbols l.hypotheses (omega arith) refl (omega arith) to_symbols in
-    let x = range-behind symbols p.hypotheses.now hypotheses run l.hypotheses l.places (omega arith) refl (omega arith) to_hypotheses in
-    let y = range-behind hypotheses p.places.now run run l.places l.end (omega arith) refl (omega arith) (extends-refl run) in
+    let x = range-behind symbols p.hypotheses.now hypotheses run l.hypotheses l.grouped_variables (omega arith) refl (omega arith) to_hypotheses in
+    let y = range-behind hypotheses p.grouped_variables.now run run l.grouped_variables l.end (omega arith) refl (omega arith) (extends-refl run) in
     cc
 run-body h p from groups false shaped e =
     let b = bare p shaped e in
     let at = layout_in false p.symbols.now in
     let n : at.hypotheses - 0 ≡ length p.symbols.now = omega arith in
-    let m : at.places - at.hypotheses ≡ 0 = omega arith in
+    let m : at.grouped_variables - at.hypotheses ≡ 0 = omega arith in
     let u : slice_range p.symbols.now 0 at.hypotheses ≡ p.symbols.now = ap (λ k. take k p.symbols.now) n ∙ take-length p.symbols.now in
-    let v : slice_range p.symbols.now at.hypotheses at.places ≡ [] = ap (λ k. take k (drop at.hypotheses p.symbols.now)) m in
+    let v : slice_range p.symbols.now at.hypotheses at.grouped_variables ≡ [] = ap (λ k. take k (drop at.hypotheses p.symbols.now)) m in
     rw (b.hypotheses, b.required, b.typecodes, b.groups) cc
 
 -- ---- the last statements are removed
@@ -104,7 +104,7 @@ module _ (ms : List ℕ) (hs : List BufferPart) (us : List StatementRecord) (n :
   a = take s.from ms
 
   abbrev g : List BufferPart
-  g = take s.groups hs
+  g = take s.groups_from hs
 
   split : take n us ++ s ∷ drop (n + 1) us ≡ us
   split =
@@ -114,11 +114,11 @@ module _ (ms : List ℕ) (hs : List BufferPart) (us : List StatementRecord) (n :
   from-length : s.from ≡ length a
   from-length = let k = (kept-at ms hs s us n packed.kept here).placed in sym (length-take-le s.from ms (omega arith))
 
-  groups-length : s.groups ≡ length g
-  groups-length = let k = (kept-at ms hs s us n packed.kept here).grouped in sym (length-take-le s.groups hs (omega arith))
+  groups-length : s.groups_from ≡ length g
+  groups-length = let k = (kept-at ms hs s us n packed.kept here).grouped in sym (length-take-le s.groups_from hs (omega arith))
 
   kept-fewer : AreKept a g (take n us)
-  kept-fewer = kept-cut a ms g hs s (drop (n + 1) us) (extends-take s.from ms) (extends-take s.groups hs) from-length groups-length (take n us) (subst (AreKept ms hs) (sym split) packed.kept)
+  kept-fewer = kept-cut a ms g hs s (drop (n + 1) us) (extends-take s.from ms) (extends-take s.groups_from hs) from-length groups-length (take n us) (subst (AreKept ms hs) (sym split) packed.kept)
 
   fewer-length : length (take n us) ≡ n
   fewer-length = let w = slice_get_within us n s here in length-take-le n us (omega arith)
@@ -130,7 +130,7 @@ module _ (ms : List ℕ) (hs : List BufferPart) (us : List StatementRecord) (n :
   bodies-fewer =
       let es = bodies_of a g (take n us) in
       let more = bodies_of ms hs (s ∷ drop (n + 1) us) in
-      let e = bodies-before a ms g hs s (drop (n + 1) us) (extends-take s.from ms) (extends-take s.groups hs) from-length groups-length (take n us) kept-fewer in
+      let e = bodies-before a ms g hs s (drop (n + 1) us) (extends-take s.from ms) (extends-take s.groups_from hs) from-length groups-length (take n us) kept-fewer in
       sym (ap (λ xs. take n (bodies_of ms hs xs)) (sym split) ∙ (ap (take n) e ∙ (ap (λ k. take k (es ++ more)) (sym (bodies-length a g (take n us) ∙ fewer-length)) ∙ take-append_seam es more)))
 
 -- ---- the outcome of an allocation

@@ -1,5 +1,5 @@
 -- Statements in shared buffers: appending changes no statement, and the buffers can be truncated where a statement begins.
-use Rattle.entries.proofs.Words.{◌≡◌, ℕ, zero, suc, ◌<◌, ◌≤◌, List, [], ◌∷◌, ◌++◌, length, take, slice_get, slice_range, Some, refl, ◌⊎◌, ◌∙◌, ap, arith, inl, inr, same_Some, StatementRecord, BufferPart, Extends, end_by, groups_by, run_by, spans_by, bodies_of, AreKept}
+use Rattle.entries.proofs.Words.{◌≡◌, ℕ, zero, suc, ◌<◌, ◌≤◌, List, [], ◌∷◌, ◌++◌, length, take, slice_get, slice_range, Some, refl, ◌⊎◌, ◌∙◌, ap, arith, inl, inr, same_Some, StatementRecord, BufferPart, Extends, end_by, groups_by, numbers_by, spans_by, bodies_of, AreKept}
 use Rattle.entries.proofs.SpanLemmas.{range-extends, extends-length}
 
 pub get-push : {A : Type 0} (xs : List A) (x y : A) (i : ℕ) → slice_get (xs ++ x ∷ []) i ≡ Some y → ((i < length xs) × (slice_get xs i ≡ Some y)) ⊎ ((i ≡ length xs) × (x ≡ y))
@@ -19,7 +19,7 @@ take-get (suc n) (suc i) (y ∷ xs) x e = let r = take-get n i xs x e in (omega 
 
 -- ---- the statements before the record s, whose numbers and groups begin where the shorter buffers a and g end
 
-module _ (a b : List ℕ) (g h : List BufferPart) (s : StatementRecord) (ts : List StatementRecord) (more : Extends a b) (more_groups : Extends g h) (from : s.from ≡ length a) (groups : s.groups ≡ length g) where
+module _ (a b : List ℕ) (g h : List BufferPart) (s : StatementRecord) (ts : List StatementRecord) (more : Extends a b) (more_groups : Extends g h) (from : s.from ≡ length a) (groups : s.groups_from ≡ length g) where
   next-end : (rs : List StatementRecord) → end_by b (slice_get (rs ++ s ∷ ts) 0) ≡ end_by a (slice_get rs 0)
   next-end [] = from
   next-end (r ∷ rs) = refl
@@ -28,11 +28,11 @@ module _ (a b : List ℕ) (g h : List BufferPart) (s : StatementRecord) (ts : Li
   next-groups [] = groups
   next-groups (r ∷ rs) = refl
 
-  run-same : (q : StatementRecord) (rs : List StatementRecord) → q.from ≤ end_by a (slice_get rs 0) → end_by a (slice_get rs 0) ≤ length a → run_by b q (slice_get (rs ++ s ∷ ts) 0) ≡ run_by a q (slice_get rs 0)
+  run-same : (q : StatementRecord) (rs : List StatementRecord) → q.from ≤ end_by a (slice_get rs 0) → end_by a (slice_get rs 0) ≤ length a → numbers_by b q (slice_get (rs ++ s ∷ ts) 0) ≡ numbers_by a q (slice_get rs 0)
   run-same q rs le in_a = ap (slice_range b q.from) (next-end rs) ∙ range-extends a b q.from (end_by a (slice_get rs 0)) more le in_a
 
-  spans-same : (q : StatementRecord) (rs : List StatementRecord) → q.groups ≤ groups_by g (slice_get rs 0) → groups_by g (slice_get rs 0) ≤ length g → spans_by h q (slice_get (rs ++ s ∷ ts) 0) ≡ spans_by g q (slice_get rs 0)
-  spans-same q rs le in_g = ap (slice_range h q.groups) (next-groups rs) ∙ range-extends g h q.groups (groups_by g (slice_get rs 0)) more_groups le in_g
+  spans-same : (q : StatementRecord) (rs : List StatementRecord) → q.groups_from ≤ groups_by g (slice_get rs 0) → groups_by g (slice_get rs 0) ≤ length g → spans_by h q (slice_get (rs ++ s ∷ ts) 0) ≡ spans_by g q (slice_get rs 0)
+  spans-same q rs le in_g = ap (slice_range h q.groups_from) (next-groups rs) ∙ range-extends g h q.groups_from (groups_by g (slice_get rs 0)) more_groups le in_g
 
   -- the longer buffers have the same statements
   pub bodies-before : (rs : List StatementRecord) → AreKept a g rs → bodies_of b h (rs ++ s ∷ ts) ≡ bodies_of a g rs ++ bodies_of b h (s ∷ ts)

@@ -1,5 +1,5 @@
 -- The stack at a position, after versions are added or removed.
-use Rattle.entries.proofs.Words.{◌≡◌, ℕ, ◌+◌, ◌<◌, ◌≤◌, Bool, true, false, nat_lt, nat_le, cond, List, [], ◌∷◌, ◌++◌, refl, ◌∙◌, ap, sym, arith, le-ltb, leb-false, StackVersion, stack_from, stack_at, is_changed, changed, kept_until, IsUntil}
+use Rattle.entries.proofs.Words.{◌≡◌, ℕ, ◌+◌, ◌<◌, ◌≤◌, Bool, true, false, nat_lt, nat_le, cond, List, [], ◌∷◌, ◌++◌, refl, ◌∙◌, ap, sym, arith, le-ltb, leb-false, StackVersion, stack_from, stack_at, changed_at, with_version, kept_until, IsUntil}
 use Rattle.std.proofs.Common.{lt-ltb}
 use Rattle.entries.proofs.LogLemmas.{kept-front}
 
@@ -39,12 +39,12 @@ stack-kept vs last at le = from [] vs
 
 -- ---- a version is added
 
-pub unchanged : (vs : List StackVersion) (n at : ℕ) → IsUntil n vs → n < at → is_changed at vs ≡ false
+pub unchanged : (vs : List StackVersion) (n at : ℕ) → IsUntil n vs → n < at → changed_at at vs ≡ false
 unchanged [] n at until lt = refl
 unchanged (v ∷ []) n at until lt = let low = until.0 in grind (arith, low, lt)
 unchanged (v ∷ w ∷ vs) n at until lt = unchanged (w ∷ vs) n at until.1 lt
 
-changed-push : (vs : List StackVersion) (v : StackVersion) → is_changed v.since (vs ++ v ∷ []) ≡ true
+changed-push : (vs : List StackVersion) (v : StackVersion) → changed_at v.since (vs ++ v ∷ []) ≡ true
 changed-push [] v = grind arith
 changed-push (u ∷ []) v = grind arith
 changed-push (u ∷ w ∷ vs) v = changed-push (w ∷ vs) v
@@ -53,21 +53,21 @@ module _ (at : ℕ) (stack : List ℕ) (vs : List StackVersion) where
   abbrev v : StackVersion
   v = record { since = at; stack = stack }
 
-  is : (b : Bool) → is_changed at vs ≡ b → changed at stack vs ≡ cond b vs (vs ++ v ∷ [])
+  is : (b : Bool) → changed_at at vs ≡ b → with_version at stack vs ≡ cond b vs (vs ++ v ∷ [])
   is b e = ap (λ t. cond t vs (vs ++ v ∷ [])) e
 
-  pub changed-twice : (other : List ℕ) → changed at other (changed at stack vs) ≡ changed at stack vs
-  changed-twice other = by (is_changed at vs) refl
+  pub changed-twice : (other : List ℕ) → with_version at other (with_version at stack vs) ≡ with_version at stack vs
+  changed-twice other = by (changed_at at vs) refl
     where
-      now : (b : Bool) → is_changed at vs ≡ b → is_changed at (cond b vs (vs ++ v ∷ [])) ≡ true
+      now : (b : Bool) → changed_at at vs ≡ b → changed_at at (cond b vs (vs ++ v ∷ [])) ≡ true
       now true e = e
       now false e = changed-push vs v
 
-      by : (b : Bool) → is_changed at vs ≡ b → changed at other (changed at stack vs) ≡ changed at stack vs
-      by b e = ap (λ t. cond t (changed at stack vs) (changed at stack vs ++ record { since = at; stack = other } ∷ [])) (ap (is_changed at) (is b e) ∙ now b e)
+      by : (b : Bool) → changed_at at vs ≡ b → with_version at other (with_version at stack vs) ≡ with_version at stack vs
+      by b e = ap (λ t. cond t (with_version at stack vs) (with_version at stack vs ++ record { since = at; stack = other } ∷ [])) (ap (changed_at at) (is b e) ∙ now b e)
 
-  pub until-changed : IsUntil at vs → IsUntil at (changed at stack vs)
-  until-changed until = by (is_changed at vs)
+  pub until-changed : IsUntil at vs → IsUntil at (with_version at stack vs)
+  until-changed until = by (changed_at at vs)
     where
       push : (us : List StackVersion) → IsUntil at us → IsUntil at (us ++ v ∷ [])
       push [] u = (omega arith, tt)
@@ -77,14 +77,14 @@ module _ (at : ℕ) (stack : List ℕ) (vs : List StackVersion) where
       by true = until
       by false = push vs until
 
-  pub kept-changed : (n : ℕ) → n < at → kept_until n (changed at stack vs) ≡ kept_until n vs
-  kept-changed n lt = by (is_changed at vs)
+  pub kept-changed : (n : ℕ) → n < at → kept_until n (with_version at stack vs) ≡ kept_until n vs
+  kept-changed n lt = by (changed_at at vs)
     where
       by : (b : Bool) → kept_until n (cond b vs (vs ++ v ∷ [])) ≡ kept_until n vs
       by true = refl
       by false = kept-front n vs v lt
 
-  pub stack-changed : (n : ℕ) → IsUntil n vs → n < at → stack_at (changed at stack vs) (at + 1) ≡ stack
+  pub stack-changed : (n : ℕ) → IsUntil n vs → n < at → stack_at (with_version at stack vs) (at + 1) ≡ stack
   stack-changed n until lt =
       ap (λ us. stack_at us (at + 1)) (is false (unchanged vs n at until lt))
       ∙ (stack-push vs v (at + 1) ∙ ap (λ t. cond t stack (stack_at vs (at + 1))) (lt-ltb at (at + 1) (omega arith)))

@@ -1,5 +1,5 @@
 -- Sets of positions made of parts of others: rotations, and the insertion of a position into one of the parts.
-use Rattle.entries.proofs.Words.{◌≡◌, ℕ, ◌+◌, ◌-◌, ◌<◌, ◌≤◌, List, [], ◌∷◌, ◌++◌, length, true, inl, inr, take, drop, get_or, ap, subst, sym, refl, ◌∙◌, arith, append_assoc, cases_lt, get_or_past, take-append-drop, take_rest, drop_more, Node, set_at, Ascends, IsSet, count_below, has_position, with_position, joined, set_of, IsTop, Extends}
+use Rattle.entries.proofs.Words.{◌≡◌, ℕ, ◌+◌, ◌-◌, ◌<◌, ◌≤◌, List, [], ◌∷◌, ◌++◌, length, true, inl, inr, take, drop, get_or, ap, subst, sym, refl, ◌∙◌, arith, append_assoc, cases_lt, get_or_past, take-append-drop, take_rest, drop_more, Node, set_at, Ascends, IsSet, count_below, has_position, with_position, joined, set_of, IsNodeOf, Extends}
 use Rattle.std.proofs.Common.{length-append}
 use Rattle.entries.proofs.SetNodeLemmas.{set_at-extends}
 use Rattle.entries.proofs.PositionSetLemmas.{count-left, count-right, with-below, with-here, with-above, with-known}
@@ -33,7 +33,7 @@ halves-joined some more ps m below above within second is-below is-above =
     (take-append-drop m ps)
 
 -- inserting the position of the top node does not change the set
-pub put-here : (sets : List (List ℕ)) (set p : ℕ) (n : Node) → IsTop sets set n → p ≡ n.position → IsSet sets (with_position p (set_at sets set)) set
+pub put-here : (sets : List (List ℕ)) (set p : ℕ) (n : Node) → IsNodeOf sets set n → p ≡ n.position → IsSet sets (with_position p (set_at sets set)) set
 put-here sets set p n top here = record {
   within = top.within;
   is = sym (rw (here, top.is, with-here n.position (set_at sets n.left) (set_at sets n.right) (subst Ascends top.is top.ascends)) refl);
@@ -50,26 +50,26 @@ known-set sets set p ascends known = record {
 }
 
 -- a position below that of the top node is inserted into the left part
-pub put-below : (sets more : List (List ℕ)) (set p : ℕ) (n : Node) (made : ℕ) → IsTop sets set n → p < n.position → Extends sets more → IsSet more (with_position p (set_at sets n.left)) made → joined more made n.position n.right ≡ with_position p (set_at sets set)
+pub put-below : (sets more : List (List ℕ)) (set p : ℕ) (n : Node) (made : ℕ) → IsNodeOf sets set n → p < n.position → Extends sets more → IsSet more (with_position p (set_at sets n.left)) made → joined more made n.position n.right ≡ with_position p (set_at sets set)
 put-below sets more set p n made top below extends is =
     let right = top.right in let within = top.within in
     rw (is.is, set_at-extends sets more n.right extends (omega arith), top.is, with-below p n.position (set_at sets n.left) (set_at sets n.right) below) refl
 
 -- a position above that of the top node is inserted into the right part
-pub put-above : (sets more : List (List ℕ)) (set p : ℕ) (n : Node) (made : ℕ) → IsTop sets set n → n.position < p → Extends sets more → IsSet more (with_position p (set_at sets n.right)) made → joined more n.left n.position made ≡ with_position p (set_at sets set)
+pub put-above : (sets more : List (List ℕ)) (set p : ℕ) (n : Node) (made : ℕ) → IsNodeOf sets set n → n.position < p → Extends sets more → IsSet more (with_position p (set_at sets n.right)) made → joined more n.left n.position made ≡ with_position p (set_at sets set)
 put-above sets more set p n made top above extends is =
     let left = top.left in let within = top.within in
     rw (is.is, set_at-extends sets more n.left extends (omega arith), top.is, with-above p n.position (set_at sets n.left) (set_at sets n.right) above (subst Ascends top.is top.ascends)) refl
 
 -- ---- the positions of a set that are below one
 
-pub below-left : (sets : List (List ℕ)) (set p : ℕ) (n : Node) → IsTop sets set n → p ≤ n.position → (count_below p (set_at sets set) ≡ count_below p (set_at sets n.left)) × (length (set_at sets n.left) ≤ length (set_at sets set))
+pub below-left : (sets : List (List ℕ)) (set p : ℕ) (n : Node) → IsNodeOf sets set n → p ≤ n.position → (count_below p (set_at sets set) ≡ count_below p (set_at sets n.left)) × (length (set_at sets n.left) ≤ length (set_at sets set))
 below-left sets set p n top below =
     let l = set_at sets n.left in let r = n.position ∷ set_at sets n.right in
     let long = ap length top.is ∙ length-append l r in
     (rw top.is (count-left p n.position l (set_at sets n.right) below (subst Ascends top.is top.ascends)), omega arith)
 
-pub below-right : (sets : List (List ℕ)) (set p : ℕ) (n : Node) → IsTop sets set n → n.position < p → (count_below p (set_at sets set) ≡ length (set_at sets n.left) + 1 + count_below p (set_at sets n.right)) × (length (set_at sets set) ≡ length (set_at sets n.left) + 1 + length (set_at sets n.right))
+pub below-right : (sets : List (List ℕ)) (set p : ℕ) (n : Node) → IsNodeOf sets set n → n.position < p → (count_below p (set_at sets set) ≡ length (set_at sets n.left) + 1 + count_below p (set_at sets n.right)) × (length (set_at sets set) ≡ length (set_at sets n.left) + 1 + length (set_at sets n.right))
 below-right sets set p n top above =
     let l = set_at sets n.left in let r = n.position ∷ set_at sets n.right in
     let long = ap length top.is ∙ length-append l r in

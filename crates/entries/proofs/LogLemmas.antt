@@ -1,5 +1,5 @@
 -- The log of the versions of all numbers: a version is added, or the last one is removed.
-use Rattle.entries.proofs.Words.{◌≡◌, ℕ, zero, suc, ◌+◌, ◌-◌, ◌<◌, ◌≤◌, Bool, true, false, nat_eq, nat_lt, nat_le, cond, List, [], ◌∷◌, ◌++◌, length, map, take, get_or, slice_get, slice_set, Some, refl, ◌∙◌, ap, sym, subst, arith, append-nil, le-leb, lt-leb, ltb-true, ltb-false, get_or_from_slice_get, slice_get_within, get_or-set_at, length-append, map-append, get_or-set_other, get_or_read, take_more, filter-append, IsNonDecreasingBy-take, IsNonDecreasingBy-push, IsNonDecreasingBy, take-append_seam, get_or-append_seam, take_all, StackVersion, IsUntil, AreUntil, AreWith, AreSame, changed, history, is_changed, kept_until, Change, sinces_of, AreLogged}
+use Rattle.entries.proofs.Words.{◌≡◌, ℕ, zero, suc, ◌+◌, ◌-◌, ◌<◌, ◌≤◌, Bool, true, false, nat_eq, nat_lt, nat_le, cond, List, [], ◌∷◌, ◌++◌, length, map, take, get_or, slice_get, slice_set, Some, refl, ◌∙◌, ap, sym, subst, arith, append-nil, le-leb, lt-leb, ltb-true, ltb-false, get_or_from_slice_get, slice_get_within, get_or-set_at, length-append, map-append, get_or-set_other, get_or_read, take_more, filter-append, IsNonDecreasingBy-take, IsNonDecreasingBy-push, IsNonDecreasingBy, take-append_seam, get_or-append_seam, take_all, StackVersion, IsUntil, AreUntil, AreWith, AreSame, with_version, history, changed_at, kept_until, Change, sinces_of, AreLogged}
 use Rattle.std.proofs.Common.{filter}
 
 -- ---- when versions were made
@@ -186,12 +186,12 @@ wider-same (h ∷ hs) (suc d) = wider-same hs d
 
 -- a version of c that is made at `at`, where no later one was made, is logged last
 pub logged-change : (log log' : List ℕ) (hs gs : List (List StackVersion)) (c at : ℕ) (stack : List ℕ) (seen old new : List StackVersion) → AreLogged log hs → AreUntil at hs → AreSame hs gs → c < length gs
-    → seen ≡ get_or gs c seen → old ≡ get_or gs c old → is_changed at seen ≡ false → new ≡ changed at stack old → log' ≡ log ++ c ∷ [] → AreLogged log' (slice_set gs c new)
+    → seen ≡ get_or gs c seen → old ≡ get_or gs c old → changed_at at seen ≡ false → new ≡ with_version at stack old → log' ≡ log ++ c ∷ [] → AreLogged log' (slice_set gs c new)
 logged-change log log' hs gs c at stack seen old new are until same lt look read unchanged is more =
     let here : old ≡ history gs c = get_or_read gs c old lt read [] in
     let first : seen ≡ history gs c = get_or_read gs c seen lt look [] in
     let v : StackVersion = record { since = at; stack = stack } in
-    let one : new ≡ history gs c ++ v ∷ [] = is ∙ (ap (λ b. cond b old (old ++ v ∷ [])) (ap (is_changed at) (here ∙ sym first) ∙ unchanged) ∙ ap (λ r. r ++ v ∷ []) here) in
+    let one : new ≡ history gs c ++ v ∷ [] = is ∙ (ap (λ b. cond b old (old ++ v ∷ [])) (ap (changed_at at) (here ∙ sym first) ∙ unchanged) ∙ ap (λ r. r ++ v ∷ []) here) in
     subst (λ l. AreLogged l (slice_set gs c new)) (sym more)
     (logged-more log gs (slice_set gs c new) c at new (logged-same log hs gs same are) (λ d. subst (IsUntil at) (sym (same d)) (until d))
     (ap (map (λ u. u.since)) one ∙ map-append (λ u. u.since) (history gs c) (v ∷ [])) (set-with gs c new lt))

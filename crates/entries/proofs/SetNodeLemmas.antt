@@ -1,5 +1,5 @@
 -- The nodes of sets of positions: the set of a node, and the sets after a node is appended or nodes are removed.
-use Rattle.entries.proofs.Words.{◌≡◌, ℕ, ◌+◌, ◌-◌, ◌<◌, ◌≤◌, ◌^◌, List, [], ◌∷◌, ◌++◌, length, take, max, slice_get, Some, ap, subst, sym, refl, ◌∙◌, arith, suc, zero, inl, inr, append-nil, append_assoc, get_or_append_left, get_or_past, get_or_at, take_at, same_Some, slice_get_cases, Node, set_at, Ascends, IsSet, set_of, sets_from, sets_of, IsNode, AreNodes, AreSets, IsTop, Extends}
+use Rattle.entries.proofs.Words.{◌≡◌, ℕ, ◌+◌, ◌-◌, ◌<◌, ◌≤◌, ◌^◌, List, [], ◌∷◌, ◌++◌, length, take, max, slice_get, Some, ap, subst, sym, refl, ◌∙◌, arith, suc, zero, inl, inr, append-nil, append_assoc, get_or_append_left, get_or_past, get_or_at, take_at, same_Some, slice_get_cases, Node, set_at, Ascends, IsSet, set_of, sets_from, sets_of, IsNode, AreNodes, AreSets, IsNodeOf, Extends}
 use Rattle.std.proofs.Common.{length-append, length-take}
 use Rattle.std.proofs.lemmas.List.{take_all}
 
@@ -23,7 +23,7 @@ set_at-extends sets more set extends within = ap (λ s. set_at s set) extends.1 
 
 -- ---- the node of a set
 
-first-top : (sets : List (List ℕ)) (n : Node) (ns : List Node) → IsNode sets n → IsTop (sets_from sets (n ∷ ns)) (length sets) n
+first-top : (sets : List (List ℕ)) (n : Node) (ns : List Node) → IsNode sets n → IsNodeOf (sets_from sets (n ∷ ns)) (length sets) n
 first-top sets n ns node =
     let all = sets_from sets (n ∷ ns) in
     let extends = sets-extend sets (n ∷ ns) in
@@ -42,20 +42,20 @@ first-top sets n ns node =
       ascends = subst Ascends (sym is) node.ascends;
     }
 
-each-top : (sets : List (List ℕ)) (ns : List Node) (i : ℕ) (n : Node) → AreNodes sets ns → slice_get ns i ≡ Some n → IsTop (sets_from sets ns) (length sets + i) n
+each-top : (sets : List (List ℕ)) (ns : List Node) (i : ℕ) (n : Node) → AreNodes sets ns → slice_get ns i ≡ Some n → IsNodeOf (sets_from sets ns) (length sets + i) n
 each-top sets [] i n nodes at = absurd (cc)
 each-top sets (m ∷ ns) zero n nodes at =
-    subst (λ v. IsTop (sets_from sets (m ∷ ns)) (length sets + 0) v) (same_Some m n at)
-    (let P : ℕ → Type 0 = λ set. IsTop (sets_from sets (m ∷ ns)) set m in subst P (omega arith) (first-top sets m ns nodes.0))
+    subst (λ v. IsNodeOf (sets_from sets (m ∷ ns)) (length sets + 0) v) (same_Some m n at)
+    (let P : ℕ → Type 0 = λ set. IsNodeOf (sets_from sets (m ∷ ns)) set m in subst P (omega arith) (first-top sets m ns nodes.0))
 each-top sets (m ∷ ns) (suc i) n nodes at =
-    let P : ℕ → Type 0 = λ set. IsTop (sets_from sets (m ∷ ns)) set n in
+    let P : ℕ → Type 0 = λ set. IsNodeOf (sets_from sets (m ∷ ns)) set n in
     let l = length-append sets (set_of sets m ∷ []) in
     subst P (omega arith) (each-top (sets ++ set_of sets m ∷ []) ns i n nodes.1 at)
 
 -- the node with the index `set - 1` is that of the set
-pub top : (ns : List Node) (set : ℕ) (n : Node) → AreSets ns → 0 < set → slice_get ns (set - 1) ≡ Some n → IsTop (sets_of ns) set n
-top ns set n sets some at =
-    let P : ℕ → Type 0 = λ k. IsTop (sets_of ns) k n in
+pub node-of : (ns : List Node) (set : ℕ) (n : Node) → AreSets ns → 0 < set → slice_get ns (set - 1) ≡ Some n → IsNodeOf (sets_of ns) set n
+node-of ns set n sets some at =
+    let P : ℕ → Type 0 = λ k. IsNodeOf (sets_of ns) k n in
     subst P (omega arith) (each-top ([] ∷ []) ns (set - 1) n sets.nodes at)
 
 pub empty : (ns : List Node) → IsSet (sets_of ns) [] 0
@@ -72,7 +72,7 @@ pub all-ascend : (ns : List Node) → AreSets ns → (set : ℕ) → Ascends (se
 all-ascend ns sets zero = subst Ascends (sym (empty ns).is) tt
 all-ascend ns sets (suc i) =
     elim (slice_get_cases ns i).1 [
-      | inl found ↦ (top ns (suc i) found.0 sets (omega arith) (ap (slice_get ns) (omega arith) ∙ found.2)).ascends
+      | inl found ↦ (node-of ns (suc i) found.0 sets (omega arith) (ap (slice_get ns) (omega arith) ∙ found.2)).ascends
       | inr behind ↦ subst Ascends (sym (past ns (suc i) (let within = behind.0 in omega arith))) tt
     ]
 

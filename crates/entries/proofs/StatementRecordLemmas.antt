@@ -1,5 +1,5 @@
 -- The stored form of the statement at an index.
-use Rattle.entries.proofs.Words.{◌≡◌, ℕ, zero, suc, ◌+◌, Bool, true, false, List, [], ◌∷◌, ◌++◌, length, take, slice_get, slice_range, Option, Some, refl, ◌∙◌, ap, sym, arith, Bor, same_Some, Layout, StatementRecord, StateBefore, BufferPart, Body, Entry, with_state_before, with_states_before, layout_in, groups_by, run_by, spans_by, body_of, bodies_of, IsKept, AreKept, IsOrdered, IsStored}
+use Rattle.entries.proofs.Words.{◌≡◌, ℕ, zero, suc, ◌+◌, Bool, true, false, List, [], ◌∷◌, ◌++◌, length, take, slice_get, slice_range, Option, Some, refl, ◌∙◌, ap, sym, arith, Bor, same_Some, Layout, StatementRecord, StateBefore, BufferPart, Body, Entry, with_state_before, with_states_before, layout_in, groups_by, numbers_by, spans_by, body_of, bodies_of, IsKept, AreKept, IsOrdered, IsStored}
 
 -- an element keeps its index if the list is followed by others
 pub get-more : {A : Type 0} (xs more : List A) (k : ℕ) (x : A) → slice_get xs k ≡ Some x → slice_get (xs ++ more) k ≡ Some x
@@ -47,7 +47,7 @@ pub record IsAt (numbers : List ℕ) (groups : List BufferPart) (r : StatementRe
   pub kept : IsKept numbers groups r next
   pub state_before : StateBefore
   pub stands : behind ≡ Some state_before
-  pub entry : found ≡ Some (with_state_before (body_of r (run_by numbers r next) (spans_by groups r next)) state_before)
+  pub entry : found ≡ Some (with_state_before (body_of r (numbers_by numbers r next) (spans_by groups r next)) state_before)
 
 pub at-index : (numbers : List ℕ) (groups : List BufferPart) (rs : List StatementRecord) (ks : List StateBefore) (es : List Entry) (i : ℕ) (r : StatementRecord) → AreKept numbers groups rs → length ks ≡ length rs → with_states_before (bodies_of numbers groups rs) ks ≡ es
     → {qs : List StatementRecord} → qs ≡ rs → slice_get qs i ≡ Some r → IsAt numbers groups r (slice_get rs (i + 1)) (slice_get ks i) (slice_get es i)
@@ -63,22 +63,22 @@ at-index numbers groups rs ks es i r kept many view same here =
 
 -- the parts follow one another
 ordered : (t : Bool) (run : List ℕ) → IsOrdered (layout_in t run)
-ordered true run = record { typecodes = omega arith; required = omega arith; symbols = omega arith; hypotheses = omega arith; places = omega arith }
-ordered false run = record { typecodes = omega arith; required = omega arith; symbols = omega arith; hypotheses = omega arith; places = omega arith }
+ordered true run = record { typecodes = omega arith; required = omega arith; symbols = omega arith; hypotheses = omega arith; grouped_variables = omega arith }
+ordered false run = record { typecodes = omega arith; required = omega arith; symbols = omega arith; hypotheses = omega arith; grouped_variables = omega arith }
 
 -- the parts read are those of the entry
 module _ (numbers : List ℕ) (groups : List BufferPart) (r : StatementRecord) (next : Option StatementRecord) (behind : Option StateBefore) (found : Option Entry) (run : Bor (List ℕ)) (at : Layout)
-    (a : IsAt numbers groups r next behind found) (same : run.now ≡ run_by numbers r next) (laid : at ≡ layout_in r.has_parts run.now) where
-  layout : layout_in r.has_parts (run_by numbers r next) ≡ at
+    (a : IsAt numbers groups r next behind found) (same : run.now ≡ numbers_by numbers r next) (laid : at ≡ layout_in r.has_parts run.now) where
+  layout : layout_in r.has_parts (numbers_by numbers r next) ≡ at
   layout = sym (laid ∙ ap (layout_in r.has_parts) same)
 
-  pub groups-count : r.groups + at.groups ≡ groups_by groups next
-  groups-count = ap (λ (x : Layout). r.groups + x.groups) (sym layout) ∙ a.kept.grouped.count
+  pub groups-count : r.groups_from + at.group_count ≡ groups_by groups next
+  groups-count = ap (λ (x : Layout). r.groups_from + x.group_count) (sym layout) ∙ a.kept.grouped.count
 
-  pub is-stored : (spans : Bor (List BufferPart)) (k : StateBefore) → spans.now ≡ slice_range groups r.groups (r.groups + at.groups) → behind ≡ Some k → IsStored found (record { kept = r; before = k; numbers = run; at = at; groups = spans })
+  pub is-stored : (spans : Bor (List BufferPart)) (k : StateBefore) → spans.now ≡ slice_range groups r.groups_from (r.groups_from + at.group_count) → behind ≡ Some k → IsStored found (record { kept = r; before = k; numbers = run; at = at; groups = spans })
   is-stored spans k part there =
       let p = a.kept.placed in let w = a.kept.grouped in
-      let of_next : spans.now ≡ spans_by groups r next = part ∙ ap (slice_range groups r.groups) groups-count in
+      let of_next : spans.now ≡ spans_by groups r next = part ∙ ap (slice_range groups r.groups_from) groups-count in
       record {
         ordered = rw laid (ordered r.has_parts run.now);
         whole = sym (ap (λ (x : Layout). x.end) layout) ∙ (p.whole ∙ sym (ap length same));

@@ -1,5 +1,5 @@
 -- The versions of a stack: a version is added, the first ones alone, and the last one made before a position.
-use Rattle.entries.proofs.Words.{◌≡◌, ℕ, zero, suc, ◌+◌, ◌-◌, ◌<◌, ◌≤◌, true, false, nat_eq, nat_lt, cond, List, [], ◌∷◌, ◌++◌, length, map, take, get_or, slice_get, Option, Some, None, SomeIff, refl, ◌∙◌, ap, sym, arith, subst, add-one, append-nil, append_assoc, ⊎_elim, take_all, cases_lt, length-append, length-take, get_or-take, map-append, take-map, get_or_past, take_more, IsNonDecreasingBy-take, IsNonDecreasingBy-push, get_or_from_slice_get, slice_get-get_or, slice_get_within, IsPartitionPoint, Version, StackVersion, changed, stack_from, stack_at, is_changed, IsUntil, no_version, stacked, stack_of, version_of, versions_after, versions_of, AreVersions, IsReadable, IsFound}
+use Rattle.entries.proofs.Words.{◌≡◌, ℕ, zero, suc, ◌+◌, ◌-◌, ◌<◌, ◌≤◌, true, false, nat_eq, nat_lt, cond, List, [], ◌∷◌, ◌++◌, length, map, take, get_or, slice_get, Option, Some, None, SomeIff, refl, ◌∙◌, ap, sym, arith, subst, add-one, append-nil, append_assoc, ⊎_elim, take_all, cases_lt, length-append, length-take, get_or-take, map-append, take-map, get_or_past, take_more, IsNonDecreasingBy-take, IsNonDecreasingBy-push, get_or_from_slice_get, slice_get-get_or, slice_get_within, IsPartitionPoint, Version, StackVersion, with_version, stack_from, stack_at, changed_at, IsUntil, no_version, stacked, stack_of, version_of, versions_after, versions_of, AreVersions, IsReadable, IsFound}
 use Rattle.std.proofs.Common.{lt-ltb}
 
 -- ---- decoding versions
@@ -126,7 +126,7 @@ pub since-at : (vs : List Version) (i : ℕ) (w : Version) → i < length vs →
 since-at vs i w lt = ap (λ x. x.since) (after-get [] vs i w lt)
 
 -- a version was made at `at` exactly if the last one was
-pub changed-last : (done : List StackVersion) (at : ℕ) (vs : List Version) (i : ℕ) (w : Version) → length vs ≡ suc i → is_changed at (versions_after done vs) ≡ nat_eq (get_or vs i w).since at
+pub changed-last : (done : List StackVersion) (at : ℕ) (vs : List Version) (i : ℕ) (w : Version) → length vs ≡ suc i → changed_at at (versions_after done vs) ≡ nat_eq (get_or vs i w).since at
 changed-last done at [] i w n = cc
 changed-last done at (v ∷ []) zero w n = refl
 changed-last done at (v ∷ []) (suc i) w n = absurd (omega (arith, n))
@@ -164,7 +164,7 @@ is-found vs at zero None le point e = found-before vs at zero le point
 is-found vs at (suc n) None le point e = absurd (e (omega arith))
 
 -- if no version was made at `at` or later, the stack at `at` is that of the last version
-pub found-last : (vs : List Version) (at i : ℕ) (w : Version) → AreVersions vs → length vs ≡ suc i → IsUntil at (versions_of vs) → is_changed at (versions_of vs) ≡ false → stack_at (versions_of vs) at ≡ (get_or (versions_of vs) i no_version).stack
+pub found-last : (vs : List Version) (at i : ℕ) (w : Version) → AreVersions vs → length vs ≡ suc i → IsUntil at (versions_of vs) → changed_at at (versions_of vs) ≡ false → stack_at (versions_of vs) at ≡ (get_or (versions_of vs) i no_version).stack
 found-last vs at i w are n until same =
     found-before vs at (suc i) (omega (arith, n)) (
       (λ k u low lt. lt-ltb (get_or vs k u).since at (below k u lt)),
@@ -183,7 +183,7 @@ pub record IsAbove (vs : List Version) (at h below : ℕ) : Type 0 where
   pub stack : stacked h at (get_or (versions_of vs) below no_version).stack ≡ at ∷ stack_at (versions_of vs) at
   pub height : h ≡ length (stacked h at (get_or (versions_of vs) below no_version).stack)
 
-pub is-above : (vs : List Version) (at i h below : ℕ) (w : Version) → AreVersions vs → length vs ≡ suc i → IsUntil at (versions_of vs) → is_changed at (versions_of vs) ≡ false → h ≡ (get_or vs i w).height + 1 → below ≡ i → IsAbove vs at h below
+pub is-above : (vs : List Version) (at i h below : ℕ) (w : Version) → AreVersions vs → length vs ≡ suc i → IsUntil at (versions_of vs) → changed_at at (versions_of vs) ≡ false → h ≡ (get_or vs i w).height + 1 → below ≡ i → IsAbove vs at h below
 is-above vs at i h below w are n until same high here =
     let last = (get_or (versions_of vs) i no_version).stack in
     let v = version-at vs i w are (omega (arith, n)) in
@@ -217,21 +217,21 @@ is-last vs front v w e =
     let same = same-last (versions_of (take i vs)) front (version_of (versions_of (take i vs)) u) v (sym (versions-push (take i vs) u) ∙ (ap versions_of cut ∙ e)) in
     record { some = omega (arith, size); front_is = same.0; since_is = ap (λ x. x.since) same.1 }
 
-pub changed-is : (vs us : List Version) (at : ℕ) (v : Version) → us ≡ vs → Some v ≡ slice_get us (length us - 1) → is_changed at (versions_of vs) ≡ nat_eq v.since at
+pub changed-is : (vs us : List Version) (at : ℕ) (v : Version) → us ≡ vs → Some v ≡ slice_get us (length us - 1) → changed_at at (versions_of vs) ≡ nat_eq v.since at
 changed-is vs us at v same e =
     let lt = slice_get_within us (length us - 1) v (sym e) in
-    ap (λ r. is_changed at (versions_of r)) (sym same)
+    ap (λ r. changed_at at (versions_of r)) (sym same)
     ∙ (changed-last [] at us (length us - 1) v (omega (arith, lt)) ∙ ap (λ (x : Version). nat_eq x.since at) (get_or_from_slice_get us (length us - 1) v v (sym e)))
 
 -- a version is added if none was made at `at`
-pub changed-more : (vs us : List Version) (at : ℕ) (stack : List ℕ) (v : Version) → us ≡ vs ++ v ∷ [] → is_changed at (versions_of vs) ≡ false → v.since ≡ at → stack_of (versions_of vs) v ≡ stack → versions_of us ≡ changed at stack (versions_of vs)
+pub changed-more : (vs us : List Version) (at : ℕ) (stack : List ℕ) (v : Version) → us ≡ vs ++ v ∷ [] → changed_at at (versions_of vs) ≡ false → v.since ≡ at → stack_of (versions_of vs) v ≡ stack → versions_of us ≡ with_version at stack (versions_of vs)
 changed-more vs us at stack v more same since is =
     ap versions_of more
     ∙ (versions-push vs v
     ∙ (let e : version_of (versions_of vs) v ≡ record { since = at; stack = stack } = cc in ap (λ x. versions_of vs ++ x ∷ []) e
     ∙ sym (ap (λ b. cond b (versions_of vs) (versions_of vs ++ record { since = at; stack = stack } ∷ [])) same)))
 
-pub changed-already : (vs : List StackVersion) (at : ℕ) (stack : List ℕ) → is_changed at vs ≡ true → vs ≡ changed at stack vs
+pub changed-already : (vs : List StackVersion) (at : ℕ) (stack : List ℕ) → changed_at at vs ≡ true → vs ≡ with_version at stack vs
 changed-already vs at stack e = sym (ap (λ b. cond b vs (vs ++ record { since = at; stack = stack } ∷ [])) e)
 
 -- the version that was found can be read

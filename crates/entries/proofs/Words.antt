@@ -1,10 +1,10 @@
 -- The definitions and lemmas of std and of the layers below that the proofs of this crate use, re-exported from one place.
-pub use Rattle.entries.specs.Entries.{AreShapedParts, Entry, assertion_of, made}
-pub use Rattle.entries.specs.Histories.{AreSame, AreUntil, AreWith, IsUntil, StackVersion, changed, gone_back, history, is_changed, kept_until, pushed, stack_at, stack_from}
+pub use Rattle.entries.specs.Entries.{AreShapedParts, Entry, assertion_of, entry_by}
+pub use Rattle.entries.specs.Histories.{AreSame, AreUntil, AreWith, IsUntil, StackVersion, with_version, reverted, history, changed_at, kept_until, pushed, stack_at, stack_from}
 pub use Rattle.entries.specs.PositionSets.{AreAbove, Ascends, IsSet, count_below, has_position, set_at, with_position}
 pub use Rattle.entries.specs.Stored.Keys.{AreKeys, AreKeysOf, AreRuns, IsRun, index_of, key_of, symbol_at, symbol_of}
-pub use Rattle.entries.specs.Stored.PositionSets.{AreNodes, AreSets, IsNode, IsTop, joined, set_of, sets_from, sets_of}
-pub use Rattle.entries.specs.Stored.Records.{AreKept, ArePacked, Body, IsKept, IsOrdered, IsStored, bodies_of, body_of, counts_of, end_by, groups_by, has_parts, layout_in, record_by, run_by, run_of, spans_by, with_state_before, with_states_before}
+pub use Rattle.entries.specs.Stored.PositionSets.{AreNodes, AreSets, IsNode, IsNodeOf, joined, set_of, sets_from, sets_of}
+pub use Rattle.entries.specs.Stored.Records.{AreKept, ArePacked, Body, IsKept, IsOrdered, IsStored, bodies_of, body_of, counts_of, end_by, groups_by, has_parts, layout_in, record_by, numbers_by, numbers_of, spans_by, with_state_before, with_states_before}
 pub use Rattle.entries.specs.Stored.Spans.{AreSpansIn, Extends, cut}
 pub use Rattle.entries.specs.Stored.Versions.{AreLogged, AreVersions, Change, IsFound, IsReadable, no_version, sinces_of, stack_of, stacked, version_of, versions_after, versions_of}
 pub use Rattle.entries.specs.SymbolPlaces.{AreGroupsFrom, ArePlacesOf, IsGroupOf, IsGrouped, SymbolGroups}

@@ -9,7 +9,7 @@ use Rattle.entries.specs.declared.kind.Kind.{Kind}
 use Rattle.entries.specs.declared.entry_header.EntryHeader.{EntryHeader}
 use Rattle.entries.specs.declared.parts.AssertionParts.{AssertionParts}
 use Rattle.entries.specs.declared.entry_header.EntryRef.{EntryRef}
-use Rattle.entries.specs.Hypotheses.{told}
+use Rattle.entries.specs.Hypotheses.{decoded_hypothesis}
 use Rattle.entries.specs.Stored.Spans.{cut, AreSpansIn}
 
 -- the positions of hypotheses, each hypothesis as a `$f` with its variable or a `$e` with its position, the typecode of
@@ -26,36 +26,36 @@ pub record Assertion : Type 0 where
 -- the numbers of its symbols, and its parts
 pub record Entry : Type 0 where
   pub kind : Kind
-  pub label : ℕ
-  pub names : ℕ
+  pub label_count : ℕ
+  pub symbol_count : ℕ
   pub last_active : LastActive
   pub symbols : List ℕ
   pub assertion : Assertion
 
 -- the parts of a statement that is appended
 abbrev pub assertion_of : AssertionParts → Assertion
-assertion_of p = record { whole = p.whole; hypotheses = p.hypotheses.now; required = map told p.required.now; typecodes = p.typecodes.now; groups = cut p.places.now p.groups.now }
+assertion_of p = record { whole = p.whole; hypotheses = p.hypotheses.now; required = map decoded_hypothesis p.required.now; typecodes = p.typecodes.now; groups = cut p.grouped_variables.now p.groups.now }
 
--- each hypothesis has its number and its typecode, and the groups are parts of the places
+-- each hypothesis has its number and its typecode, and the groups are parts of `grouped_variables`
 pub record AreShapedParts (p : AssertionParts) : Type 0 where
   pub paired : length p.required.now ≡ length p.hypotheses.now
   pub typecodes_counted : length p.typecodes.now ≡ length p.hypotheses.now
-  pub grouped : AreSpansIn (length p.places.now) p.groups.now
+  pub grouped : AreSpansIn (length p.grouped_variables.now) p.groups.now
 
 -- the statement with this header, these symbols and these parts
-abbrev pub made : EntryHeader → List ℕ → Assertion → Entry
-made h codes a = record { kind = h.kind; label = h.before.label; names = h.before.names; last_active = h.before.last_active; symbols = codes; assertion = a }
+abbrev pub entry_by : EntryHeader → List ℕ → Assertion → Entry
+entry_by h codes a = record { kind = h.kind; label_count = h.before.label_count; symbol_count = h.before.symbol_count; last_active = h.before.last_active; symbols = codes; assertion = a }
 
 -- no parts, and whether they are whole
-abbrev pub partless : Bool → Assertion
-partless whole = record { whole = whole; hypotheses = []; required = []; typecodes = []; groups = [] }
+abbrev pub no_parts : Bool → Assertion
+no_parts whole = record { whole = whole; hypotheses = []; required = []; typecodes = []; groups = [] }
 
 -- the statement of which `entry` returns x, with these parts
-abbrev pub seen : EntryRef → Assertion → Entry
-seen x a = record { kind = x.kind; label = x.before.label; names = x.before.names; last_active = x.before.last_active; symbols = x.symbols.now; assertion = a }
+abbrev pub entry_from_ref : EntryRef → Assertion → Entry
+entry_from_ref x a = record { kind = x.kind; label_count = x.before.label_count; symbol_count = x.before.symbol_count; last_active = x.before.last_active; symbols = x.symbols.now; assertion = a }
 
 -- the parts of the statement are whole, and c has them
-pub record AreWhole (e : Entry) (c : AssertionView) : Type 0 where
+pub record IsWholeView (e : Entry) (c : AssertionView) : Type 0 where
   pub whole : e.assertion.whole ≡ true
   pub typecodes : c.typecodes.now ≡ e.assertion.typecodes
   pub hypotheses : c.hypotheses ≡ e.assertion.required
@@ -64,4 +64,4 @@ pub record AreWhole (e : Entry) (c : AssertionView) : Type 0 where
 
 -- x is the statement at index i, without its parts
 abbrev pub IsEntry : List Entry → ℕ → EntryRef → Type 0
-IsEntry es i x = (a : Assertion) × (slice_get es i ≡ Some (seen x a))
+IsEntry es i x = (a : Assertion) × (slice_get es i ≡ Some (entry_from_ref x a))

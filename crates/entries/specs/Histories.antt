@@ -18,22 +18,22 @@ abbrev pub stack_at : List StackVersion → ℕ → List ℕ
 stack_at vs at = stack_from [] vs at
 
 -- whether the last version was made at `at`
-abbrev pub is_changed : ℕ → List StackVersion → Bool
-is_changed at [] = false
-is_changed at (v ∷ []) = v.since == at
-is_changed at (v ∷ w ∷ vs) = is_changed at (w ∷ vs)
+abbrev pub changed_at : ℕ → List StackVersion → Bool
+changed_at at [] = false
+changed_at at (v ∷ []) = v.since == at
+changed_at at (v ∷ w ∷ vs) = changed_at at (w ∷ vs)
 
 -- the versions with one more, made at `at` with this stack, unless the last one was made at `at`
-abbrev pub changed : ℕ → List ℕ → List StackVersion → List StackVersion
-changed at stack vs = if is_changed at vs then vs else vs ++ record { since = at; stack = stack } ∷ []
+abbrev pub with_version : ℕ → List ℕ → List StackVersion → List StackVersion
+with_version at stack vs = if changed_at at vs then vs else vs ++ record { since = at; stack = stack } ∷ []
 
 -- the versions after `at` is pushed
 abbrev pub pushed : ℕ → List StackVersion → List StackVersion
-pushed at vs = changed at (at ∷ stack_at vs at) vs
+pushed at vs = with_version at (at ∷ stack_at vs at) vs
 
 -- the versions after the stack is restored as it was at `before`
-abbrev pub gone_back : ℕ → ℕ → List StackVersion → List StackVersion
-gone_back at before vs = changed at (stack_at vs before) vs
+abbrev pub reverted : ℕ → ℕ → List StackVersion → List StackVersion
+reverted at before vs = with_version at (stack_at vs before) vs
 
 -- the versions that were made at `last` or before
 abbrev pub kept_until : ℕ → List StackVersion → List StackVersion

@@ -7,5 +7,5 @@ use Rattle.entries.specs.declared.assertion_view.Hypothesis.TheVariants.{Float, 
 use Rattle.entries.specs.declared.assertion_view.TheConstants.{ESSENTIALS}
 
 -- the hypothesis that a number encodes; the numbers of `$e` are greater than those of `$f`
-abbrev pub told : ℕ → Hypothesis
-told n = if nat_lt n ESSENTIALS then Float n else Essential (n - ESSENTIALS)
+abbrev pub decoded_hypothesis : ℕ → Hypothesis
+decoded_hypothesis n = if nat_lt n ESSENTIALS then Float n else Essential (n - ESSENTIALS)

@@ -1,6 +1,6 @@
 //! The parts of a cited assertion that a verifier reads.
 ghost use Rattle.std.specs.Prelude.{◌≡◌, ◌<◌, length, map, slice_get, Some, IfOk};
-ghost use Rattle.entries.specs.Hypotheses.{told};
+ghost use Rattle.entries.specs.Hypotheses.{decoded_hypothesis};
 
 use crate::buffer_part::item;
 use crate::groups::Groups;
@@ -27,7 +27,7 @@ pub enum Hypothesis {
 ///
 /// Errors: a variable or a position of 2^31 or more is reported as a failed allocation.
 pub fn number_of(hypothesis: Hypothesis) -> Result<u32, AllocError>
-    ensures { IfOk result (λ n. told n ≡ hypothesis) }
+    ensures { IfOk result (λ n. decoded_hypothesis n ≡ hypothesis) }
 {
     match hypothesis {
         Hypothesis::Float(variable) if variable < ESSENTIALS => Ok(variable),
@@ -44,17 +44,17 @@ pub struct Hypotheses<'a> {
 
 impl<'a> Model for Hypotheses<'a> {
     ghost use Rattle.std.specs.Prelude.{List, map};
-    ghost use Rattle.{entries.specs.declared.assertion_view.Hypothesis.Hypothesis, entries.specs.Hypotheses.told};
+    ghost use Rattle.{entries.specs.declared.assertion_view.Hypothesis.Hypothesis, entries.specs.Hypotheses.decoded_hypothesis};
 
     ghost Value = { List Hypothesis };
 
-    ghost view = { λ a. map told a.numbers.now };
+    ghost view = { λ a. map decoded_hypothesis a.numbers.now };
 }
 
 impl<'a> Hypotheses<'a> {
     /// Returns the hypotheses that these numbers encode.
     pub fn new(numbers: &'a [u32]) -> Hypotheses<'a>
-        ensures { result ≡ map told numbers.now }
+        ensures { result ≡ map decoded_hypothesis numbers.now }
     {
         Hypotheses { numbers }
     }
@@ -79,7 +79,7 @@ impl<'a> Hypotheses<'a> {
 /// Returns the hypothesis that a number encodes.
 #[inline(always)]
 fn hypothesis_of(number: u32) -> Hypothesis
-    ensures { result ≡ told number }
+    ensures { result ≡ decoded_hypothesis number }
 {
     if number < ESSENTIALS {
         Hypothesis::Float(number)

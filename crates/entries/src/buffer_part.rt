@@ -10,10 +10,10 @@ pub struct BufferPart {
     pub to: u32,
 }
 
-/// Returns an index as a number of 32 bits.
+/// Returns an index or a count as a number of 32 bits.
 ///
-/// Errors: an index of 2^32 or more is reported as a failed allocation.
-pub fn place(at: usize) -> Result<u32, AllocError>
+/// Errors: an index or a count of 2^32 or more is reported as a failed allocation.
+pub fn to_u32(at: usize) -> Result<u32, AllocError>
     ensures { IfOk result (λ n. n ≡ at) }
 {
     if at > u32::MAX as usize {
@@ -29,8 +29,8 @@ pub fn between(from: usize, to: usize) -> Result<BufferPart, AllocError>
     ensures { IfOk result (λ s. (s.from ≡ from) × (s.to ≡ to)) }
 {
     Ok(BufferPart {
-        from: place(from)?,
-        to: place(to)?,
+        from: to_u32(from)?,
+        to: to_u32(to)?,
     })
 }
 

@@ -1,12 +1,12 @@
 //! The statements of a database as numbers, by position.
 ghost use Rattle.std.specs.Prelude.{◌≡◌, ◌≤◌, ◌<◌, ◌+◌, ◌^◌, ◌++◌, ◌∷◌, [], length, take, slice_get, Some, OnOk, OnErr, IfOk, IfSome, IfNone, true, false};
-ghost use Rattle.{entries.specs.Entries.Entry, entries.specs.Entries.IsEntry, entries.specs.Entries.AreWhole, entries.specs.Entries.AreShapedParts, entries.specs.Entries.assertion_of, entries.specs.Entries.made, entries.specs.Stored.Records.IsPlaced, entries.specs.Stored.Records.IsStored, entries.specs.Stored.Records.has_parts, entries.specs.Stored.Records.layout_in, entries.specs.Stored.Records.record_by, entries.specs.Stored.Records.run_by, entries.specs.Stored.Records.run_of, entries.specs.Stored.Spans.Extends};
+ghost use Rattle.{entries.specs.Entries.Entry, entries.specs.Entries.IsEntry, entries.specs.Entries.IsWholeView, entries.specs.Entries.AreShapedParts, entries.specs.Entries.assertion_of, entries.specs.Entries.entry_by, entries.specs.Stored.Records.IsPlaced, entries.specs.Stored.Records.IsStored, entries.specs.Stored.Records.has_parts, entries.specs.Stored.Records.layout_in, entries.specs.Stored.Records.record_by, entries.specs.Stored.Records.numbers_by, entries.specs.Stored.Records.numbers_of, entries.specs.Stored.Spans.Extends};
 
 use crate::assertion_view::{AssertionView, Hypotheses};
-use crate::buffer_part::{BufferPart, item, part, place};
+use crate::buffer_part::{BufferPart, item, part, to_u32};
 use crate::entry_header::{EntryHeader, EntryRef, StateBefore};
 use crate::groups::Groups;
-use crate::layout::{Layout, assertion_layout, counts, lay};
+use crate::layout::{Layout, assertion_layout, counts, layout_by_counts};
 use crate::parts::AssertionParts;
 use crate::room::give_back;
 use crate::statement_record::StatementRecord;
@@ -96,7 +96,7 @@ impl Entries {
         ensures { (e : Entry) → slice_get self.now index ≡ Some e → result.now ≡ e.assertion.hypotheses }
     {
         let Stored { numbers, at, .. } = self.stored(index);
-        part(numbers, at.hypotheses, at.places)
+        part(numbers, at.hypotheses, at.grouped_variables)
     }
 
     /// Returns whether the parts of the statement at an index are whole, as `AssertionParts` says.
@@ -109,9 +109,9 @@ impl Entries {
 
     /// Returns the symbols and the parts of the statement at an index, without the positions of its hypotheses, or
     /// `None` if its parts are not whole.
-    pub fn cited(&self, index: usize) -> Option<AssertionView<'_>>
+    pub fn kept_view(&self, index: usize) -> Option<AssertionView<'_>>
         requires { index < length self.now }
-        ensures parts { (e : Entry) → slice_get self.now index ≡ Some e → IfSome result (AreWhole e) }
+        ensures parts { (e : Entry) → slice_get self.now index ≡ Some e → IfSome result (IsWholeView e) }
         ensures none { (e : Entry) → slice_get self.now index ≡ Some e → IfNone result (e.assertion.whole ≡ false) }
     {
         let Stored {
@@ -128,7 +128,7 @@ impl Entries {
             typecodes: part(numbers, at.typecodes, at.required),
             hypotheses: Hypotheses::new(part(numbers, at.required, at.symbols)),
             conclusion: part(numbers, at.symbols, at.hypotheses),
-            groups: Groups::new(groups, part(numbers, at.places, at.end)),
+            groups: Groups::new(groups, part(numbers, at.grouped_variables, at.end)),
         })
     }
 
@@ -139,9 +139,9 @@ impl Entries {
         ensures { IsStored (slice_get self.now index) result }
     {
         let kept = item(&self.records, index);
-        let (numbers, at) = run_at(&self.records, &self.numbers, index, kept);
-        let from = kept.groups as usize;
-        let groups = part(&self.groups, from, from + at.groups);
+        let (numbers, at) = numbers_at(&self.records, &self.numbers, index, kept);
+        let from = kept.groups_from as usize;
+        let groups = part(&self.groups, from, from + at.group_count);
         let before = item(&self.states_before, index);
         Stored {
             kept,
@@ -161,7 +161,7 @@ impl Entries {
         parts: &AssertionParts<'_>,
     ) -> Result<(), AllocError>
         requires { AreShapedParts parts.now }
-        ensures added { OnOk result (self.new ≡ self.old ++ made header parts.now.symbols.now (assertion_of parts.now) ∷ []) }
+        ensures added { OnOk result (self.new ≡ self.old ++ entry_by header parts.now.symbols.now (assertion_of parts.now) ∷ []) }
         ensures same { OnErr result (self.new ≡ self.old) }
     {
         let count = self.records.len();
@@ -193,7 +193,7 @@ impl Entries {
         if len < self.records.len() {
             let first = item(&self.records, len);
             self.numbers.truncate(first.from as usize);
-            self.groups.truncate(first.groups as usize);
+            self.groups.truncate(first.groups_from as usize);
             self.records.truncate(len);
             self.states_before.truncate(len);
         }
@@ -212,7 +212,7 @@ impl Entries {
 
 /// Returns the numbers of the statement at an index, whose record is `kept`, and the layout of its parts among them.
 #[inline(always)]
-fn run_at<'a>(
+fn numbers_at<'a>(
     records: &[StatementRecord],
     numbers: &'a [u32],
     index: usize,
@@ -220,7 +220,7 @@ fn run_at<'a>(
 ) -> (&'a [u32], Layout)
     requires within { index < length records.now }
     requires placed { IsPlaced numbers.now kept (slice_get records.now (index + 1)) }
-    ensures numbers { result.0.now ≡ run_by numbers.now kept (slice_get records.now (index + 1)) }
+    ensures numbers { result.0.now ≡ numbers_by numbers.now kept (slice_get records.now (index + 1)) }
     ensures at { result.1 ≡ layout_in kept.has_parts result.0.now }
 {
     if kept.has_parts {
@@ -233,7 +233,10 @@ fn run_at<'a>(
         None => numbers.len(),
     };
     let from = kept.from as usize;
-    (part(numbers, from, end), lay(0, 0, end - from, 0, 0))
+    (
+        part(numbers, from, end),
+        layout_by_counts(0, 0, end - from, 0, 0),
+    )
 }
 
 /// Appends a statement's groups, numbers, state before it and record. If it fails, `records` is unchanged, but the
@@ -246,7 +249,7 @@ fn add(
     header: EntryHeader,
     parts: &AssertionParts<'_>,
 ) -> Result<(), AllocError>
-    ensures added { OnOk result (numbers.new.items ≡ numbers.old.items ++ run_of (has_parts parts.now) parts.now) }
+    ensures added { OnOk result (numbers.new.items ≡ numbers.old.items ++ numbers_of (has_parts parts.now) parts.now) }
     ensures groups { OnOk result (groups.new.items ≡ groups.old.items ++ parts.now.groups.now) }
     ensures last { OnOk result (records.new.items ≡ records.old.items ++ record_by header.kind (has_parts parts.now) parts.now.whole (length numbers.old.items) (length groups.old.items) ∷ []) }
     ensures state_before { OnOk result (states_before.new.items ≡ states_before.old.items ++ header.before ∷ []) }
@@ -255,8 +258,8 @@ fn add(
     ensures more { Extends numbers.old.items numbers.new.items }
     ensures more_groups { Extends groups.old.items groups.new.items }
 {
-    let from = place(numbers.len())?;
-    let first = place(groups.len())?;
+    let from = to_u32(numbers.len())?;
+    let first = to_u32(groups.len())?;
     let has_parts = parts.hypotheses.len() + parts.groups.len() > 0;
     append(groups, parts.groups)?;
     add_numbers(numbers, parts, has_parts)?;
@@ -265,7 +268,7 @@ fn add(
         records,
         &[StatementRecord {
             from,
-            groups: first,
+            groups_from: first,
             kind: header.kind,
             has_parts,
             whole: parts.whole,
@@ -279,7 +282,7 @@ fn add_numbers(
     parts: &AssertionParts<'_>,
     has_parts: bool,
 ) -> Result<(), AllocError>
-    ensures added { OnOk result (numbers.new.items ≡ numbers.old.items ++ run_of has_parts parts.now) }
+    ensures added { OnOk result (numbers.new.items ≡ numbers.old.items ++ numbers_of has_parts parts.now) }
     ensures more { Extends numbers.old.items numbers.new.items }
 {
     if !has_parts {
@@ -287,7 +290,7 @@ fn add_numbers(
     }
     append_both(numbers, &counts(parts)?, parts.typecodes)?;
     append_both(numbers, parts.required, parts.symbols)?;
-    append_both(numbers, parts.hypotheses, parts.places)
+    append_both(numbers, parts.hypotheses, parts.grouped_variables)
 }
 
 /// Appends both lists.
@@ -311,7 +314,7 @@ fn append<T: Copy>(buffer: &mut Vec<T>, items: &[T]) -> Result<(), AllocError>
         return Ok(());
     }
     if buffer.capacity() - buffer.len() < items.len() {
-        widen(buffer);
+        reserve_ahead(buffer);
     }
     buffer.extend_from_slice(items)?;
     Ok(())
@@ -320,7 +323,7 @@ fn append<T: Copy>(buffer: &mut Vec<T>, items: &[T]) -> Result<(), AllocError>
 /// Reserves room for fifteen times as many items as the buffer has, so that a growing buffer is seldom copied. Unused
 /// room is not written. If that allocation fails, the buffer keeps its room.
 #[cold]
-fn widen<T>(buffer: &mut Vec<T>)
+fn reserve_ahead<T>(buffer: &mut Vec<T>)
     ensures { buffer.new.items ≡ buffer.old.items }
 {
     let _ = buffer.reserve(buffer.len().saturating_mul(15));

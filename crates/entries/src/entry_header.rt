@@ -5,10 +5,10 @@ use crate::last_active::LastActive;
 /// The state before a statement.
 #[derive(Clone, Copy, Drop)]
 pub struct StateBefore {
-    /// How many labels there were: the number of the statement's own label, if it has one.
-    pub label: u32,
+    /// How many labels there were, which is the number of the statement's own label, if it has one.
+    pub label_count: u32,
     /// How many declared symbols there were.
-    pub names: u32,
+    pub symbol_count: u32,
     /// The last active statement of each of four kinds.
     pub last_active: LastActive,
 }

@@ -9,7 +9,7 @@ use std::marker::Model;
 #[derive(Drop)]
 pub struct Groups<'a> {
     pub(crate) spans: &'a [BufferPart],
-    pub(crate) places: &'a [u32],
+    pub(crate) numbers: &'a [u32],
 }
 
 impl<'a> Model for Groups<'a> {
@@ -19,18 +19,18 @@ impl<'a> Model for Groups<'a> {
 
     ghost use Rattle.entries.specs.Stored.Spans.{cut, AreSpansIn};
 
-    ghost view = { λ a. cut a.places.now a.spans.now };
+    ghost view = { λ a. cut a.numbers.now a.spans.now };
 
-    ghost invariant = { λ a. AreSpansIn (length a.places.now) a.spans.now };
+    ghost invariant = { λ a. AreSpansIn (length a.numbers.now) a.spans.now };
 }
 
 impl<'a> Groups<'a> {
     /// Returns the lists that are these parts of the numbers.
-    pub fn new(spans: &'a [BufferPart], places: &'a [u32]) -> Groups<'a>
-        requires { AreSpansIn (length places.now) spans.now }
-        ensures { result ≡ cut places.now spans.now }
+    pub fn new(spans: &'a [BufferPart], numbers: &'a [u32]) -> Groups<'a>
+        requires { AreSpansIn (length numbers.now) spans.now }
+        ensures { result ≡ cut numbers.now spans.now }
     {
-        Groups { spans, places }
+        Groups { spans, numbers }
     }
 
     /// Returns how many lists there are.
@@ -46,6 +46,6 @@ impl<'a> Groups<'a> {
         ensures { slice_get self.now index ≡ Some result.now }
     {
         let span = item(self.spans, index);
-        part(self.places, span.from as usize, span.to as usize)
+        part(self.numbers, span.from as usize, span.to as usize)
     }
 }

@@ -1,6 +1,6 @@
 //! A persistent stack of positions for each number: its earlier versions can be read.
 ghost use Rattle.std.specs.Prelude.{◌≡◌, ◌<◌, length, [], OnOk, OnErr};
-ghost use Rattle.{entries.specs.Histories.AreKeptUntil, entries.specs.Histories.AreSame, entries.specs.Histories.AreUntil, entries.specs.Histories.AreWith, entries.specs.Histories.gone_back, entries.specs.Histories.history, entries.specs.Histories.pushed, entries.specs.Histories.stack_at};
+ghost use Rattle.{entries.specs.Histories.AreKeptUntil, entries.specs.Histories.AreSame, entries.specs.Histories.AreUntil, entries.specs.Histories.AreWith, entries.specs.Histories.reverted, entries.specs.Histories.history, entries.specs.Histories.pushed, entries.specs.Histories.stack_at};
 
 use crate::history::History;
 use crate::position_stack::PositionStack;
@@ -51,8 +51,8 @@ impl Histories {
         ensures pushed { OnOk result (AreWith self.old number (pushed at (history self.old number)) self.new) }
         ensures same { OnErr result (AreSame self.old self.new) }
     {
-        widen(self.alloc, &mut self.histories, number as usize)?;
-        if self.histories[number as usize].is_changed(at) {
+        append_until(self.alloc, &mut self.histories, number as usize)?;
+        if self.histories[number as usize].changed_at(at) {
             return Ok(());
         }
         self.log.push(number)?;
@@ -66,21 +66,21 @@ impl Histories {
     /// Restores at `at` the stack of a number as it was at `before`, unless that stack changed at `at` already.
     ///
     /// Errors: an allocation fails; the stacks are then unchanged. Cost: a binary search.
-    pub fn go_back(&mut self, number: u32, at: u32, before: u32) -> Result<(), AllocError>
+    pub fn revert(&mut self, number: u32, at: u32, before: u32) -> Result<(), AllocError>
         requires { AreUntil at self.old }
-        ensures gone_back { OnOk result (AreWith self.old number (gone_back at before (history self.old number)) self.new) }
+        ensures reverted { OnOk result (AreWith self.old number (reverted at before (history self.old number)) self.new) }
         ensures same { OnErr result (AreSame self.old self.new) }
     {
-        widen(self.alloc, &mut self.histories, number as usize)?;
-        if self.histories[number as usize].is_changed(at) {
+        append_until(self.alloc, &mut self.histories, number as usize)?;
+        if self.histories[number as usize].changed_at(at) {
             return Ok(());
         }
         self.log.push(number)?;
-        let gone_back = self.histories[number as usize].go_back(at, before);
-        if gone_back.is_err() {
+        let reverted = self.histories[number as usize].revert(at, before);
+        if reverted.is_err() {
             let _ = self.log.pop();
         }
-        gone_back
+        reverted
     }
 
     /// Removes the versions that were made after `last`.
@@ -103,7 +103,7 @@ impl Histories {
     pub fn shrink(&mut self, count: usize)
         ensures { AreSame self.old self.new }
     {
-        narrow(&mut self.histories, count);
+        remove_empty(&mut self.histories, count);
         give_back(&mut self.histories);
         give_back(&mut self.log);
     }
@@ -122,7 +122,7 @@ impl Histories {
 }
 
 /// Removes the last history while it is empty and there are more than `count`.
-fn narrow(histories: &mut Vec<History>, count: usize)
+fn remove_empty(histories: &mut Vec<History>, count: usize)
     ensures same { AreSame histories.old.items histories.new.items }
 {
     while histories.len() > count {
@@ -135,7 +135,11 @@ fn narrow(histories: &mut Vec<History>, count: usize)
 }
 
 /// Appends empty histories until `number` has one.
-fn widen(alloc: Global, histories: &mut Vec<History>, number: usize) -> Result<(), AllocError>
+fn append_until(
+    alloc: Global,
+    histories: &mut Vec<History>,
+    number: usize,
+) -> Result<(), AllocError>
     ensures same { AreSame histories.old.items histories.new.items }
     ensures within { OnOk result (number < length histories.new.items) }
 {

@@ -1,9 +1,9 @@
 //! The versions of one stack of positions.
 ghost use Rattle.std.specs.Prelude.{◌≡◌, ◌∷◌, ◌++◌, [], length, false, nat_lt, if◌then◌else◌, OnOk, OnErr, IfOk, IsTrue, List};
 ghost use Rattle.std.specs.List.Sorted.{IsNonDecreasingBy};
-ghost use Rattle.{entries.specs.Histories.StackVersion, entries.specs.Histories.IsUntil, entries.specs.Histories.is_changed, entries.specs.Histories.pushed, entries.specs.Histories.gone_back, entries.specs.Histories.stack_at, entries.specs.Stored.Versions.IsFound, entries.specs.Stored.Versions.AreVersions, entries.specs.Stored.Versions.stack_of, entries.specs.Stored.Versions.versions_of};
+ghost use Rattle.{entries.specs.Histories.StackVersion, entries.specs.Histories.IsUntil, entries.specs.Histories.changed_at, entries.specs.Histories.pushed, entries.specs.Histories.reverted, entries.specs.Histories.stack_at, entries.specs.Stored.Versions.IsFound, entries.specs.Stored.Versions.AreVersions, entries.specs.Stored.Versions.stack_of, entries.specs.Stored.Versions.versions_of};
 
-use crate::buffer_part::{item, place};
+use crate::buffer_part::{item, to_u32};
 use crate::position_stack::PositionStack;
 use crate::room::give_back;
 use std::alloc::{AllocError, Global};
@@ -23,7 +23,7 @@ pub struct Version {
 }
 
 /// Returns a version with an empty stack, made at `since`.
-pub fn no_positions(since: u32) -> Version
+pub fn empty_version(since: u32) -> Version
     ensures { (result.since ≡ since) × (result.height ≡ 0) }
 {
     Version {
@@ -64,8 +64,8 @@ impl History {
     }
 
     /// Returns whether the last version was made at `at`.
-    pub fn is_changed(&self, at: u32) -> bool
-        ensures { result ≡ is_changed at self.now }
+    pub fn changed_at(&self, at: u32) -> bool
+        ensures { result ≡ changed_at at self.now }
     {
         match self.versions.last() {
             Some(version) => version.since == at,
@@ -81,10 +81,10 @@ impl History {
         ensures pushed { OnOk result (self.new ≡ pushed at self.old) }
         ensures same { OnErr result (self.new ≡ self.old) }
     {
-        if self.is_changed(at) {
+        if self.changed_at(at) {
             return Ok(());
         }
-        let version = above(&self.versions, at)?;
+        let version = pushed_version(&self.versions, at)?;
         self.versions.push(version)?;
         Ok(())
     }
@@ -92,15 +92,15 @@ impl History {
     /// Restores at `at` the stack as it was at `before`, unless the last version was made at `at`.
     ///
     /// Errors: an allocation fails; the history is then unchanged. Cost: a binary search.
-    pub fn go_back(&mut self, at: u32, before: u32) -> Result<(), AllocError>
+    pub fn revert(&mut self, at: u32, before: u32) -> Result<(), AllocError>
         requires { IsUntil at self.old }
-        ensures gone_back { OnOk result (self.new ≡ gone_back at before self.old) }
+        ensures reverted { OnOk result (self.new ≡ reverted at before self.old) }
         ensures same { OnErr result (self.new ≡ self.old) }
     {
-        if self.is_changed(at) {
+        if self.changed_at(at) {
             return Ok(());
         }
-        let version = again(&self.versions, at, before);
+        let version = restored_version(&self.versions, at, before);
         self.versions.push(version)?;
         Ok(())
     }
@@ -143,10 +143,10 @@ impl History {
 }
 
 /// Returns a version made at `at`: the stack of the last version with `at` pushed on it.
-fn above(versions: &[Version], at: u32) -> Result<Version, AllocError>
+fn pushed_version(versions: &[Version], at: u32) -> Result<Version, AllocError>
     requires versions { AreVersions versions.now }
     requires until { IsUntil at (versions_of versions.now) }
-    requires unchanged { is_changed at (versions_of versions.now) ≡ false }
+    requires unchanged { changed_at at (versions_of versions.now) ≡ false }
     ensures since { IfOk result (λ v. v.since ≡ at) }
     ensures stack { IfOk result (λ v. stack_of (versions_of versions.now) v ≡ at ∷ stack_at (versions_of versions.now) at) }
     ensures height { IfOk result (λ v. v.height ≡ length (stack_of (versions_of versions.now) v)) }
@@ -164,13 +164,13 @@ fn above(versions: &[Version], at: u32) -> Result<Version, AllocError>
     Ok(Version {
         since: at,
         top: at,
-        below: place(below)?,
-        height: place(last.height as usize + 1)?,
+        below: to_u32(below)?,
+        height: to_u32(last.height as usize + 1)?,
     })
 }
 
 /// Returns a version made at `at`, with the stack as it was at `before`.
-fn again(versions: &[Version], at: u32, before: u32) -> Version
+fn restored_version(versions: &[Version], at: u32, before: u32) -> Version
     requires versions { AreVersions versions.now }
     ensures since { result.since ≡ at }
     ensures stack { stack_of (versions_of versions.now) result ≡ stack_at (versions_of versions.now) before }
@@ -181,7 +181,7 @@ fn again(versions: &[Version], at: u32, before: u32) -> Version
             since: at,
             ..versions[index]
         },
-        None => no_positions(at),
+        None => empty_version(at),
     }
 }
 

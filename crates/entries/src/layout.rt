@@ -1,8 +1,8 @@
 //! The layout of a statement's parts among its numbers.
 ghost use Rattle.std.specs.Prelude.{◌≡◌, ◌≤◌, ◌<◌, ◌^◌, length, IfOk, true};
-ghost use Rattle.{entries.specs.Stored.Records.laid, entries.specs.Stored.Records.layout_in, entries.specs.Stored.Records.counts_of, entries.specs.declared.layout.TheConstants.COUNTS};
+ghost use Rattle.{entries.specs.Stored.Records.layout_of_counts, entries.specs.Stored.Records.layout_in, entries.specs.Stored.Records.counts_of, entries.specs.declared.layout.TheConstants.COUNTS};
 
-use crate::buffer_part::{item, place};
+use crate::buffer_part::{item, to_u32};
 use crate::parts::AssertionParts;
 use std::alloc::AllocError;
 
@@ -22,19 +22,25 @@ pub struct Layout {
     /// The positions of its hypotheses.
     pub hypotheses: usize,
     /// The variables of its groups.
-    pub places: usize,
+    pub grouped_variables: usize,
     /// Where the variables of its groups end.
     pub end: usize,
     /// How many groups it has.
-    pub groups: usize,
+    pub group_count: usize,
 }
 
-/// Returns the layout of `count` hypotheses, `symbols` symbols, `groups` groups and `places` variables of groups, the first
-/// part of which begins at `typecodes`.
+/// Returns the layout of `count` hypotheses, `symbols` symbols, `group_count` groups and `grouped_variables` variables of
+/// groups, the first part of which begins at `typecodes`.
 #[inline(always)]
-pub fn lay(typecodes: usize, count: usize, symbols: usize, groups: usize, places: usize) -> Layout
-    requires { (laid typecodes count symbols groups places).end < 2 ^ 64 }
-    ensures { result ≡ laid typecodes count symbols groups places }
+pub fn layout_by_counts(
+    typecodes: usize,
+    count: usize,
+    symbols: usize,
+    group_count: usize,
+    grouped_variables: usize,
+) -> Layout
+    requires { (layout_of_counts typecodes count symbols group_count grouped_variables).end < 2 ^ 64 }
+    ensures { result ≡ layout_of_counts typecodes count symbols group_count grouped_variables }
 {
     let required = typecodes + count;
     let hypotheses = required + count + symbols;
@@ -43,9 +49,9 @@ pub fn lay(typecodes: usize, count: usize, symbols: usize, groups: usize, places
         required,
         symbols: required + count,
         hypotheses,
-        places: hypotheses + count,
-        end: hypotheses + count + places,
-        groups,
+        grouped_variables: hypotheses + count,
+        end: hypotheses + count + grouped_variables,
+        group_count,
     }
 }
 
@@ -55,7 +61,7 @@ pub fn assertion_layout(numbers: &[u32]) -> Layout
     requires { COUNTS ≤ length numbers.now }
     ensures { result ≡ layout_in true numbers.now }
 {
-    lay(
+    layout_by_counts(
         COUNTS,
         item(numbers, 0) as usize,
         item(numbers, 1) as usize,
@@ -69,9 +75,9 @@ pub fn counts(parts: &AssertionParts<'_>) -> Result<[u32; COUNTS], AllocError>
     ensures { IfOk result (λ counts. counts ≡ counts_of parts.now) }
 {
     Ok([
-        place(parts.hypotheses.len())?,
-        place(parts.symbols.len())?,
-        place(parts.groups.len())?,
-        place(parts.places.len())?,
+        to_u32(parts.hypotheses.len())?,
+        to_u32(parts.symbols.len())?,
+        to_u32(parts.groups.len())?,
+        to_u32(parts.grouped_variables.len())?,
     ])
 }

@@ -1,4 +1,4 @@
-//! The indexes at which each symbol of long expressions occurs, by the index of the statement of each.
+//! For each long expression, by the index of its statement, the indexes at which each of its symbols occurs.
 ghost use Rattle.std.specs.Prelude.{◌≡◌, ◌<◌, ◌++◌, ◌∷◌, [], ℕ, List, nat_eq, nat_lt, Some, None, IfSome, IfNone, OnOk, OnErr};
 ghost use Rattle.std.specs.{List.All, List.filter, Map.lookup};
 ghost use Rattle.entries.specs.SymbolPlaces.{ArePlacesOf, SymbolGroups, without_float};
@@ -9,9 +9,9 @@ use crate::symbol_places::SymbolPlaces;
 use std::alloc::{AllocError, Global};
 use std::marker::Model;
 
-/// The places of the symbols of long expressions, by the index of the statement of each; the caller decides which are
-/// long. Contracts see the list of the indexes, in ascending order, each with the symbols of the statement's
-/// expression, their groups, and the constants among them.
+/// For each long expression, by the index of its statement, the places of its symbols. The caller decides which are long.
+/// Contracts see the list of the indexes, in ascending order, each with the symbols of the statement's expression, their
+/// groups, and the constants among them.
 #[derive(Drop)]
 pub struct LongExpressions {
     alloc: Global,

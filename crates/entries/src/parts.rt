@@ -17,7 +17,7 @@ pub struct AssertionParts<'a> {
     /// The typecode of each hypothesis.
     pub typecodes: &'a [u32],
     /// The variables whose images must be disjoint, one group after another.
-    pub places: &'a [u32],
-    /// The groups, as parts of `places`.
+    pub grouped_variables: &'a [u32],
+    /// The groups, as parts of `grouped_variables`.
     pub groups: &'a [BufferPart],
 }

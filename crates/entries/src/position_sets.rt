@@ -1,10 +1,10 @@
 //! Sets of positions, each made from earlier ones.
 ghost use Rattle.std.specs.Prelude.{◌≡◌, ℕ, ◌<◌, ◌+◌, ◌^◌, ◌++◌, ◌∷◌, [], length, take, max, slice_get, OnOk, OnErr, IfOk, IfSome, IfNone, Ok, true};
 ghost use Rattle.entries.specs.PositionSets.{Ascends, IsSet, count_below, has_position, set_at, with_position};
-ghost use Rattle.entries.specs.Stored.PositionSets.{IsTop, joined, set_of};
+ghost use Rattle.entries.specs.Stored.PositionSets.{IsNodeOf, joined, set_of};
 ghost use Rattle.entries.specs.Stored.Spans.{Extends};
 
-use crate::buffer_part::{item, place};
+use crate::buffer_part::{item, to_u32};
 use crate::room::give_back;
 use std::alloc::{AllocError, Global};
 use std::cmp::Ordering;
@@ -66,8 +66,8 @@ impl PositionSets {
     }
 
     /// Returns how many sets there are, with the empty one.
-    pub fn size(&self) -> usize
-        ensures size { result ≡ length self.now }
+    pub fn set_count(&self) -> usize
+        ensures set_count { result ≡ length self.now }
         ensures few { result < 2 ^ 32 }
         ensures empty { IsSet self.now [] 0 }
         ensures ascend { (set : ℕ) → Ascends (set_at self.now set) }
@@ -81,8 +81,8 @@ impl PositionSets {
         ensures few { result < 2 ^ 32 }
         ensures ascends { Ascends (set_at self.now set) }
     {
-        match self.top(set) {
-            Some(top) => top.count as usize,
+        match self.node(set) {
+            Some(node) => node.count as usize,
             None => 0,
         }
     }
@@ -95,13 +95,13 @@ impl PositionSets {
     {
         let mut part = set;
         let mut at = index;
-        while let Some(top) = self.top(part) {
-            let below = self.len(top.left);
+        while let Some(node) = self.node(part) {
+            let below = self.len(node.left);
             match at.cmp(&below) {
-                Ordering::Less => part = top.left,
-                Ordering::Equal => return Some(top.position),
+                Ordering::Less => part = node.left,
+                Ordering::Equal => return Some(node.position),
                 Ordering::Greater => {
-                    part = top.right;
+                    part = node.right;
                     at -= below + 1;
                 }
             }
@@ -116,11 +116,11 @@ impl PositionSets {
         ensures { result ≡ has_position position (set_at self.now set) }
     {
         let mut part = set;
-        while let Some(top) = self.top(part) {
-            part = match position.cmp(&top.position) {
-                Ordering::Less => top.left,
+        while let Some(node) = self.node(part) {
+            part = match position.cmp(&node.position) {
+                Ordering::Less => node.left,
                 Ordering::Equal => return true,
-                Ordering::Greater => top.right,
+                Ordering::Greater => node.right,
             };
         }
         false
@@ -135,12 +135,12 @@ impl PositionSets {
     {
         let mut part = set;
         let mut below = 0;
-        while let Some(top) = self.top(part) {
-            if position <= top.position {
-                part = top.left;
+        while let Some(node) = self.node(part) {
+            if position <= node.position {
+                part = node.left;
             } else {
-                part = top.right;
-                below += self.len(top.left) + 1;
+                part = node.right;
+                below += self.len(node.left) + 1;
             }
         }
         below
@@ -157,13 +157,13 @@ impl PositionSets {
         ensures stay { has_position position (set_at self.old set) ≡ true → self.new ≡ self.old }
         ensures same { OnErr result (self.new ≡ self.old) }
     {
-        let size = self.size();
+        let set_count = self.set_count();
         if self.has(set, position) {
             return Ok(set);
         }
         let made = self.insert_node(set, position);
         if made.is_err() {
-            self.truncate(size);
+            self.truncate(set_count);
         }
         made
     }
@@ -176,22 +176,22 @@ impl PositionSets {
         requires { Ascends positions.now }
         ensures made { IfOk result (IsSet self.new positions.now) }
         ensures more { Extends self.old self.new }
-        ensures size { OnOk result (length self.new ≡ length self.old + length positions.now) }
+        ensures set_count { OnOk result (length self.new ≡ length self.old + length positions.now) }
         ensures same { OnErr result (self.new ≡ self.old) }
     {
-        let size = self.size();
-        let made = self.halve(positions);
+        let set_count = self.set_count();
+        let made = self.build_balanced(positions);
         if made.is_err() {
-            self.truncate(size);
+            self.truncate(set_count);
         }
         made
     }
 
-    /// Truncates to the first `size` sets; the empty set always stays. Does not allocate.
-    pub fn truncate(&mut self, size: usize)
-        ensures { self.new ≡ take (max 1 size) self.old }
+    /// Truncates to the first `set_count` sets; the empty set always stays. Does not allocate.
+    pub fn truncate(&mut self, set_count: usize)
+        ensures { self.new ≡ take (max 1 set_count) self.old }
     {
-        self.nodes.truncate(size.saturating_sub(1));
+        self.nodes.truncate(set_count.saturating_sub(1));
     }
 
     /// Gives back unused room, as `give_back` does.
@@ -202,8 +202,8 @@ impl PositionSets {
     }
 
     /// Returns the node of a set, or `None` if the set is empty.
-    fn top(&self, set: u32) -> Option<Node>
-        ensures some { IfSome result (IsTop self.now set) }
+    fn node(&self, set: u32) -> Option<Node>
+        ensures some { IfSome result (IsNodeOf self.now set) }
         ensures none { IfNone result (set_at self.now set ≡ []) }
         ensures empty { IsSet self.now [] 0 }
     {
@@ -220,37 +220,37 @@ impl PositionSets {
         ensures made { IfOk result (IsSet self.new (with_position position (set_at self.old set))) }
         ensures more { Extends self.old self.new }
     {
-        let Some(top) = self.top(set) else {
+        let Some(node) = self.node(set) else {
             return self.join(0, position, 0);
         };
-        match position.cmp(&top.position) {
+        match position.cmp(&node.position) {
             Ordering::Less => {
-                let left = self.insert_node(top.left, position)?;
-                self.balance(left, top.position, top.right)
+                let left = self.insert_node(node.left, position)?;
+                self.balance(left, node.position, node.right)
             }
             Ordering::Equal => Ok(set),
             Ordering::Greater => {
-                let right = self.insert_node(top.right, position)?;
-                self.balance(top.left, top.position, right)
+                let right = self.insert_node(node.right, position)?;
+                self.balance(node.left, node.position, right)
             }
         }
     }
 
     /// Makes the set of these positions: the middle one, with the sets of the positions below and above it on its
     /// sides.
-    fn halve(&mut self, positions: &[u32]) -> Result<u32, AllocError>
+    fn build_balanced(&mut self, positions: &[u32]) -> Result<u32, AllocError>
         requires empty { IsSet self.old [] 0 }
         requires ascends { Ascends positions.now }
         ensures made { IfOk result (IsSet self.new positions.now) }
         ensures more { Extends self.old self.new }
-        ensures size { OnOk result (length self.new ≡ length self.old + length positions.now) }
+        ensures set_count { OnOk result (length self.new ≡ length self.old + length positions.now) }
     {
         if positions.is_empty() {
             return Ok(0);
         }
         let middle = positions.len() / 2;
-        let left = self.halve(&positions[..middle])?;
-        let right = self.halve(&positions[middle + 1..])?;
+        let left = self.build_balanced(&positions[..middle])?;
+        let right = self.build_balanced(&positions[middle + 1..])?;
         self.join(left, positions[middle], right)
     }
 
@@ -265,12 +265,12 @@ impl PositionSets {
         let below = self.len(left) + 1;
         let above = self.len(right) + 1;
         if above > MOST_IMBALANCE * below
-            && let Some(right) = self.top(right)
+            && let Some(right) = self.node(right)
         {
             return self.rotate_left(left, position, right);
         }
         if below > MOST_IMBALANCE * above
-            && let Some(left) = self.top(left)
+            && let Some(left) = self.node(left)
         {
             return self.rotate_right(left, position, right);
         }
@@ -288,7 +288,7 @@ impl PositionSets {
     {
         let outer = self.len(right.right) + 1;
         if self.len(right.left) + 1 >= DOUBLE_ROTATION_RATIO * outer
-            && let Some(inner) = self.top(right.left)
+            && let Some(inner) = self.node(right.left)
         {
             let below = self.join(left, position, inner.left)?;
             let above = self.join(inner.right, right.position, right.right)?;
@@ -309,7 +309,7 @@ impl PositionSets {
     {
         let outer = self.len(left.left) + 1;
         if self.len(left.right) + 1 >= DOUBLE_ROTATION_RATIO * outer
-            && let Some(inner) = self.top(left.right)
+            && let Some(inner) = self.node(left.right)
         {
             let below = self.join(left.left, left.position, inner.left)?;
             let above = self.join(inner.right, position, right)?;
@@ -326,11 +326,11 @@ impl PositionSets {
         requires ascends { Ascends (joined self.old left position right) }
         ensures made { IfOk result (IsSet self.new (joined self.old left position right)) }
         ensures more { Extends self.old self.new }
-        ensures size { OnOk result (length self.new ≡ length self.old + 1) }
+        ensures set_count { OnOk result (length self.new ≡ length self.old + 1) }
     {
-        let count = place(self.len(left) + 1 + self.len(right))?;
-        let size = self.size();
-        if size > MOST_NODES {
+        let count = to_u32(self.len(left) + 1 + self.len(right))?;
+        let set_count = self.set_count();
+        if set_count > MOST_NODES {
             return Err(AllocError);
         }
         self.nodes.push(Node {
@@ -339,6 +339,6 @@ impl PositionSets {
             position,
             count,
         })?;
-        Ok(size as u32)
+        Ok(set_count as u32)
     }
 }

@@ -2,7 +2,7 @@
 ghost use Rattle.std.specs.Prelude.{◌≡◌, ◌∷◌, [], length, slice_get, true, ◌==◌, IfSome, IfNone};
 ghost use Rattle.{entries.specs.Stored.Versions.IsReadable, entries.specs.Stored.Versions.stack_of, entries.specs.Stored.Versions.versions_of};
 
-use crate::history::{Version, no_positions};
+use crate::history::{Version, empty_version};
 use std::marker::Model;
 
 /// A stack of positions, as it was at some position. Contracts see the list of its positions from the top down.
@@ -30,7 +30,7 @@ impl<'a> PositionStack<'a> {
     {
         PositionStack {
             before: &[],
-            version: no_positions(0),
+            version: empty_version(0),
         }
     }
 
@@ -84,7 +84,7 @@ impl<'a> PositionStack<'a> {
             return None;
         }
         if height == 1 {
-            self.version = no_positions(0);
+            self.version = empty_version(0);
         } else {
             self.version = self.before[below as usize];
             self.before = &self.before[..below as usize];

@@ -9,7 +9,7 @@ pub struct StatementRecord {
     /// Where its numbers begin.
     pub from: u32,
     /// Where its groups begin: how many groups earlier statements have.
-    pub groups: u32,
+    pub groups_from: u32,
     pub kind: Kind,
     /// Whether its numbers are those of an assertion with its parts; else they are its symbols alone.
     pub has_parts: bool,

@@ -1,5 +1,5 @@
 -- Hypotheses that require other results than they have.
-use Rattle.explain.proofs.Words.{◌≡◌, ℕ, ◌+◌, ◌<◌, List, [], ◌∷◌, ◌++◌, length, take, get_or, map, refl, sym, ◌∙◌, ap, subst, add-one, Some, slice_get, Bor, Vec, take-suc, slice_get-get_or, slice_get_read, take-map, map_push, Name, Stmt, Database, Expr, stmt_at, expr_of, name_at, decode, AreDistinct, Hypothesis, AreBelow, IsRequired, IsOf, IsTypecode, expr_at, option_expr, Fault, UnknownLabel, Inactive, NotEarlier, TooFewResults, OtherTypecode, OtherExpression, NotDisjoint, TooManySymbols, NoMarkedResult, named_expressions, before, hypotheses, images_read, named_images, AreVariables, required_result, AllMatch, IsFirstMismatch, HasOtherTypecode, HasOtherTypecodeThan, HasOtherTypecodeNumber, IsFloat, IsFaultOfResult, IsMismatchFault, map-at, name_at-injective, decode-injective}
+use Rattle.explain.proofs.Words.{◌≡◌, ℕ, ◌+◌, ◌<◌, List, [], ◌∷◌, ◌++◌, length, take, get_or, map, refl, sym, ◌∙◌, ap, subst, add-one, Some, slice_get, Bor, Vec, take-suc, slice_get-get_or, slice_get_read, take-map, map_push, Name, Stmt, Database, Expr, stmt_at, expr_of, name_at, decode, AreDistinct, Hypothesis, AreBelow, IsNumberedHypothesis, IsStatementOf, IsTypecode, expr_at, option_expr, Fault, UnknownLabel, Inactive, NotEarlier, TooFewResults, OtherTypecode, OtherExpression, NotDisjoint, TooManySymbols, NoMarkedResult, named_expressions, before, hypotheses, images_read, named_images, AreVariables, required_result, AllMatch, IsFirstMismatch, HasOtherTypecode, HasOtherTypecodeThan, HasOtherTypecodeNumber, IsFloat, IsFaultOfResult, IsMismatchFault, map-at, name_at-injective, decode-injective}
 use Rattle.mm_read.specs.declared.stmt.Stmt.TheVariants as stmt
 use Rattle.entries.specs.declared.assertion_view.Hypothesis.TheVariants as hypothesis
 use Rattle.frame.specs.Substitution.{Images, CodeImages, code_apply, apply as applied}
@@ -46,7 +46,7 @@ module _ (S : Database) (names : List Name) (σ : Images) (ps : List ℕ) (resul
   }
 
 -- the fault of a result
-module _ (S : Database) (names : List Name) (distinct : AreDistinct names) (p typecode : ℕ) (kind : Hypothesis) (is : IsRequired S names p typecode kind) where
+module _ (S : Database) (names : List Name) (distinct : AreDistinct names) (p typecode : ℕ) (kind : Hypothesis) (is : IsNumberedHypothesis S names p typecode kind) where
   -- an expression whose first number is not this typecode does not begin with the name of the typecode
   begins_other : (c : Name) (e : List ℕ) → typecode < length names → name_at names typecode ≡ c → AreBelow (length names) e → HasOtherTypecodeNumber typecode e → HasOtherTypecode c (decode names e)
   begins_other c [] h n below starts = tt
@@ -56,7 +56,7 @@ module _ (S : Database) (names : List Name) (distinct : AreDistinct names) (p ty
   pub other_constant : (e : List ℕ) → AreBelow (length names) e → IsFloat kind → HasOtherTypecodeNumber typecode e → HasOtherTypecodeThan (stmt_at S p) (decode names e)
   other_constant e below float starts = subst (λ o. HasOtherTypecodeThan o (decode names e)) (sym is.stands) (by is.stmt kind is.first is.is float)
     where
-      by : (s : Stmt) (h : Hypothesis) → IsTypecode names typecode (expr_of s) → IsOf names p s h → IsFloat h → HasOtherTypecodeThan (Some s) (decode names e)
+      by : (s : Stmt) (h : Hypothesis) → IsTypecode names typecode (expr_of s) → IsStatementOf names p s h → IsFloat h → HasOtherTypecodeThan (Some s) (decode names e)
       by (stmt.Float l c v) h first of float = begins_other c e first.0 first.1 below starts
       by (stmt.Ess l w) (hypothesis.Float x) first of float = absurd of
       by (stmt.Ess l w) (hypothesis.Essential q) first of float = absurd float

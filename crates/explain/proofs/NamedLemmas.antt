@@ -1,5 +1,5 @@
 -- Images by number and by name.
-use Rattle.explain.proofs.Words.{◌≡◌, ℕ, zero, suc, ◌+◌, ◌<◌, Bool, true, false, cond, List, [], ◌∷◌, ◌++◌, length, drop, get_or, map, arith, refl, sym, ◌∙◌, ap, add-one, append_assoc, Some, nat_eq, Bor, Name, name_eq, Stmt, Database, stmt_at, name_at, decode, AreDistinct, Hypothesis, Float, Essential, AreBelow, AreRequired, IsOf, CodeImages, code_image, code_apply, image, apply, same-number, Image, codes, code_images, named_expressions, image_at, images_read, code_image_at, code_images_read, named_images, AreVariables, decode-append}
+use Rattle.explain.proofs.Words.{◌≡◌, ℕ, zero, suc, ◌+◌, ◌<◌, Bool, true, false, cond, List, [], ◌∷◌, ◌++◌, length, drop, get_or, map, arith, refl, sym, ◌∙◌, ap, add-one, append_assoc, Some, nat_eq, Bor, Name, name_eq, Stmt, Database, stmt_at, name_at, decode, AreDistinct, Hypothesis, Float, Essential, AreBelow, AreNumberedHypotheses, IsStatementOf, CodeImages, code_image, code_apply, image, apply, same-number, Image, codes, code_images, named_expressions, image_at, images_read, code_image_at, code_images_read, named_images, AreVariables, decode-append}
 use Rattle.mm_read.specs.declared.stmt.Stmt.TheVariants as stmt
 
 decode-drop : (names : List Name) (e : List ℕ) → decode names (drop 1 e) ≡ drop 1 (decode names e)
@@ -36,7 +36,7 @@ module _ (names : List Name) (distinct : AreDistinct names) where
 -- ---- the images that are read
 
 -- the image that a hypothesis gives from its result is the same by number and by name
-image_is : (S : Database) (names : List Name) (p : ℕ) (s : Stmt) (h : Hypothesis) (e : List ℕ) → stmt_at S p ≡ Some s → IsOf names p s h
+image_is : (S : Database) (names : List Name) (p : ℕ) (s : Stmt) (h : Hypothesis) (e : List ℕ) → stmt_at S p ≡ Some s → IsStatementOf names p s h
     → (named_images names (code_image_at h e) ≡ image_at (stmt_at S p) (decode names e)) × AreVariables (length names) (code_image_at h e)
 image_is S names p (stmt.Float l c v) (Float x) e stands is =
     (ap (λ y. (y, decode names (drop 1 e)) ∷ []) is.1 ∙ (ap (λ d. (v, d) ∷ []) (decode-drop names e) ∙ ap (λ o. image_at o (decode names e)) (sym stands)), (is.0, tt))
@@ -63,7 +63,7 @@ variables-append n [] τ h k = k
 variables-append n (p ∷ σ) τ h k = (h.0, variables-append n σ τ h.1 k)
 
 -- the images that all hypotheses give from their results are the same by number and by name
-pub images_are : (S : Database) (names : List Name) (ps typecodes : List ℕ) (hs : List Hypothesis) (es : List (List ℕ)) → AreRequired S names ps typecodes hs
+pub images_are : (S : Database) (names : List Name) (ps typecodes : List ℕ) (hs : List Hypothesis) (es : List (List ℕ)) → AreNumberedHypotheses S names ps typecodes hs
     → (named_images names (code_images_read hs es) ≡ images_read S ps (map (decode names) es)) × AreVariables (length names) (code_images_read hs es)
 images_are S names [] [] [] es required = (refl, tt)
 images_are S names [] (x ∷ typecodes) hs es required = absurd required

@@ -1,5 +1,5 @@
 -- Numbers below a bound, in lists and in lists of lists.
-use Rattle.explain.proofs.Words.{◌≡◌, ℕ, zero, suc, ◌+◌, ◌<◌, ◌≤◌, List, Some, slice_get, append_assoc, append-nil, [], ◌∷◌, ◌++◌, length, drop, get_or, arith, refl, sym, ◌∙◌, ap, subst, Bor, AreBelow, Name, Database, Hypothesis, Image, AreRequired, IsRequired, AreSymbols, codes, drop_all, drop_more, map_push, get_or_from_slice_get, slice_get_within}
+use Rattle.explain.proofs.Words.{◌≡◌, ℕ, zero, suc, ◌+◌, ◌<◌, ◌≤◌, List, Some, slice_get, append_assoc, append-nil, [], ◌∷◌, ◌++◌, length, drop, get_or, arith, refl, sym, ◌∙◌, ap, subst, Bor, AreBelow, Name, Database, Hypothesis, Image, AreNumberedHypotheses, IsNumberedHypothesis, AreSymbols, codes, drop_all, drop_more, map_push, get_or_from_slice_get, slice_get_within}
 
 -- an empty list and an empty image, for an index that is outside
 abbrev pub nothing : Bor (List ℕ)
@@ -22,7 +22,7 @@ symbols-at n (w ∷ vs) (suc i) v h l e = symbols-at n vs i v h.1 (omega (arith,
 
 -- the hypotheses of an assertion, one after another
 module _ (S : Database) (names : List Name) where
-  pub required-typecodes : (ps typecodes : List ℕ) (hs : List Hypothesis) → AreRequired S names ps typecodes hs → length typecodes ≡ length ps
+  pub required-typecodes : (ps typecodes : List ℕ) (hs : List Hypothesis) → AreNumberedHypotheses S names ps typecodes hs → length typecodes ≡ length ps
   required-typecodes [] [] [] h = refl
   required-typecodes [] (x ∷ typecodes) hs h = absurd h
   required-typecodes [] [] (x ∷ hs) h = absurd h
@@ -30,7 +30,7 @@ module _ (S : Database) (names : List Name) where
   required-typecodes (p ∷ ps) (x ∷ typecodes) [] h = absurd h
   required-typecodes (p ∷ ps) (x ∷ typecodes) (y ∷ hs) h = ap suc (required-typecodes ps typecodes hs h.1)
 
-  pub required-kinds : (ps typecodes : List ℕ) (hs : List Hypothesis) → AreRequired S names ps typecodes hs → length hs ≡ length ps
+  pub required-kinds : (ps typecodes : List ℕ) (hs : List Hypothesis) → AreNumberedHypotheses S names ps typecodes hs → length hs ≡ length ps
   required-kinds [] [] [] h = refl
   required-kinds [] (x ∷ typecodes) hs h = absurd h
   required-kinds [] [] (x ∷ hs) h = absurd h
@@ -38,8 +38,8 @@ module _ (S : Database) (names : List Name) where
   required-kinds (p ∷ ps) (x ∷ typecodes) [] h = absurd h
   required-kinds (p ∷ ps) (x ∷ typecodes) (y ∷ hs) h = ap suc (required-kinds ps typecodes hs h.1)
 
-  pub required-at : (ps typecodes : List ℕ) (hs : List Hypothesis) (k : ℕ) (d : Hypothesis) → AreRequired S names ps typecodes hs → k < length ps
-      → IsRequired S names (get_or ps k 0) (get_or typecodes k 0) (get_or hs k d)
+  pub required-at : (ps typecodes : List ℕ) (hs : List Hypothesis) (k : ℕ) (d : Hypothesis) → AreNumberedHypotheses S names ps typecodes hs → k < length ps
+      → IsNumberedHypothesis S names (get_or ps k 0) (get_or typecodes k 0) (get_or hs k d)
   required-at [] typecodes hs k d h l = absurd (omega (arith, l))
   required-at (p ∷ ps) [] hs k d h l = absurd h
   required-at (p ∷ ps) (x ∷ typecodes) [] k d h l = absurd h

@@ -26,7 +26,7 @@ pub use Rattle.frame.proofs.ActiveDisjointLemmas.{all-from, all-true, below-at, 
 pub use Rattle.frame.proofs.FoundByNumber.{decode-injective, map-at, name_at-injective}
 pub use Rattle.frame.proofs.KindWalk.{same-number}
 pub use Rattle.frame.proofs.SymbolNumberLemmas.{below-append}
-pub use Rattle.frame.specs.AssertionView.{AreRequired, IsOf, IsRequired, IsTypecode}
+pub use Rattle.frame.specs.AssertionView.{AreNumberedHypotheses, IsStatementOf, IsNumberedHypothesis, IsTypecode}
 pub use Rattle.frame.specs.AtPosition.{ArePositions, IsPosition}
 pub use Rattle.frame.specs.Below.{AllBelow, AreBelow}
 pub use Rattle.frame.specs.Citations.{Carries, IsHypothesis, expr_at, option_expr}

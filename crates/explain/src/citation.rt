@@ -68,7 +68,7 @@ fn assertion_fault(
     frames.mandatory(a, &mut mandatory)?;
     let mut frame_buffers = FrameBuffers::new(alloc);
     frames.fill_buffers(a, &mut frame_buffers)?;
-    let cited = frames.cited_from(a, &frame_buffers);
+    let cited = frames.buffered_view(a, &frame_buffers);
     assertion_view_fault(alloc, frames, at, a, mandatory.as_slice(), &cited, results)
 }
 

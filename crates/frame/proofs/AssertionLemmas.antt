@@ -20,7 +20,7 @@ active-entry names labels es i q p j =
 hypothesis-entry : (names labels : List Name) (e : Entry) → is_hypothesis_kind (stmt_of names labels e) ≡ true → is_hypothesis_entry e.kind ≡ true
 hypothesis-entry names labels e = by e.kind
   where
-    by : (kind : Kind) → is_hypothesis_kind (stmt_by kind (name_at labels e.label) (decode names e.symbols)) ≡ true → is_hypothesis_entry kind ≡ true
+    by : (kind : Kind) → is_hypothesis_kind (stmt_by kind (name_at labels e.label_count) (decode names e.symbols)) ≡ true → is_hypothesis_entry kind ≡ true
     by Float h = refl
     by Ess h = refl
     by kind h = cc

@@ -1,5 +1,5 @@
 -- Reading an assertion that is stored, and its parts by numbers.
-use Rattle.frame.proofs.Words.{sym, ◌∙◌, ap, subst, arith, ◌≡◌, ℕ, zero, suc, ◌+◌, ◌-◌, true, List, length, take, slice_get, Some, refl, Name, Stmt, expr_of, is_assertion, name_at, decode, HasAssertion, AssertionView, Entry, Assertion, AreWhole, Kind, Axiom, Prove, Storage, AreBelow, AreListsOf, IsViewOf, IsBound, AreLegal, names_in, labels_in, stmt_by, stmt_of, statements_of, AreStored, IsKeptAs, has_parts}
+use Rattle.frame.proofs.Words.{sym, ◌∙◌, ap, subst, arith, ◌≡◌, ℕ, zero, suc, ◌+◌, ◌-◌, true, List, length, take, slice_get, Some, refl, Name, Stmt, expr_of, is_assertion, name_at, decode, HasAssertion, AssertionView, Entry, Assertion, IsWholeView, Kind, Axiom, Prove, Storage, AreBelow, AreListsOf, IsViewOf, IsBound, AreLegal, names_in, labels_in, stmt_by, stmt_of, statements_of, AreStored, IsKeptAs, has_parts}
 use Rattle.frame.proofs.DeclaredSymbolLemmas.{stored-distinct}
 use Rattle.frame.proofs.FoundByNumber.{map-back, own-expr, numbered-at}
 use Rattle.frame.proofs.KeptStatementLemmas.{kept-lists, lists-cited}
@@ -9,7 +9,7 @@ use Rattle.frame.proofs.LegalLabels.{legal-labels}
 parts-kind : (names labels : List Name) (e : Entry) → is_assertion (stmt_of names labels e) ≡ true → has_parts e.kind ≡ true
 parts-kind names labels e = by e.kind
   where
-    by : (kind : Kind) → is_assertion (stmt_by kind (name_at labels e.label) (decode names e.symbols)) ≡ true → has_parts kind ≡ true
+    by : (kind : Kind) → is_assertion (stmt_by kind (name_at labels e.label_count) (decode names e.symbols)) ≡ true → has_parts kind ≡ true
     by Axiom h = refl
     by Prove h = refl
     by kind h = cc
@@ -43,7 +43,7 @@ is-there k (suc i) s stored h =
 -- the expression of the assertion, by numbers
 pub there-expr : (k : Storage) (a i : ℕ) (s : Stmt) (e : Entry) → AreStored k → is_assertion s ≡ true → IsThere k a i s e → (decode (names_in k) e.symbols ≡ expr_of s) × AreBelow (length (names_in k)) e.symbols
 there-expr k a i s e stored asserts t = (
-  sym (ap expr_of (sym t.is) ∙ own-expr (names_in k) e.kind (name_at (labels_in k) e.label) e.symbols (ap is_assertion t.is ∙ asserts)),
+  sym (ap expr_of (sym t.is) ∙ own-expr (names_in k) e.kind (name_at (labels_in k) e.label_count) e.symbols (ap is_assertion t.is ∙ asserts)),
   (numbered-at (length (names_in k)) (length (labels_in k)) k.entries i e stored.kept.coded t.here).0,
 )
 
@@ -55,7 +55,7 @@ there-lists k a i s e d stored asserts t kept whole =
     (kept-lists k.entries (names_in k) (labels_in k) (length (labels_in k)) a e d (stored-distinct k stored) stored.kept.coded stored.kept.legal (let q = t.place in omega (arith, q)) t.got (ap is_assertion t.is ∙ asserts)
     (subst (λ x. IsKeptAs k.entries (take (a - 1) (statements_of k)) x d) (sym t.is) kept) whole)
 
-pub there-cited : (k : Storage) (a i : ℕ) (s : Stmt) (e : Entry) (c : AssertionView) → AreStored k → is_assertion s ≡ true → IsThere k a i s e → AreWhole e c → IsViewOf (statements_of k) (names_in k) a s c
+pub there-cited : (k : Storage) (a i : ℕ) (s : Stmt) (e : Entry) (c : AssertionView) → AreStored k → is_assertion s ≡ true → IsThere k a i s e → IsWholeView e c → IsViewOf (statements_of k) (names_in k) a s c
 there-cited k a i s e c stored asserts t w =
     let x = there-expr k a i s e stored asserts t in
     lists-cited (statements_of k) (names_in k) a s e.assertion e.symbols (there-lists k a i s e e.assertion stored asserts t t.kept w.whole) x.0 x.1 c w.typecodes w.hypotheses w.conclusion w.groups

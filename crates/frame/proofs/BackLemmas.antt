@@ -1,6 +1,6 @@
 -- The stacks after a `$}`, found by walking back over the active statements of a kind in its block.
 use Rattle.std.specs.Prelude.{option_map}
-use Rattle.frame.proofs.Words.{◌≡◌, ◌∙◌, ap, sym, subst, arith, refl, inl, inr, ℕ, suc, ◌+◌, ◌-◌, ◌<◌, ◌≤◌, ◌⊎◌, Bool, true, false, cond, nat_eq, List, [], ◌∷◌, ◌++◌, length, length-take, take, take_all, take-append_seam, length-append, append_assoc, append-nil, slice_get, Some, list_any, Stmt, Database, Entry, Kind, LastActive, is_open, is_close, codes_by, entries_by, long_entry, length-map, slice_get-map, actives, actives_from, last_active_of_kind, last_active_of, Storage, statements_of, names_in, labels_in, stmt_of, AreStored, Disj, Ess, Var, StackVersion, IsUntil, AreUntil, history, kept_until, gone_back, stack_at, stack-later, stack-changed, option_symbols, has_code, positions_with, AreStacks, kind_test, latest_of, last_by_kind, opening, KeepsUntil, AreChangedBy, IsNext, NextStatement, AreStacksOfStorage}
+use Rattle.frame.proofs.Words.{◌≡◌, ◌∙◌, ap, sym, subst, arith, refl, inl, inr, ℕ, suc, ◌+◌, ◌-◌, ◌<◌, ◌≤◌, ◌⊎◌, Bool, true, false, cond, nat_eq, List, [], ◌∷◌, ◌++◌, length, length-take, take, take_all, take-append_seam, length-append, append_assoc, append-nil, slice_get, Some, list_any, Stmt, Database, Entry, Kind, LastActive, is_open, is_close, codes_by, entries_by, long_entry, length-map, slice_get-map, actives, actives_from, last_active_of_kind, last_active_of, Storage, statements_of, names_in, labels_in, stmt_of, AreStored, Disj, Ess, Var, StackVersion, IsUntil, AreUntil, history, kept_until, reverted, stack_at, stack-later, stack-changed, option_symbols, has_code, positions_with, AreStacks, kind_test, latest_of, last_by_kind, opening, KeepsUntil, AreChangedBy, IsNext, NextStatement, AreStacksOfStorage}
 use Rattle.mm_read.specs.declared.stmt.Stmt.TheVariants as stmt
 use Rattle.entries.specs.declared.kind.Kind.TheVariants.{Close}
 use Rattle.frame.proofs.OpenLemmas.{HasLast, split_last, last-position, actives-append, stays-from, is-open}
@@ -79,7 +79,7 @@ pub record IsGoing (of : Kind) (k : Storage) (block before at p : ℕ) (old now 
   pub rest : List (ℕ × Stmt)
   pub list : actives (kind_test of) (statements_of k) ≡ walked (kind_test of) k p ++ rest
   pub above : AreIn (suc block) (length k.entries) rest
-  pub each : (c : ℕ) → (history now c ≡ gone_back at before (history old c)) ⊎ ((history now c ≡ history old c) × (stack_at (history old c) at ≡ positions_with (entries_by of k.entries) c (walked (kind_test of) k p)))
+  pub each : (c : ℕ) → (history now c ≡ reverted at before (history old c)) ⊎ ((history now c ≡ history old c) × (stack_at (history old c) at ≡ positions_with (entries_by of k.entries) c (walked (kind_test of) k p)))
 
 module _ (of : Kind) (k : Storage) (block before at : ℕ) (old : List (List StackVersion)) (stored : AreStored k) (stacks : AreStacks (kind_test of) old (entries_by of k.entries) (statements_of k)) (place : at ≡ length k.entries + 1) where
   abbrev S : Database
@@ -104,7 +104,7 @@ module _ (of : Kind) (k : Storage) (block before at : ℕ) (old : List (List Sta
         );
       }
 
-  pub going-step : (p : ℕ) (now new : List (List StackVersion)) (e : Entry) → IsGoing of k block before at p old now → block < p → slice_get k.entries (p - 1) ≡ Some e → AreChangedBy (gone_back at before) (codes_by of e.symbols) now new
+  pub going-step : (p : ℕ) (now new : List (List StackVersion)) (e : Entry) → IsGoing of k block before at p old now → block < p → slice_get k.entries (p - 1) ≡ Some e → AreChangedBy (reverted at before) (codes_by of e.symbols) now new
       → IsGoing of k block before at (last_by_kind of e.last_active) old new
   going-step p now new e g lt got are =
       let s = walk-step e (chain_of of) stored g.place (omega (arith, lt)) got in
@@ -118,11 +118,11 @@ module _ (of : Kind) (k : Storage) (block before at : ℕ) (old : List (List Sta
         each = λ c. by c (list_any (λ y. nat_eq c y) (codes_by of e.symbols)) refl (are c) (g.each c);
       }
     where
-      by : (c : ℕ) (b : Bool) → list_any (λ y. nat_eq c y) (codes_by of e.symbols) ≡ b → history new c ≡ cond b (gone_back at before (history now c)) (history now c)
-          → (history now c ≡ gone_back at before (history old c)) ⊎ ((history now c ≡ history old c) × (stack_at (history old c) at ≡ positions_with (entries_by of k.entries) c (walked kind k p)))
-          → (history new c ≡ gone_back at before (history old c)) ⊎ ((history new c ≡ history old c) × (stack_at (history old c) at ≡ positions_with (entries_by of k.entries) c (walked kind k (last_by_kind of e.last_active))))
-      by c true has h (inl back) = inl (h ∙ (ap (gone_back at before) back ∙ back-twice at before (history old c)))
-      by c true has h (inr stay) = inl (h ∙ ap (gone_back at before) stay.0)
+      by : (c : ℕ) (b : Bool) → list_any (λ y. nat_eq c y) (codes_by of e.symbols) ≡ b → history new c ≡ cond b (reverted at before (history now c)) (history now c)
+          → (history now c ≡ reverted at before (history old c)) ⊎ ((history now c ≡ history old c) × (stack_at (history old c) at ≡ positions_with (entries_by of k.entries) c (walked kind k p)))
+          → (history new c ≡ reverted at before (history old c)) ⊎ ((history new c ≡ history old c) × (stack_at (history old c) at ≡ positions_with (entries_by of k.entries) c (walked kind k (last_by_kind of e.last_active))))
+      by c true has h (inl back) = inl (h ∙ (ap (reverted at before) back ∙ back-twice at before (history old c)))
+      by c true has h (inr stay) = inl (h ∙ ap (reverted at before) stay.0)
       by c false has h (inl back) = inl (h ∙ back)
       by c false has h (inr stay) =
           let s = walk-step e (chain_of of) stored g.place (omega (arith, lt)) got in
@@ -143,14 +143,14 @@ module _ (of : Kind) (k : Storage) (block before at : ℕ) (old : List (List Sta
     pub going-until : AreUntil at now
     going-until c = by (g.each c)
       where
-        by : (history now c ≡ gone_back at before (history old c)) ⊎ ((history now c ≡ history old c) × (stack_at (history old c) at ≡ positions_with (entries_by of k.entries) c (walked kind k p))) → IsUntil at (history now c)
+        by : (history now c ≡ reverted at before (history old c)) ⊎ ((history now c ≡ history old c) × (stack_at (history old c) at ≡ positions_with (entries_by of k.entries) c (walked kind k p))) → IsUntil at (history now c)
         by (inl back) = subst (IsUntil at) (sym back) (back-until at before (history old c) (all-later (at - 1) at old (omega arith) old-until c))
         by (inr stay) = subst (IsUntil at) (sym stay.0) (all-later (at - 1) at old (omega arith) old-until c)
 
     pub going-kept : KeepsUntil (at - 1) old now
     going-kept c = by (g.each c)
       where
-        by : (history now c ≡ gone_back at before (history old c)) ⊎ ((history now c ≡ history old c) × (stack_at (history old c) at ≡ positions_with (entries_by of k.entries) c (walked kind k p))) → kept_until (at - 1) (history now c) ≡ kept_until (at - 1) (history old c)
+        by : (history now c ≡ reverted at before (history old c)) ⊎ ((history now c ≡ history old c) × (stack_at (history old c) at ≡ positions_with (entries_by of k.entries) c (walked kind k p))) → kept_until (at - 1) (history now c) ≡ kept_until (at - 1) (history old c)
         by (inl back) = ap (kept_until (at - 1)) back ∙ back-kept at before (at - 1) low (history old c)
         by (inr stay) = ap (kept_until (at - 1)) stay.0
 
@@ -160,7 +160,7 @@ module _ (of : Kind) (k : Storage) (block before at : ℕ) (old : List (List Sta
         last : block ≡ last_active_of_kind is_open S
         last = is ∙ ap (λ l. l.block) stored.kept.last
 
-        by : (c : ℕ) → (history now c ≡ gone_back at before (history old c)) ⊎ ((history now c ≡ history old c) × (stack_at (history old c) at ≡ positions_with (entries_by of k.entries) c (walked kind k p))) → stack_at (history now c) (at + 1) ≡ stack_at (history old c) (opening block)
+        by : (c : ℕ) → (history now c ≡ reverted at before (history old c)) ⊎ ((history now c ≡ history old c) × (stack_at (history old c) at ≡ positions_with (entries_by of k.entries) c (walked kind k p))) → stack_at (history now c) (at + 1) ≡ stack_at (history old c) (opening block)
         by c (inl back) =
             ap (λ vs. stack_at vs (at + 1)) back ∙ (stack-changed at (stack_at (history old c) before) (history old c) (at - 1) (old-until c) low ∙ ap (stack_at (history old c)) opens)
         by c (inr stay) =
@@ -209,7 +209,7 @@ module _ (of : Kind) (es : List Entry) (last_active : LastActive) (before at : �
       pub back-smaller : last_by_kind of e.last_active < p
       back-smaller = (walk-step e (chain_of of) w.stored b.going.place (omega (arith, lt)) there).smaller
 
-      pub back-step : (new : List (List StackVersion)) → AreChangedBy (gone_back at before) (codes_by of e.symbols) now new → IsBackTo of es last_active before at (last_by_kind of e.last_active) old new
+      pub back-step : (new : List (List StackVersion)) → AreChangedBy (reverted at before) (codes_by of e.symbols) now new → IsBackTo of es last_active before at (last_by_kind of e.last_active) old new
       back-step new are = record { walked_by = w; going = going-step of w.storage last_active.block before at old w.stored (stacks-of w) (place-of w) p now new e b.going lt there are }
 
 -- ---- a statement of a kind that changes no stack

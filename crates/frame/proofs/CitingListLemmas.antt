@@ -1,5 +1,5 @@
 -- Lists that have the mandatory pairs of an assertion: the groups of its frame, or a list of two for each pair.
-use Rattle.frame.proofs.Words.{◌≡◌, ◌∙◌, ap, sym, subst, arith, refl, true≢false, inl, inr, or_cases, or_right, ℕ, zero, suc, ◌+◌, ◌-◌, ◌<◌, ◌==◌, nat_eq, Bool, true, false, not, ◌&&◌, ◌||◌, or-false, and-false, and-or_distrib_left, List, [], ◌∷◌, ◌++◌, length, map, take, get_or, list_any, list_any_more, list_any-append, list_any-map, Name, name_eq, has_name, name_at, AreDistinct, Stmt, Database, before, decode, expr_of, is_assertion, hypotheses, is_mandatory, mandatory_groups, AreBelow, AllBelow, AreRequired, AreListsOf, IsKeptAs, is_typed, groups_by, symbols_at, required_at, required_by, option_required, typecode_at, is_typed_by, AreHypotheses, AreNumbered, HasTwo, Kind, Float, AreSearched, slice_get_within, ◌⊎◌, actives, is_disj, Assertion, AssertionView, Entry, Storage, AreStored, names_in, labels_in, statements_of, are_pair, IsFilledFrom}
+use Rattle.frame.proofs.Words.{◌≡◌, ◌∙◌, ap, sym, subst, arith, refl, true≢false, inl, inr, or_cases, or_right, ℕ, zero, suc, ◌+◌, ◌-◌, ◌<◌, ◌==◌, nat_eq, Bool, true, false, not, ◌&&◌, ◌||◌, or-false, and-false, and-or_distrib_left, List, [], ◌∷◌, ◌++◌, length, map, take, get_or, list_any, list_any_more, list_any-append, list_any-map, Name, name_eq, has_name, name_at, AreDistinct, Stmt, Database, before, decode, expr_of, is_assertion, hypotheses, is_mandatory, mandatory_groups, AreBelow, AllBelow, AreNumberedHypotheses, AreListsOf, IsKeptAs, is_typed, groups_by, symbols_at, required_at, required_by, option_required, typecode_at, is_typed_by, AreHypotheses, AreNumbered, HasTwo, Kind, Float, AreSearched, slice_get_within, ◌⊎◌, actives, is_disj, Assertion, AssertionView, Entry, Storage, AreStored, names_in, labels_in, statements_of, are_pair, IsFilledFrom}
 use Rattle.frame.specs.AssertionView.{AreCitingListsOf, AreMandatoryPairs, IsCited, has_both}
 use Rattle.frame.specs.Stored.PairLists.{HasPairs, HasSameHypotheses, IsFilledByPairs, IsFilledForCitation, IsSearchPosition, are_among, is_beside}
 use Rattle.frame.proofs.AssertionLemmas.{filled-kept}
@@ -336,7 +336,7 @@ module _ (k : Storage) (a i : ℕ) (s : Stmt) (e : Entry) (stored : AreStored k)
 pub lists-cite : (S : Database) (names : List Name) (a : ℕ) (s : Stmt) (d : Assertion) (codes : List ℕ) → AreCitingListsOf S names a d s → decode names codes ≡ expr_of s → AreBelow (length names) codes
     → (c : AssertionView) → c.typecodes.now ≡ d.typecodes → c.hypotheses ≡ d.required → c.conclusion.now ≡ codes → c.groups ≡ d.groups → IsCited S names a s c
 lists-cite S names a s d codes l stand low c p q k g = record {
-  required = subst (λ hs. AreRequired S names (hypotheses (before S a) s) hs c.hypotheses) (sym p) (subst (AreRequired S names (hypotheses (before S a) s) d.typecodes) (sym q) l.required);
+  required = subst (λ hs. AreNumberedHypotheses S names (hypotheses (before S a) s) hs c.hypotheses) (sym p) (subst (AreNumberedHypotheses S names (hypotheses (before S a) s) d.typecodes) (sym q) l.required);
   conclusion = ap (decode names) k ∙ stand;
   conclusion_below = subst (AreBelow (length names)) (sym k) low;
   pairs = subst (AreMandatoryPairs S names a s) (sym g) l.pairs;

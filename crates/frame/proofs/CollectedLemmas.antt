@@ -119,15 +119,15 @@ module _ (es : List Entry) (names labels : List Name) (m : ℕ) (S : Database)
       own = map-back (stmt_of names labels) es (length A) t (ap (λ w. slice_get w (length A)) (sym whole ∙ cut) ∙ stands-at A t B)
 
       passes : floats c own.0 ≡ true
-      passes = let n = numbered-at (length names) m es (length A) own.0 numbered own.1 in is-floats names c own.0 (name_at labels own.0.label) l u distinct n.0 n.1 small (sym own.2)
+      passes = let n = numbered-at (length names) m es (length A) own.0 numbered own.1 in is-floats names c own.0 (name_at labels own.0.label_count) l u distinct n.0 n.1 small (sym own.2)
 
       by : (NoneOf (floats c) es × (last_from (floats c) 0 1 es ≡ 0)) ⊎ LastAt (floats c) 1 es (last_from (floats c) 0 1 es) → p ≡ last_where (floats c) es
       by (inl n) = absurd (both_ways (floats c own.0) (n.0.fails (length A) own.0 own.1) passes)
       by (inr k) =
-          let y = floats-is names c k.entry (name_at labels k.entry.label) k.passes in
-          let there : slice_get S k.place ≡ Some (stmt.Float (name_at labels k.entry.label) y.0 (name_at names c))
+          let y = floats-is names c k.entry (name_at labels k.entry.label_count) k.passes in
+          let there : slice_get S k.place ≡ Some (stmt.Float (name_at labels k.entry.label_count) y.0 (name_at names c))
           = ap (λ w. slice_get w k.place) whole ∙ (map-at (stmt_of names labels) es k.place k.entry k.found ∙ ap Some y.1) in
-          let not-before : length A < k.place → ⊥ = one-float S A u l (name_at names c) B k.place (name_at labels k.entry.label) y.0 all cut stays there in
+          let not-before : length A < k.place → ⊥ = one-float S A u l (name_at names c) B k.place (name_at labels k.entry.label_count) y.0 all cut stays there in
           let not-after : k.place < length A → ⊥ = λ lt. both_ways (floats c own.0) (k.last (length A) own.0 lt own.1) passes in
           let is = k.is in
           let e : p ≡ last_from (floats c) 0 1 es = omega (arith, at_p, is, not-before, not-after) in e
@@ -140,8 +140,8 @@ module _ (es : List Entry) (names labels : List Name) (m : ℕ) (S : Database)
         let r = last-some (floats f.one) es p f.is.last f.is.some in
         let place : p ≡ suc r.place = (let is = r.is in omega (arith, is)) in
         let x = r.entry in
-        let k = floats-is names f.one x (name_at labels x.label) r.passes in
-        let t = stmt.Float (name_at labels x.label) k.0 (name_at names f.one) in
+        let k = floats-is names f.one x (name_at labels x.label_count) r.passes in
+        let t = stmt.Float (name_at labels x.label_count) k.0 (name_at names f.one) in
         let there : slice_get S r.place ≡ Some t = ap (λ w. slice_get w r.place) whole ∙ (map-at (stmt_of names labels) es r.place x r.found ∙ ap Some k.1) in
         let stays = sym (active-end S r.place (slice_get_within S r.place t there)) ∙ (ap (λ n. is_active S n (length S + 1)) (sym place) ∙ f.is.stands) in
         members S (is_float_in (decode names codes)) p (take r.place S) t (drop (suc r.place) S) (cut-here S r.place t there) (omega (arith, length-cut S r.place t there, place)) stays (has-code names codes f.one f.among)

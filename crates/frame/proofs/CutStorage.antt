@@ -1,5 +1,5 @@
 -- The storage after it is cut to its first statements, and after added statements are removed again.
-use Rattle.frame.proofs.Words.{sym, ◌∙◌, ap, subst, arith, take-take, ◌≡◌, ℕ, ◌+◌, ◌<◌, ◌≤◌, true, List, length, map, take, drop, slice_get, Some, refl, suc, [], ◌∷◌, Option, None, length-take-le, take-map, take-append-drop, take_at, length-map, Name, Database, IsNumberingOf, Declared, declared_symbols, declared_labels, stays_open, label_of, symbols_of, labels_of, option_list, LastActive, Entry, Symbol, is_disj, is_var, last_active_of, stmt_of, statements_of, positions_from, AreAllLegal, ReadsAs, replaced_of, symbol_of, names_in, labels_in, option_position, AreNumbered, KeepsCounts, IsAfter, Storage, naming_of, AreKept, AreStored, Extends, has_parts, IsKeptAs, extends-length, extends-take, take-get, labels_of-append, AreKeptUntil}
+use Rattle.frame.proofs.Words.{sym, ◌∙◌, ap, subst, arith, take-take, ◌≡◌, ℕ, ◌+◌, ◌<◌, ◌≤◌, true, List, length, map, take, drop, slice_get, Some, refl, suc, [], ◌∷◌, Option, None, length-take-le, take-map, take-append-drop, take_at, length-map, Name, Database, IsNumberingOf, Declared, declared_symbols, declared_labels, stays_open, label_of, symbols_of, labels_of, option_list, LastActive, Entry, LastDeclarations, is_disj, is_var, last_active_of, stmt_of, statements_of, positions_from, AreAllLegal, ReadsAs, replaced_of, last_declarations_of, names_in, labels_in, option_position, AreNumbered, KeepsCounts, IsAfter, Storage, naming_of, AreKept, AreStored, Extends, has_parts, IsKeptAs, extends-length, extends-take, take-get, labels_of-append, AreKeptUntil}
 use Rattle.frame.proofs.StackLemmas.{essentials-back, stacks-back}
 use Rattle.frame.proofs.BlockWalkLemmas.{get-take}
 use Rattle.frame.proofs.DeclaredSymbolLemmas.{symbols_of-front}
@@ -33,21 +33,21 @@ positions-front n S =
 
 -- ---- the parts after the cut, where e is the entry after the first n
 
-pub record IsCut (names labels : List Name) (positions : List ℕ) (symbols : List Symbol) (entries : List Entry)
-    (names' labels' : List Name) (positions' : List ℕ) (between symbols' : List Symbol) (replaced' : List ℕ) (entries' : List Entry) (links' : LastActive) (n : ℕ) (e : Entry) : Type 0 where
+pub record IsCut (names labels : List Name) (positions : List ℕ) (symbols : List LastDeclarations) (entries : List Entry)
+    (names' labels' : List Name) (positions' : List ℕ) (between symbols' : List LastDeclarations) (replaced' : List ℕ) (entries' : List Entry) (links' : LastActive) (n : ℕ) (e : Entry) : Type 0 where
   pub at : slice_get entries n ≡ Some e
   pub names_cut : names' ≡ symbols_of (take n (map (stmt_of names labels) entries))
   pub labels_cut : labels' ≡ labels_of (take n (map (stmt_of names labels) entries))
-  pub positions_cut : positions' ≡ take e.label positions
+  pub positions_cut : positions' ≡ take e.label_count positions
   pub between_count : length between ≡ length symbols
-  pub symbols_cut : symbols' ≡ take e.names between
+  pub symbols_cut : symbols' ≡ take e.symbol_count between
   pub entries_cut : entries' ≡ take n entries
-  pub declared : ReadsAs between (symbol_of entries')
+  pub declared : ReadsAs between (last_declarations_of entries')
   pub recorded : replaced' ≡ replaced_of entries'
   pub last_active_back : links' ≡ e.last_active
 
-module _ {names labels : List Name} {positions : List ℕ} {symbols : List Symbol} {replaced : List ℕ} {entries : List Entry} {last_active : LastActive}
-    {names' labels' : List Name} {positions' : List ℕ} {between symbols' : List Symbol} {replaced' : List ℕ} {entries' : List Entry} {links' : LastActive} {n : ℕ} {e : Entry}
+module _ {names labels : List Name} {positions : List ℕ} {symbols : List LastDeclarations} {replaced : List ℕ} {entries : List Entry} {last_active : LastActive}
+    {names' labels' : List Name} {positions' : List ℕ} {between symbols' : List LastDeclarations} {replaced' : List ℕ} {entries' : List Entry} {links' : LastActive} {n : ℕ} {e : Entry}
     (k : AreKept names labels positions symbols replaced entries last_active)
     (p : IsCut names labels positions symbols entries names' labels' positions' between symbols' replaced' entries' links' n e) where
   abbrev pub S : Database
@@ -67,13 +67,13 @@ module _ {names labels : List Name} {positions : List ℕ} {symbols : List Symbo
       let m = length (labels_of (take n S)) in
       subst (λ r. Extends r labels) (ap (take m) k.labels_kept ∙ (labels-front n S ∙ sym p.labels_cut)) (extends-take m labels)
 
-  names-count : length names' ≡ e.names
+  names-count : length names' ≡ e.symbol_count
   names-count = ap length p.names_cut ∙ sym counts.name_count
 
-  within : e.names ≤ length names
+  within : e.symbol_count ≤ length names
   within = omega (arith, extends-length names' names names-front, names-count)
 
-  labels-count : length labels' ≡ e.label
+  labels-count : length labels' ≡ e.label_count
   labels-count = ap length p.labels_cut ∙ sym counts.label_count
 
   -- the first n entries use no other names and labels
@@ -93,10 +93,10 @@ module _ {names labels : List Name} {positions : List ℕ} {symbols : List Symbo
   there i d h = take-get n i entries d (ap (λ r. slice_get r i) (sym p.entries_cut) ∙ h)
 
   -- each symbol that remains has the last of its declarations that remain
-  symbols'' : (c : ℕ) → c < length names' → slice_get symbols' c ≡ Some (symbol_of entries' c)
+  symbols'' : (c : ℕ) → c < length names' → slice_get symbols' c ≡ Some (last_declarations_of entries' c)
   symbols'' c lt =
       let a = names-count in let b = p.between_count in let d = k.count in let w = within in
-      ap (λ r. slice_get r c) p.symbols_cut ∙ (get-take c e.names between (omega (arith, lt, a)) ∙ p.declared c (omega (arith, lt, a, b, d, w)))
+      ap (λ r. slice_get r c) p.symbols_cut ∙ (get-take c e.symbol_count between (omega (arith, lt, a)) ∙ p.declared c (omega (arith, lt, a, b, d, w)))
 
   -- an entry that remains has the counts of the names and labels before it
   counts' : (i : ℕ) (d : Entry) → slice_get entries' i ≡ Some d → KeepsCounts names' labels' entries' i d
@@ -105,7 +105,7 @@ module _ {names labels : List Name} {positions : List ℕ} {symbols : List Symbo
       let lt = q.0 in
       let c = k.counts_kept i d q.1 in
       record {
-        numbered = subst (AreNumbered d.names d.label) (sym (ap (take i) p.entries_cut ∙ take-take i n entries (omega (arith, lt)))) c.numbered;
+        numbered = subst (AreNumbered d.symbol_count d.label_count) (sym (ap (take i) p.entries_cut ∙ take-take i n entries (omega (arith, lt)))) c.numbered;
         label_count = c.label_count ∙ ap (λ T. length (labels_of T)) (sym (front-of i lt));
         name_count = c.name_count ∙ ap (λ T. length (symbols_of T)) (sym (front-of i lt));
       }
@@ -129,14 +129,14 @@ module _ {names labels : List Name} {positions : List ℕ} {symbols : List Symbo
     legal = subst AreAllLegal (sym cut-statements) (kept-front S n k.legal);
     names_kept = p.names_cut ∙ ap symbols_of (sym cut-statements);
     labels_kept = p.labels_cut ∙ ap labels_of (sym cut-statements);
-    positions_kept = p.positions_cut ∙ (ap (take e.label) k.positions_kept ∙ (ap (λ m. take m (positions_from 1 S)) counts.label_count ∙ (positions-front n S ∙ ap (positions_from 1) (sym cut-statements))));
+    positions_kept = p.positions_cut ∙ (ap (take e.label_count) k.positions_kept ∙ (ap (λ m. take m (positions_from 1 S)) counts.label_count ∙ (positions-front n S ∙ ap (positions_from 1) (sym cut-statements))));
     coded = subst (AreNumbered (length names') (length labels')) (sym p.entries_cut) numbered;
     symbols_kept = symbols'';
     replaced_kept = p.recorded;
     counts_kept = counts';
     count =
         let a = names-count in let b = p.between_count in let d = k.count in let w = within in
-        let c : length symbols' ≡ e.names = ap length p.symbols_cut ∙ length-take-le e.names between (omega (arith, b, d, w)) in
+        let c : length symbols' ≡ e.symbol_count = ap length p.symbols_cut ∙ length-take-le e.symbol_count between (omega (arith, b, d, w)) in
         c ∙ sym a;
     few = let a = names-count in let f = k.few in omega (arith, a, within, f);
     parts_kept = parts';
@@ -149,12 +149,12 @@ module _ (k : Storage) (n : ℕ) (e : Entry) (stored : AreStored k) (at : slice_
   front-naming = naming-all (take n (statements_of k)) (kept-front (statements_of k) n stored.kept.legal)
 
   -- the entry after the first n has the count of the names before it
-  pub numbering-front : take (e.names + e.label) k.numbering ≡ naming_of (take n (statements_of k))
+  pub numbering-front : take (e.symbol_count + e.label_count) k.numbering ≡ naming_of (take n (statements_of k))
   numbering-front =
       let counts = stored.kept.counts_kept n e at in
       let all = naming-length (take n (statements_of k)) (naming_of (take n (statements_of k))) front-naming in
-      let count : e.names + e.label ≡ length (naming_of (take n (statements_of k))) = omega (arith, counts.name_count, counts.label_count, all) in
-      ap (take (e.names + e.label)) stored.numbered ∙ (ap (λ m. take m (naming_of (statements_of k))) count ∙ naming_of-front n (statements_of k))
+      let count : e.symbol_count + e.label_count ≡ length (naming_of (take n (statements_of k))) = omega (arith, counts.name_count, counts.label_count, all) in
+      ap (take (e.symbol_count + e.label_count)) stored.numbered ∙ (ap (λ m. take m (naming_of (statements_of k))) count ∙ naming_of-front n (statements_of k))
 
 -- ---- after added statements are removed, everything is as before
 

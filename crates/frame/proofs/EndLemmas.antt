@@ -289,7 +289,7 @@ kind-by kind label names = refl
 pub stored-blocks : (k : Storage) → AreStored k → AreBlocks k.entries (statements_of k)
 stored-blocks k stored = record {
   count = sym (length-map k.entries (stmt_of (names_in k) (labels_in k)));
-  kinds = λ i e s g h. kind-by e.kind (name_at (labels_in k) e.label) (decode (names_in k) e.symbols)
+  kinds = λ i e s g h. kind-by e.kind (name_at (labels_in k) e.label_count) (decode (names_in k) e.symbols)
       ∙ ap kind_of (same_Some (stmt_of (names_in k) (labels_in k) e) s (sym (get-stmt (names_in k) (labels_in k) k.entries i e g) ∙ h));
   blocks = λ i e g. ap (λ l. l.block) (stored.kept.linked i e g);
 }

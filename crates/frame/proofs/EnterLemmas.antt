@@ -1,9 +1,9 @@
 -- A statement is entered: the new entry has its meaning, and the storage has its parts.
-use Rattle.frame.proofs.Words.{sym, ◌∙◌, ap, subst, arith, length-append, inl, inr, ◌≡◌, ℕ, List, [], ◌∷◌, ◌++◌, length, take, slice_get, Option, Some, true, refl, ◌+◌, ◌<◌, ◌⊎◌, map, length-map, take-append-le, map_push, same_Some, take-append_seam, name_at-last, Name, Stmt, Database, bare, label_of, expr_of, is_assertion, is_essential, stays_open, declared_with, IsRecordedBy, IsLegal, name_at, decode, with_names, symbols_by, symbols_in, symbols_of, symbols_after, labels_of, option_list, AreNumbers, AreVariableNumbers, AreRecorded, IsNumberingOf, numbering-after, recorded-after, symbols_of-append, labels_of-append, AreBelow, Assertion, Entry, made, Kind, Ess, Storage, names_in, labels_in, stmt_by, stmt_of, statements_of, option_position, ReadsAs, replaced_by, symbol_of, positions_from, AreAllLegal, AreStored, IsKeptOf, AreKept, floats_in, kept_with, has_parts, IsKeptAs, is_label_kind, kind_of, IsLabelBelow, HasTwo, HasMoreNames, HasRoom, with_declared, AreNumbered, with_entry, KeepsCounts, LastActive, Symbol, last_active_of, naming_of, get-last, Extends, get-push, extends-length, bare-same, symbols_by-bare, declared_with-bare, legal-bare, EntryHeader, IsEntryHeader}
+use Rattle.frame.proofs.Words.{sym, ◌∙◌, ap, subst, arith, length-append, inl, inr, ◌≡◌, ℕ, List, [], ◌∷◌, ◌++◌, length, take, slice_get, Option, Some, true, refl, ◌+◌, ◌<◌, ◌⊎◌, map, length-map, take-append-le, map_push, same_Some, take-append_seam, name_at-last, Name, Stmt, Database, bare, label_of, expr_of, is_assertion, is_essential, stays_open, declared_with, IsRecordedBy, IsLegal, name_at, decode, with_names, symbols_by, symbols_in, symbols_of, symbols_after, labels_of, option_list, AreNumbers, AreVariableNumbers, AreRecorded, IsNumberingOf, numbering-after, recorded-after, symbols_of-append, labels_of-append, AreBelow, Assertion, Entry, entry_by, Kind, Ess, Storage, names_in, labels_in, stmt_by, stmt_of, statements_of, option_position, ReadsAs, replaced_by, last_declarations_of, positions_from, AreAllLegal, AreStored, IsKeptOf, AreKept, floats_in, kept_with, has_parts, IsKeptAs, is_label_kind, kind_of, IsLabelBelow, HasTwo, HasMoreNames, HasRoom, with_declared, AreNumbered, with_entry, KeepsCounts, LastActive, LastDeclarations, last_active_of, naming_of, get-last, Extends, get-push, extends-length, bare-same, symbols_by-bare, declared_with-bare, legal-bare, EntryHeader, IsEntryHeader}
 use Rattle.frame.proofs.DeclaredSymbolLemmas.{codes-below}
 use Rattle.frame.proofs.NamingLemmas.{stored-naming, naming_of-append, symbols-extend}
 use Rattle.frame.proofs.StoredOneMore.{still-reads, numbered-at, statements-more, stmt-more, numbered-push, positions_from-push, legal-push, stays-push}
-use Rattle.frame.proofs.DeclareLemmas.{symbol_of-push, replaced_of-push}
+use Rattle.frame.proofs.DeclareLemmas.{last_declarations_of-push, replaced_of-push}
 use Rattle.frame.proofs.AssertionLemmas.{kept-more, kept-moved}
 use Rattle.frame.proofs.LabelLemmas.{label-below-at}
 use Rattle.mm_read.specs.declared.stmt.Stmt.TheVariants as stmt
@@ -78,13 +78,13 @@ module _ (old new : Storage) (s : Stmt) (h : EntryHeader) (before after : Option
   kind : h.kind ≡ kind_of s
   kind = e.header.kind ∙ kind_of-bare s
 
-  pub entered-stands : (a : Assertion) → stmt_of (names_in new) (labels_in new) (made h codes a) ≡ bare s
+  pub entered-stands : (a : Assertion) → stmt_of (names_in new) (labels_in new) (entry_by h codes a) ≡ bare s
   entered-stands a = rw (kind, e.header.label, labels, numbers.1) (stands-for s (labels_in old))
 
   pub entered-below : AreBelow (length (names_in new)) codes
   entered-below = codes-below (names_in new) codes numbers.0
 
-  pub entered-label : IsLabelBelow h.kind h.before.label (length (labels_in new))
+  pub entered-label : IsLabelBelow h.kind h.before.label_count (length (labels_in new))
   entered-label = rw (kind, e.header.label, labels) (label-below s (labels_in old))
 
   pub entered-two : HasTwo h.kind codes
@@ -101,7 +101,7 @@ essentials-kept k stored i x h e =
     let kept = stored.kept.parts_kept i x h (by x.kind e) in
     kept.hypotheses_kept ∙ ap (λ b. kept_with b (take i (statements_of k)) (stmt_of (names_in k) (labels_in k) x)) (kept.own_kept e)
   where
-    by : (kind : Kind) → is_essential (stmt_by kind (name_at (labels_in k) x.label) (decode (names_in k) x.symbols)) ≡ true → has_parts kind ≡ true
+    by : (kind : Kind) → is_essential (stmt_by kind (name_at (labels_in k) x.label_count) (decode (names_in k) x.symbols)) ≡ true → has_parts kind ≡ true
     by Ess g = refl
     by kind g = cc
 
@@ -113,23 +113,23 @@ variable-numbers names (stmt.Float label constant variable) codes n = n
 variable-numbers names s codes n = tt
 
 -- the changes that the call makes to the parts of the storage
-pub record IsExtended (old new : Storage) (s : Stmt) (h : EntryHeader) (a : Assertion) (codes : List ℕ) (kind : Kind) (at : ℕ) (symbols : List Symbol) (replaced : List ℕ) (entries : List Entry) (last_active : LastActive) : Type 0 where
+pub record IsExtended (old new : Storage) (s : Stmt) (h : EntryHeader) (a : Assertion) (codes : List ℕ) (kind : Kind) (at : ℕ) (symbols : List LastDeclarations) (replaced : List ℕ) (entries : List Entry) (last_active : LastActive) : Type 0 where
   pub grown : HasMoreNames old new
   pub room : HasRoom new
   pub positions : new.positions.items ≡ old.positions.items ++ option_position (label_of s) (length old.entries + 1) []
   pub kept : has_parts h.kind ≡ true → IsKeptOf old (bare s) a
   pub of_kind : kind ≡ h.kind
   pub place : at ≡ length old.entries + 1
-  pub recorded : (x : ℕ → Symbol) → ReadsAs new.symbols.items x → replaced ≡ new.replaced.items ++ replaced_by x kind codes
-  pub each : (c : ℕ) (x : Symbol) → slice_get new.symbols.items c ≡ Some x → slice_get symbols c ≡ Some (with_declared kind codes at c x)
+  pub recorded : (x : ℕ → LastDeclarations) → ReadsAs new.symbols.items x → replaced ≡ new.replaced.items ++ replaced_by x kind codes
+  pub each : (c : ℕ) (x : LastDeclarations) → slice_get new.symbols.items c ≡ Some x → slice_get symbols c ≡ Some (with_declared kind codes at c x)
   pub count : length symbols ≡ length new.symbols.items
-  pub pushed : entries ≡ new.entries ++ made h codes a ∷ []
+  pub pushed : entries ≡ new.entries ++ entry_by h codes a ∷ []
   pub linked : last_active ≡ last_active_of (statements_of old ++ bare s ∷ [])
 
-module _ {old new : Storage} {s : Stmt} {h : EntryHeader} {a : Assertion} {codes : List ℕ} {before after : Option (List ℕ)} {kind : Kind} {at : ℕ} {symbols : List Symbol} {replaced : List ℕ} {entries : List Entry} {last_active : LastActive}
+module _ {old new : Storage} {s : Stmt} {h : EntryHeader} {a : Assertion} {codes : List ℕ} {before after : Option (List ℕ)} {kind : Kind} {at : ℕ} {symbols : List LastDeclarations} {replaced : List ℕ} {entries : List Entry} {last_active : LastActive}
     (x : IsEntered old new s h before after) (are : after ≡ Some codes) (p : IsExtended old new s h a codes kind at symbols replaced entries last_active) where
   abbrev e : Entry
-  e = made h codes a
+  e = entry_by h codes a
 
   now : IsNumberingOf (statements_of old ++ bare s ∷ []) new.numbering
   now = named old new s h before after codes x are
@@ -179,14 +179,14 @@ module _ {old new : Storage} {s : Stmt} {h : EntryHeader} {a : Assertion} {codes
       by (inr q) = ap (λ w. w.last_active) (sym q.1) ∙ (x.header.last_active ∙ (x.stored.kept.last ∙ ap last_active_of (sym (late i q.0))))
 
   -- the symbols as before, followed by symbols that nothing declares
-  between : ReadsAs new.symbols.items (symbol_of old.entries)
+  between : ReadsAs new.symbols.items (last_declarations_of old.entries)
   between = still-reads (names_in old) (labels_in old) old.positions.items old.symbols.items old.replaced.items old.entries old.last_active new.symbols.items x.stored.kept p.grown.symbols
 
   -- each symbol has its last declarations, with those of the new statement
-  symbols' : (c : ℕ) → c < length (names_in new) → slice_get symbols c ≡ Some (symbol_of entries c)
+  symbols' : (c : ℕ) → c < length (names_in new) → slice_get symbols c ≡ Some (last_declarations_of entries c)
   symbols' c lt =
-      p.each c (symbol_of old.entries c) (between c (omega (arith, lt, p.room.count)))
-      ∙ rw (p.of_kind, entries-more) (ap Some (ap (λ n. with_entry e n c (symbol_of old.entries c)) (omega (arith, p.place)) ∙ sym (symbol_of-push old.entries e c)))
+      p.each c (last_declarations_of old.entries c) (between c (omega (arith, lt, p.room.count)))
+      ∙ rw (p.of_kind, entries-more) (ap Some (ap (λ n. with_entry e n c (last_declarations_of old.entries c)) (omega (arith, p.place)) ∙ sym (last_declarations_of-push old.entries e c)))
 
   -- each assertion is kept with its parts, and so is the new one
   parts' : (i : ℕ) (d : Entry) → slice_get entries i ≡ Some d → has_parts d.kind ≡ true → IsKeptAs entries (take i (map (stmt_of (names_in new) (labels_in new)) entries)) (stmt_of (names_in new) (labels_in new) d) d.assertion
@@ -210,13 +210,13 @@ module _ {old new : Storage} {s : Stmt} {h : EntryHeader} {a : Assertion} {codes
       by (inl q) =
           let c = x.stored.kept.counts_kept i d q.1 in
           record {
-            numbered = subst (AreNumbered d.names d.label) (sym (ap (take i) entries-more ∙ take-append-le i old.entries (e ∷ []) (omega (arith, q.0)))) c.numbered;
+            numbered = subst (AreNumbered d.symbol_count d.label_count) (sym (ap (take i) entries-more ∙ take-append-le i old.entries (e ∷ []) (omega (arith, q.0)))) c.numbered;
             label_count = c.label_count ∙ ap (λ S. length (labels_of S)) (sym (early i q.0));
             name_count = c.name_count ∙ ap (λ S. length (symbols_of S)) (sym (early i q.0));
           }
       by (inr q) =
-          let n : d.names ≡ length (names_in old) = ap (λ w. w.names) (sym q.1) ∙ x.header.names in
-          let m : d.label ≡ length (labels_in old) = ap (λ w. w.label) (sym q.1) ∙ x.header.label in
+          let n : d.symbol_count ≡ length (names_in old) = ap (λ w. w.symbol_count) (sym q.1) ∙ x.header.names in
+          let m : d.label_count ≡ length (labels_in old) = ap (λ w. w.label_count) (sym q.1) ∙ x.header.label in
           let front : take i entries ≡ old.entries = ap (take i) entries-more ∙ (ap (λ j. take j (old.entries ++ e ∷ [])) q.0 ∙ take-append_seam old.entries (e ∷ [])) in
           record {
             numbered = rw (n, m, front) x.stored.kept.coded;
@@ -245,7 +245,7 @@ module _ {old new : Storage} {s : Stmt} {h : EntryHeader} {a : Assertion} {codes
             (numbered-push (length (names_in old)) (length (names_in new)) (length (labels_in old)) (length (labels_in new)) old.entries e (extends-length (names_in old) (names_in new) names-extend) (extends-length (labels_in old) (labels_in new) labels-extend) k.coded
             (entered-below old new s h before after codes x are) (entered-label old new s h before after codes x are) (entered-two old new s h before after codes x are));
         symbols_kept = symbols';
-        replaced_kept = p.recorded (symbol_of old.entries) between ∙ rw (p.grown.replaced, p.of_kind, k.replaced_kept, entries-more) (sym (replaced_of-push old.entries e));
+        replaced_kept = p.recorded (last_declarations_of old.entries) between ∙ rw (p.grown.replaced, p.of_kind, k.replaced_kept, entries-more) (sym (replaced_of-push old.entries e));
         counts_kept = counts';
         count = p.count ∙ p.room.count;
         few = p.room.few;

@@ -1,5 +1,5 @@
 -- The parts that are kept with an assertion describe it.
-use Rattle.frame.proofs.Words.{In, floats, is_typed_by, list_any, list_any-map, sym, ◌∙◌, ap, subst, arith, append_assoc, length-append, ◌≡◌, ℕ, suc, ◌+◌, ◌-◌, ◌<◌, ◌≤◌, Bool, true, false, cond, List, [], ◌∷◌, ◌++◌, length, map, filter, slice_get, Option, Some, None, refl, Name, Stmt, Database, stmt_at, before, stays_open, active_from, expr_of, disjoint_names, is_assertion, IsLegal, name_at, decode, AreDistinct, is_mandatory, is_hypothesis, hypotheses, has_two_or_more, AreBelow, AllBelow, typecode_of, IsTypecode, IsOf, IsRequired, AreRequired, AreListsOf, IsViewOf, AssertionView, Kind, Disj, Entry, Assertion, actives, actives_from, is_disj, stmt_by, stmt_of, AreAllLegal, AreNumbered, HasTwo, is_typed, typed, symbols_at, option_symbols, has_two, groups_by, typecode_at, required_by, option_required, required_at, kept_with, IsKeptAs, take-get, Hypothesis}
+use Rattle.frame.proofs.Words.{In, floats, is_typed_by, list_any, list_any-map, sym, ◌∙◌, ap, subst, arith, append_assoc, length-append, ◌≡◌, ℕ, suc, ◌+◌, ◌-◌, ◌<◌, ◌≤◌, Bool, true, false, cond, List, [], ◌∷◌, ◌++◌, length, map, filter, slice_get, Option, Some, None, refl, Name, Stmt, Database, stmt_at, before, stays_open, active_from, expr_of, disjoint_names, is_assertion, IsLegal, name_at, decode, AreDistinct, is_mandatory, is_hypothesis, hypotheses, has_two_or_more, AreBelow, AllBelow, typecode_of, IsTypecode, IsStatementOf, IsNumberedHypothesis, AreNumberedHypotheses, AreListsOf, IsViewOf, AssertionView, Kind, Disj, Entry, Assertion, actives, actives_from, is_disj, stmt_by, stmt_of, AreAllLegal, AreNumbered, HasTwo, is_typed, typed, symbols_at, option_symbols, has_two, groups_by, typecode_at, required_by, option_required, required_at, kept_with, IsKeptAs, take-get, Hypothesis}
 use Rattle.frame.proofs.LegalAfter.{stands-at}
 use Rattle.frame.proofs.LegalLabels.{AllKept}
 use Rattle.frame.proofs.VariablePlaceLemmas.{any-in, in-any, mandatory-float}
@@ -66,26 +66,26 @@ module _ (es : List Entry) (names labels : List Name) (m a : ℕ) (e : Entry) (d
 
   -- ---- the required hypotheses
 
-  one-required : (p : ℕ) → IsHyp front_of own p → IsRequired all names p (typecode_at es p) (required_at es p)
+  one-required : (p : ℕ) → IsHyp front_of own p → IsNumberedHypothesis all names p (typecode_at es p) (required_at es p)
   one-required p h =
       let x = hyp-at p h in
-      let k = required-kind names x.entry.kind (name_at labels x.entry.label) x.entry.symbols p front_of own x.codes x.two (sym (ap (is_hypothesis front_of own) x.same) ∙ h.passes) in
+      let k = required-kind names x.entry.kind (name_at labels x.entry.label_count) x.entry.symbols p front_of own x.codes x.two (sym (ap (is_hypothesis front_of own) x.same) ∙ h.passes) in
       record {
         stmt = h.stmt;
         stands = ap (stmt_at all) h.at ∙ x.stands_at;
         first = subst (λ o. IsTypecode names (typecode_of (option_symbols o)) (expr_of h.stmt)) (sym x.found) (subst (λ t. IsTypecode names (typecode_of x.entry.symbols) (expr_of t)) (sym x.same) k.0);
-        is = subst (λ o. IsOf names p h.stmt (option_required p o)) (sym x.found) (subst (λ t. IsOf names p t (required_by p x.entry.kind x.entry.symbols)) (sym x.same) k.1);
+        is = subst (λ o. IsStatementOf names p h.stmt (option_required p o)) (sym x.found) (subst (λ t. IsStatementOf names p t (required_by p x.entry.kind x.entry.symbols)) (sym x.same) k.1);
       }
 
-  all-required : (ps : List ℕ) → AreHyps front_of own ps → AreRequired all names ps (map (typecode_at es) ps) (map (required_at es) ps)
+  all-required : (ps : List ℕ) → AreHyps front_of own ps → AreNumberedHypotheses all names ps (map (typecode_at es) ps) (map (required_at es) ps)
   all-required [] h = tt
   all-required (p ∷ ps) h = (one-required p h.0, all-required ps h.1)
 
-  kept-required : AreRequired all names (hypotheses front_of own) d.typecodes d.required
+  kept-required : AreNumberedHypotheses all names (hypotheses front_of own) d.typecodes d.required
   kept-required =
-      subst (λ ps. AreRequired all names ps d.typecodes d.required) hyps-are
-      (subst (λ hs. AreRequired all names d.hypotheses hs d.required) (sym kept.typecodes_kept)
-      (subst (AreRequired all names d.hypotheses (map (typecode_at es) d.hypotheses)) (sym kept.required_kept) (all-required d.hypotheses own-hyps)))
+      subst (λ ps. AreNumberedHypotheses all names ps d.typecodes d.required) hyps-are
+      (subst (λ hs. AreNumberedHypotheses all names d.hypotheses hs d.required) (sym kept.typecodes_kept)
+      (subst (AreNumberedHypotheses all names d.hypotheses (map (typecode_at es) d.hypotheses)) (sym kept.required_kept) (all-required d.hypotheses own-hyps)))
 
   -- ---- groups
 
@@ -101,7 +101,7 @@ module _ (es : List Entry) (names labels : List Name) (m a : ℕ) (e : Entry) (d
           let a = active-members front_of (is_hypothesis front_of own) r.0 [] front_of 1 refl refl (subst (In r.0) hyps-are r.1) in
           let x = entry-at r.0 a.front a.stmt a.rest a.whole a.at in
           let passes : floats c x.entry ≡ true = sym (code-floats c r.0 x.entry.kind x.entry.symbols x.two) ∙ (ap (λ o. is_typed_by c (option_required r.0 o)) (sym x.found) ∙ r.2) in
-          let y = floats-is names c x.entry (name_at labels x.entry.label) passes in
+          let y = floats-is names c x.entry (name_at labels x.entry.label_count) passes in
           ap (is_hypothesis front_of own) (sym (x.same ∙ y.1)) ∙ a.passes
 
       back : is_mandatory front_of own (name_at names c) ≡ true → list_any (λ p. is_typed_by c (required_at es p)) d.hypotheses ≡ true
@@ -110,7 +110,7 @@ module _ (es : List Entry) (names labels : List Name) (m a : ℕ) (e : Entry) (d
           let x = entry-at (suc (length f.front)) f.front (Float f.label f.constant (name_at names c)) f.rest f.whole refl in
           in-any (λ p. is_typed_by c (required_at es p)) d.hypotheses (suc (length f.front)) (subst (In (suc (length f.front))) (sym hyps-are) f.listed)
           (ap (λ o. is_typed_by c (option_required (suc (length f.front)) o)) x.found ∙ (code-floats c (suc (length f.front)) x.entry.kind x.entry.symbols x.two
-          ∙ is-floats names c x.entry (name_at labels x.entry.label) f.constant f.label distinct x.codes x.two low (sym x.same)))
+          ∙ is-floats names c x.entry (name_at labels x.entry.label_count) f.constant f.label distinct x.codes x.two low (sym x.same)))
 
   typed-stands : (codes : List ℕ) → AreBelow (length names) codes → decode names (typed places codes) ≡ filter (is_mandatory front_of own) (decode names codes)
   typed-stands [] b = refl
@@ -142,7 +142,7 @@ module _ (es : List Entry) (names labels : List Name) (m a : ℕ) (e : Entry) (d
       x : IsEntryAt n A t
       x = entry-at n A t T whole at_n
 
-      one_group : Rest → (k : Kind) → Fits (stmt_by k (name_at labels x.entry.label) (decode names x.entry.symbols))
+      one_group : Rest → (k : Kind) → Fits (stmt_by k (name_at labels x.entry.label_count) (decode names x.entry.symbols))
       one_group more Disj =
           rw (x.found, ← typed-stands x.entry.symbols x.codes, ← more)
           (with-group (typed places x.entry.symbols) (groups_by places (map (λ q. symbols_at es q.0) (actives_from is_disj (n + 1) T))))
@@ -191,7 +191,7 @@ module _ (es : List Entry) (names labels : List Name) (m a : ℕ) (e : Entry) (d
 pub lists-cited : (S : Database) (names : List Name) (a : ℕ) (s : Stmt) (d : Assertion) (codes : List ℕ) → AreListsOf S names a d s → decode names codes ≡ expr_of s → AreBelow (length names) codes
     → (c : AssertionView) → c.typecodes.now ≡ d.typecodes → c.hypotheses ≡ d.required → c.conclusion.now ≡ codes → c.groups ≡ d.groups → IsViewOf S names a s c
 lists-cited S names a s d codes l stand low c p q k g = record {
-  required = subst (λ hs. AreRequired S names (hypotheses (before S a) s) hs c.hypotheses) (sym p) (subst (AreRequired S names (hypotheses (before S a) s) d.typecodes) (sym q) l.required);
+  required = subst (λ hs. AreNumberedHypotheses S names (hypotheses (before S a) s) hs c.hypotheses) (sym p) (subst (AreNumberedHypotheses S names (hypotheses (before S a) s) d.typecodes) (sym q) l.required);
   conclusion = ap (decode names) k ∙ stand;
   conclusion_below = subst (AreBelow (length names)) (sym k) low;
   groups = ap (map (decode names)) g ∙ l.groups;

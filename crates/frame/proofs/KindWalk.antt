@@ -151,14 +151,14 @@ module _ {kind : Stmt → Bool} {lists : Stmt → List Name} {test : List Name �
 entry-disj : (names labels : List Name) (e : Entry) → is_disj (stmt_of names labels e) ≡ true → disjoint_names (stmt_of names labels e) ≡ decode names e.symbols
 entry-disj names labels e = by e.kind
   where
-    by : (kind : Kind) → is_disj (stmt_by kind (name_at labels e.label) (decode names e.symbols)) ≡ true → disjoint_names (stmt_by kind (name_at labels e.label) (decode names e.symbols)) ≡ decode names e.symbols
+    by : (kind : Kind) → is_disj (stmt_by kind (name_at labels e.label_count) (decode names e.symbols)) ≡ true → disjoint_names (stmt_by kind (name_at labels e.label_count) (decode names e.symbols)) ≡ decode names e.symbols
     by Disj h = refl
     by kind h = cc
 
 pub entry-var : (names labels : List Name) (e : Entry) → is_var (stmt_of names labels e) ≡ true → variables (stmt_of names labels e) ≡ decode names e.symbols
 entry-var names labels e = by e.kind
   where
-    by : (kind : Kind) → is_var (stmt_by kind (name_at labels e.label) (decode names e.symbols)) ≡ true → variables (stmt_by kind (name_at labels e.label) (decode names e.symbols)) ≡ decode names e.symbols
+    by : (kind : Kind) → is_var (stmt_by kind (name_at labels e.label_count) (decode names e.symbols)) ≡ true → variables (stmt_by kind (name_at labels e.label_count) (decode names e.symbols)) ≡ decode names e.symbols
     by Var h = refl
     by kind h = cc
 

@@ -108,7 +108,7 @@ module _ (k : Storage) (stored : AreStored k) where
       ∙ ap (λ b. nat_le LONG_EXPRESSION (length (decode N codes)) && b) (has-decode N c codes (stored-distinct k stored) low below))) in
       ap (λ b. is_essential t && b) told
       ∙ (subst (λ u. (is_essential u && (nat_le LONG_EXPRESSION (length (decode N codes)) && has_name (name_at N c) (decode N codes))) ≡ (is_hypothesis T s u && is_long_with (name_at N c) u)) (sym e.2)
-      (by-kind T s (name_at N c) e.0.kind (name_at (labels_in k) e.0.label) (decode N codes) _ refl)
+      (by-kind T s (name_at N c) e.0.kind (name_at (labels_in k) e.0.label_count) (decode N codes) _ refl)
       ∙ ap (λ o. is_hypothesis T s t && is_one_long_with (name_at N c) o) (sym stands))
 
   -- the stack of a symbol at an assertion
@@ -129,7 +129,7 @@ module _ (k : Storage) (stored : AreStored k) where
       let T = take i S in
       let own = stmt_of N (labels_in k) e in
       let kept = stored.kept.parts_kept i e got (ap has_parts of_kind) in
-      let whole = kept.own_kept (ap (λ q. is_essential (stmt_by q (name_at (labels_in k) e.label) (decode N e.symbols))) of_kind) in
+      let whole = kept.own_kept (ap (λ q. is_essential (stmt_by q (name_at (labels_in k) e.label_count) (decode N e.symbols))) of_kind) in
       let list : e.assertion.hypotheses ≡ floats_in T (expr_of own) = kept.hypotheses_kept ∙ ap (λ b. kept_with b T own) whole in
       let r = any-in (λ p. is_typed_by c (required_at k.entries p)) e.assertion.hypotheses (list_any-map (required_at k.entries) (is_typed_by c) e.assertion.hypotheses ∙ (sym (ap (list_any (is_typed_by c)) kept.required_kept) ∙ typed)) in
       let a = active-members T (is_float_in (expr_of own)) r.0 [] T 1 refl refl (subst (In r.0) list r.1) in
@@ -138,8 +138,8 @@ module _ (k : Storage) (stored : AreStored k) where
       let n = numbered-at (length N) (length (labels_in k)) k.entries (length a.front) b.0 stored.kept.coded b.1 in
       let found : slice_get k.entries (r.0 - 1) ≡ Some b.0 = ap (slice_get k.entries) (let at = a.at in omega (arith, at)) ∙ b.1 in
       let passes : floats c b.0 ≡ true = sym (code-floats c r.0 b.0.kind b.0.symbols n.1) ∙ (ap (λ o. is_typed_by c (option_required r.0 o)) (sym found) ∙ r.2) in
-      let y = floats-is N c b.0 (name_at (labels_in k) b.0.label) passes in
-      (float-kinds T a.front (name_at (labels_in k) b.0.label) y.0 (name_at N c) a.rest (kept-front S i stored.kept.legal) (a.whole ∙ ap (λ t. a.front ++ t ∷ a.rest) (b.2 ∙ y.1)) a.stays).1
+      let y = floats-is N c b.0 (name_at (labels_in k) b.0.label_count) passes in
+      (float-kinds T a.front (name_at (labels_in k) b.0.label_count) y.0 (name_at N c) a.rest (kept-front S i stored.kept.legal) (a.whole ∙ ap (λ t. a.front ++ t ∷ a.rest) (b.2 ∙ y.1)) a.stays).1
 
 typed-float : (hs : List Hypothesis) (c : ℕ) → is_typed hs c ≡ entry.has_float hs c
 typed-float [] c = refl
@@ -176,7 +176,7 @@ constants-are k stored i e gs got of_kind places are c low has fixed =
 pub essential-kind : (names labels : List Name) (e : Entry) → is_essential (stmt_of names labels e) ≡ true → e.kind ≡ Ess
 essential-kind names labels e = by e.kind
   where
-    by : (kind : Kind) → is_essential (stmt_by kind (name_at labels e.label) (decode names e.symbols)) ≡ true → kind ≡ Ess
+    by : (kind : Kind) → is_essential (stmt_by kind (name_at labels e.label_count) (decode names e.symbols)) ≡ true → kind ≡ Ess
     by Ess h = refl
     by kind h = cc
 

@@ -162,7 +162,7 @@ module _ (k : Storage) (x y : ℕ) (start xs : List ℕ) (steps p : ℕ) (rest :
         ];
       }
 
-  pub walk-found : (w : Walked) → IsWalk k x y start xs steps → true ≡ has_code k.entries y p → w.steps ≡ steps → w.found ≡ true → AreAnswered k y start w
+  pub walk-found : (w : Walked) → IsWalk k x y start xs steps → true ≡ has_code k.entries y p → w.passed ≡ steps → w.found ≡ true → AreAnswered k y start w
   walk-found w walk has count found = λ i le.
       walk.same i (omega (arith, le, count)) ∙ (any-here ∙ (ap (λ b. b || list_any (has_code k.entries y) rest) (sym has) ∙ sym found))
 
@@ -174,14 +174,14 @@ module _ (k : Storage) (x y : ℕ) (start xs : List ℕ) (steps p : ℕ) (rest :
       ap (λ n. is_pair (take n (statements_of k)) (name_at (names_in k) x) (name_at (names_in k) y)) up
       ∙ row-pair k x y p xs s.stored s.distinct s.first s.second s.differ t.within (is ∙ t.after_it)
 
-  pub walk-known : (w : Walked) (f : PairFact) → IsWalk k x y start xs steps → IsFact (numbered k) f → (f.position ≡ p) × (f.x ≡ x) × (f.y ≡ y) → w.steps ≡ steps → w.found ≡ f.found → AreAnswered k y start w
+  pub walk-known : (w : Walked) (f : PairFact) → IsWalk k x y start xs steps → IsFact (numbered k) f → (f.position ≡ p) × (f.x ≡ x) × (f.y ≡ y) → w.passed ≡ steps → w.found ≡ f.found → AreAnswered k y start w
   walk-known w f walk fact asked count found = λ i le.
       let same : is_pair (before (statements_of k) (f.position + 1)) (name_at (names_in k) f.x) (name_at (names_in k) f.y) ≡ list_any (has_code k.entries y) xs =
       rw (asked.0, asked.1, asked.2) (front-is walk.at.sought) in
       walk.same i (omega (arith, le, count)) ∙ (sym same ∙ (fact.is ∙ sym found))
 
   -- the fact that is recorded is true
-  pub fact-made : (w : Walked) → IsRest k x y start xs steps → AreAnswered k y start w → steps ≤ w.steps → IsFact (numbered k) (record { position = p; x = x; y = y; found = w.found })
+  pub fact-made : (w : Walked) → IsRest k x y start xs steps → AreAnswered k y start w → steps ≤ w.passed → IsFact (numbered k) (record { position = p; x = x; y = y; found = w.found })
   fact-made w r answered le =
       let s = r.sought in
       let t = top-of s in
@@ -196,7 +196,7 @@ module _ (k : Storage) (x y : ℕ) (start xs : List ℕ) (steps p : ℕ) (rest :
   pub top-kind : IsSearchedIn k x y xs → IsOfKind is_disj (statements_of k) p
   top-kind s = (top-of s).of_kind
 
-pub walk-end : (k : Storage) (x y : ℕ) (start xs : List ℕ) (steps : ℕ) (w : Walked) → IsWalk k x y start xs steps → length start ≤ steps → w.steps ≡ steps → w.found ≡ false → AreAnswered k y start w
+pub walk-end : (k : Storage) (x y : ℕ) (start xs : List ℕ) (steps : ℕ) (w : Walked) → IsWalk k x y start xs steps → length start ≤ steps → w.passed ≡ steps → w.found ≡ false → AreAnswered k y start w
 walk-end k x y start xs steps w walk all count found = λ i le.
     let none : xs ≡ [] = walk.at.rest ∙ drop_all steps start all in
     walk.same i (omega (arith, le, count)) ∙ (ap (list_any (has_code k.entries y)) none ∙ sym found)

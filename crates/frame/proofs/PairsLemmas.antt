@@ -28,7 +28,7 @@ none-declared names labels n x es h = false_from_ne_true (list_any (λ p. has_na
 pub unnamed-none : (names labels : List Name) (m n : ℕ) (x : Name) (es : List Entry) → has_name x names ≡ false → AreNumbered (length names) m es
     → list_any (λ p. has_name x (variables p.1)) (active (take n (map (stmt_of names labels) es))) ≡ false
 unnamed-none names labels m n x es none a =
-    none-declared names labels n x es (λ k e g. ap (has_name x) (variables-are e.kind (name_at labels e.label) (decode names e.symbols)) ∙ by (is_var_kind e.kind) e.symbols (numbered-at (length names) m es a k e g))
+    none-declared names labels n x es (λ k e g. ap (has_name x) (variables-are e.kind (name_at labels e.label_count) (decode names e.symbols)) ∙ by (is_var_kind e.kind) e.symbols (numbered-at (length names) m es a k e g))
   where
     by : (t : Bool) (codes : List ℕ) → AreBelow (length names) codes → has_name x (cond t (decode names codes) []) ≡ false
     by false codes b = refl

@@ -1,5 +1,5 @@
 -- The stacks of symbols: after a statement is appended, after truncation, and after a `$}`.
-use Rattle.frame.proofs.Words.{◌≡◌, ◌∙◌, ap, sym, subst, arith, refl, inl, inr, ℕ, zero, suc, ◌+◌, ◌-◌, ◌<◌, ◌≤◌, ◌⊎◌, Bool, true, false, cond, ◌||◌, nat_eq, List, [], ◌∷◌, ◌++◌, length, filter, take, take_all, take-take, take-append-le, take-append_seam, length-append, length-take, length-take-le, get_or, slice_get, cases_lt, nat_le, list_any, list_any_more, append-nil, get-last, Stmt, Database, Entry, stays_open, active_from, is_open, is_close, actives, actives_from, is_disj, is_essential, is_var, last_active_of_kind, kind_of, Storage, AreStored, names_in, labels_in, statements_of, stmt_of, length-map, map, map-append, take-map, long_codes, long_entry, Disj, Ess, Var, StackVersion, IsUntil, AreUntil, AreSame, AreKeptUntil, history, kept_until, pushed, gone_back, stack_at, until-later, until-kept, stack-later, stack-kept, stack-changed, changed-twice, until-changed, kept-changed, NextStatement, option_symbols, has_code, having_after, positions_with, AreStacks, opening, with_top, latest_of, KeepsUntil, AreChangedBy, IsNext, leb-true}
+use Rattle.frame.proofs.Words.{◌≡◌, ◌∙◌, ap, sym, subst, arith, refl, inl, inr, ℕ, zero, suc, ◌+◌, ◌-◌, ◌<◌, ◌≤◌, ◌⊎◌, Bool, true, false, cond, ◌||◌, nat_eq, List, [], ◌∷◌, ◌++◌, length, filter, take, take_all, take-take, take-append-le, take-append_seam, length-append, length-take, length-take-le, get_or, slice_get, cases_lt, nat_le, list_any, list_any_more, append-nil, get-last, Stmt, Database, Entry, stays_open, active_from, is_open, is_close, actives, actives_from, is_disj, is_essential, is_var, last_active_of_kind, kind_of, Storage, AreStored, names_in, labels_in, statements_of, stmt_of, length-map, map, map-append, take-map, long_codes, long_entry, Disj, Ess, Var, StackVersion, IsUntil, AreUntil, AreSame, AreKeptUntil, history, kept_until, pushed, reverted, stack_at, until-later, until-kept, stack-later, stack-kept, stack-changed, changed-twice, until-changed, kept-changed, NextStatement, option_symbols, has_code, having_after, positions_with, AreStacks, opening, with_top, latest_of, KeepsUntil, AreChangedBy, IsNext, leb-true}
 use Rattle.mm_read.specs.declared.stmt.Stmt.TheVariants as stmt
 use Rattle.entries.specs.Histories.{AreWith}
 use Rattle.frame.proofs.OpenLemmas.{IsNoClose}
@@ -41,19 +41,19 @@ module _ (f : List StackVersion → List StackVersion) (old mid : List (List Sta
 pub push-twice : (at : ℕ) (vs : List StackVersion) → pushed at (pushed at vs) ≡ pushed at vs
 push-twice at vs = changed-twice at (at ∷ stack_at vs at) vs (at ∷ stack_at (pushed at vs) at)
 
-pub back-twice : (at before : ℕ) (vs : List StackVersion) → gone_back at before (gone_back at before vs) ≡ gone_back at before vs
-back-twice at before vs = changed-twice at (stack_at vs before) vs (stack_at (gone_back at before vs) before)
+pub back-twice : (at before : ℕ) (vs : List StackVersion) → reverted at before (reverted at before vs) ≡ reverted at before vs
+back-twice at before vs = changed-twice at (stack_at vs before) vs (stack_at (reverted at before vs) before)
 
 pub push-until : (at : ℕ) (vs : List StackVersion) → IsUntil at vs → IsUntil at (pushed at vs)
 push-until at vs u = until-changed at (at ∷ stack_at vs at) vs u
 
-pub back-until : (at before : ℕ) (vs : List StackVersion) → IsUntil at vs → IsUntil at (gone_back at before vs)
+pub back-until : (at before : ℕ) (vs : List StackVersion) → IsUntil at vs → IsUntil at (reverted at before vs)
 back-until at before vs u = until-changed at (stack_at vs before) vs u
 
 pub push-kept : (at n : ℕ) → n < at → (vs : List StackVersion) → kept_until n (pushed at vs) ≡ kept_until n vs
 push-kept at n lt vs = kept-changed at (at ∷ stack_at vs at) vs n lt
 
-pub back-kept : (at before n : ℕ) → n < at → (vs : List StackVersion) → kept_until n (gone_back at before vs) ≡ kept_until n vs
+pub back-kept : (at before n : ℕ) → n < at → (vs : List StackVersion) → kept_until n (reverted at before vs) ≡ kept_until n vs
 back-kept at before n lt vs = kept-changed at (stack_at vs before) vs n lt
 
 pub all-later : (n at : ℕ) (hs : List (List StackVersion)) → n ≤ at → AreUntil n hs → AreUntil at hs

@@ -1,20 +1,20 @@
 -- The parts of the storage after a statement is appended: numbers, labels, positions, symbols.
-use Rattle.frame.proofs.Words.{list_any, sym, ◌∙◌, ap, subst, arith, inl, inr, add-zero, ◌≡◌, ℕ, zero, suc, ◌+◌, ◌-◌, ◌<◌, ◌≤◌, Bool, true, false, cond, not, ◌&&◌, ◌||◌, ◌==◌, nat_lt, ◌⊎◌, List, [], ◌∷◌, ◌++◌, length, map, take, slice_get, Option, Some, None, refl, and-false, take-append-le, cases_lt, ltb-true, take-append_seam, Name, Stmt, Database, before, label_of, stays_open, is_close, is_open, count, IsLegal, G10, name_at, decode, AreBelow, LastActive, Kind, Float, Ess, Axiom, Prove, Entry, Symbol, stmt_by, stmt_of, positions_from, option_position, AreAllLegal, symbol_of, ReadsAs, floats, declares, second_is, is_float_kind, is_var_kind, last_from, IsLabelBelow, HasTwo, AreNumbered, AreUndeclared, AreZeroAfter, undeclared_symbol, AreKept, Extends, get-more, place, stays_open-append, below-deficit, no_deficit, deficit-close, count-left_open, get-push}
+use Rattle.frame.proofs.Words.{list_any, sym, ◌∙◌, ap, subst, arith, inl, inr, add-zero, ◌≡◌, ℕ, zero, suc, ◌+◌, ◌-◌, ◌<◌, ◌≤◌, Bool, true, false, cond, not, ◌&&◌, ◌||◌, ◌==◌, nat_lt, ◌⊎◌, List, [], ◌∷◌, ◌++◌, length, map, take, slice_get, Option, Some, None, refl, and-false, take-append-le, cases_lt, ltb-true, take-append_seam, Name, Stmt, Database, before, label_of, stays_open, is_close, is_open, count, IsLegal, G10, name_at, decode, AreBelow, LastActive, Kind, Float, Ess, Axiom, Prove, Entry, LastDeclarations, stmt_by, stmt_of, positions_from, option_position, AreAllLegal, last_declarations_of, ReadsAs, floats, declares, second_is, is_float_kind, is_var_kind, last_from, IsLabelBelow, HasTwo, AreNumbered, AreUndeclared, AreZeroAfter, undeclared_symbol, AreKept, Extends, get-more, place, stays_open-append, below-deficit, no_deficit, deficit-close, count-left_open, get-push}
 use Rattle.frame.proofs.SymbolNumberLemmas.{decode-extends, name_at-extends, below-more}
 use Rattle.mm_read.specs.declared.stmt.Stmt.TheVariants as stmt
 
 -- ---- an entry keeps its meaning if names and labels are appended
 
-pub stmt-more : (names names' labels labels' : List Name) (e : Entry) → Extends names names' → Extends labels labels' → AreBelow (length names) e.symbols → IsLabelBelow e.kind e.label (length labels)
+pub stmt-more : (names names' labels labels' : List Name) (e : Entry) → Extends names names' → Extends labels labels' → AreBelow (length names) e.symbols → IsLabelBelow e.kind e.label_count (length labels)
     → stmt_of names' labels' e ≡ stmt_of names labels e
 stmt-more names names' labels labels' e p q below label =
-    ap (stmt_by e.kind (name_at labels' e.label)) (decode-extends names names' e.symbols p below) ∙ by e.kind label
+    ap (stmt_by e.kind (name_at labels' e.label_count)) (decode-extends names names' e.symbols p below) ∙ by e.kind label
   where
-    by : (kind : Kind) → IsLabelBelow kind e.label (length labels) → stmt_by kind (name_at labels' e.label) (decode names e.symbols) ≡ stmt_by kind (name_at labels e.label) (decode names e.symbols)
-    by Float h = ap (λ x. stmt_by Float x (decode names e.symbols)) (name_at-extends labels labels' e.label q (h refl))
-    by Ess h = ap (λ x. stmt_by Ess x (decode names e.symbols)) (name_at-extends labels labels' e.label q (h refl))
-    by Axiom h = ap (λ x. stmt_by Axiom x (decode names e.symbols)) (name_at-extends labels labels' e.label q (h refl))
-    by Prove h = ap (λ x. stmt_by Prove x (decode names e.symbols)) (name_at-extends labels labels' e.label q (h refl))
+    by : (kind : Kind) → IsLabelBelow kind e.label_count (length labels) → stmt_by kind (name_at labels' e.label_count) (decode names e.symbols) ≡ stmt_by kind (name_at labels e.label_count) (decode names e.symbols)
+    by Float h = ap (λ x. stmt_by Float x (decode names e.symbols)) (name_at-extends labels labels' e.label_count q (h refl))
+    by Ess h = ap (λ x. stmt_by Ess x (decode names e.symbols)) (name_at-extends labels labels' e.label_count q (h refl))
+    by Axiom h = ap (λ x. stmt_by Axiom x (decode names e.symbols)) (name_at-extends labels labels' e.label_count q (h refl))
+    by Prove h = ap (λ x. stmt_by Prove x (decode names e.symbols)) (name_at-extends labels labels' e.label_count q (h refl))
     by kind h = refl
 
 pub statements-more : (names names' labels labels' : List Name) (es : List Entry) → Extends names names' → Extends labels labels' → AreNumbered (length names) (length labels) es
@@ -24,7 +24,7 @@ statements-more names names' labels labels' (e ∷ es) p q h =
     ap (λ s. s ∷ map (stmt_of names' labels') es) (stmt-more names names' labels labels' e p q h.0 h.1)
     ∙ ap (λ r. stmt_of names labels e ∷ r) (statements-more names names' labels labels' es p q h.2)
 
-pub numbered-push : (n n' m m' : ℕ) (es : List Entry) (e : Entry) → n ≤ n' → m ≤ m' → AreNumbered n m es → AreBelow n' e.symbols → IsLabelBelow e.kind e.label m' → HasTwo e.kind e.symbols → AreNumbered n' m' (es ++ e ∷ [])
+pub numbered-push : (n n' m m' : ℕ) (es : List Entry) (e : Entry) → n ≤ n' → m ≤ m' → AreNumbered n m es → AreBelow n' e.symbols → IsLabelBelow e.kind e.label_count m' → HasTwo e.kind e.symbols → AreNumbered n' m' (es ++ e ∷ [])
 numbered-push n n' m m' [] e le le' h b l t = (b, l, tt, t)
 numbered-push n n' m m' (d ∷ es) e le le' h b l t =
     (below-more n n' d.symbols le h.0, λ k. let lt = h.1 k in omega (arith, lt, le'), numbered-push n n' m m' es e le le' h.2 b l t, h.3)
@@ -95,14 +95,14 @@ numbered-at n m [] h k e g = cc
 numbered-at n m (d ∷ es) h zero e g = let same : d ≡ e = cc in subst (λ x. AreBelow n x.symbols) same h.0
 numbered-at n m (d ∷ es) h (suc k) e g = numbered-at n m es h.2 k e g
 
-pub symbol_of-above : (n m : ℕ) (es : List Entry) (c : ℕ) → AreNumbered n m es → n ≤ c → symbol_of es c ≡ undeclared_symbol
-symbol_of-above n m es c h le =
+pub last_declarations_of-above : (n m : ℕ) (es : List Entry) (c : ℕ) → AreNumbered n m es → n ≤ c → last_declarations_of es c ≡ undeclared_symbol
+last_declarations_of-above n m es c h le =
     rw (
       none-from (floats c) 0 1 es (λ e k g. ap (λ b. is_float_kind e.kind && b) (above-second n c e.symbols (numbered-at n m es h k e g) le) ∙ and-false (is_float_kind e.kind)),
       none-from (declares c) 0 1 es (λ e k g. ap (λ b. is_var_kind e.kind && b) (above-any n c e.symbols (numbered-at n m es h k e g) le) ∙ and-false (is_var_kind e.kind)),
     ) refl
 
-get-zero : (old more : List Symbol) (c : ℕ) → AreUndeclared more → length old ≤ c → c < length (old ++ more) → slice_get (old ++ more) c ≡ Some undeclared_symbol
+get-zero : (old more : List LastDeclarations) (c : ℕ) → AreUndeclared more → length old ≤ c → c < length (old ++ more) → slice_get (old ++ more) c ≡ Some undeclared_symbol
 get-zero [] [] c z le lt = absurd (omega (arith, lt))
 get-zero [] (x ∷ more) zero z le lt = ap Some z.0
 get-zero [] (x ∷ more) (suc c) z le lt = get-zero [] more c z.1 (omega arith) (omega (arith, lt))
@@ -110,15 +110,15 @@ get-zero (x ∷ old) more zero z le lt = absurd (omega (arith, le))
 get-zero (x ∷ old) more (suc c) z le lt = get-zero old more c z (omega (arith, le)) (omega (arith, lt))
 
 -- the symbols, followed by symbols that nothing declares, have the same declarations
-pub still-reads : (names labels : List Name) (positions : List ℕ) (symbols : List Symbol) (replaced : List ℕ) (entries : List Entry) (last_active : LastActive) (between : List Symbol)
-    → AreKept names labels positions symbols replaced entries last_active → AreZeroAfter symbols between → ReadsAs between (symbol_of entries)
+pub still-reads : (names labels : List Name) (positions : List ℕ) (symbols : List LastDeclarations) (replaced : List ℕ) (entries : List Entry) (last_active : LastActive) (between : List LastDeclarations)
+    → AreKept names labels positions symbols replaced entries last_active → AreZeroAfter symbols between → ReadsAs between (last_declarations_of entries)
 still-reads names labels positions symbols replaced entries last_active between k z c lt = by (cases_lt c (length names))
   where
-    by : (c < length names) ⊎ (length names ≤ c) → slice_get between c ≡ Some (symbol_of entries c)
-    by (inl l) = ap (λ r. slice_get r c) z.1 ∙ get-more symbols z.0 c (symbol_of entries c) (k.symbols_kept c l)
+    by : (c < length names) ⊎ (length names ≤ c) → slice_get between c ≡ Some (last_declarations_of entries c)
+    by (inl l) = ap (λ r. slice_get r c) z.1 ∙ get-more symbols z.0 c (last_declarations_of entries c) (k.symbols_kept c l)
     by (inr ge) =
         let size : length between ≡ length (symbols ++ z.0) = ap length z.1 in
         let a = k.count in
         ap (λ r. slice_get r c) z.1
         ∙ (get-zero symbols z.0 c z.2 (omega (arith, a, ge)) (omega (arith, size, lt))
-        ∙ ap Some (sym (symbol_of-above (length names) (length labels) entries c k.coded ge)))
+        ∙ ap Some (sym (last_declarations_of-above (length names) (length labels) entries c k.coded ge)))

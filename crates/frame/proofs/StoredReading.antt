@@ -22,14 +22,14 @@ two-names names codes h = absurd (omega (arith, h))
 pub entry-expr : (names labels : List Name) (e : Entry) → is_label_kind e.kind ≡ true → HasTwo e.kind e.symbols → decode names e.symbols ≡ expr_of (stmt_of names labels e)
 entry-expr names labels e = by e.kind
   where
-    by : (kind : Kind) → is_label_kind kind ≡ true → HasTwo kind e.symbols → decode names e.symbols ≡ expr_of (stmt_by kind (name_at labels e.label) (decode names e.symbols))
+    by : (kind : Kind) → is_label_kind kind ≡ true → HasTwo kind e.symbols → decode names e.symbols ≡ expr_of (stmt_by kind (name_at labels e.label_count) (decode names e.symbols))
     by Float h t = two-names names e.symbols t
     by kind h t = cc
 
 pub entry-none : (names labels : List Name) (e : Entry) → is_label_kind e.kind ≡ false → expr_of (stmt_of names labels e) ≡ []
 entry-none names labels e = by e.kind
   where
-    by : (kind : Kind) → is_label_kind kind ≡ false → expr_of (stmt_by kind (name_at labels e.label) (decode names e.symbols)) ≡ []
+    by : (kind : Kind) → is_label_kind kind ≡ false → expr_of (stmt_by kind (name_at labels e.label_count) (decode names e.symbols)) ≡ []
     by Float h = cc
     by kind h = cc
 
@@ -39,7 +39,7 @@ pub neither : (names labels : List Name) (e : Entry) → (e.kind ≡ Float → �
 neither names labels e = by e.kind
   where
     by : (kind : Kind) → (kind ≡ Float → ⊥) → (kind ≡ Ess → ⊥) → (kind ≡ Axiom → ⊥) → (kind ≡ Prove → ⊥)
-        → (is_hypothesis_kind (stmt_by kind (name_at labels e.label) (decode names e.symbols)) ≡ false) × (is_assertion (stmt_by kind (name_at labels e.label) (decode names e.symbols)) ≡ false)
+        → (is_hypothesis_kind (stmt_by kind (name_at labels e.label_count) (decode names e.symbols)) ≡ false) × (is_assertion (stmt_by kind (name_at labels e.label_count) (decode names e.symbols)) ≡ false)
     by Float a b c d = absurd (a refl)
     by Ess a b c d = absurd (b refl)
     by Axiom a b c d = absurd (c refl)
@@ -70,8 +70,8 @@ label-none S x h i s g l =
     both_ways (was_label S x) h (list_any_at (λ t. has_label x (label_of t)) S i s (slice_get_within S i s g) there)
 
 pub entry-assertion : (names labels : List Name) (e : Entry) → (e.kind ≡ Axiom) ⊎ (e.kind ≡ Prove) → is_assertion (stmt_of names labels e) ≡ true
-entry-assertion names labels e (inl is) = ap (λ kind. is_assertion (stmt_by kind (name_at labels e.label) (decode names e.symbols))) is
-entry-assertion names labels e (inr is) = ap (λ kind. is_assertion (stmt_by kind (name_at labels e.label) (decode names e.symbols))) is
+entry-assertion names labels e (inl is) = ap (λ kind. is_assertion (stmt_by kind (name_at labels e.label_count) (decode names e.symbols))) is
+entry-assertion names labels e (inr is) = ap (λ kind. is_assertion (stmt_by kind (name_at labels e.label_count) (decode names e.symbols))) is
 
 pub entry-hypothesis : (names labels : List Name) (e : Entry) → (e.kind ≡ Float) ⊎ (e.kind ≡ Ess) → (is_hypothesis_kind (stmt_of names labels e) ≡ true) × (is_assertion (stmt_of names labels e) ≡ false)
 entry-hypothesis names labels e (inl is) = rw is (refl, refl)

@@ -7,9 +7,9 @@ pub use Rattle.entries.proofs.PositionSetLemmas.{above-all, ascends-with, count-
 pub use Rattle.entries.proofs.SetNodeLemmas.{cut-back, set_at-extends}
 pub use Rattle.entries.proofs.SpanLemmas.{cut-more, cut-push, extends-length, extends-refl, extends-take, extends-trans, range-behind, spans-push, spans-reverse}
 pub use Rattle.entries.proofs.StatementRecordLemmas.{get-last, get-more}
-pub use Rattle.entries.specs.Entries.{AreWhole, Assertion, Entry, assertion_of, made, partless, seen}
-pub use Rattle.entries.specs.Histories.{AreKeptUntil, AreSame, AreUntil, IsUntil, StackVersion, gone_back, history, kept_until, pushed, stack_at}
-pub use Rattle.entries.specs.Hypotheses.{told}
+pub use Rattle.entries.specs.Entries.{IsWholeView, Assertion, Entry, assertion_of, entry_by, no_parts, entry_from_ref}
+pub use Rattle.entries.specs.Histories.{AreKeptUntil, AreSame, AreUntil, IsUntil, StackVersion, reverted, history, kept_until, pushed, stack_at}
+pub use Rattle.entries.specs.Hypotheses.{decoded_hypothesis}
 pub use Rattle.entries.specs.PositionSets.{AreAbove, Ascends, IsSet, count_below, has_position, set_at, with_position}
 pub use Rattle.entries.specs.Stored.Spans.{AreSpansIn, Extends, cut}
 pub use Rattle.entries.specs.SymbolPlaces.{ArePlacesOf, SymbolGroups, without_float}
@@ -20,7 +20,7 @@ pub use Rattle.entries.specs.declared.entry_header.EntryHeader.{EntryHeader}
 pub use Rattle.entries.specs.declared.kind.Kind.{Kind}
 pub use Rattle.entries.specs.declared.kind.Kind.TheVariants.{Axiom, Disj, Ess, Float, Prove, Var}
 pub use Rattle.entries.specs.declared.last_active.LastActive.{LastActive}
-pub use Rattle.frame.specs.AssertionView.{AreListsOf, AreRequired, IsOf, IsRequired, IsTypecode, IsViewOf, typecode_of}
+pub use Rattle.frame.specs.AssertionView.{AreListsOf, AreNumberedHypotheses, IsStatementOf, IsNumberedHypothesis, IsTypecode, IsViewOf, typecode_of}
 pub use Rattle.frame.specs.AtPosition.{AreLegal, ArePositions, HasLabelsOnce, IsPosition, IsSingle}
 pub use Rattle.frame.specs.Below.{AllBelow, AreBelow}
 pub use Rattle.frame.specs.Bound.{HasFloat, IsBound, IsFirstFixed}
@@ -35,7 +35,7 @@ pub use Rattle.frame.specs.Parts.{FrameParts, Numbered}
 pub use Rattle.frame.specs.Stored.AssertionParts.{IsKeptAs, floats_in, groups_by, has_parts, has_two, is_float_in, is_typed, is_typed_by, kept_with, option_required, option_symbols, recorded_in, required_at, required_by, symbols_at, typecode_at, typed}
 pub use Rattle.frame.specs.Stored.Counts.{AreNumbered, AreUndeclared, AreZeroAfter, HasMoreNames, HasRoom, HasTwo, IsAfter, IsLabelBelow, IsPlain, KeepsCounts, kind_of, next_last_active, with_declared, with_entry, undeclared_symbol}
 pub use Rattle.frame.specs.Stored.Ends.{AreBlocks, AreEnds, AreBlockEnds, end_from, end_of, with_end}
-pub use Rattle.frame.specs.Stored.EntryMeanings.{AreAllLegal, ReadsAs, declared_by, declares, floats, is_float_kind, is_var_kind, labels_in, last_from, last_of, last_where, names_in, option_position, positions_from, replaced_after, replaced_by, replaced_of, second_is, statements_of, stmt_by, stmt_of, symbol_of, with_last}
+pub use Rattle.frame.specs.Stored.EntryMeanings.{AreAllLegal, ReadsAs, declared_by, declares, floats, is_float_kind, is_var_kind, labels_in, last_from, last_of, last_where, names_in, option_position, positions_from, replaced_after, replaced_by, replaced_of, second_is, statements_of, stmt_by, stmt_of, last_declarations_of, with_last}
 pub use Rattle.frame.specs.Stored.EssentialSets.{AreFrames, AreEssentialSets, IsSetFromEssentials, IsEssentialSet, kept_set, option_set}
 pub use Rattle.frame.specs.Stored.Hypotheses.{AreCollected, AreDescribed, AreFloats, AreHypotheses, AreLooked, AreThose, AreWith, HasMore, In, IsFilledFrom, IsFloatOf, IsFromEssentials, IsWith, OfSome, SomeFloat, is_hypothesis_entry, kept_at, option_kept}
 pub use Rattle.frame.specs.Stored.Labels.{is_label_kind}
@@ -50,7 +50,7 @@ pub use Rattle.frame.specs.declared.essential_sets.EssentialSets.{EssentialSets}
 pub use Rattle.frame.specs.declared.essential_sets.EssentialSet.{EssentialSet}
 pub use Rattle.frame.specs.declared.stacks.NextStatement.{NextStatement}
 pub use Rattle.frame.specs.declared.storage.Storage.{Storage}
-pub use Rattle.frame.specs.declared.storage.Symbol.{Symbol}
+pub use Rattle.frame.specs.declared.storage.LastDeclarations.{LastDeclarations}
 pub use Rattle.mm_lex.specs.Alphabet.{Name, has_name, name_eq}
 pub use Rattle.mm_lex.specs.Words.{AreWords}
 pub use Rattle.mm_read.specs.Statements.{Database, Expr}

@@ -19,26 +19,26 @@ IsTypecode names h [] = h ≡ NO_TYPECODE
 IsTypecode names h (x ∷ e) = (h < length names) × (name_at names h ≡ x)
 
 -- the statement at p is this hypothesis
-abbrev pub IsOf : List Name → ℕ → Stmt → Hypothesis → Type 0
-IsOf names p (stmt.Float label constant variable) (Float x) = (x < length names) × (name_at names x ≡ variable)
-IsOf names p (stmt.Ess label expr) (Essential q) = q ≡ p
-IsOf names p s h = ⊥
+abbrev pub IsStatementOf : List Name → ℕ → Stmt → Hypothesis → Type 0
+IsStatementOf names p (stmt.Float label constant variable) (Float x) = (x < length names) × (name_at names x ≡ variable)
+IsStatementOf names p (stmt.Ess label expr) (Essential q) = q ≡ p
+IsStatementOf names p s h = ⊥
 
 -- the hypothesis at p, by its typecode and its number
-pub record IsRequired (S : Database) (names : List Name) (p typecode : ℕ) (h : Hypothesis) : Type 0 where
+pub record IsNumberedHypothesis (S : Database) (names : List Name) (p typecode : ℕ) (h : Hypothesis) : Type 0 where
   pub stmt : Stmt
   pub stands : stmt_at S p ≡ Some stmt
   pub first : IsTypecode names typecode (expr_of stmt)
-  pub is : IsOf names p stmt h
+  pub is : IsStatementOf names p stmt h
 
-abbrev pub AreRequired : Database → List Name → List ℕ → List ℕ → List Hypothesis → Type 0
-AreRequired S names [] [] [] = Unit {0}
-AreRequired S names (p ∷ ps) (typecode ∷ typecodes) (h ∷ hs) = IsRequired S names p typecode h × AreRequired S names ps typecodes hs
-AreRequired S names ps typecodes hs = ⊥
+abbrev pub AreNumberedHypotheses : Database → List Name → List ℕ → List ℕ → List Hypothesis → Type 0
+AreNumberedHypotheses S names [] [] [] = Unit {0}
+AreNumberedHypotheses S names (p ∷ ps) (typecode ∷ typecodes) (h ∷ hs) = IsNumberedHypothesis S names p typecode h × AreNumberedHypotheses S names ps typecodes hs
+AreNumberedHypotheses S names ps typecodes hs = ⊥
 
 -- these lists describe the assertion s at a
 pub record AreListsOf (S : Database) (names : List Name) (a : ℕ) (g : Assertion) (s : Stmt) : Type 0 where
-  pub required : AreRequired S names (hypotheses (before S a) s) g.typecodes g.required
+  pub required : AreNumberedHypotheses S names (hypotheses (before S a) s) g.typecodes g.required
   pub groups : map (decode names) g.groups ≡ mandatory_groups (before S a) s
   pub groups_below : AllBelow (length names) g.groups
 
@@ -47,7 +47,7 @@ AreBuffersOf S names a g = (s : Stmt) → stmt_at S a ≡ Some s → AreListsOf 
 
 -- these are the parts of the assertion s at a
 pub record IsViewOf (S : Database) (names : List Name) (a : ℕ) (s : Stmt) (c : AssertionView) : Type 0 where
-  pub required : AreRequired S names (hypotheses (before S a) s) c.typecodes.now c.hypotheses
+  pub required : AreNumberedHypotheses S names (hypotheses (before S a) s) c.typecodes.now c.hypotheses
   pub conclusion : decode names c.conclusion.now ≡ expr_of s
   pub conclusion_below : AreBelow (length names) c.conclusion.now
   pub groups : map (decode names) c.groups ≡ mandatory_groups (before S a) s
@@ -67,7 +67,7 @@ AreMandatoryPairs S names a s groups =
 
 -- the assertion s at a can be cited by these lists
 pub record AreCitingListsOf (S : Database) (names : List Name) (a : ℕ) (g : Assertion) (s : Stmt) : Type 0 where
-  pub required : AreRequired S names (hypotheses (before S a) s) g.typecodes g.required
+  pub required : AreNumberedHypotheses S names (hypotheses (before S a) s) g.typecodes g.required
   pub pairs : AreMandatoryPairs S names a s g.groups
   pub groups_below : AllBelow (length names) g.groups
 
@@ -76,7 +76,7 @@ AreCitingLists S names a g = (s : Stmt) → stmt_at S a ≡ Some s → AreCiting
 
 -- the assertion s at a can be cited by these parts
 pub record IsCited (S : Database) (names : List Name) (a : ℕ) (s : Stmt) (c : AssertionView) : Type 0 where
-  pub required : AreRequired S names (hypotheses (before S a) s) c.typecodes.now c.hypotheses
+  pub required : AreNumberedHypotheses S names (hypotheses (before S a) s) c.typecodes.now c.hypotheses
   pub conclusion : decode names c.conclusion.now ≡ expr_of s
   pub conclusion_below : AreBelow (length names) c.conclusion.now
   pub pairs : AreMandatoryPairs S names a s c.groups

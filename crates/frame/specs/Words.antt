@@ -1,5 +1,5 @@
 -- The definitions of the layers below that this crate's definitions use, re-exported from one place.
-pub use Rattle.entries.specs.Entries.{Assertion, Entry, partless}
+pub use Rattle.entries.specs.Entries.{Assertion, Entry, no_parts}
 pub use Rattle.entries.specs.Histories.{AreUntil, StackVersion, history, kept_until, stack_at}
 pub use Rattle.entries.specs.PositionSets.{Ascends, set_at}
 pub use Rattle.entries.specs.Stored.Spans.{AreSpansIn, Extends, cut}

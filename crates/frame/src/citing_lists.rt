@@ -11,7 +11,7 @@ ghost use Rattle.frame.specs.Stored.Whole.{AreStored};
 
 use crate::at_position::last_active_at;
 use crate::frame_buffers::FrameBuffers;
-use crate::make::{describe, fill_from_hypotheses, hypothesis};
+use crate::make::{encode_hypotheses, fill_from_hypotheses, hypothesis};
 use crate::pair_facts::{PairFacts, SoughtPair, search_by_facts};
 use crate::storage::Storage;
 use entries::Hypothesis;
@@ -28,7 +28,7 @@ const MOST_TRIES: usize = 16;
 /// one for each `$d`.
 ///
 /// Errors: an allocation fails.
-pub fn fill_for_citation(
+pub fn fill_citing_lists(
     alloc: Global,
     storage: &Storage,
     kept: &PairFacts,
@@ -47,7 +47,7 @@ pub fn fill_for_citation(
     let variables = variables(alloc, storage, &buffers.hypotheses)?;
     let counts = counts(alloc, storage, at, &variables)?;
     if find_pairs(storage, kept, at, facts, buffers, &variables, &counts)? {
-        describe_all(storage, buffers)
+        encode_all_hypotheses(storage, buffers)
     } else {
         fill_from_hypotheses(storage, at, buffers)
     }
@@ -148,7 +148,7 @@ fn find_pairs(
         if !has_more_symbols(storage, at, most) {
             return Ok(false);
         }
-        facts.allow(most);
+        facts.set_budget(most);
         if add_pairs(storage, kept, at, facts, buffers, variables, counts)? {
             return Ok(true);
         }
@@ -179,7 +179,7 @@ fn has_more_symbols(storage: &Storage, at: usize, most: usize) -> bool
 }
 
 /// Appends the hypotheses, each as one number, and their typecodes.
-fn describe_all(storage: &Storage, buffers: &mut FrameBuffers) -> Result<(), AllocError>
+fn encode_all_hypotheses(storage: &Storage, buffers: &mut FrameBuffers) -> Result<(), AllocError>
     requires stored { AreStored storage.now }
     requires hypotheses { AreHypotheses storage.now.entries buffers.old.hypotheses }
     requires undescribed { (buffers.old.required ≡ []) × (buffers.old.typecodes ≡ []) }
@@ -188,7 +188,7 @@ fn describe_all(storage: &Storage, buffers: &mut FrameBuffers) -> Result<(), All
     ensures required { OnOk result (buffers.new.required ≡ map (required_at storage.now.entries) buffers.old.hypotheses) }
     ensures typecodes { OnOk result (buffers.new.typecodes ≡ map (typecode_at storage.now.entries) buffers.old.hypotheses) }
 {
-    describe(
+    encode_hypotheses(
         storage,
         &buffers.hypotheses,
         &mut buffers.required,
@@ -245,7 +245,7 @@ fn add_pairs_of(
     ensures same { IfOk result (λ all. HasSameHypotheses buffers.old buffers.new) }
 {
     for index in 0..others.len() {
-        if facts.is_spent() {
+        if facts.is_budget_spent() {
             return Ok(false);
         }
         let pair = sought_pair(x, others, index, counts);

@@ -1,18 +1,18 @@
 //! Makes and undoes the changes by one more statement: the names and the last declarations of symbols, where blocks end, and
 //! what is active after it.
 ghost use Rattle.std.specs.Prelude.{◌≡◌, ℕ, ◌+◌, ◌≤◌, ◌==◌, ◌++◌, ◌∷◌, [], Some, length, slice_get, OnOk, if◌then◌else◌, map, take};
-ghost use Rattle.{std.specs.List.list_any, mm_read.specs.declared.stmt.Stmt.Stmt as Statement, scope.specs.Active.label_of, scope.specs.Declares.IsRecordedBy, scope.specs.Declares.MayDeclare, scope.specs.Declares.declared_with, entries.specs.Stored.Spans.Extends, frame.specs.Below.AreBelow, frame.specs.LastActive.last_active_of, frame.specs.declared.storage.Symbol.Symbol as Declared, frame.specs.Stored.Whole.AreStored, frame.specs.Stored.EntryMeanings.option_position, frame.specs.Stored.EntryMeanings.statements_of, frame.specs.Stored.EntryMeanings.declared_by, frame.specs.Stored.EntryMeanings.last_of, frame.specs.Stored.EntryMeanings.with_last, frame.specs.Stored.EntryMeanings.ReadsAs, frame.specs.Stored.EntryMeanings.replaced_of, frame.specs.Stored.EntryMeanings.symbol_of, frame.specs.Stored.Counts.HasMoreNames, frame.specs.Stored.Counts.HasRoom, frame.specs.Stored.Counts.kind_of, frame.specs.Stored.Counts.next_last_active, frame.specs.Stored.Counts.HasTwo, frame.specs.Stored.Ends.with_end, frame.specs.Stored.Ends.AreBlockEnds};
+ghost use Rattle.{std.specs.List.list_any, mm_read.specs.declared.stmt.Stmt.Stmt as Statement, scope.specs.Active.label_of, scope.specs.Declares.IsRecordedBy, scope.specs.Declares.MayDeclare, scope.specs.Declares.declared_with, entries.specs.Stored.Spans.Extends, frame.specs.Below.AreBelow, frame.specs.LastActive.last_active_of, frame.specs.declared.storage.LastDeclarations.LastDeclarations as Declared, frame.specs.Stored.Whole.AreStored, frame.specs.Stored.EntryMeanings.option_position, frame.specs.Stored.EntryMeanings.statements_of, frame.specs.Stored.EntryMeanings.declared_by, frame.specs.Stored.EntryMeanings.last_of, frame.specs.Stored.EntryMeanings.with_last, frame.specs.Stored.EntryMeanings.ReadsAs, frame.specs.Stored.EntryMeanings.replaced_of, frame.specs.Stored.EntryMeanings.last_declarations_of, frame.specs.Stored.Counts.HasMoreNames, frame.specs.Stored.Counts.HasRoom, frame.specs.Stored.Counts.kind_of, frame.specs.Stored.Counts.next_last_active, frame.specs.Stored.Counts.HasTwo, frame.specs.Stored.Ends.with_end, frame.specs.Stored.Ends.AreBlockEnds};
 
 use crate::at_position::last_active_at;
 use crate::shape::{has_label, kind};
-use crate::storage::{Storage, Symbol};
+use crate::storage::{LastDeclarations, Storage};
 use entries::{Kind, LastActive};
 use mm_read::Stmt;
 use scope::{SymbolNumbers, declare_names};
 use std::alloc::{AllocError, Global};
 
 /// There are fewer symbols than this, so numbers fit in 32 bits.
-const NAMES_LIMIT: usize = 2147483648;
+const SYMBOL_NUMBERS_LIMIT: usize = 2147483648;
 
 /// Declares the names of the next statement, and appends its position if it has a label. Records the numbers of the
 /// symbols of a `$c` or `$v`.
@@ -32,10 +32,10 @@ pub fn declare_next(
 {
     declare_names(&mut storage.numbering, alloc, stmt, recorded)?;
     let count = storage.numbering.symbol_count();
-    if count >= NAMES_LIMIT {
+    if count >= SYMBOL_NUMBERS_LIMIT {
         return Err(AllocError);
     }
-    let undeclared = Symbol {
+    let undeclared = LastDeclarations {
         float: 0,
         variable: 0,
     };
@@ -98,7 +98,7 @@ pub fn declared(kind: Kind, codes: &[u32]) -> &[u32]
 }
 
 /// Returns the last declaration of a symbol by statements of this kind.
-fn last(symbol: Symbol, kind: Kind) -> usize
+fn last_declaration(symbol: LastDeclarations, kind: Kind) -> usize
     ensures { result ≡ last_of kind symbol }
 {
     match kind {
@@ -109,7 +109,7 @@ fn last(symbol: Symbol, kind: Kind) -> usize
 
 /// Records the last declarations that a statement of this kind with these symbols replaces.
 pub fn record_replaced(
-    symbols: &[Symbol],
+    symbols: &[LastDeclarations],
     kind: Kind,
     declared: &[u32],
     replaced: &mut Vec<usize>,
@@ -119,13 +119,13 @@ pub fn record_replaced(
     ensures after { Extends replaced.old.items replaced.new.items }
 {
     for code in declared {
-        replaced.push(last(symbols[*code as usize], kind))?;
+        replaced.push(last_declaration(symbols[*code as usize], kind))?;
     }
     Ok(())
 }
 
 /// Records `at` as the last declaration of these symbols by statements of this kind.
-pub fn declare(symbols: &mut Vec<Symbol>, kind: Kind, declared: &[u32], at: usize)
+pub fn declare(symbols: &mut Vec<LastDeclarations>, kind: Kind, declared: &[u32], at: usize)
     requires { AreBelow (length symbols.old.items) declared.now }
     ensures each { (c : ℕ) (x : Declared) → slice_get symbols.old.items c ≡ Some x → slice_get symbols.new.items c ≡ Some (if list_any (λ y. c == y) declared.now then with_last kind at x else x) }
     ensures count { length symbols.new.items ≡ length symbols.old.items }
@@ -136,7 +136,7 @@ pub fn declare(symbols: &mut Vec<Symbol>, kind: Kind, declared: &[u32], at: usiz
 }
 
 /// Records the last declaration of a symbol by statements of this kind.
-fn set_last(symbol: &mut Symbol, kind: Kind, at: usize)
+fn set_last(symbol: &mut LastDeclarations, kind: Kind, at: usize)
     ensures { symbol.new ≡ with_last kind at symbol.old }
 {
     match kind {
@@ -161,7 +161,7 @@ pub fn remove_entries(storage: &mut Storage, len: usize)
     requires stored { AreStored storage.old }
     requires within { len ≤ length storage.old.entries }
     ensures entries { storage.new.entries ≡ take len storage.old.entries }
-    ensures declared { ReadsAs storage.new.symbols.items (symbol_of storage.new.entries) }
+    ensures declared { ReadsAs storage.new.symbols.items (last_declarations_of storage.new.entries) }
     ensures recorded { storage.new.replaced.items ≡ replaced_of storage.new.entries }
     ensures ends { AreBlockEnds storage.new.ends.items (take len (statements_of storage.old)) }
     ensures count { length storage.new.symbols.items ≡ length storage.old.symbols.items }
@@ -193,7 +193,7 @@ pub fn remove_entries(storage: &mut Storage, len: usize)
 }
 
 /// Restores the last declarations that a statement of this kind with these symbols replaced.
-fn restore(symbols: &mut Vec<Symbol>, kind: Kind, declared: &[u32], replaced: &[usize])
+fn restore(symbols: &mut Vec<LastDeclarations>, kind: Kind, declared: &[u32], replaced: &[usize])
     requires below { AreBelow (length symbols.old.items) declared.now }
     requires count { length replaced.now ≡ length declared.now }
     ensures each { (x : ℕ → ℕ) → replaced.now ≡ map x declared.now → (c : ℕ) (y : Declared) → slice_get symbols.old.items c ≡ Some y → slice_get symbols.new.items c ≡ Some (if list_any (λ k. c == k) declared.now then with_last kind (x c) y else y) }

@@ -1,4 +1,5 @@
-//! The mandatory hypotheses that the active `$e` bring along, as sets that are kept with each `$e`.
+//! The mandatory hypotheses that the active `$e` bring along, which are the `$e` themselves and the `$f` of their variables, as
+//! sets that are kept with each `$e`.
 ghost use Rattle.std.specs.Prelude.{◌≡◌, ◌+◌, ◌-◌, ◌<◌, ◌≤◌, ◌++◌, ℕ, List, [], length, take, IfOk, OnErr, OnOk};
 ghost use Rattle.entries.specs.PositionSets.{Ascends, set_at};
 ghost use Rattle.entries.specs.Stored.Spans.{Extends};
@@ -9,7 +10,7 @@ ghost use Rattle.frame.specs.Stored.Hypotheses.{AreWith, HasMore, In};
 ghost use Rattle.frame.specs.Stored.Whole.{AreStored};
 
 use crate::at_position::last_active_at;
-use crate::mandatory::{MANY, add_essentials, given_count, order};
+use crate::mandatory::{MOST_WITHOUT_SET, add_essentials, given_count, sort_unique};
 use crate::storage::Storage;
 use entries::buffer_part::item;
 use entries::{Kind, PositionSets, give_back};
@@ -24,8 +25,8 @@ pub struct EssentialSet {
     pub before: u32,
 }
 
-/// The mandatory hypotheses that the active `$e` up to each `$e` bring along, as a set if they are many. If they are few,
-/// they are collected by a walk over the `$e`.
+/// For each `$e`, the mandatory hypotheses that it and the active `$e` before it bring along, as a set if they are many. If
+/// they are few, they are collected by a walk over the `$e`.
 #[derive(Drop)]
 pub struct EssentialSets {
     pub alloc: Global,
@@ -79,7 +80,7 @@ impl EssentialSets {
             return add_essentials(storage, at, list);
         }
         add_set(&self.sets, set, list)?;
-        order(list);
+        sort_unique(list);
         Ok(())
     }
 
@@ -95,27 +96,30 @@ impl EssentialSets {
         ensures count { OnOk result (length self.new.kept.items ≡ length storage.now.entries) }
         ensures same { OnErr result (self.new.kept.items ≡ self.old.kept.items) }
     {
-        let size = self.sets.size();
-        let recorded = self.record_next(storage, size as u32);
+        let set_count = self.sets.set_count();
+        let recorded = self.record_next(storage, set_count as u32);
         if recorded.is_err() {
-            self.sets.truncate(size);
+            self.sets.truncate(set_count);
         }
         recorded
     }
 
     /// Records the set of the last statement, and how many sets there were before it.
-    fn record_next(&mut self, storage: &Storage, size: u32) -> Result<(), AllocError>
+    fn record_next(&mut self, storage: &Storage, set_count: u32) -> Result<(), AllocError>
         requires stored { AreStored storage.now }
         requires sets { AreEssentialSets self.old storage.now.entries (statements_of storage.now) }
         requires next { length self.old.kept.items + 1 ≡ length storage.now.entries }
-        requires size { size ≡ length self.old.sets }
+        requires set_count { set_count ≡ length self.old.sets }
         ensures recorded { OnOk result (AreEssentialSets self.new storage.now.entries (statements_of storage.now)) }
         ensures count { OnOk result (length self.new.kept.items ≡ length storage.now.entries) }
         ensures more { Extends self.old.sets self.new.sets }
         ensures same { OnErr result (self.new.kept.items ≡ self.old.kept.items) }
     {
         let set = self.next_set(storage)?;
-        self.kept.push(EssentialSet { set, before: size })?;
+        self.kept.push(EssentialSet {
+            set,
+            before: set_count,
+        })?;
         Ok(())
     }
 
@@ -152,7 +156,7 @@ impl EssentialSets {
         ensures more { Extends self.old.sets self.new.sets }
         ensures kept { self.new.kept.items ≡ self.old.kept.items }
     {
-        if given_count(storage) <= MANY {
+        if given_count(storage) <= MOST_WITHOUT_SET {
             return Ok(0);
         }
         let mut list = Vec::new(self.alloc);

@@ -14,7 +14,7 @@ use crate::shape::kind;
 use crate::stacks::{NextStatement, record_active};
 use crate::storage::Storage;
 use crate::symbol_numbers::find_numbers;
-use entries::buffer_part::place;
+use entries::buffer_part::to_u32;
 use entries::{EntryHeader, StateBefore, give_back};
 use mm_read::Stmt;
 use scope::{Rule, Rules, Scope, Steps, SymbolNumbers};
@@ -25,7 +25,7 @@ use std::alloc::{AllocError, Global};
 fn extend(
     alloc: Global,
     storage: &mut Storage,
-    given: &EssentialSets,
+    essential_sets: &EssentialSets,
     buffers: &mut FrameBuffers,
     stmt: &Stmt,
     recorded: &mut SymbolNumbers,
@@ -45,13 +45,13 @@ fn extend(
     let header = EntryHeader {
         kind,
         before: StateBefore {
-            label: place(storage.numbering.label_count())?,
-            names: storage.numbering.symbol_count() as u32,
+            label_count: to_u32(storage.numbering.label_count())?,
+            symbol_count: storage.numbering.symbol_count() as u32,
             last_active: storage.last_active,
         },
     };
     find_numbers(&storage.numbering, stmt, recorded);
-    fill_parts(storage, given, buffers, stmt, recorded)?;
+    fill_parts(storage, essential_sets, buffers, stmt, recorded)?;
     declare_next(alloc, storage, stmt, recorded)?;
     let Some(codes) = recorded.numbers() else {
         return Err(AllocError);
@@ -62,7 +62,7 @@ fn extend(
     let next = NextStatement {
         kind,
         codes,
-        at: place(at)?,
+        at: to_u32(at)?,
         last_active: storage.last_active,
     };
     record_active(
@@ -86,7 +86,7 @@ fn extend(
 fn extend_whole(
     alloc: Global,
     storage: &mut Storage,
-    given: &EssentialSets,
+    essential_sets: &EssentialSets,
     buffers: &mut FrameBuffers,
     stmt: &Stmt,
     recorded: &mut SymbolNumbers,
@@ -103,7 +103,7 @@ fn extend_whole(
 {
     let names = storage.numbering.len();
     let replaced = storage.replaced.len();
-    let result = extend(alloc, storage, given, buffers, stmt, recorded);
+    let result = extend(alloc, storage, essential_sets, buffers, stmt, recorded);
     if result.is_err() {
         roll_back(storage, names, replaced);
     }
@@ -113,33 +113,33 @@ fn extend_whole(
 /// Appends the statement, and records the mandatory hypotheses that its active `$e` bring along.
 ///
 /// If an allocation fails, the storage is as before.
-fn grow(
+fn extend_with_sets(
     alloc: Global,
     storage: &mut Storage,
-    given: &mut EssentialSets,
+    essential_sets: &mut EssentialSets,
     buffers: &mut FrameBuffers,
     stmt: &Stmt,
     recorded: &mut SymbolNumbers,
 ) -> Result<(), AllocError>
-    requires kept { AreFrames storage.old given.old }
+    requires kept { AreFrames storage.old essential_sets.old }
     requires legal { IsLegal (statements_of storage.old) stmt.now }
     requires recorded { AreRecorded (with_names (names_in storage.old) (symbols_by stmt.now)) (symbols_in stmt.now) recorded.old }
-    ensures kept { AreFrames storage.new given.new }
+    ensures kept { AreFrames storage.new essential_sets.new }
     ensures added { OnOk result (statements_of storage.new ≡ statements_of storage.old ++ bare stmt.now ∷ []) }
     ensures numbers { OnOk result ((e : Entry) → slice_get storage.new.entries (length storage.old.entries) ≡ Some e → AreVariableNumbers (symbols_after (statements_of storage.old) stmt.now) stmt.now e.symbols) }
     ensures same { OnErr result (statements_of storage.new ≡ statements_of storage.old) }
 {
     let front = storage.entries.len();
-    extend_whole(alloc, storage, given, buffers, stmt, recorded)?;
-    let kept = given.record_set(storage);
+    extend_whole(alloc, storage, essential_sets, buffers, stmt, recorded)?;
+    let kept = essential_sets.record_set(storage);
     if kept.is_err() {
-        cut(storage, front);
+        truncate_storage(storage, front);
     }
     kept
 }
 
 /// Truncates the storage to its first `len` statements.
-fn cut(storage: &mut Storage, len: usize)
+fn truncate_storage(storage: &mut Storage, len: usize)
     requires stored { AreStored storage.old }
     ensures stored { AreStored storage.new }
     ensures statements { statements_of storage.new ≡ take len (statements_of storage.old) }
@@ -148,7 +148,7 @@ fn cut(storage: &mut Storage, len: usize)
 {
     if len < storage.entries.len() {
         let first = storage.entries.entry(len);
-        let names = first.before.names as usize + first.before.label as usize;
+        let names = first.before.symbol_count as usize + first.before.label_count as usize;
         let last_active = first.before.last_active;
         remove_entries(storage, len);
         storage.last_active = last_active;
@@ -222,13 +222,14 @@ impl Frames {
         ensures same { OnErr result (self.new ≡ self.old) }
         ensures counted { steps.new.count ≡ steps.old.count + 1 }
     {
+        // Only the contract reads the scope.
         let _scope = scope;
         self.recorded.forget();
         steps.tick();
-        grow(
+        extend_with_sets(
             self.alloc,
             &mut self.storage,
-            &mut self.given,
+            &mut self.essential_sets,
             &mut self.buffers,
             stmt,
             &mut self.recorded,
@@ -266,10 +267,10 @@ impl Frames {
             return Err(rule);
         }
         let front = self.storage.entries.len();
-        grow(
+        extend_with_sets(
             self.alloc,
             &mut self.storage,
-            &mut self.given,
+            &mut self.essential_sets,
             &mut self.buffers,
             stmt,
             &mut self.recorded,
@@ -292,9 +293,9 @@ impl Frames {
         ensures names { Extends self.new.names self.old.names }
         ensures symbols { self.new.names ≡ symbols_of self.new.statements }
     {
-        cut(&mut self.storage, len);
-        self.given.truncate(len);
-        self.facts.truncate(len);
+        truncate_storage(&mut self.storage, len);
+        self.essential_sets.truncate(len);
+        self.kept_facts.truncate(len);
     }
 
     /// Gives back the room of removed statements, if it is more than that of the remaining ones.
@@ -305,7 +306,7 @@ impl Frames {
         ensures { self.new ≡ self.old }
     {
         shrink_lists(self.alloc, &mut self.storage);
-        self.given.shrink();
+        self.essential_sets.shrink();
         self.buffers = FrameBuffers::new(self.alloc);
         self.recorded = SymbolNumbers::new(self.alloc);
     }

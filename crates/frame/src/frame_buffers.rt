@@ -1,6 +1,6 @@
 //! Buffers for the parts of an assertion, which are reused.
 ghost use Rattle.std.specs.Prelude.{◌≡◌, ◌++◌, ◌∷◌, [], length, false, OnOk};
-ghost use Rattle.{entries.specs.Entries.AreShapedParts, entries.specs.Entries.assertion_of, entries.specs.Entries.partless};
+ghost use Rattle.{entries.specs.Entries.AreShapedParts, entries.specs.Entries.assertion_of, entries.specs.Entries.no_parts};
 
 use entries::buffer_part::between;
 use entries::{AssertionParts, BufferPart};
@@ -13,7 +13,7 @@ use std::marker::Model;
 /// Contracts see them in the form in which the parts of an assertion are kept.
 #[derive(Drop)]
 pub struct FrameBuffers {
-    /// Whether the parts are whole, or only those that the assertion adds to what is active.
+    /// Whether the parts are whole, as `AssertionParts` says; not set if the groups are made pair by pair.
     pub(crate) whole: bool,
     /// The symbols whose `$f` were looked up; later the variables of the hypotheses.
     pub(crate) recorded: Stack,
@@ -24,20 +24,20 @@ pub struct FrameBuffers {
     /// The typecode of each hypothesis.
     pub(crate) typecodes: Vec<u32>,
     /// The variables whose images must be disjoint, one group after another.
-    pub(crate) places: Vec<u32>,
-    /// For each group, its range in `places`.
+    pub(crate) grouped_variables: Vec<u32>,
+    /// For each group, its range in `grouped_variables`.
     pub(crate) groups: Vec<BufferPart>,
 }
 
 impl Model for FrameBuffers {
     ghost use Rattle.std.specs.Prelude.{length, map};
-    ghost use Rattle.{entries.specs.Entries.Assertion, entries.specs.Hypotheses.told, entries.specs.Stored.Spans.cut, entries.specs.Stored.Spans.AreSpansIn};
+    ghost use Rattle.{entries.specs.Entries.Assertion, entries.specs.Hypotheses.decoded_hypothesis, entries.specs.Stored.Spans.cut, entries.specs.Stored.Spans.AreSpansIn};
 
     ghost Value = { Assertion };
 
-    ghost view = { λ a. record { whole = a.whole; hypotheses = a.hypotheses.items; required = map told a.required.items; typecodes = a.typecodes.items; groups = cut a.places.items a.groups.items } };
+    ghost view = { λ a. record { whole = a.whole; hypotheses = a.hypotheses.items; required = map decoded_hypothesis a.required.items; typecodes = a.typecodes.items; groups = cut a.grouped_variables.items a.groups.items } };
 
-    ghost invariant = { λ a. AreSpansIn (length a.places.items) a.groups.items };
+    ghost invariant = { λ a. AreSpansIn (length a.grouped_variables.items) a.groups.items };
 }
 
 impl FrameBuffers {
@@ -49,7 +49,7 @@ impl FrameBuffers {
             hypotheses: Vec::new(alloc),
             required: Vec::new(alloc),
             typecodes: Vec::new(alloc),
-            places: Vec::new(alloc),
+            grouped_variables: Vec::new(alloc),
             groups: Vec::new(alloc),
         }
     }
@@ -68,7 +68,7 @@ impl FrameBuffers {
             hypotheses: &self.hypotheses,
             required: &self.required,
             typecodes: &self.typecodes,
-            places: &self.places,
+            grouped_variables: &self.grouped_variables,
             groups: &self.groups,
         }
     }
@@ -79,7 +79,7 @@ impl FrameBuffers {
         let groups = self.groups.len().saturating_mul(2);
         hypotheses
             .saturating_add(groups)
-            .saturating_add(self.places.len())
+            .saturating_add(self.grouped_variables.len())
     }
 
     /// Appends a group of two variables.
@@ -89,10 +89,10 @@ impl FrameBuffers {
         ensures required { self.new.required ≡ self.old.required }
         ensures typecodes { self.new.typecodes ≡ self.old.typecodes }
     {
-        let from = self.places.len();
-        self.places.push(x)?;
-        self.places.push(y)?;
-        let span = between(from, self.places.len())?;
+        let from = self.grouped_variables.len();
+        self.grouped_variables.push(x)?;
+        self.grouped_variables.push(y)?;
+        let span = between(from, self.grouped_variables.len())?;
         self.groups.push(span)?;
         Ok(())
     }
@@ -104,19 +104,19 @@ impl FrameBuffers {
         ensures required { self.new.required ≡ self.old.required }
         ensures typecodes { self.new.typecodes ≡ self.old.typecodes }
     {
-        self.places.clear();
+        self.grouped_variables.clear();
         self.groups.clear();
     }
 
     /// Empties the buffers, which keep their capacity.
     pub(crate) fn clear(&mut self)
-        ensures { self.new ≡ partless false }
+        ensures { self.new ≡ no_parts false }
     {
         self.whole = false;
         self.hypotheses.clear();
         self.required.clear();
         self.typecodes.clear();
-        self.places.clear();
+        self.grouped_variables.clear();
         self.groups.clear();
     }
 }

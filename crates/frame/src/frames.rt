@@ -3,7 +3,7 @@ ghost use Rattle.std.specs.Prelude.{◌≡◌, ◌≤◌, ◌<◌, [], true, IfO
 ghost use Rattle.{mm_read.specs.declared.stmt.Stmt.Stmt as Statement, names.specs.Codes.name_at, names.specs.Codes.decode, scope.specs.Active.before, scope.specs.Active.stmt_at, scope.specs.Active.label_of, scope.specs.Active.expr_of, frame.specs.AtPosition.IsPosition, frame.specs.AtPosition.ArePositions, frame.specs.AtPosition.AreLegal, frame.specs.AtPosition.IsMeaning, frame.specs.FrameOf.HasAssertion, frame.specs.FrameOf.hypotheses, frame.specs.AssertionView.AreBuffersOf, frame.specs.AssertionView.AreCitingLists, frame.specs.AssertionView.IsCited, frame.specs.AssertionView.IsViewOf, frame.specs.PairFacts.AreFacts, frame.specs.ExprPlaces.AreExprPlaces, frame.specs.Below.AreBelow, frame.specs.LongEssentials.HasConstants, frame.specs.LongEssentials.long_essentials, scope.specs.Active.is_essential};
 
 use crate::at_position::{is_active_at, last_active_at};
-use crate::citing_lists::fill_for_citation;
+use crate::citing_lists::fill_citing_lists;
 use crate::essential_sets::EssentialSets;
 use crate::frame_buffers::FrameBuffers;
 use crate::kept_facts::KeptFacts;
@@ -24,8 +24,8 @@ use scope::{Numbering, SymbolNumbers};
 use std::alloc::{AllocError, Global};
 use std::marker::Model;
 
-/// The largest number of mandatory hypotheses that the active `$e` bring along without a view of them being made.
-const LONG: usize = 64;
+/// The largest number of mandatory hypotheses, brought along by the active `$e`, for which no view is made.
+const MOST_WITHOUT_VIEW: usize = 64;
 
 /// The statements of a database by position, without their proofs, with their symbols as numbers.
 ///
@@ -35,9 +35,10 @@ const LONG: usize = 64;
 pub struct Frames {
     pub(crate) alloc: Global,
     pub(crate) storage: Storage,
-    /// The mandatory hypotheses that the active `$e` up to each `$e` bring along, as sets.
-    pub(crate) given: EssentialSets,
-    pub(crate) facts: KeptFacts,
+    /// For each `$e`, the mandatory hypotheses that it and the active `$e` before it bring along, as a set.
+    pub(crate) essential_sets: EssentialSets,
+    /// Facts about pairs of variables, which stay true as statements are added.
+    pub(crate) kept_facts: KeptFacts,
     /// Buffers for the parts of the next assertion.
     pub(crate) buffers: FrameBuffers,
     /// A buffer for the numbers of the symbols of the next statement.
@@ -51,7 +52,7 @@ impl Model for Frames {
 
     ghost view = { λ a. numbered a.storage };
 
-    ghost invariant = { λ a. AreFramesAndFacts a.storage a.given a.facts };
+    ghost invariant = { λ a. AreFramesAndFacts a.storage a.essential_sets a.kept_facts };
 }
 
 impl Frames {
@@ -79,8 +80,8 @@ impl Frames {
                     disjoint: 0,
                 },
             },
-            given: EssentialSets::new(alloc),
-            facts: KeptFacts::new(alloc),
+            essential_sets: EssentialSets::new(alloc),
+            kept_facts: KeptFacts::new(alloc),
             buffers: FrameBuffers::new(alloc),
             recorded: SymbolNumbers::new(alloc),
         }
@@ -197,17 +198,17 @@ impl Frames {
     {
         Pairs {
             storage: &self.storage,
-            facts: &self.facts.facts,
+            facts: &self.kept_facts.facts,
             at,
         }
     }
 
     /// Returns the parts of the assertion at a position, by numbers, or `None` if they are too many to be kept whole.
-    pub fn cited(&self, a: usize) -> Option<AssertionView<'_>>
+    pub fn kept_view(&self, a: usize) -> Option<AssertionView<'_>>
         requires { (s : Statement) × HasAssertion self.now.statements a s }
         ensures { (s : Statement) → stmt_at self.now.statements a ≡ Some s → IfSome result (IsViewOf self.now.statements self.now.names a s) }
     {
-        self.storage.entries.cited(a - 1)
+        self.storage.entries.kept_view(a - 1)
     }
 
     /// Fills the buffers with the parts of the assertion at a position, whose parts need not be kept whole.
@@ -223,7 +224,11 @@ impl Frames {
     }
 
     /// Returns the parts of the assertion at a position, from the buffers that `fill_buffers` filled.
-    pub fn cited_from<'a>(&'a self, a: usize, frame_buffers: &'a FrameBuffers) -> AssertionView<'a>
+    pub fn buffered_view<'a>(
+        &'a self,
+        a: usize,
+        frame_buffers: &'a FrameBuffers,
+    ) -> AssertionView<'a>
         requires assertion { (s : Statement) × HasAssertion self.now.statements a s }
         requires frame_buffers { AreBuffersOf self.now.statements self.now.names a frame_buffers.now }
         ensures { (s : Statement) → stmt_at self.now.statements a ≡ Some s → IsViewOf self.now.statements self.now.names a s result }
@@ -232,7 +237,7 @@ impl Frames {
             typecodes: &frame_buffers.typecodes,
             hypotheses: Hypotheses::new(&frame_buffers.required),
             conclusion: self.expr(a),
-            groups: Groups::new(&frame_buffers.groups, &frame_buffers.places),
+            groups: Groups::new(&frame_buffers.groups, &frame_buffers.grouped_variables),
         }
     }
 
@@ -255,10 +260,10 @@ impl Frames {
     {
         buffers.clear();
         self.mandatory(a, &mut buffers.hypotheses)?;
-        fill_for_citation(
+        fill_citing_lists(
             self.alloc,
             &self.storage,
-            &self.facts.facts,
+            &self.kept_facts.facts,
             a,
             facts,
             buffers,
@@ -266,7 +271,7 @@ impl Frames {
     }
 
     /// Returns the parts by which the assertion at a position can be cited, from the buffers that `fill_for_citing` filled.
-    pub fn cited_by<'a>(&'a self, a: usize, buffers: &'a FrameBuffers) -> AssertionView<'a>
+    pub fn citing_view<'a>(&'a self, a: usize, buffers: &'a FrameBuffers) -> AssertionView<'a>
         requires assertion { (s : Statement) × HasAssertion self.now.statements a s }
         requires lists { AreCitingLists self.now.statements self.now.names a buffers.now }
         ensures { (s : Statement) → stmt_at self.now.statements a ≡ Some s → IsCited self.now.statements self.now.names a s result }
@@ -275,7 +280,7 @@ impl Frames {
             typecodes: &buffers.typecodes,
             hypotheses: Hypotheses::new(&buffers.required),
             conclusion: self.expr(a),
-            groups: Groups::new(&buffers.groups, &buffers.places),
+            groups: Groups::new(&buffers.groups, &buffers.grouped_variables),
         }
     }
 
@@ -292,7 +297,7 @@ impl Frames {
         if self.storage.entries.is_whole(a - 1) {
             Ok(())
         } else {
-            self.given.add(&self.storage, a, list)
+            self.essential_sets.add(&self.storage, a, list)
         }
     }
 
@@ -304,17 +309,23 @@ impl Frames {
         requires { (s : Statement) × HasAssertion self.now.statements a s }
         ensures { (s : Statement) → stmt_at self.now.statements a ≡ Some s → IfOk result (λ view. IfSome view (λ list. list ≡ hypotheses (before self.now.statements a) s)) }
     {
-        let set = self.given.set(last_active_at(&self.storage, a).essential);
-        if set == 0 || self.given.count(set) <= LONG || self.storage.entries.is_whole(a - 1) {
+        let set = self
+            .essential_sets
+            .set(last_active_at(&self.storage, a).essential);
+        if set == 0
+            || self.essential_sets.count(set) <= MOST_WITHOUT_VIEW
+            || self.storage.entries.is_whole(a - 1)
+        {
             return Ok(None);
         }
-        let sets = &self.given.sets;
+        let sets = &self.essential_sets.sets;
         let own = missing(
             self.alloc,
             sets,
             set,
             self.storage.entries.hypotheses(a - 1),
         )?;
+        // The proof needs it: there are fewer than 2^32 positions.
         let _count = self.storage.entries.len();
         Ok(Some(MandatoryView { sets, set, own }))
     }
@@ -326,7 +337,7 @@ impl Frames {
     {
         let entry = self.storage.entries.entry(at - 1);
         if has_label(entry.kind) {
-            Some(self.storage.numbering.label(entry.before.label))
+            Some(self.storage.numbering.label(entry.before.label_count))
         } else {
             None
         }

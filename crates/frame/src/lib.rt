@@ -6,7 +6,8 @@
 //!
 //! Reading order: `storage`, `stored_entries`, `shape`, `frame_buffers`; `symbol_numbers`, `at_position`, `stacks`, `declare`,
 //! `mandatory`, `essential_sets`, `make`, `extend` (appending and truncating); `meaning`, `frames`, `mandatory_view`, `row`,
-//! `long_searches`, `pair_memo`, `fact_slots`, `pair_facts`, `kept_facts`, `repeated_searches`, `pairs`, `active_disjoint`, `citing_lists` (queries); `assertion`, `one_frame`; `laws`.
+//! `long_searches`, `pair_memo`, `fact_slots`, `pair_facts`, `kept_facts`, `repeated_searches`, `pairs`, `active_disjoint`,
+//! `citing_lists` (queries); `assertion`, `one_frame`; `laws`.
 #![tactic(auto)]
 
 mod active_disjoint;

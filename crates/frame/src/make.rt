@@ -1,7 +1,7 @@
 //! Makes the parts that are kept with a statement: its hypotheses, each as one number, and its disjoint variables.
 ghost use Rattle.std.specs.Prelude.{◌≡◌, ℕ, List, ◌+◌, ◌-◌, ◌≤◌, ◌==◌, ◌||◌, ◌++◌, ◌∷◌, [], true, false, if◌then◌else◌, length, map, take, OnOk};
 ghost use Rattle.mm_read.specs.declared.stmt.Stmt.{Stmt as Statement};
-ghost use Rattle.{names.specs.Codes.decode, names.specs.Codes.with_names, scope.specs.Active.expr_of, scope.specs.Active.bare, scope.specs.Stored.SymbolNumbers.AreRecorded, scope.specs.Symbols.symbols_by, scope.specs.Symbols.symbols_in, entries.specs.Hypotheses.told, entries.specs.Stored.Spans.cut, entries.specs.Stored.Spans.AreSpansIn, frame.specs.Below.AreBelow, frame.specs.AssertionView.typecode_of, frame.specs.Stored.Whole.AreStored, frame.specs.Stored.Whole.ArePartsFor, frame.specs.Stored.Hypotheses.AreHypotheses, frame.specs.Stored.Hypotheses.IsFilledFrom, frame.specs.Stored.Counts.HasTwo, frame.specs.Stored.Counts.kind_of, frame.specs.Stored.AssertionParts.required_at, frame.specs.Stored.AssertionParts.required_by, frame.specs.Stored.AssertionParts.typecode_at, frame.specs.Stored.AssertionParts.has_two, frame.specs.Stored.AssertionParts.is_typed, frame.specs.Stored.AssertionParts.is_typed_by, frame.specs.Stored.AssertionParts.recorded_in, std.specs.List.list_any, frame.specs.Stored.AssertionParts.has_parts, frame.specs.Stored.EntryMeanings.names_in, frame.specs.Stored.EntryMeanings.statements_of, frame.specs.FrameOf.hypotheses, frame.specs.Stored.OneFrame.required};
+ghost use Rattle.{names.specs.Codes.decode, names.specs.Codes.with_names, scope.specs.Active.expr_of, scope.specs.Active.bare, scope.specs.Stored.SymbolNumbers.AreRecorded, scope.specs.Symbols.symbols_by, scope.specs.Symbols.symbols_in, entries.specs.Hypotheses.decoded_hypothesis, entries.specs.Stored.Spans.cut, entries.specs.Stored.Spans.AreSpansIn, frame.specs.Below.AreBelow, frame.specs.AssertionView.typecode_of, frame.specs.Stored.Whole.AreStored, frame.specs.Stored.Whole.ArePartsFor, frame.specs.Stored.Hypotheses.AreHypotheses, frame.specs.Stored.Hypotheses.IsFilledFrom, frame.specs.Stored.Counts.HasTwo, frame.specs.Stored.Counts.kind_of, frame.specs.Stored.AssertionParts.required_at, frame.specs.Stored.AssertionParts.required_by, frame.specs.Stored.AssertionParts.typecode_at, frame.specs.Stored.AssertionParts.has_two, frame.specs.Stored.AssertionParts.is_typed, frame.specs.Stored.AssertionParts.is_typed_by, frame.specs.Stored.AssertionParts.recorded_in, std.specs.List.list_any, frame.specs.Stored.AssertionParts.has_parts, frame.specs.Stored.EntryMeanings.names_in, frame.specs.Stored.EntryMeanings.statements_of, frame.specs.FrameOf.hypotheses, frame.specs.Stored.OneFrame.required};
 
 use crate::at_position::last_active_at;
 use crate::essential_sets::EssentialSets;
@@ -37,7 +37,7 @@ pub fn hypothesis(entry: EntryRef<'_>, position: u32) -> Hypothesis
 }
 
 /// Appends the hypotheses, each as one number, and their typecodes.
-pub fn describe(
+pub fn encode_hypotheses(
     storage: &Storage,
     hypotheses: &[u32],
     required: &mut Vec<u32>,
@@ -45,9 +45,9 @@ pub fn describe(
 ) -> Result<(), AllocError>
     requires stored { AreStored storage.now }
     requires hypotheses { AreHypotheses storage.now.entries hypotheses.now }
-    requires no_required { map told required.old.items ≡ [] }
+    requires no_required { map decoded_hypothesis required.old.items ≡ [] }
     requires no_typecodes { typecodes.old.items ≡ [] }
-    ensures required { OnOk result (map told required.new.items ≡ map (required_at storage.now.entries) hypotheses.now) }
+    ensures required { OnOk result (map decoded_hypothesis required.new.items ≡ map (required_at storage.now.entries) hypotheses.now) }
     ensures typecodes { OnOk result (typecodes.new.items ≡ map (typecode_at storage.now.entries) hypotheses.now) }
 {
     for position in hypotheses {
@@ -86,25 +86,25 @@ fn record_variables(hypotheses: &Hypotheses<'_>, found: &mut Stack) -> Result<()
 fn add_group(
     variables: &Stack,
     codes: &[u32],
-    places: &mut Vec<u32>,
+    grouped_variables: &mut Vec<u32>,
     groups: &mut Vec<BufferPart>,
 ) -> Result<(), AllocError>
-    requires within { AreSpansIn (length places.old.items) groups.old.items }
-    ensures added { OnOk result (cut places.new.items groups.new.items ≡ (if has_two (recorded_in variables.now codes.now) then cut places.old.items groups.old.items ++ recorded_in variables.now codes.now ∷ [] else cut places.old.items groups.old.items)) }
-    ensures within { AreSpansIn (length places.new.items) groups.new.items }
+    requires within { AreSpansIn (length grouped_variables.old.items) groups.old.items }
+    ensures added { OnOk result (cut grouped_variables.new.items groups.new.items ≡ (if has_two (recorded_in variables.now codes.now) then cut grouped_variables.old.items groups.old.items ++ recorded_in variables.now codes.now ∷ [] else cut grouped_variables.old.items groups.old.items)) }
+    ensures within { AreSpansIn (length grouped_variables.new.items) groups.new.items }
 {
-    let from = places.len();
+    let from = grouped_variables.len();
     for code in codes {
         if variables.index_of(*code).is_some() {
-            places.push(*code)?;
+            grouped_variables.push(*code)?;
         }
     }
-    let to = places.len();
+    let to = grouped_variables.len();
     if to > from + 1 {
         let span = between(from, to)?;
         groups.push(span)?;
     } else {
-        places.truncate(from);
+        grouped_variables.truncate(from);
     }
     Ok(())
 }
@@ -121,7 +121,7 @@ pub fn fill_from_hypotheses(
     requires undescribed { (buffers.old.required ≡ []) × (buffers.old.typecodes ≡ []) × (buffers.old.groups ≡ []) }
     ensures { OnOk result (IsFilledFrom storage.now.entries (take (at - 1) (statements_of storage.now)) buffers.old.hypotheses buffers.new) }
 {
-    describe(
+    encode_hypotheses(
         storage,
         &buffers.hypotheses,
         &mut buffers.required,
@@ -134,7 +134,7 @@ pub fn fill_from_hypotheses(
         add_group(
             &buffers.recorded,
             entry.symbols,
-            &mut buffers.places,
+            &mut buffers.grouped_variables,
             &mut buffers.groups,
         )?;
         last = entry.before.last_active.disjoint;
@@ -148,7 +148,7 @@ pub fn fill_from_hypotheses(
 /// hypotheses and groups of an assertion if these are few, else the `$f` of its own variables. Other statements have none.
 pub fn fill_parts(
     storage: &Storage,
-    given: &EssentialSets,
+    essential_sets: &EssentialSets,
     buffers: &mut FrameBuffers,
     stmt: &Stmt,
     recorded: &SymbolNumbers,
@@ -170,8 +170,8 @@ pub fn fill_parts(
         &mut buffers.hypotheses,
         codes,
     )?;
-    if is_essential(stmt) || !are_few(storage, given, buffers.hypotheses.len()) {
-        return describe(
+    if is_essential(stmt) || !are_few(storage, essential_sets, buffers.hypotheses.len()) {
+        return encode_hypotheses(
             storage,
             &buffers.hypotheses,
             &mut buffers.required,
@@ -200,7 +200,7 @@ fn fill_own(storage: &Storage, buffers: &mut FrameBuffers, codes: &[u32]) -> Res
         &mut buffers.hypotheses,
         codes,
     )?;
-    describe(
+    encode_hypotheses(
         storage,
         &buffers.hypotheses,
         &mut buffers.required,

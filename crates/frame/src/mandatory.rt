@@ -9,7 +9,7 @@ use scope::Stack;
 use std::alloc::AllocError;
 
 /// Sorts positions in ascending order and removes repetitions.
-pub fn order(list: &mut Vec<u32>)
+pub fn sort_unique(list: &mut Vec<u32>)
     ensures { AreThose (λ p. In p list.old.items) list.new.items }
 {
     list.sort_unstable();
@@ -58,7 +58,7 @@ pub fn find_floats(
     for code in codes {
         add_float(storage, looked, list, *code)?;
     }
-    order(list);
+    sort_unique(list);
     Ok(())
 }
 
@@ -95,23 +95,24 @@ pub fn add_essentials(storage: &Storage, at: usize, list: &mut Vec<u32>) -> Resu
         add_new(list, storage.entries.hypotheses(index))?;
         essential = storage.entries.entry(index).before.last_active.essential;
     }
-    order(list);
+    sort_unique(list);
     Ok(())
 }
 
-/// The largest number of active `$d` whose groups are kept with an assertion; they have at most twice as many symbols.
+/// The largest number of active `$d` whose groups are kept with an assertion; together they have at most twice as many symbols.
+/// A list of fewer positions is short.
 const FEW: usize = 64;
 
-/// More mandatory hypotheses than this, brought along by the active `$e`, are kept as a set.
-pub const MANY: usize = 32;
+/// The largest number of mandatory hypotheses, brought along by the active `$e`, that are not kept as a set.
+pub const MOST_WITHOUT_SET: usize = 32;
 
 /// Returns how many mandatory hypotheses the active `$e` bring along, counting a `$f` once for each `$e` that has its
-/// variable. Counting stops above `MANY`.
+/// variable. Counting stops above `MOST_WITHOUT_SET`.
 pub fn given_count(storage: &Storage) -> usize {
     let mut essential = storage.last_active.essential as usize;
     let mut count = 0usize;
     for _ in 0..FEW {
-        if essential == 0 || essential > storage.entries.len() || count > MANY {
+        if essential == 0 || essential > storage.entries.len() || count > MOST_WITHOUT_SET {
             break;
         }
         let floats = storage.entries.hypotheses(essential - 1).len();
@@ -130,14 +131,14 @@ pub fn given_count(storage: &Storage) -> usize {
 /// The kept parts are right either way.
 ///
 /// Cost: at most a few steps, however much is active.
-pub fn are_few(storage: &Storage, given: &EssentialSets, own: usize) -> bool {
-    let set = given.set(storage.last_active.essential);
+pub fn are_few(storage: &Storage, essential_sets: &EssentialSets, own: usize) -> bool {
+    let set = essential_sets.set(storage.last_active.essential);
     let count = if set == 0 {
         given_count(storage)
     } else {
-        given.count(set)
+        essential_sets.count(set)
     };
-    if own > MANY || count > MANY {
+    if own > MOST_WITHOUT_SET || count > MOST_WITHOUT_SET {
         return false;
     }
     let mut disjoint = storage.last_active.disjoint as usize;

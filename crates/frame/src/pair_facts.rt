@@ -18,14 +18,14 @@ use std::marker::Model;
 const MOST_FACTS: usize = 262_144;
 
 /// The largest number of `$d` that a search passes without recording facts. A search that passes more is long.
-const SHORT: usize = 16;
+const MOST_UNRECORDED: usize = 16;
 
-/// A search that passes more `$d` than this is listed, so that `repeat_searches` makes it again and its answer is kept with
-/// the statements.
-pub(crate) const LONG: usize = 256;
+/// The largest number of `$d` that a search passes without being listed. `repeat_searches` makes the listed searches again, and
+/// their answers are kept with the statements.
+pub(crate) const MOST_UNLISTED: usize = 256;
 
-/// A search looks up a fact at each of its first `SHORT` `$d`, and at each `$d` that has a multiple of this many `$d` left,
-/// itself included.
+/// A search looks up a fact at each of its first `MOST_UNRECORDED` `$d`, and at each `$d` that has a multiple of this many
+/// `$d` left, itself included.
 const STRIDE: usize = 64;
 
 /// A fact: whether two variables stand together in a `$d` that is active right after the `$d` at a position.
@@ -50,7 +50,7 @@ pub struct PairFacts {
     slots: FactSlots,
     pub(crate) searches: LongSearches,
     /// How many more `$d` searches may pass. At 0 the caller makes no further one; a search is never broken off.
-    left: usize,
+    budget: usize,
 }
 
 impl Model for PairFacts {
@@ -71,7 +71,7 @@ impl PairFacts {
             facts: Vec::new(alloc),
             slots: FactSlots::new(alloc),
             searches: LongSearches::new(alloc),
-            left: 0,
+            budget: 0,
         }
     }
 
@@ -169,32 +169,32 @@ impl PairFacts {
         }
     }
 
-    /// Lists a search, if it passed more than `LONG` `$d`.
-    fn record_search(&mut self, steps: usize, search: LongSearch)
+    /// Lists a search, if it passed more than `MOST_UNLISTED` `$d`.
+    fn record_search(&mut self, passed: usize, search: LongSearch)
         ensures { self.new ≡ self.old }
     {
-        if steps > LONG {
+        if passed > MOST_UNLISTED {
             self.searches.add(search);
         }
     }
 
     /// Lets the searches that follow pass `count` `$d` together.
-    pub(crate) fn allow(&mut self, count: usize)
+    pub(crate) fn set_budget(&mut self, count: usize)
         ensures { self.new ≡ self.old }
     {
-        self.left = count;
+        self.budget = count;
     }
 
     /// Counts the `$d` that a search passed.
     fn spend(&mut self, count: usize)
         ensures { self.new ≡ self.old }
     {
-        self.left = self.left.saturating_sub(count);
+        self.budget = self.budget.saturating_sub(count);
     }
 
     /// Returns whether searches have passed as many `$d` as they may.
-    pub(crate) fn is_spent(&self) -> bool {
-        self.left == 0
+    pub(crate) fn is_budget_spent(&self) -> bool {
+        self.budget == 0
     }
 }
 
@@ -257,7 +257,7 @@ pub fn search_by_facts(
         with_x,
         with_y,
     } = pair;
-    if is_first(with_x, with_y, x, y) {
+    if searches_first_row(with_x, with_y, x, y) {
         search_row(storage, kept, at, facts, x, y)
     } else {
         search_row(storage, kept, at, facts, y, x)
@@ -265,7 +265,7 @@ pub fn search_by_facts(
 }
 
 /// Returns whether the `$d` of x are searched, and not those of y, given how many each has: the same for either order.
-pub(crate) fn is_first(with_x: usize, with_y: usize, x: u32, y: u32) -> bool {
+pub(crate) fn searches_first_row(with_x: usize, with_y: usize, x: u32, y: u32) -> bool {
     with_x < with_y || (with_x == with_y && x <= y)
 }
 
@@ -285,9 +285,9 @@ pub(crate) fn search_row(
     ensures facts { AreFacts (numbered storage.now) facts.new }
 {
     let walked = walk(storage, kept, facts, storage.disjoints.stack(x, at), x, y);
-    facts.spend(walked.steps);
-    facts.record_search(walked.steps, LongSearch { at, x, y });
-    if walked.steps > SHORT {
+    facts.spend(walked.passed);
+    facts.record_search(walked.passed, LongSearch { at, x, y });
+    if walked.passed > MOST_UNRECORDED {
         let row = storage.disjoints.stack(x, at);
         record_passed(storage, facts, row, x, y, walked);
     }
@@ -298,7 +298,7 @@ pub(crate) fn search_row(
 #[derive(Clone, Copy, Drop)]
 pub struct Walked {
     /// How many `$d` it passed that do not have the other variable.
-    pub steps: usize,
+    pub passed: usize,
     /// Its answer.
     pub found: bool,
 }
@@ -318,24 +318,27 @@ fn walk(
     ensures { AreAnswered storage.now y row.entry result }
 {
     let height = row.len();
-    for steps in 0..height {
+    for passed in 0..height {
         let Some(position) = row.pop() else {
             unreachable!();
         };
-        if is_looked_up(steps, row.len()) {
+        if is_looked_up(passed, row.len()) {
             if let Some(fact) = known_in(facts, kept, position, x, y) {
                 return Walked {
-                    steps,
+                    passed,
                     found: fact.found,
                 };
             }
         }
         if has_symbol(storage, position, y) {
-            return Walked { steps, found: true };
+            return Walked {
+                passed,
+                found: true,
+            };
         }
     }
     Walked {
-        steps: height,
+        passed: height,
         found: false,
     }
 }
@@ -373,7 +376,7 @@ fn record_passed(
 {
     let found = walked.found;
     let top = row.len();
-    for passed in 0..walked.steps {
+    for passed in 0..walked.passed {
         let height = row.len();
         let Some(position) = row.pop() else {
             return;
@@ -390,9 +393,9 @@ fn record_passed(
 }
 
 /// Returns whether a search looks up a fact at a `$d`, having passed `passed` others and with `below` more to go after it.
-/// No fact is recorded at the last `SHORT` ones.
+/// No fact is recorded at the last `MOST_UNRECORDED` ones.
 pub(crate) fn is_looked_up(passed: usize, below: usize) -> bool {
-    below >= SHORT && (passed < SHORT || below % STRIDE == STRIDE - 1)
+    below >= MOST_UNRECORDED && (passed < MOST_UNRECORDED || below % STRIDE == STRIDE - 1)
 }
 
 /// Returns whether a long search that began with `top` `$d` to go records its answer at the `$d` with `height` to go,

@@ -3,7 +3,7 @@ ghost use Rattle.std.specs.Prelude.{◌≡◌, ◌==◌, ◌&&◌, ◌||◌, ◌
 ghost use Rattle.{std.specs.List.list_any, mm_lex.specs.Alphabet.Name, names.specs.Codes.name_at, names.specs.Codes.code_of, scope.specs.Active.is_variable, frame.specs.Below.AllBelow, frame.specs.Below.AreBelow, frame.specs.FrameOf.is_pair, frame.specs.LastActive.is_disj, frame.specs.PairRows.AreTogether, frame.specs.Stored.EntryMeanings.statements_of, frame.specs.Stored.Stacks.AreOfKind, frame.specs.Stored.Stacks.IsOfKind, frame.specs.Stored.Stacks.has_code, frame.specs.Stored.Whole.AreStored};
 
 use crate::at_position::last_active_at;
-use crate::pair_facts::{PairFacts, is_first};
+use crate::pair_facts::{PairFacts, searches_first_row};
 use crate::pair_memo::{PairMemo, search};
 use crate::row::Row;
 use crate::storage::Storage;
@@ -67,7 +67,7 @@ impl<'a> Pairs<'a> {
         }
         let with_x = self.storage.disjoints.stack(x, self.at);
         let with_y = self.storage.disjoints.stack(y, self.at);
-        if is_first(with_x.len(), with_y.len(), x, y) {
+        if searches_first_row(with_x.len(), with_y.len(), x, y) {
             search(self.storage, self.facts, self.at, memo, with_x, x, y)
         } else {
             search(self.storage, self.facts, self.at, memo, with_y, y, x)
@@ -133,7 +133,7 @@ impl<'a> Pairs<'a> {
 }
 
 /// The largest number of symbols of a `$d` that is searched in order; a longer one is looked up in the stack of the symbol.
-const FEW: usize = 8;
+const MOST_SCANNED: usize = 8;
 
 /// Returns whether one of the `$d` at these positions has the symbol.
 ///
@@ -158,7 +158,7 @@ pub(crate) fn has_symbol(storage: &Storage, at: u32, code: u32) -> bool
     ensures { result ≡ has_code storage.now.entries code at }
 {
     let symbols = storage.entries.entry(at as usize - 1).symbols;
-    if symbols.len() <= FEW {
+    if symbols.len() <= MOST_SCANNED {
         return contains(symbols, code);
     }
     match storage.disjoints.stack(code, at as usize + 1).last() {

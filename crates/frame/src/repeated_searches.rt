@@ -34,7 +34,7 @@ impl Frames {
         if at == 0 || x == y || x as usize >= names || y as usize >= names {
             return;
         }
-        self.facts.search(self.alloc, &self.storage, at, x, y);
+        self.kept_facts.search(self.alloc, &self.storage, at, x, y);
     }
 }
 

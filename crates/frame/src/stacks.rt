@@ -2,7 +2,7 @@
 //!
 //! A `$e` is long if it has `LONG_EXPRESSION` symbols or more.
 ghost use Rattle.std.specs.Prelude.{◌≡◌, ◌+◌, ◌-◌, ◌<◌, ℕ, length, OnOk};
-ghost use Rattle.entries.specs.Histories.{AreUntil, gone_back, history, pushed, stack_at};
+ghost use Rattle.entries.specs.Histories.{AreUntil, reverted, history, pushed, stack_at};
 ghost use Rattle.entries.specs.declared.kind.Kind.TheVariants.{Disj, Ess, Var};
 ghost use Rattle.frame.specs.Stored.Stacks.{AreChangedBy, IsNext, KeepsUntil, codes_by, latest_of, last_by_kind, long_codes, opening};
 ghost use Rattle.frame.specs.Stored.Whole.{AreStacksOfStorage};
@@ -52,9 +52,9 @@ pub fn record_active(
         Kind::Var => push_each(variables, next.codes, next.at),
         Kind::Ess => push_each(essentials, long_codes(next.codes), next.at),
         Kind::Close => {
-            go_back_all(disjoints, entries, next, Kind::Disj)?;
-            go_back_all(variables, entries, next, Kind::Var)?;
-            go_back_all(essentials, entries, next, Kind::Ess)
+            revert_all(disjoints, entries, next, Kind::Disj)?;
+            revert_all(variables, entries, next, Kind::Var)?;
+            revert_all(essentials, entries, next, Kind::Ess)
         }
         _ => Ok(()),
     }
@@ -96,7 +96,7 @@ fn codes_of_kind(codes: &[u32], of: Kind) -> &[u32]
 
 /// Restores the stack of each symbol of the active statements of a kind in the innermost open block to what it was when
 /// that block opened.
-fn go_back_all(
+fn revert_all(
     histories: &mut Histories,
     entries: &Entries,
     next: &NextStatement<'_>,
@@ -112,25 +112,25 @@ fn go_back_all(
     while last > next.last_active.block {
         let entry = entries.entry(last as usize - 1);
         let codes = codes_of_kind(entry.symbols, of);
-        go_back_each(histories, codes, next.at, before)?;
+        revert_each(histories, codes, next.at, before)?;
         last = last_of_kind(entry.before.last_active, of);
     }
     Ok(())
 }
 
 /// Restores the stack of each of the symbols to what it was at `before`.
-fn go_back_each(
+fn revert_each(
     histories: &mut Histories,
     codes: &[u32],
     at: u32,
     before: u32,
 ) -> Result<(), AllocError>
     requires { AreUntil at histories.old }
-    ensures changed { OnOk result (AreChangedBy (gone_back at before) codes.now histories.old histories.new) }
+    ensures changed { OnOk result (AreChangedBy (reverted at before) codes.now histories.old histories.new) }
     ensures kept { (n : ℕ) → n < at → KeepsUntil n histories.old histories.new }
 {
     for code in codes {
-        histories.go_back(*code, at, before)?;
+        histories.revert(*code, at, before)?;
     }
     Ok(())
 }

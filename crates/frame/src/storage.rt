@@ -5,7 +5,7 @@ use scope::Numbering;
 
 /// The positions of the last statements that declare a symbol; 0 if there is none.
 #[derive(Clone, Copy, Drop)]
-pub struct Symbol {
+pub struct LastDeclarations {
     /// The last `$f` whose variable is the symbol.
     pub float: usize,
     /// The last `$v` that has the symbol.
@@ -20,7 +20,7 @@ pub struct Storage {
     /// For each label, by its number, the position of its statement.
     pub positions: Vec<u32>,
     /// For each symbol, by its number, its last declarations.
-    pub symbols: Vec<Symbol>,
+    pub symbols: Vec<LastDeclarations>,
     /// The positions that each `$f`, and each symbol of each `$v`, replaced in `symbols`, in order.
     pub replaced: Vec<usize>,
     /// For each `${` the position of its `$}`, or 0 while its block is open; for another statement 0.

@@ -1,6 +1,6 @@
 //! The statements as numbers, with the places of the symbols of long expressions.
 ghost use Rattle.std.specs.Prelude.{◌≡◌, ◌≤◌, ◌<◌, ◌+◌, ◌^◌, ◌++◌, ◌∷◌, [], length, take, slice_get, Some, OnOk, OnErr, IfNone, IfSome, false};
-ghost use Rattle.entries.specs.Entries.{AreShapedParts, AreWhole, Entry, IsEntry, assertion_of, made};
+ghost use Rattle.entries.specs.Entries.{AreShapedParts, IsWholeView, Entry, IsEntry, assertion_of, entry_by};
 ghost use Rattle.entries.specs.SymbolPlaces.{ArePlacesOf, without_float};
 
 use entries::{
@@ -89,12 +89,12 @@ impl StoredEntries {
 
     /// Returns the parts of the assertion at an index, or `None` if they are not whole.
     #[inline(always)]
-    pub fn cited(&self, index: usize) -> Option<AssertionView<'_>>
+    pub fn kept_view(&self, index: usize) -> Option<AssertionView<'_>>
         requires { index < length self.now }
-        ensures parts { (e : Entry) → slice_get self.now index ≡ Some e → IfSome result (AreWhole e) }
+        ensures parts { (e : Entry) → slice_get self.now index ≡ Some e → IfSome result (IsWholeView e) }
         ensures none { (e : Entry) → slice_get self.now index ≡ Some e → IfNone result (e.assertion.whole ≡ false) }
     {
-        self.list.cited(index)
+        self.list.kept_view(index)
     }
 
     /// Returns where each symbol of the expression at an index stands, if the expression is long. Its constants are the symbols
@@ -118,7 +118,7 @@ impl StoredEntries {
         parts: &AssertionParts<'_>,
     ) -> Result<(), AllocError>
         requires { AreShapedParts parts.now }
-        ensures added { OnOk result (self.new ≡ self.old ++ made header parts.now.symbols.now (assertion_of parts.now) ∷ []) }
+        ensures added { OnOk result (self.new ≡ self.old ++ entry_by header parts.now.symbols.now (assertion_of parts.now) ∷ []) }
         ensures same { OnErr result (self.new ≡ self.old) }
     {
         let index = self.list.len();

@@ -41,6 +41,6 @@ code_or_len names x = position_or_len (name_eq x) names
 abbrev pub codes_or_len : List Name → List Name → List ℕ
 codes_or_len names xs = map (code_or_len names) xs
 
--- each of the names has a code
+-- each of the names xs has a code in the list `names`
 abbrev pub AreNamed : List Name → List Name → Type 0
 AreNamed names xs = (x : Name) → has_name x xs ≡ true → has_name x names ≡ true

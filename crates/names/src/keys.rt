@@ -77,7 +77,7 @@ fn eight_bytes(name: &[u8], at: usize) -> u64
     digit(name[at], digit(name[at + 1], digit(name[at + 2], middle)))
 }
 
-/// Returns a number with this lowest byte, and the others above it.
+/// Returns the number with this lowest byte, and the bytes of `above` above it.
 fn digit(byte: u8, above: u64) -> u64
     requires { above < 2 ^ 56 }
     ensures { result ≡ byte + 256 * above }

@@ -5,7 +5,7 @@ ghost use Rattle.names.specs.Codes.{name_at, code_of, AreDistinct};
 
 use crate::keys::{IN_OVERFLOW, key};
 use crate::name_keys::NameKeys;
-use crate::table::{FIRST_SLOTS, NO_NAME, Slot, free_slot_index, make_slot, search, table};
+use crate::table::{FIRST_SLOTS, NO_NAME, Slot, build_slots, free_slot_index, make_slot, search};
 use crate::texts::Texts;
 use std::alloc::{AllocError, Global};
 use std::marker::Model;
@@ -56,7 +56,7 @@ impl NameTable {
     {
         let texts = self.texts.copy(alloc)?;
         let mut name_keys = NameKeys::of(alloc, &texts)?;
-        let slots = table(alloc, &texts, &mut name_keys, 0)?;
+        let slots = build_slots(alloc, &texts, &mut name_keys, 0)?;
         let taken = texts.len();
         Ok(NameTable {
             texts,
@@ -170,7 +170,7 @@ impl NameTable {
     fn rebuild(&mut self, alloc: Global, more: usize) -> Result<(), AllocError>
         ensures { self.new ≡ self.old }
     {
-        self.slots = table(alloc, &self.texts, &mut self.name_keys, more)?;
+        self.slots = build_slots(alloc, &self.texts, &mut self.name_keys, more)?;
         self.taken = self.texts.len();
         Ok(())
     }

@@ -23,7 +23,7 @@ pub(crate) const MAX_PROBES: usize = 32;
 /// How many slots the first table has.
 pub(crate) const FIRST_SLOTS: usize = 16;
 
-/// How many values the half of a key can have.
+/// How many values the lower half of a key can have.
 const HALVES: u64 = 0x1_0000_0000;
 
 /// The lower half of the key of a name, and the code of the name, or `NO_NAME`. `NameKeys` has the whole key.
@@ -50,8 +50,8 @@ pub(crate) fn make_slot(key: u64, code: u32) -> Slot
     }
 }
 
-/// Returns the index of the slot that a step probes: step 0 by `scramble` of the key, and step n at n slots after the one of
-/// step n - 1. `len` is a power of two.
+/// Returns the index of the slot that a step probes: that of step 0 is `scramble` of the key modulo `len`, and that of step n
+/// is n slots after that of step n - 1. `len` is a power of two.
 fn slot_index(key: u64, step: usize, len: usize) -> usize
     requires some { 0 < len }
     requires near { step < MAX_PROBES }
@@ -153,7 +153,7 @@ fn search_slots(slots: &[Slot], name_keys: &NameKeys, texts: &Texts, name: &[u8]
     search_overflow(&name_keys.overflow, texts, name)
 }
 
-/// Returns whether the slot is free and the overflow empty: a name whose first slot this is then has no code.
+/// Returns whether the slot is free and the overflow is empty. If so, a name whose first slot this is has no code.
 fn is_absent(slot: Slot, name_keys: &NameKeys) -> bool
     ensures { result ≡ true → (slot.code ≡ NO_NAME) × ((x : Name) → code_in_overflow name_keys.now.overflow x ≡ None) }
 {
@@ -211,7 +211,7 @@ pub(crate) fn free_slot_index(slots: &[Slot], key: u64) -> Option<usize>
 
 /// Makes new slots for the texts, with room for as many again, or for `more` if that is greater. A text in the overflow stays
 /// there.
-pub(crate) fn table(
+pub(crate) fn build_slots(
     alloc: Global,
     texts: &Texts,
     name_keys: &mut NameKeys,

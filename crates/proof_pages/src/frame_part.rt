@@ -88,14 +88,14 @@ fn push_disjoint(
         values.now.contents.now.at s }
 {
     let contents = values.contents;
-    if let Some(cited) = contents.frames.cited(contents.at) {
+    if let Some(cited) = contents.frames.kept_view(contents.at) {
         return push_groups(page, &values.notation, &cited.groups);
     }
     let mut frame_buffers = FrameBuffers::new(alloc);
     contents
         .frames
         .fill_buffers(contents.at, &mut frame_buffers)?;
-    let cited = contents.frames.cited_from(contents.at, &frame_buffers);
+    let cited = contents.frames.buffered_view(contents.at, &frame_buffers);
     push_groups(page, &values.notation, &cited.groups)
 }
 

@@ -68,14 +68,14 @@ fn push_disjoint(
         (mandatory_groups (before (bares input.now.statements.now) input.now.position)
         input.now.statement.now)) }
 {
-    if let Some(cited) = input.frames.cited(input.position) {
+    if let Some(cited) = input.frames.kept_view(input.position) {
         return push_groups(text, input.frames, &cited.groups);
     }
     let mut frame_buffers = FrameBuffers::new(alloc);
     input
         .frames
         .fill_buffers(input.position, &mut frame_buffers)?;
-    let whole = input.frames.cited_from(input.position, &frame_buffers);
+    let whole = input.frames.buffered_view(input.position, &frame_buffers);
     push_groups(text, input.frames, &whole.groups)
 }
 

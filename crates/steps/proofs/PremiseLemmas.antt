@@ -1,9 +1,9 @@
 -- The places that a step takes for a `$e`, by the hypotheses of its assertion.
-use Rattle.steps.proofs.Words.{◌≡◌, ℕ, zero, suc, ◌+◌, ◌<◌, Bool, true, false, if◌then◌else◌, List, [], ◌∷◌, ◌++◌, length, drop, get_or, Some, refl, sym, ◌∙◌, ap, subst, arith, append_assoc, length-map, slice_get-get_or, Name, Stmt, Database, stmt_at, before, is_assertion, Hypothesis, Float, Essential, AreBelow, IsOf, AreRequired, HasAssertion, hypotheses, IsHypothesis, required-lengths, length-premises, not_both, Row, no_row, expr_in, Follows, from_hypothesis, from_assertion, AreRows, is_premise, for_premises, mandatory, essential_of, taken_by, some-same}
+use Rattle.steps.proofs.Words.{◌≡◌, ℕ, zero, suc, ◌+◌, ◌<◌, Bool, true, false, if◌then◌else◌, List, [], ◌∷◌, ◌++◌, length, drop, get_or, Some, refl, sym, ◌∙◌, ap, subst, arith, append_assoc, length-map, slice_get-get_or, Name, Stmt, Database, stmt_at, before, is_assertion, Hypothesis, Float, Essential, AreBelow, IsStatementOf, AreNumberedHypotheses, HasAssertion, hypotheses, IsHypothesis, required-lengths, length-premises, not_both, Row, no_row, expr_in, Follows, from_hypothesis, from_assertion, AreRows, is_premise, for_premises, mandatory, essential_of, taken_by, some-same}
 use Rattle.mm_read.specs.declared.stmt.Stmt.TheVariants as stmt
 
 -- the places taken for a `$e` are found by the kinds of the hypotheses
-pub premises-by : (S : Database) (names : List Name) (ps typecodes : List ℕ) (hs : List Hypothesis) (taken : List ℕ) → AreRequired S names ps typecodes hs → for_premises S ps taken ≡ taken_by hs taken
+pub premises-by : (S : Database) (names : List Name) (ps typecodes : List ℕ) (hs : List Hypothesis) (taken : List ℕ) → AreNumberedHypotheses S names ps typecodes hs → for_premises S ps taken ≡ taken_by hs taken
 premises-by S names [] [] [] taken a = refl
 premises-by S names [] [] (h ∷ hs) taken a = absurd a
 premises-by S names [] (c ∷ typecodes) [] taken a = absurd a
@@ -16,7 +16,7 @@ premises-by S names (p ∷ ps) (c ∷ typecodes) (h ∷ hs) (k ∷ taken) a =
     ap (λ o. if is_premise o then k ∷ for_premises S ps taken else for_premises S ps taken) a.0.stands
     ∙ by a.0.stmt h a.0.is (premises-by S names ps typecodes hs taken a.1)
   where
-    by : (s : Stmt) (h : Hypothesis) → IsOf names p s h → for_premises S ps taken ≡ taken_by hs taken → (if is_premise (Some s) then k ∷ for_premises S ps taken else for_premises S ps taken) ≡ taken_by (h ∷ hs) (k ∷ taken)
+    by : (s : Stmt) (h : Hypothesis) → IsStatementOf names p s h → for_premises S ps taken ≡ taken_by hs taken → (if is_premise (Some s) then k ∷ for_premises S ps taken else for_premises S ps taken) ≡ taken_by (h ∷ hs) (k ∷ taken)
     by (stmt.Float l c v) (Float x) is e = e
     by (stmt.Float l c v) (Essential q) is e = absurd is
     by (stmt.Ess l t) (Essential q) is e = ap (λ r. k ∷ r) e
@@ -83,10 +83,10 @@ module _ (S : Database) (at : ℕ) (names : List Name) (rows : List Row) (row : 
       ∙ (ap (λ u. length (hypotheses (before S row.step.position) u)) (some-same fits.stands (ap (stmt_at S) (sym is) ∙ has.0))
       ∙ ap (λ p. length (hypotheses (before S p) s)) (sym is))))
 
-  pub asks-all : (s : Stmt) (typecodes : List ℕ) (hs : List Hypothesis) → HasAssertion S position s → AreRequired S names (hypotheses (before S position) s) typecodes hs → length row.step.taken ≡ length hs
+  pub asks-all : (s : Stmt) (typecodes : List ℕ) (hs : List Hypothesis) → HasAssertion S position s → AreNumberedHypotheses S names (hypotheses (before S position) s) typecodes hs → length row.step.taken ≡ length hs
   asks-all s typecodes hs has required = takes-all s has follows ∙ sym (required-lengths S names (hypotheses (before S position) s) typecodes hs required).1
 
-  pub essential-by : (s : Stmt) (typecodes : List ℕ) (hs : List Hypothesis) → HasAssertion S position s → AreRequired S names (hypotheses (before S position) s) typecodes hs → essential_of S row.step ≡ taken_by hs row.step.taken
+  pub essential-by : (s : Stmt) (typecodes : List ℕ) (hs : List Hypothesis) → HasAssertion S position s → AreNumberedHypotheses S names (hypotheses (before S position) s) typecodes hs → essential_of S row.step ≡ taken_by hs row.step.taken
   essential-by s typecodes hs has required =
       ap (λ p. for_premises S (mandatory S p (stmt_at S p)) row.step.taken) (sym is)
       ∙ (ap (λ o. for_premises S (mandatory S position o) row.step.taken) has.0 ∙ premises-by S names (hypotheses (before S position) s) typecodes hs row.step.taken required)

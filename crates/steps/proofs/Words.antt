@@ -1,6 +1,6 @@
 -- The definitions and lemmas of other crates that the proofs of this crate use, re-exported from one place.
 pub use Rattle.entries.proofs.StatementRecordLemmas.{get-last}
-pub use Rattle.entries.specs.Hypotheses.{told}
+pub use Rattle.entries.specs.Hypotheses.{decoded_hypothesis}
 pub use Rattle.entries.specs.SymbolPlaces.{ArePlacesOf, SymbolGroups}
 pub use Rattle.entries.specs.declared.assertion_view.AssertionView.{AssertionView}
 pub use Rattle.entries.specs.declared.assertion_view.Hypothesis.{Hypothesis}
@@ -9,7 +9,7 @@ pub use Rattle.frame.proofs.ActiveDisjointLemmas.{below-at}
 pub use Rattle.frame.proofs.FoundByNumber.{decode-injective, map-at, some-same}
 pub use Rattle.frame.proofs.PositionLemmas.{get-front}
 pub use Rattle.frame.proofs.SymbolNumberLemmas.{below-more, below-push, below-take}
-pub use Rattle.frame.specs.AssertionView.{AreRequired, IsOf, IsViewOf}
+pub use Rattle.frame.specs.AssertionView.{AreNumberedHypotheses, IsStatementOf, IsViewOf}
 pub use Rattle.frame.specs.AtPosition.{AreLegal, ArePositions, HasLabelsOnce, IsMeaning, IsPosition}
 pub use Rattle.frame.specs.Below.{AllBelow, AreBelow}
 pub use Rattle.frame.specs.Bound.{IsBound}

@@ -1,9 +1,9 @@
 //! The mandatory hypotheses of assertions with long lists, listed once for each assertion of a table. An assertion has long
-//! lists if `Frames::cited` returns `None` for it.
+//! lists if `Frames::kept_view` returns `None` for it.
 ghost use Rattle.std.specs.Prelude.{◌≡◌, [], false, map, is_some, Some, IfOk, IfSome, OnOk};
 ghost use Rattle.mm_read.specs.declared.stmt.Stmt.{Stmt as Statement};
 ghost use Rattle.scope.specs.Active.{stmt_at};
-ghost use Rattle.entries.specs.Hypotheses.{told};
+ghost use Rattle.entries.specs.Hypotheses.{decoded_hypothesis};
 ghost use Rattle.frame.specs.AssertionView.{IsViewOf};
 ghost use Rattle.frame.specs.FrameOf.{HasAssertion};
 ghost use Rattle.steps.specs.Stored.LongLists.{AreKept, AreMadeOf, HasPartsOf, IsAt};
@@ -27,12 +27,12 @@ pub struct HypothesisList {
 
 impl Model for HypothesisList {
     ghost use Rattle.std.specs.Prelude.{map};
-    ghost use Rattle.entries.specs.Hypotheses.{told};
+    ghost use Rattle.entries.specs.Hypotheses.{decoded_hypothesis};
     ghost use Rattle.steps.specs.Stored.LongLists.{ListedHypotheses};
 
     ghost Value = { ListedHypotheses };
 
-    ghost view = { λ a. record { position = a.position; typecodes = a.typecodes.items; required = map told a.required.items } };
+    ghost view = { λ a. record { position = a.position; typecodes = a.typecodes.items; required = map decoded_hypothesis a.required.items } };
 }
 
 impl HypothesisList {
@@ -75,7 +75,7 @@ impl HypothesisList {
 /// Appends the hypotheses, each as one number.
 fn copy_hypotheses(hypotheses: &Hypotheses<'_>, required: &mut Vec<u32>) -> Result<(), AllocError>
     requires { required.old.items ≡ [] }
-    ensures { OnOk result (map told required.new.items ≡ hypotheses.now) }
+    ensures { OnOk result (map decoded_hypothesis required.new.items ≡ hypotheses.now) }
 {
     for index in 0..hypotheses.len() {
         required.push(number_of(hypotheses.get(index))?)?;
@@ -134,7 +134,7 @@ impl LongLists {
         ensures index { IfOk result (λ i. IsAt self.new.lists.items i position) }
     {
         frames.fill_buffers(position, &mut self.buffers)?;
-        let cited = frames.cited_from(position, &self.buffers);
+        let cited = frames.buffered_view(position, &self.buffers);
         let list = HypothesisList::of(self.alloc, position, &cited)?;
         let index = self.lists.len();
         self.lists.push(list)?;

@@ -1,5 +1,5 @@
 -- An assertion may be cited with any lists of variables that have exactly its mandatory pairs.
-use Rattle.verify.proofs.Words.{◌≡◌, ℕ, suc, ◌<◌, Bool, true, false, not, ◌&&◌, ◌==◌, List, [], ◌∷◌, length, map, slice_get, Some, refl, sym, ◌∙◌, ap, subst, true≢false, inl, inr, arith, list_any, and_from, and_parts, or_cases, or_left, or_right, not-true, false_from_ne_true, eqb-true, both_ways, slice_get_within, some-same, Name, name_eq, has_name, name_same, same_name, name_at, decode, Stmt, Database, stmt_at, before, hypotheses, mandatory_groups, together, is_mandatory_pair, groups-pairs, disjoint_condition_law, Images, are_groups_disjoint, AllBelow, AreBelow, has_both, Hypothesis, IsBound, HasFloat, HasAssertion, AreRequired, AreLegal, AssertionView, IsCited, IsCitedBy}
+use Rattle.verify.proofs.Words.{◌≡◌, ℕ, suc, ◌<◌, Bool, true, false, not, ◌&&◌, ◌==◌, List, [], ◌∷◌, length, map, slice_get, Some, refl, sym, ◌∙◌, ap, subst, true≢false, inl, inr, arith, list_any, and_from, and_parts, or_cases, or_left, or_right, not-true, false_from_ne_true, eqb-true, both_ways, slice_get_within, some-same, Name, name_eq, has_name, name_same, same_name, name_at, decode, Stmt, Database, stmt_at, before, hypotheses, mandatory_groups, together, is_mandatory_pair, groups-pairs, disjoint_condition_law, Images, are_groups_disjoint, AllBelow, AreBelow, has_both, Hypothesis, IsBound, HasFloat, HasAssertion, AreNumberedHypotheses, AreLegal, AssertionView, IsCited, IsCitedBy}
 use Rattle.verify.proofs.RequiredHypotheses.{required-at, float-number}
 
 -- ---- lists of names with the same pairs
@@ -118,7 +118,7 @@ passes-at p (g ∷ gs) h = elim (or_cases (p g) (list_any p gs) h) [
   | inr rest ↦ let r = passes-at p gs rest in record { index = suc r.index; group = r.group; stands = r.stands; passes = r.passes }
 ]
 
-module _ (S : Database) (names : List Name) (a : ℕ) (s : Stmt) (typecodes : List ℕ) (hs : List Hypothesis) (required : AreRequired S names (hypotheses (before S a) s) typecodes hs) where
+module _ (S : Database) (names : List Name) (a : ℕ) (s : Stmt) (typecodes : List ℕ) (hs : List Hypothesis) (required : AreNumberedHypotheses S names (hypotheses (before S a) s) typecodes hs) where
   -- the variable of a mandatory `$f` has a number
   float-numbered : (x : Name) → HasFloat S (hypotheses (before S a) s) x → HasNumber names x
   float-numbered x f =

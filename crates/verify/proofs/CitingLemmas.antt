@@ -1,6 +1,6 @@
 -- The results are the hypotheses of an assertion under some images if and only if each result for a `$f` begins with its
 -- typecode, and each result for a `$e` is its expression under the images that are read from the results for the `$f`.
-use Rattle.verify.proofs.Words.{◌≡◌, ℕ, zero, suc, ◌<◌, Bool, true, false, cond, List, [], ◌∷◌, ◌++◌, length, map, drop, get_or, slice_get, Option, Some, None, option_map, ◌⊎◌, refl, sym, ◌∙◌, ap, subst, arith, inl, inr, true≢false, append-nil, lt-ltb, length-map, ext_get_or, get_or_from_slice_get, slice_get_within, slice_get-map, Name, Stmt, Expr, Database, stmt_at, before, expr_of, is_variable, name_at, decode, code_of, AreDistinct, code-name, hypotheses, mandatory_groups, Images, image, applied, CodeImages, code_image, images_of_names, OfVariables, premises, expr_at, option_expr, are_groups_disjoint, AreBelow, AllBelow, AreOver, image-named, image-unnamed, image-decode, Hypothesis, Float, Essential, IsBound, HasFloat, IsFirstFixed, typecode_of, IsTypecode, IsRequired, AreRequired, IsTyped, AreRead, HypothesisMatches, DoMatch, some-same, name_at-injective}
+use Rattle.verify.proofs.Words.{◌≡◌, ℕ, zero, suc, ◌<◌, Bool, true, false, cond, List, [], ◌∷◌, ◌++◌, length, map, drop, get_or, slice_get, Option, Some, None, option_map, ◌⊎◌, refl, sym, ◌∙◌, ap, subst, arith, inl, inr, true≢false, append-nil, lt-ltb, length-map, ext_get_or, get_or_from_slice_get, slice_get_within, slice_get-map, Name, Stmt, Expr, Database, stmt_at, before, expr_of, is_variable, name_at, decode, code_of, AreDistinct, code-name, hypotheses, mandatory_groups, Images, image, applied, CodeImages, code_image, images_of_names, OfVariables, premises, expr_at, option_expr, are_groups_disjoint, AreBelow, AllBelow, AreOver, image-named, image-unnamed, image-decode, Hypothesis, Float, Essential, IsBound, HasFloat, IsFirstFixed, typecode_of, IsTypecode, IsNumberedHypothesis, AreNumberedHypotheses, IsTyped, AreRead, HypothesisMatches, DoMatch, some-same, name_at-injective}
 use Rattle.mm_read.specs.declared.stmt.Stmt.TheVariants as stmt
 use Rattle.verify.proofs.Named.{all-at}
 use Rattle.verify.proofs.RequiredHypotheses.{At, required-lengths, required-at, float-at, essential-at, float-number, float-find}
@@ -26,7 +26,7 @@ typecodes_counted names [] h = absurd (omega (arith, h))
 typecodes_counted names (x ∷ e) h = refl
 
 module _ (S : Database) (names : List Name) (a : ℕ) (s : Stmt) (distinct : AreDistinct names) (bound : IsBound S a s)
-    (typecodes : List ℕ) (hs : List Hypothesis) (required : AreRequired S names (hypotheses (before S a) s) typecodes hs) (rs : List (List ℕ)) (count : length rs ≡ length hs) where
+    (typecodes : List ℕ) (hs : List Hypothesis) (required : AreNumberedHypotheses S names (hypotheses (before S a) s) typecodes hs) (rs : List (List ℕ)) (count : length rs ≡ length hs) where
   abbrev V : Name → Bool
   V = is_variable (before S a)
 
@@ -71,7 +71,7 @@ module _ (S : Database) (names : List Name) (a : ℕ) (s : Stmt) (distinct : Are
             image-named names ρ y n e
             ∙ (ap (decode names) (read.own n (λ k is.
             (let d = at k (within k (Float n) is) in
-            let f = float-at S names d.position d.typecode n (subst (IsRequired S names d.position d.typecode) (some-same d.kind is) d.required) in
+            let f = float-at S names d.position d.typecode n (subst (IsNumberedHypothesis S names d.position d.typecode) (some-same d.kind is) d.required) in
             let v : V f.variable ≡ true = bound.variable k d.position f.label f.constant f.variable d.listed f.stands in
             true≢false (sym v ∙ (ap V (sym f.named ∙ c.1) ∙ none)))))
             ∙ ap (λ z. z ∷ []) c.1)
@@ -115,7 +115,7 @@ module _ (S : Database) (names : List Name) (a : ℕ) (s : Stmt) (distinct : Are
       one-premise : (k : ℕ) → k < length rs → (d : At S names ps typecodes hs k) → applied τ (expr_at S d.position) ≡ decode names (get_or rs k [])
       one-premise k less d = by d.hypothesis d.kind d.required
         where
-          by : (h : Hypothesis) → slice_get hs k ≡ Some h → IsRequired S names d.position d.typecode h → applied τ (expr_at S d.position) ≡ decode names (get_or rs k [])
+          by : (h : Hypothesis) → slice_get hs k ≡ Some h → IsNumberedHypothesis S names d.position d.typecode h → applied τ (expr_at S d.position) ≡ decode names (get_or rs k [])
           by (Essential q) kind required =
               let f = essential-at S names d.position d.typecode q required in
               apply-τ (expr_at S d.position) ∙ (ap (λ p. applied N (expr_at S p)) (sym f.same) ∙ (sym (fits.each k (Essential q) kind) ∙ get-decode names rs k))
@@ -149,7 +149,7 @@ module _ (S : Database) (names : List Name) (a : ℕ) (s : Stmt) (distinct : Are
     fixed y none = image-fixed V σ y of_vars none
 
     -- the result for a `$f` is its typecode followed by the image of its variable
-    float-premise : (k : ℕ) (d : At S names ps typecodes hs k) (x : ℕ) → (required : IsRequired S names d.position d.typecode (Float x)) → let f = float-at S names d.position d.typecode x required in decode names (get_or rs k []) ≡ f.constant ∷ image σ f.variable
+    float-premise : (k : ℕ) (d : At S names ps typecodes hs k) (x : ℕ) → (required : IsNumberedHypothesis S names d.position d.typecode (Float x)) → let f = float-at S names d.position d.typecode x required in decode names (get_or rs k []) ≡ f.constant ∷ image σ f.variable
     float-premise k d x required =
         let f = float-at S names d.position d.typecode x required in
         let fix : V f.constant ≡ false = bound.first k d.position (stmt.Float f.label f.constant f.variable) d.listed f.stands in
@@ -161,7 +161,7 @@ module _ (S : Database) (names : List Name) (a : ℕ) (s : Stmt) (distinct : Are
     premise-some : (k x : ℕ) → slice_get hs k ≡ Some (Float x) → get_or rs k [] ≡ [] → ⊥
     premise-some k x kind none =
         let d = at k (within k (Float x) kind) in
-        let required' = subst (IsRequired S names d.position d.typecode) (some-same d.kind kind) d.required in
+        let required' = subst (IsNumberedHypothesis S names d.position d.typecode) (some-same d.kind kind) d.required in
         let f = float-at S names d.position d.typecode x required' in
         let e : [] ≡ f.constant ∷ image σ f.variable = ap (decode names) (sym none) ∙ float-premise k d x required' in cc
 
@@ -193,7 +193,7 @@ module _ (S : Database) (names : List Name) (a : ℕ) (s : Stmt) (distinct : Are
       float-agrees : (k x : ℕ) (v : Name) → slice_get hs k ≡ Some (Float x) → x < length names → name_at names x ≡ v → image (images_of_names names ρ) v ≡ image σ v
       float-agrees k x v kind lows named =
           let d = at k (within k (Float x) kind) in
-          let required' = subst (IsRequired S names d.position d.typecode) (some-same d.kind kind) d.required in
+          let required' = subst (IsNumberedHypothesis S names d.position d.typecode) (some-same d.kind kind) d.required in
           let f = float-at S names d.position d.typecode x required' in
           image-float ρ read k x v kind lows named
           ∙ (sym (drop-decode names (get_or rs k [])) ∙ (ap (drop 1) (float-premise k d x required') ∙ ap (image σ) (sym f.named ∙ named)))
@@ -220,7 +220,7 @@ module _ (S : Database) (names : List Name) (a : ℕ) (s : Stmt) (distinct : Are
           one k (Float x) kind = tt
           one k (Essential q) kind =
               let d = at k (within k (Essential q) kind) in
-              let f = essential-at S names d.position d.typecode q (subst (IsRequired S names d.position d.typecode) (some-same d.kind kind) d.required) in
+              let f = essential-at S names d.position d.typecode q (subst (IsNumberedHypothesis S names d.position d.typecode) (some-same d.kind kind) d.required) in
               get-decode names rs k
               ∙ (premise-at k d.position d.listed
               ∙ (ap (applied σ) (expr-stands d.position (stmt.Ess f.label f.expr) f.stands)

@@ -1,5 +1,5 @@
 -- The lists that a checker keeps are right for citations of their assertions.
-use Rattle.verify.proofs.Words.{◌≡◌, ℕ, zero, suc, ◌+◌, ◌<◌, ◌≤◌, Bool, true, false, ◌&&◌, ◌||◌, ◌==◌, List, [], ◌∷◌, ◌++◌, length, length-append, map, take, take_all, take_more, map-append, Hypothesis, get_or, slice_get, Some, refl, sym, ap, subst, ◌∙◌, arith, and_from, list_all, list_any, same_Some, get_or_from_slice_get, slice_get_within, inl, inr, Name, Stmt, Database, stmt_at, before, expr_of, name_at, decode, name_eq, name_same, mandatory_groups, Images, image, AllBelow, AreBelow, IsViewOf, are_disjoint, is_group_disjoint, are_groups_disjoint, list_all-append, list_all-map, list_all_more, list_any_at, and_parts, eqb-true, or_cases, slice_range, cut-more, cut-push, extends-refl, range-behind, spans-push, told, AreSpansIn, cut, BufferPart, AssertionView, has_both, is_paired, are_covered, AreSameCondition, IsCitedBy, CitationLists, AreMadeOf, AreListsOf, AreKeptLists, IsCacheFor, CheckerCache, AreFacts, IsAt}
+use Rattle.verify.proofs.Words.{◌≡◌, ℕ, zero, suc, ◌+◌, ◌<◌, ◌≤◌, Bool, true, false, ◌&&◌, ◌||◌, ◌==◌, List, [], ◌∷◌, ◌++◌, length, length-append, map, take, take_all, take_more, map-append, Hypothesis, get_or, slice_get, Some, refl, sym, ap, subst, ◌∙◌, arith, and_from, list_all, list_any, same_Some, get_or_from_slice_get, slice_get_within, inl, inr, Name, Stmt, Database, stmt_at, before, expr_of, name_at, decode, name_eq, name_same, mandatory_groups, Images, image, AllBelow, AreBelow, IsViewOf, are_disjoint, is_group_disjoint, are_groups_disjoint, list_all-append, list_all-map, list_all_more, list_any_at, and_parts, eqb-true, or_cases, slice_range, cut-more, cut-push, extends-refl, range-behind, spans-push, decoded_hypothesis, AreSpansIn, cut, BufferPart, AssertionView, has_both, is_paired, are_covered, AreSameCondition, IsCitedBy, CitationLists, AreMadeOf, AreListsOf, AreKeptLists, IsCacheFor, CheckerCache, AreFacts, IsAt}
 
 -- ---- the pairs of lists
 
@@ -111,9 +111,9 @@ group-appended places new a b s group e from to h k =
 
 -- ---- one more hypothesis, as a number
 
-pub told-more : (required new : List ℕ) (hs : List Hypothesis) (i n : ℕ) (h : Hypothesis) → map told required ≡ take i hs → new ≡ required ++ n ∷ [] → slice_get hs i ≡ Some h → told n ≡ h → map told new ≡ take (i + 1) hs
+pub told-more : (required new : List ℕ) (hs : List Hypothesis) (i n : ℕ) (h : Hypothesis) → map decoded_hypothesis required ≡ take i hs → new ≡ required ++ n ∷ [] → slice_get hs i ≡ Some h → decoded_hypothesis n ≡ h → map decoded_hypothesis new ≡ take (i + 1) hs
 told-more required new hs i n h front k here same =
-    ap (map told) k ∙ (map-append told required (n ∷ []) ∙ (ap (λ l. l ++ told n ∷ []) front
+    ap (map decoded_hypothesis) k ∙ (map-append decoded_hypothesis required (n ∷ []) ∙ (ap (λ l. l ++ decoded_hypothesis n ∷ []) front
     ∙ (ap (λ (x : Hypothesis). take i hs ++ x ∷ []) (same ∙ sym (get_or_from_slice_get hs i h h here)) ∙ sym (take_more hs i h (slice_get_within hs i h here)))))
 
 -- ---- one more element

@@ -3,7 +3,7 @@ use Rattle.std.specs.Prelude.{reverse, filter, ◌++◌, ◌||◌, ◌&&◌, nat
 use Rattle.std.proofs.Common.{le-leb, inl, inr}
 use Rattle.std.proofs.lemmas.Bool.{cases_Bool}
 use Rattle.std.proofs.lemmas.List.{reverse-append, length-map}
-use Rattle.verify.proofs.Words.{◌≡◌, ℕ, ◌<◌, Bool, true, false, true≢false, IsTrue, cond, List, [], ◌∷◌, length, slice_get, slice_get_within, Some, refl, sym, ◌∙◌, ap, subst, arith, some-same, name_at-injective, Name, Stmt, Expr, Database, stmt_at, before, expr_of, name_at, decode, hypotheses, Hypothesis, Float, Essential, IsBound, IsRequired, AreRequired, AreBelow, AreDistinct, decode-injective, ArePlacesOf, SymbolGroups, AreExprPlaces, CodeImages, code_apply, code_image, ◌↔◌}
+use Rattle.verify.proofs.Words.{◌≡◌, ℕ, ◌<◌, Bool, true, false, true≢false, IsTrue, cond, List, [], ◌∷◌, length, slice_get, slice_get_within, Some, refl, sym, ◌∙◌, ap, subst, arith, some-same, name_at-injective, Name, Stmt, Expr, Database, stmt_at, before, expr_of, name_at, decode, hypotheses, Hypothesis, Float, Essential, IsBound, IsNumberedHypothesis, AreNumberedHypotheses, AreBelow, AreDistinct, decode-injective, ArePlacesOf, SymbolGroups, AreExprPlaces, CodeImages, code_apply, code_image, ◌↔◌}
 use Rattle.mm_lex.specs.Alphabet.{has_name, name_eq}
 use Rattle.mm_read.specs.declared.stmt.Stmt.TheVariants.{Ess}
 use Rattle.names.proofs.CodesLemmas.{name_same}
@@ -81,7 +81,7 @@ essential S names a s hs stands those k position h =
     let size = (required-lengths S names ps r.0 hs r.1).1 in
     let within = slice_get_within hs k (Essential position) h in
     let at = required-at S names ps r.0 hs k r.1 (omega (arith, within, size)) in
-    let e = essential-at S names at.position at.typecode position (subst (IsRequired S names at.position at.typecode) (some-same at.kind h) at.required) in
+    let e = essential-at S names at.position at.typecode position (subst (IsNumberedHypothesis S names at.position at.typecode) (some-same at.kind h) at.required) in
     record { label = e.label; expr = e.expr; here = at.listed ∙ ap Some (sym e.same); there = ap (stmt_at S) e.same ∙ e.stands }
 
 -- ---- what is left
@@ -147,12 +147,12 @@ module _ (S : Database) (names : List Name) (a : ℕ) (s : Stmt) (hs : List Hypo
 -- ---- the symbols that are listed
 
 -- the number of a variable has a name
-pub float-low : (S : Database) (names : List Name) (ps typecodes : List ℕ) (hs : List Hypothesis) (k x : ℕ) → AreRequired S names ps typecodes hs → slice_get hs k ≡ Some (Float x) → x < length names
+pub float-low : (S : Database) (names : List Name) (ps typecodes : List ℕ) (hs : List Hypothesis) (k x : ℕ) → AreNumberedHypotheses S names ps typecodes hs → slice_get hs k ≡ Some (Float x) → x < length names
 float-low S names ps typecodes hs k x r h =
     let size = (required-lengths S names ps typecodes hs r).1 in
     let within = slice_get_within hs k (Float x) h in
     let at = required-at S names ps typecodes hs k r (omega (arith, within, size)) in
-    (float-at S names at.position at.typecode x (subst (IsRequired S names at.position at.typecode) (some-same at.kind h) at.required)).below
+    (float-at S names at.position at.typecode x (subst (IsNumberedHypothesis S names at.position at.typecode) (some-same at.kind h) at.required)).below
 
 pub listed-kept : (S : Database) (names : List Name) (a x : ℕ) (old new : List ℕ) → IsListed S names a x old → ((n : ℕ) → In n old → In n new) → IsListed S names a x new
 listed-kept S names a x old new l kept s at q m = let r = l s at q m in (r.0, kept (key_of q x) r.1)

@@ -1,7 +1,7 @@
 -- Re-exports of the definitions and lemmas with which this crate is proved.
 pub use Prim.Native.String.{String}
 pub use Rattle.entries.proofs.SpanLemmas.{cut-more, cut-push, extends-refl, range-behind, spans-push}
-pub use Rattle.entries.specs.Hypotheses.{told}
+pub use Rattle.entries.specs.Hypotheses.{decoded_hypothesis}
 pub use Rattle.entries.specs.Stored.Spans.{AreSpansIn, cut}
 pub use Rattle.entries.specs.SymbolPlaces.{ArePlacesOf, SymbolGroups}
 pub use Rattle.entries.specs.declared.assertion_view.AssertionView.{AssertionView}
@@ -16,7 +16,7 @@ pub use Rattle.frame.proofs.LegalLabels.{legal-labels}
 pub use Rattle.frame.proofs.PlacedHypotheses.{AreHyps, IsHyp, hyps}
 pub use Rattle.frame.proofs.PositionLemmas.{get-front, get-last}
 pub use Rattle.frame.proofs.SymbolNumberLemmas.{below-append, below-more, below-push, below-take}
-pub use Rattle.frame.specs.AssertionView.{AreCitingLists, AreRequired, IsCited, IsOf, IsRequired, IsTypecode, IsViewOf, has_both, typecode_of}
+pub use Rattle.frame.specs.AssertionView.{AreCitingLists, AreNumberedHypotheses, IsCited, IsStatementOf, IsNumberedHypothesis, IsTypecode, IsViewOf, has_both, typecode_of}
 pub use Rattle.frame.specs.AtPosition.{AreLegal, ArePositions, HasLabelsOnce, IsPosition, IsSingle}
 pub use Rattle.frame.specs.Below.{AllBelow, AreBelow}
 pub use Rattle.frame.specs.Bound.{HasFloat, IsBound, IsFirstFixed}

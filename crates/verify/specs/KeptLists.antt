@@ -2,7 +2,7 @@
 -- Metamath, 4.2.6: the images of the two variables of each mandatory `$d` pair must be disjoint.
 -- The code keeps fewer lists of disjoint variables than the frame has; they have the same pairs.
 use Rattle.std.specs.Prelude.{◌≡◌, ℕ, ◌<◌, ◌==◌, Bool, ◌||◌, List, [], ◌∷◌, length, map, slice_get, Some}
-use Rattle.verify.specs.Words.{list_all, list_any, has_both, AssertionView, AllBelow, AreBelow, AreRequired, AreFacts, PairFact, are_groups_disjoint, mandatory_groups, decode, Name, Stmt, Database, Images, before, expr_of, hypotheses, stmt_at, Hypothesis}
+use Rattle.verify.specs.Words.{list_all, list_any, has_both, AssertionView, AllBelow, AreBelow, AreNumberedHypotheses, AreFacts, PairFact, are_groups_disjoint, mandatory_groups, decode, Name, Stmt, Database, Images, before, expr_of, hypotheses, stmt_at, Hypothesis}
 
 -- ---- the pairs of lists
 
@@ -22,7 +22,7 @@ AreSameCondition gs hs = (names : List Name) (D : Database) (σ : Images) → ar
 
 -- the view is right for citations of the assertion s at a
 pub record IsCitedBy (S : Database) (names : List Name) (a : ℕ) (s : Stmt) (c : AssertionView) : Type 0 where
-  pub required : AreRequired S names (hypotheses (before S a) s) c.typecodes.now c.hypotheses
+  pub required : AreNumberedHypotheses S names (hypotheses (before S a) s) c.typecodes.now c.hypotheses
   pub conclusion : decode names c.conclusion.now ≡ expr_of s
   pub conclusion_below : AreBelow (length names) c.conclusion.now
   pub groups : (D : Database) (σ : Images) → are_groups_disjoint D σ (map (decode names) c.groups) ≡ are_groups_disjoint D σ (mandatory_groups (before S a) s)
@@ -47,7 +47,7 @@ pub record AreMadeOf (position : ℕ) (c : AssertionView) (l : CitationLists) : 
 
 -- the lists are right for citations of the assertion s at their position
 pub record AreListsOf (S : Database) (names : List Name) (l : CitationLists) (s : Stmt) : Type 0 where
-  pub hypotheses_of : AreRequired S names (hypotheses (before S l.position) s) l.typecodes l.required
+  pub hypotheses_of : AreNumberedHypotheses S names (hypotheses (before S l.position) s) l.typecodes l.required
   pub disjoint : (D : Database) (σ : Images) → are_groups_disjoint D σ (map (decode names) l.groups) ≡ are_groups_disjoint D σ (mandatory_groups (before S l.position) s)
   pub below_names : AllBelow (length names) l.groups
 

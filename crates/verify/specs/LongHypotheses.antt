@@ -7,7 +7,7 @@ use Rattle.verify.specs.Words.{Name, Stmt, Database, before, stmt_at, Hypothesis
 use Rattle.names.specs.Codes.{decode, name_at}
 use Rattle.entries.specs.PositionSets.{Ascends}
 use Rattle.entries.specs.Stored.Keys.{key_of}
-use Rattle.frame.specs.AssertionView.{AreRequired}
+use Rattle.frame.specs.AssertionView.{AreNumberedHypotheses}
 use Rattle.frame.specs.LongEssentials.{HasConstants, long_essentials}
 use Rattle.frame.specs.Stored.Hypotheses.{In}
 use Rattle.frame.specs.declared.stored_entries.TheConstants.{LONG_EXPRESSION}
@@ -15,7 +15,7 @@ use Rattle.subst.specs.RemainingSymbols.{HasListed}
 
 -- the hypotheses are those of the assertion at a
 abbrev pub AreThoseOf : Database → List Name → ℕ → List Hypothesis → Type 0
-AreThoseOf S names a hs = (s : Stmt) → stmt_at S a ≡ Some s → (typecodes : List ℕ) × AreRequired S names (hypotheses (before S a) s) typecodes hs
+AreThoseOf S names a hs = (s : Stmt) → stmt_at S a ≡ Some s → (typecodes : List ℕ) × AreNumberedHypotheses S names (hypotheses (before S a) s) typecodes hs
 
 -- the symbol is listed for each long `$e` of the assertion at a that has it
 abbrev pub IsListed : Database → List Name → ℕ → ℕ → List ℕ → Type 0

@@ -89,7 +89,7 @@ fn cite_anew(claim: &Claim<'_>, position: usize, buffers: &mut Buffers) -> Resul
 {
     let frame_buffers = &mut buffers.frame_buffers;
     buffers.kept.fill(claim.frames, position, frame_buffers)?;
-    let cited = claim.frames.cited_by(position, &buffers.frame_buffers);
+    let cited = claim.frames.citing_view(position, &buffers.frame_buffers);
     let remaining = &mut buffers.remaining;
     let results = &mut buffers.results;
     cite_parts(claim, position, &cited, remaining, results)
@@ -142,7 +142,7 @@ fn kept_index(
         return Ok(index);
     }
     kept.fill(claim.frames, position, frame_buffers)?;
-    let cited = claim.frames.cited_by(position, frame_buffers);
+    let cited = claim.frames.citing_view(position, frame_buffers);
     kept.keep(position, &cited)
 }
 
@@ -176,7 +176,7 @@ fn cite(claim: &Claim<'_>, position: usize, buffers: &mut Buffers) -> Result<boo
     ensures about { buffers.new.results.about ≡ claim.now.pairs }
     ensures kept { IsCacheFor claim.now.frames.now.statements claim.now.frames.now.names buffers.new.kept }
 {
-    let Some(cited) = claim.frames.cited(position) else {
+    let Some(cited) = claim.frames.kept_view(position) else {
         return cite_long(claim, position, buffers);
     };
     let remaining = &mut buffers.remaining;

@@ -3,7 +3,7 @@
 
 ghost use Rattle.std.specs.Prelude.{◌≡◌, ◌<◌, ◌==◌, ◌++◌, ◌∷◌, [], ℕ, List, length, map, true, get_or, slice_get, Some, IfOk, IfSome, OnOk};
 ghost use Rattle.std.specs.List.{list_all, list_any};
-ghost use Rattle.entries.specs.Hypotheses.{told};
+ghost use Rattle.entries.specs.Hypotheses.{decoded_hypothesis};
 ghost use Rattle.entries.specs.Stored.Spans.{AreSpansIn, cut};
 ghost use Rattle.frame.specs.AssertionView.{AreCitingLists, has_both};
 ghost use Rattle.frame.specs.Below.{AllBelow};
@@ -50,13 +50,13 @@ pub struct AssertionLists {
 
 impl Model for AssertionLists {
     ghost use Rattle.std.specs.Prelude.{length, map};
-    ghost use Rattle.entries.specs.Hypotheses.{told};
+    ghost use Rattle.entries.specs.Hypotheses.{decoded_hypothesis};
     ghost use Rattle.entries.specs.Stored.Spans.{AreSpansIn, cut};
     ghost use Rattle.verify.specs.KeptLists.{CitationLists};
 
     ghost Value = { CitationLists };
 
-    ghost view = { λ a. record { position = a.position; typecodes = a.typecodes.items; required = map told a.required.items; groups = cut a.grouped_variables.items a.groups.items } };
+    ghost view = { λ a. record { position = a.position; typecodes = a.typecodes.items; required = map decoded_hypothesis a.required.items; groups = cut a.grouped_variables.items a.groups.items } };
 
     ghost invariant = { λ a. AreSpansIn (length a.grouped_variables.items) a.groups.items };
 }
@@ -119,7 +119,7 @@ impl AssertionLists {
 /// Appends the hypotheses, each encoded as one number.
 fn copy_hypotheses(hypotheses: &Hypotheses<'_>, required: &mut Vec<u32>) -> Result<(), AllocError>
     requires { required.old.items ≡ [] }
-    ensures { OnOk result (map told required.new.items ≡ hypotheses.now) }
+    ensures { OnOk result (map decoded_hypothesis required.new.items ≡ hypotheses.now) }
 {
     for index in 0..hypotheses.len() {
         required.push(number_of(hypotheses.get(index))?)?;
@@ -328,7 +328,7 @@ impl KeptLists {
         &self.lists[index]
     }
 
-    /// Fills the buffers with the lists of the assertion at a position, for a citation by `Frames::cited_by`.
+    /// Fills the buffers with the lists of the assertion at a position, for a citation by `Frames::citing_view`.
     ///
     /// Errors: an allocation fails. Cost: that of `Frames::fill_for_citing`.
     pub fn fill(

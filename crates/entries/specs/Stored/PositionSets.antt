@@ -38,7 +38,7 @@ pub record AreSets (ns : List Node) : Type 0 where
   pub few : length ns + 2 ≤ 2 ^ 32
 
 -- n is the node of the set with this number
-pub record IsTop (sets : List (List ℕ)) (set : ℕ) (n : Node) : Type 0 where
+pub record IsNodeOf (sets : List (List ℕ)) (set : ℕ) (n : Node) : Type 0 where
   pub within : set < length sets
   pub left : n.left < set
   pub right : n.right < set

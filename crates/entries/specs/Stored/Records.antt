@@ -10,43 +10,43 @@ use Rattle.entries.specs.declared.entry_header.StateBefore.{StateBefore}
 use Rattle.entries.specs.declared.kind.Kind.{Kind}
 use Rattle.entries.specs.declared.buffer_part.BufferPart.{BufferPart}
 use Rattle.entries.specs.declared.parts.AssertionParts.{AssertionParts}
-use Rattle.entries.specs.Hypotheses.{told}
+use Rattle.entries.specs.Hypotheses.{decoded_hypothesis}
 use Rattle.entries.specs.Entries.{Entry, Assertion}
 use Rattle.entries.specs.Stored.Spans.{cut, AreSpansIn}
 
 -- ---- the numbers of one statement
 
 -- the layout, from an index on, of the parts of h hypotheses, s symbols, g groups and p variables of groups
-abbrev pub laid : ℕ → ℕ → ℕ → ℕ → ℕ → Layout
-laid from h s g p = record {
+abbrev pub layout_of_counts : ℕ → ℕ → ℕ → ℕ → ℕ → Layout
+layout_of_counts from h s g p = record {
   typecodes = from;
   required = from + h;
   symbols = from + h + h;
   hypotheses = from + h + h + s;
-  places = from + h + h + s + h;
+  grouped_variables = from + h + h + s + h;
   end = from + h + h + s + h + p;
-  groups = g;
+  group_count = g;
 }
 
 -- the first numbers of an assertion with its parts are their counts; else there are symbols alone
 abbrev pub layout_in : Bool → List ℕ → Layout
-layout_in true run = laid COUNTS (get_or run 0 0) (get_or run 1 0) (get_or run 2 0) (get_or run 3 0)
-layout_in false run = laid 0 0 (length run) 0 0
+layout_in true numbers = layout_of_counts COUNTS (get_or numbers 0 0) (get_or numbers 1 0) (get_or numbers 2 0) (get_or numbers 3 0)
+layout_in false numbers = layout_of_counts 0 0 (length numbers) 0 0
 
 abbrev pub counts_of : AssertionParts → List ℕ
-counts_of p = length p.hypotheses.now ∷ length p.symbols.now ∷ length p.groups.now ∷ length p.places.now ∷ []
+counts_of p = length p.hypotheses.now ∷ length p.symbols.now ∷ length p.groups.now ∷ length p.grouped_variables.now ∷ []
 
 -- a statement that has neither hypotheses nor groups is stored without parts
 abbrev pub has_parts : AssertionParts → Bool
 has_parts p = nat_lt 0 (length p.hypotheses.now + length p.groups.now)
 
 -- the numbers of a statement
-abbrev pub run_of : Bool → AssertionParts → List ℕ
-run_of true p = ((((counts_of p ++ p.typecodes.now) ++ p.required.now) ++ p.symbols.now) ++ p.hypotheses.now) ++ p.places.now
-run_of false p = p.symbols.now
+abbrev pub numbers_of : Bool → AssertionParts → List ℕ
+numbers_of true p = ((((counts_of p ++ p.typecodes.now) ++ p.required.now) ++ p.symbols.now) ++ p.hypotheses.now) ++ p.grouped_variables.now
+numbers_of false p = p.symbols.now
 
 abbrev pub record_by : Kind → Bool → Bool → ℕ → ℕ → StatementRecord
-record_by kind has_parts whole from groups = record { from = from; groups = groups; kind = kind; has_parts = has_parts; whole = whole }
+record_by kind has_parts whole from groups = record { from = from; groups_from = groups; kind = kind; has_parts = has_parts; whole = whole }
 
 -- a statement without the state before it
 pub record Body : Type 0 where
@@ -55,23 +55,23 @@ pub record Body : Type 0 where
   pub assertion : Assertion
 
 abbrev pub body_by : StatementRecord → List ℕ → List BufferPart → Layout → Body
-body_by r run spans at = record {
+body_by r numbers spans at = record {
   kind = r.kind;
-  symbols = slice_range run at.symbols at.hypotheses;
+  symbols = slice_range numbers at.symbols at.hypotheses;
   assertion = record {
     whole = r.whole;
-    hypotheses = slice_range run at.hypotheses at.places;
-    required = map told (slice_range run at.required at.symbols);
-    typecodes = slice_range run at.typecodes at.required;
-    groups = cut (slice_range run at.places at.end) spans;
+    hypotheses = slice_range numbers at.hypotheses at.grouped_variables;
+    required = map decoded_hypothesis (slice_range numbers at.required at.symbols);
+    typecodes = slice_range numbers at.typecodes at.required;
+    groups = cut (slice_range numbers at.grouped_variables at.end) spans;
   };
 }
 
 abbrev pub body_of : StatementRecord → List ℕ → List BufferPart → Body
-body_of r run spans = body_by r run spans (layout_in r.has_parts run)
+body_of r numbers spans = body_by r numbers spans (layout_in r.has_parts numbers)
 
 abbrev pub with_state_before : Body → StateBefore → Entry
-with_state_before b k = record { kind = b.kind; label = k.label; names = k.names; last_active = k.last_active; symbols = b.symbols; assertion = b.assertion }
+with_state_before b k = record { kind = b.kind; label_count = k.label_count; symbol_count = k.symbol_count; last_active = k.last_active; symbols = b.symbols; assertion = b.assertion }
 
 -- ---- all statements
 
@@ -82,17 +82,17 @@ end_by numbers (Some next) = next.from
 
 abbrev pub groups_by : List BufferPart → Option StatementRecord → ℕ
 groups_by groups None = length groups
-groups_by groups (Some next) = next.groups
+groups_by groups (Some next) = next.groups_from
 
-abbrev pub run_by : List ℕ → StatementRecord → Option StatementRecord → List ℕ
-run_by numbers r next = slice_range numbers r.from (end_by numbers next)
+abbrev pub numbers_by : List ℕ → StatementRecord → Option StatementRecord → List ℕ
+numbers_by numbers r next = slice_range numbers r.from (end_by numbers next)
 
 abbrev pub spans_by : List BufferPart → StatementRecord → Option StatementRecord → List BufferPart
-spans_by groups r next = slice_range groups r.groups (groups_by groups next)
+spans_by groups r next = slice_range groups r.groups_from (groups_by groups next)
 
 abbrev pub bodies_of : List ℕ → List BufferPart → List StatementRecord → List Body
 bodies_of numbers groups [] = []
-bodies_of numbers groups (r ∷ rs) = body_of r (run_by numbers r (slice_get rs 0)) (spans_by groups r (slice_get rs 0)) ∷ bodies_of numbers groups rs
+bodies_of numbers groups (r ∷ rs) = body_of r (numbers_by numbers r (slice_get rs 0)) (spans_by groups r (slice_get rs 0)) ∷ bodies_of numbers groups rs
 
 -- the statements, each with the state before it
 abbrev pub with_states_before : List Body → List StateBefore → List Entry
@@ -104,17 +104,17 @@ with_states_before (b ∷ bs) (k ∷ ks) = with_state_before b k ∷ with_states
 pub record IsPlaced (numbers : List ℕ) (r : StatementRecord) (next : Option StatementRecord) : Type 0 where
   pub from : r.from ≤ end_by numbers next
   pub end : end_by numbers next ≤ length numbers
-  pub whole : (layout_in r.has_parts (run_by numbers r next)).end ≡ length (run_by numbers r next)
+  pub whole : (layout_in r.has_parts (numbers_by numbers r next)).end ≡ length (numbers_by numbers r next)
 
--- a statement's groups are as many as its layout has, and parts of its places
+-- a statement's groups are as many as its layout has, and parts of its grouped variables
 pub record IsGrouped (groups : List BufferPart) (r : StatementRecord) (next : Option StatementRecord) (at : Layout) : Type 0 where
-  pub count : r.groups + at.groups ≡ groups_by groups next
+  pub count : r.groups_from + at.group_count ≡ groups_by groups next
   pub end : groups_by groups next ≤ length groups
-  pub spans : AreSpansIn (at.end - at.places) (spans_by groups r next)
+  pub spans : AreSpansIn (at.end - at.grouped_variables) (spans_by groups r next)
 
 pub record IsKept (numbers : List ℕ) (groups : List BufferPart) (r : StatementRecord) (next : Option StatementRecord) : Type 0 where
   pub placed : IsPlaced numbers r next
-  pub grouped : IsGrouped groups r next (layout_in r.has_parts (run_by numbers r next))
+  pub grouped : IsGrouped groups r next (layout_in r.has_parts (numbers_by numbers r next))
 
 abbrev pub AreKept : List ℕ → List BufferPart → List StatementRecord → Type 0
 AreKept numbers groups [] = Unit {0}
@@ -131,12 +131,12 @@ pub record IsOrdered (at : Layout) : Type 0 where
   pub typecodes : at.typecodes ≤ at.required
   pub required : at.required ≤ at.symbols
   pub symbols : at.symbols ≤ at.hypotheses
-  pub hypotheses : at.hypotheses ≤ at.places
-  pub places : at.places ≤ at.end
+  pub hypotheses : at.hypotheses ≤ at.grouped_variables
+  pub grouped_variables : at.grouped_variables ≤ at.end
 
 -- the stored form that was read is that of the entry found
 pub record IsStored (found : Option Entry) (s : Stored) : Type 0 where
   pub ordered : IsOrdered s.at
   pub whole : s.at.end ≡ length s.numbers.now
-  pub grouped : AreSpansIn (s.at.end - s.at.places) s.groups.now
+  pub grouped : AreSpansIn (s.at.end - s.at.grouped_variables) s.groups.now
   pub entry : found ≡ Some (with_state_before (body_by s.kept s.numbers.now s.groups.now s.at) s.before)

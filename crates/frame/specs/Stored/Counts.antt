@@ -2,7 +2,7 @@
 use Rattle.std.specs.Prelude.{◌≡◌, ℕ, ◌<◌, ◌^◌, ◌==◌, true, false, if◌then◌else◌, List, [], ◌∷◌, ◌++◌, length, map, take, Option, Some, None}
 use Rattle.frame.specs.Words.{list_any, Name, Stmt, is_open, is_close, symbols_of, labels_of, LastActive, Kind, Open, Close, Const, Var, Disj, Float, Ess, Axiom, Prove, Entry, Extends}
 use Rattle.mm_read.specs.declared.stmt.Stmt.TheVariants as stmt
-use Rattle.frame.specs.declared.storage.Symbol.{Symbol}
+use Rattle.frame.specs.declared.storage.LastDeclarations.{LastDeclarations}
 use Rattle.frame.specs.declared.storage.Storage.{Storage}
 use Rattle.frame.specs.Below.{AreBelow}
 use Rattle.frame.specs.Stored.Labels.{is_label_kind}
@@ -22,13 +22,13 @@ HasTwo kind codes = Unit {0}
 
 abbrev pub AreNumbered : ℕ → ℕ → List Entry → Type 0
 AreNumbered n m [] = Unit {0}
-AreNumbered n m (e ∷ es) = AreBelow n e.symbols × IsLabelBelow e.kind e.label m × AreNumbered n m es × HasTwo e.kind e.symbols
+AreNumbered n m (e ∷ es) = AreBelow n e.symbols × IsLabelBelow e.kind e.label_count m × AreNumbered n m es × HasTwo e.kind e.symbols
 
 -- the entry e has the counts of the names and of the labels before it: earlier entries use no others
 pub record KeepsCounts (names labels : List Name) (entries : List Entry) (i : ℕ) (e : Entry) : Type 0 where
-  pub numbered : AreNumbered e.names e.label (take i entries)
-  pub label_count : e.label ≡ length (labels_of (take i (map (stmt_of names labels) entries)))
-  pub name_count : e.names ≡ length (symbols_of (take i (map (stmt_of names labels) entries)))
+  pub numbered : AreNumbered e.symbol_count e.label_count (take i entries)
+  pub label_count : e.label_count ≡ length (labels_of (take i (map (stmt_of names labels) entries)))
+  pub name_count : e.symbol_count ≡ length (symbols_of (take i (map (stmt_of names labels) entries)))
 
 -- the statement neither opens nor closes a block
 abbrev pub IsPlain : Option Stmt → Type 0
@@ -36,16 +36,16 @@ IsPlain None = ⊥
 IsPlain (Some s) = (is_open s ≡ false) × (is_close s ≡ false)
 
 -- a symbol that nothing declares
-abbrev pub undeclared_symbol : Symbol
+abbrev pub undeclared_symbol : LastDeclarations
 undeclared_symbol = record { float = 0; variable = 0 }
 
-abbrev pub AreUndeclared : List Symbol → Type 0
+abbrev pub AreUndeclared : List LastDeclarations → Type 0
 AreUndeclared [] = Unit {0}
 AreUndeclared (x ∷ xs) = (x ≡ undeclared_symbol) × AreUndeclared xs
 
 -- the new list is the old one, followed by symbols that nothing declares
-abbrev pub AreZeroAfter : List Symbol → List Symbol → Type 0
-AreZeroAfter old new = (more : List Symbol) × (new ≡ old ++ more) × AreUndeclared more
+abbrev pub AreZeroAfter : List LastDeclarations → List LastDeclarations → Type 0
+AreZeroAfter old new = (more : List LastDeclarations) × (new ≡ old ++ more) × AreUndeclared more
 
 abbrev pub kind_of : Stmt → Kind
 kind_of stmt.Open = Open
@@ -67,11 +67,11 @@ next_last_active l at Disj = record { block = l.block; essential = l.essential; 
 next_last_active l at kind = l
 
 -- the last declarations of a symbol after one more entry
-abbrev pub with_declared : Kind → List ℕ → ℕ → ℕ → Symbol → Symbol
+abbrev pub with_declared : Kind → List ℕ → ℕ → ℕ → LastDeclarations → LastDeclarations
 with_declared kind codes at c x =
     if list_any (λ y. c == y) (declared_by kind codes) then with_last kind at x else x
 
-abbrev pub with_entry : Entry → ℕ → ℕ → Symbol → Symbol
+abbrev pub with_entry : Entry → ℕ → ℕ → LastDeclarations → LastDeclarations
 with_entry e at c x = with_declared e.kind e.symbols at c x
 
 -- there are fewer than 2^31 names, and each has its last declarations

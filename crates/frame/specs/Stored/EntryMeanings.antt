@@ -2,7 +2,7 @@
 use Rattle.std.specs.Prelude.{◌≡◌, ℕ, ◌+◌, ◌<◌, ◌==◌, Bool, true, false, ◌&&◌, if◌then◌else◌, List, [], ◌∷◌, ◌++◌, length, map, slice_get, Option, Some, None}
 use Rattle.frame.specs.Words.{list_any, Name, Stmt, Expr, Database, stmt_at, before, label_of, declared_symbols, declared_labels, name_at, decode, Kind, Open, Close, Const, Var, Disj, Float, Ess, Axiom, Prove, Entry, IsLegal}
 use Rattle.mm_read.specs.declared.stmt.Stmt.TheVariants as stmt
-use Rattle.frame.specs.declared.storage.Symbol.{Symbol}
+use Rattle.frame.specs.declared.storage.LastDeclarations.{LastDeclarations}
 use Rattle.frame.specs.declared.storage.Storage.{Storage}
 use Rattle.frame.specs.Parts.{Numbered}
 
@@ -19,7 +19,7 @@ stmt_by Axiom label names = stmt.Axiom label names
 stmt_by Prove label names = stmt.Prove label names []
 
 abbrev pub stmt_of : List Name → List Name → Entry → Stmt
-stmt_of names labels e = stmt_by e.kind (name_at labels e.label) (decode names e.symbols)
+stmt_of names labels e = stmt_by e.kind (name_at labels e.label_count) (decode names e.symbols)
 
 -- the symbols and the labels of a storage, by number
 abbrev pub names_in : Storage → List Name
@@ -77,11 +77,11 @@ last_from test found at (e ∷ es) = last_from test (if test e then at else foun
 abbrev pub last_where : (Entry → Bool) → List Entry → ℕ
 last_where test es = last_from test 0 1 es
 
-abbrev pub symbol_of : List Entry → ℕ → Symbol
-symbol_of es c = record { float = last_where (floats c) es; variable = last_where (declares c) es }
+abbrev pub last_declarations_of : List Entry → ℕ → LastDeclarations
+last_declarations_of es c = record { float = last_where (floats c) es; variable = last_where (declares c) es }
 
 -- the list has, at each number c of a symbol, x c
-abbrev pub ReadsAs : List Symbol → (ℕ → Symbol) → Type 0
+abbrev pub ReadsAs : List LastDeclarations → (ℕ → LastDeclarations) → Type 0
 ReadsAs symbols x = (c : ℕ) → c < length symbols → slice_get symbols c ≡ Some (x c)
 
 -- ---- the declarations that a declaration replaces
@@ -93,22 +93,22 @@ declared_by Var codes = codes
 declared_by kind codes = []
 
 -- the last declaration of a symbol by statements of this kind; the declarations with another in its place
-abbrev pub last_of : Kind → Symbol → ℕ
+abbrev pub last_of : Kind → LastDeclarations → ℕ
 last_of Float x = x.float
 last_of kind x = x.variable
 
-abbrev pub with_last : Kind → ℕ → Symbol → Symbol
+abbrev pub with_last : Kind → ℕ → LastDeclarations → LastDeclarations
 with_last Float at x = record { float = at; variable = x.variable }
 with_last kind at x = record { float = x.float; variable = at }
 
 -- the declarations that a statement of this kind with these symbols replaces, if the last declarations before it are x
-abbrev pub replaced_by : (ℕ → Symbol) → Kind → List ℕ → List ℕ
+abbrev pub replaced_by : (ℕ → LastDeclarations) → Kind → List ℕ → List ℕ
 replaced_by x kind codes = map (λ c. last_of kind (x c)) (declared_by kind codes)
 
 -- the declarations that the entries of a list replace, in order, after earlier entries
 abbrev pub replaced_after : List Entry → List Entry → List ℕ
 replaced_after before [] = []
-replaced_after before (e ∷ es) = replaced_by (symbol_of before) e.kind e.symbols ++ replaced_after (before ++ e ∷ []) es
+replaced_after before (e ∷ es) = replaced_by (last_declarations_of before) e.kind e.symbols ++ replaced_after (before ++ e ∷ []) es
 
 abbrev pub replaced_of : List Entry → List ℕ
 replaced_of es = replaced_after [] es

@@ -27,7 +27,7 @@ pub record IsSearchedIn (k : Storage) (x y : ℕ) (row : List ℕ) : Type 0 wher
 
 -- the answer of the search holds for the whole row, and for what is left of it after each of the passed `$d`
 abbrev pub AreAnswered : Storage → ℕ → List ℕ → Walked → Type 0
-AreAnswered k y row walked = (i : ℕ) → i ≤ walked.steps → list_any (has_code k.entries y) (drop i row) ≡ walked.found
+AreAnswered k y row walked = (i : ℕ) → i ≤ walked.passed → list_any (has_code k.entries y) (drop i row) ≡ walked.found
 
 -- ---- the groups of two variables
 

@@ -41,7 +41,7 @@ abbrev pub long_codes : List ℕ → List ℕ
 long_codes codes = if nat_le LONG_EXPRESSION (length codes) then codes else []
 
 abbrev pub long_entry : Entry → Entry
-long_entry e = record { kind = e.kind; label = e.label; names = e.names; last_active = e.last_active; symbols = long_codes e.symbols; assertion = e.assertion }
+long_entry e = record { kind = e.kind; label_count = e.label_count; symbol_count = e.symbol_count; last_active = e.last_active; symbols = long_codes e.symbols; assertion = e.assertion }
 
 -- the symbols, and the statements, by which the stacks of a kind are made; a short `$e` counts as one without symbols
 abbrev pub codes_by : Kind → List ℕ → List ℕ

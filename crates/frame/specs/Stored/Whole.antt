@@ -1,10 +1,10 @@
 -- The storage of a database. The code's own form: no public clause cites it.
 use Rattle.std.specs.Prelude.{◌≡◌, ℕ, ◌<◌, ◌^◌, true, List, length, map, take, slice_get, Some}
 use Rattle.frame.specs.Words.{Name, Stmt, is_essential, stays_open, symbols_of, labels_of, LastActive, Assertion, Entry, Kind, EntryHeader, StackVersion}
-use Rattle.frame.specs.declared.storage.Symbol.{Symbol}
+use Rattle.frame.specs.declared.storage.LastDeclarations.{LastDeclarations}
 use Rattle.frame.specs.declared.storage.Storage.{Storage}
 use Rattle.frame.specs.LastActive.{is_disj, is_var, last_active_of}
-use Rattle.frame.specs.Stored.EntryMeanings.{stmt_of, names_in, labels_in, statements_of, positions_from, AreAllLegal, symbol_of, replaced_of}
+use Rattle.frame.specs.Stored.EntryMeanings.{stmt_of, names_in, labels_in, statements_of, positions_from, AreAllLegal, last_declarations_of, replaced_of}
 use Rattle.frame.specs.Stored.Counts.{AreNumbered, KeepsCounts, kind_of}
 use Rattle.frame.specs.Stored.Naming.{naming_of}
 use Rattle.frame.specs.Stored.AssertionParts.{IsKeptAs, has_parts}
@@ -12,7 +12,7 @@ use Rattle.frame.specs.Stored.Ends.{AreEnds}
 use Rattle.frame.specs.Stored.Stacks.{AreStacks, entries_by, kind_test, long_entry}
 
 -- the lists of a storage are those of its statements
-pub record AreKept (names labels : List Name) (positions : List ℕ) (symbols : List Symbol) (replaced : List ℕ) (entries : List Entry) (last_active : LastActive) : Type 0 where
+pub record AreKept (names labels : List Name) (positions : List ℕ) (symbols : List LastDeclarations) (replaced : List ℕ) (entries : List Entry) (last_active : LastActive) : Type 0 where
   pub last : last_active ≡ last_active_of (map (stmt_of names labels) entries)
   pub linked : (i : ℕ) (e : Entry) → slice_get entries i ≡ Some e → e.last_active ≡ last_active_of (take i (map (stmt_of names labels) entries))
   pub stays : stays_open 0 (map (stmt_of names labels) entries) ≡ true
@@ -21,7 +21,7 @@ pub record AreKept (names labels : List Name) (positions : List ℕ) (symbols : 
   pub labels_kept : labels ≡ labels_of (map (stmt_of names labels) entries)
   pub positions_kept : positions ≡ positions_from 1 (map (stmt_of names labels) entries)
   pub coded : AreNumbered (length names) (length labels) entries
-  pub symbols_kept : (c : ℕ) → c < length names → slice_get symbols c ≡ Some (symbol_of entries c)
+  pub symbols_kept : (c : ℕ) → c < length names → slice_get symbols c ≡ Some (last_declarations_of entries c)
   pub replaced_kept : replaced ≡ replaced_of entries
   pub counts_kept : (i : ℕ) (e : Entry) → slice_get entries i ≡ Some e → KeepsCounts names labels entries i e
   pub count : length symbols ≡ length names
@@ -48,8 +48,8 @@ pub record AreStacksOfStorage (of : Kind) (entries : List Entry) (last_active : 
 -- h is the header of the next statement
 pub record IsEntryHeader (k : Storage) (s : Stmt) (h : EntryHeader) : Type 0 where
   pub kind : h.kind ≡ kind_of s
-  pub label : h.before.label ≡ length (labels_in k)
-  pub names : h.before.names ≡ length (names_in k)
+  pub label : h.before.label_count ≡ length (labels_in k)
+  pub names : h.before.symbol_count ≡ length (names_in k)
   pub last_active : h.before.last_active ≡ k.last_active
 
 -- the parts are kept as those of the next statement s

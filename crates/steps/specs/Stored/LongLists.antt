@@ -2,7 +2,7 @@
 -- Metamath, 4.2.6: a citation of an assertion needs results for its mandatory hypotheses.
 -- The code keeps no groups of disjoint variables: a table is made of a right proof, whose disjoint variable conditions were checked.
 use Rattle.std.specs.Prelude.{◌≡◌, ℕ, ◌<◌, List, [], ◌∷◌, length, map, slice_get, Some}
-use Rattle.steps.specs.Words.{Name, Stmt, Database, stmt_at, before, decode, Hypothesis, AssertionView, AreRequired, IsViewOf, AllBelow, hypotheses, mandatory_groups}
+use Rattle.steps.specs.Words.{Name, Stmt, Database, stmt_at, before, decode, Hypothesis, AssertionView, AreNumberedHypotheses, IsViewOf, AllBelow, hypotheses, mandatory_groups}
 
 -- ---- views whose groups may be missing
 
@@ -29,7 +29,7 @@ pub record AreMadeOf (position : ℕ) (c : AssertionView) (l : ListedHypotheses)
 
 -- the list has the hypotheses of the assertion s at its position, whose groups of disjoint variables have symbol numbers
 pub record AreListsOf (S : Database) (names : List Name) (l : ListedHypotheses) (s : Stmt) : Type 0 where
-  pub hypotheses_of : AreRequired S names (hypotheses (before S l.position) s) l.typecodes l.required
+  pub hypotheses_of : AreNumberedHypotheses S names (hypotheses (before S l.position) s) l.typecodes l.required
   pub groups : List (List ℕ)
   pub are_groups : map (decode names) groups ≡ mandatory_groups (before S l.position) s
   pub below_names : AllBelow (length names) groups

@@ -1,4 +1,4 @@
-use Rattle.explain.proofs.Words.{◌<◌, ◌≤◌, ◌∙◌, ℕ, List, ap, sym, refl, subst, length, get_or, arith, both_ways, get_or_from_slice_get, before, stands-within, Hypothesis, Float, hypotheses, decode, AreBelow, AreRequired, IsRequired, code_apply, code_images, named_expressions, named_images, images_read, IsFirstMismatch}
+use Rattle.explain.proofs.Words.{◌<◌, ◌≤◌, ◌∙◌, ℕ, List, ap, sym, refl, subst, length, get_or, arith, both_ways, get_or_from_slice_get, before, stands-within, Hypothesis, Float, hypotheses, decode, AreBelow, AreNumberedHypotheses, IsNumberedHypothesis, code_apply, code_images, named_expressions, named_images, images_read, IsFirstMismatch}
 use Rattle.explain.proofs.VectorLemmas.{required-at, required-typecodes, required-kinds}
 use Rattle.explain.proofs.VectorLemmas.{got, nothing, symbols-at}
 use Rattle.explain.proofs.ImagesLemmas.{apply-below}
@@ -46,7 +46,7 @@ loop-k-preserved c =
     let same = c.requires.mandatory s e in
     let d : Hypothesis = Float 0 in
     let within : c.loop-k.k < length hyps = let count = c.requires.count s e in let long = ap length same in omega (arith, count, long, c.loop-k-test.true) in
-    let all = subst (λ ps. AreRequired S names ps c.args.cited.now.typecodes.now c.args.cited.now.hypotheses) (sym same) cited.required in
+    let all = subst (λ ps. AreNumberedHypotheses S names ps c.args.cited.now.typecodes.now c.args.cited.now.hypotheses) (sym same) cited.required in
     let required = required-at S names hyps c.args.cited.now.typecodes.now c.args.cited.now.hypotheses c.loop-k.k d all within in
     let σ = code_images c.args.images.now in
     let is = required_is S names c.requires.legal.distinct σ (c.requires.read s e).1 (get_or hyps c.loop-k.k 0) required.stmt required.stands
@@ -62,9 +62,9 @@ returns-then-not-agrees c s e =
     let same = c.requires.mandatory s e in
     let d : Hypothesis = Float 0 in
     let within : c.loop-k.k < length hyps = let count = c.requires.count s e in let long = ap length same in omega (arith, count, long, c.loop-k-test.true) in
-    let all = subst (λ ps. AreRequired S names ps c.args.cited.now.typecodes.now c.args.cited.now.hypotheses) (sym same) cited.required in
+    let all = subst (λ ps. AreNumberedHypotheses S names ps c.args.cited.now.typecodes.now c.args.cited.now.hypotheses) (sym same) cited.required in
     let kind = c.get.result in
-    let required = subst (IsRequired S names (get_or hyps c.loop-k.k 0) (get_or c.args.cited.now.typecodes.now c.loop-k.k 0)) (get_or_from_slice_get c.args.cited.now.hypotheses c.loop-k.k kind d c.get.ensures)
+    let required = subst (IsNumberedHypothesis S names (get_or hyps c.loop-k.k 0) (get_or c.args.cited.now.typecodes.now c.loop-k.k 0)) (get_or_from_slice_get c.args.cited.now.hypotheses c.loop-k.k kind d c.get.ensures)
     (required-at S names hyps c.args.cited.now.typecodes.now c.args.cited.now.hypotheses c.loop-k.k d all within) in
     let fact = rw c.in-Some.is at c.in_ok-required.ensures in
     let is = required_is S names c.requires.legal.distinct (code_images c.args.images.now) (c.requires.read s e).1 (get_or hyps c.loop-k.k 0) required.stmt required.stands

@@ -1,4 +1,4 @@
-use Rattle.frame.proofs.Words.{◌≡◌, ◌==◌, ◌∙◌, ◌-◌, ◌||◌, ℕ, ap, sym, subst, arith, length, get_or, list_any, map, take, take_all, seen, names_in, labels_in, is_typed, is_typed_by, option_required, required_at}
+use Rattle.frame.proofs.Words.{◌≡◌, ◌==◌, ◌∙◌, ◌-◌, ◌||◌, ℕ, ap, sym, subst, arith, length, get_or, list_any, map, take, take_all, entry_from_ref, names_in, labels_in, is_typed, is_typed_by, option_required, required_at}
 use Rattle.frame.proofs.StoredReading.{two-of}
 use Rattle.frame.proofs.MakeLemmas.{hypothesis-at}
 use Rattle.frame.proofs.CitingListLemmas.{typed-more}
@@ -16,7 +16,7 @@ pub hypothesis-requires : goal.hypothesis-requires
 hypothesis-requires c =
     let k = c.args.storage.now in
     let p = get_or c.args.hypotheses.now c.loop-position.position-index 0 in
-    two-of (length (names_in k)) (length (labels_in k)) k.entries c.requires.stored.kept.coded (p - 1) (seen c.entry-entry.result c.entry-entry.ensures.0) c.entry-entry.ensures.1
+    two-of (length (names_in k)) (length (labels_in k)) k.entries c.requires.stored.kept.coded (p - 1) (entry_from_ref c.entry-entry.result c.entry-entry.ensures.0) c.entry-entry.ensures.1
 
 pub loop-position-preserved : goal.loop-position-preserved
 loop-position-preserved c = λ d.

@@ -1,4 +1,4 @@
-use Rattle.frame.proofs.Words.{map, take_all, ◌∙◌, ◌++◌, [], ◌∷◌, ap, arith, refl, append_assoc, length, get_or, Symbol, last_of}
+use Rattle.frame.proofs.Words.{map, take_all, ◌∙◌, ◌++◌, [], ◌∷◌, ap, arith, refl, append_assoc, length, get_or, LastDeclarations, last_of}
 use Rattle.frame.proofs.ActiveDisjointLemmas.{below-at}
 use Rattle.frame.proofs.DeclareLemmas.{record-more}
 use Rattle.frame.proofs.declare.record_replaced.Goals as goal
@@ -11,9 +11,9 @@ loop-code-preserved c =
     let i = c.loop-code.code-index in
     let symbols = c.args.symbols.now in
     let codes = c.args.declared.now in
-    let none : Symbol = record { float = 0; variable = 0 } in
+    let none : LastDeclarations = record { float = 0; variable = 0 } in
     let v = last_of c.args.kind (get_or symbols (get_or codes i 0) none) in
-    let pushed = c.in_ok-push.ensures.items ∙ ap (λ n. c.loop-code.replaced.items ++ n ∷ []) c.last.ensures in
+    let pushed = c.in_ok-push.ensures.items ∙ ap (λ n. c.loop-code.replaced.items ++ n ∷ []) c.last_declaration.ensures in
     let more = c.loop-code.invariant.after in
     record {
       recorded = λ x reads. record-more c.args.kind symbols codes x i v none c.args.replaced.now.items c.loop-code.replaced.items c.push.new.self.items (omega arith)

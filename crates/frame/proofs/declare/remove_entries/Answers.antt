@@ -1,6 +1,6 @@
-use Rattle.frame.proofs.Words.{◌≡◌, ◌+◌, ◌-◌, ◌++◌, ◌∙◌, ap, sym, subst, arith, refl, ℕ, List, append-nil, length, length-append, length-map, map, take, take_all, [], ◌∷◌, Some, AreBelow, Entry, seen, last_of, declared_by, take-append_seam, replaced_of, symbol_of, labels_in, names_in, statements_of, AreBlockEnds}
+use Rattle.frame.proofs.Words.{◌≡◌, ◌+◌, ◌-◌, ◌++◌, ◌∙◌, ap, sym, subst, arith, refl, ℕ, List, append-nil, length, length-append, length-map, map, take, take_all, [], ◌∷◌, Some, AreBelow, Entry, entry_from_ref, last_of, declared_by, take-append_seam, replaced_of, last_declarations_of, labels_in, names_in, statements_of, AreBlockEnds}
 use Rattle.frame.proofs.EndLemmas.{block-fits, ends-taken, length-with, stored-blocks}
-use Rattle.frame.proofs.DeclareLemmas.{symbol_of-push, IsLeft, left, recorded-last, replaced_of-push, restored}
+use Rattle.frame.proofs.DeclareLemmas.{last_declarations_of-push, IsLeft, left, recorded-last, replaced_of-push, restored}
 use Rattle.frame.proofs.StoredOneMore.{numbered-at}
 use Rattle.frame.proofs.StoredReading.{two-of}
 use Rattle.frame.proofs.declare.remove_entries.Goals as goal
@@ -10,7 +10,7 @@ abbrev front : After-entry-entry → List Entry
 front c = take (c.len-last.result - 1) c.loop-storage.storage.entries
 
 abbrev last : After-entry-entry → Entry
-last c = seen c.entry-entry.result c.entry-entry.ensures.0
+last c = entry_from_ref c.entry-entry.result c.entry-entry.ensures.0
 
 gone : (c : After-entry-entry) → IsLeft c.args.storage.now.entries c.loop-storage.storage.entries (front c) (last c)
 gone c = left c.len-last.result (last c) c.loop-storage.invariant.front c.len-last.ensures.len (omega (arith, c.len-last.ensures.len, c.loop-storage-test.true, c.len.ensures.len)) c.entry-entry.ensures.1
@@ -22,7 +22,7 @@ declared-declared-requires c =
 
 -- the declarations that the last entry replaced
 abbrev after : After-entry-entry → List ℕ → List ℕ
-after w declared = map (λ k. last_of (last w).kind (symbol_of (front w) k)) declared
+after w declared = map (λ k. last_of (last w).kind (last_declarations_of (front w) k)) declared
 
 joined : (w : After-entry-entry) (declared : List ℕ) → declared ≡ declared_by (last w).kind (last w).symbols → w.loop-storage.storage.replaced.items ≡ replaced_of (front w) ++ after w declared
 joined w declared is =
@@ -66,8 +66,8 @@ loop-storage-preserved c =
     rw cut (record {
       front = l.extends;
       enough = omega (arith, c.loop-storage-test.true, c.len.ensures.len, ap length l.is, length-append (front w) (e ∷ []));
-      declared = restored here.symbols.items c.restore.new.symbols.items e.kind declared _ (symbol_of (front w)) (1 + length (front w)) whole c.restore.ensures.each c.restore.ensures.count
-          (λ m lt. i.declared m lt ∙ ap Some (ap (λ es. symbol_of es m) l.is ∙ (symbol_of-push (front w) e m ∙ rw c.declared-declared.ensures.declared refl)));
+      declared = restored here.symbols.items c.restore.new.symbols.items e.kind declared _ (last_declarations_of (front w)) (1 + length (front w)) whole c.restore.ensures.each c.restore.ensures.count
+          (λ m lt. i.declared m lt ∙ ap Some (ap (λ es. last_declarations_of es m) l.is ∙ (last_declarations_of-push (front w) e m ∙ rw c.declared-declared.ensures.declared refl)));
       recorded = c.truncate.ensures.items ∙ (ap (λ n. take n here.replaced.items) start ∙ (ap (take (length (replaced_of (front w)))) are ∙ take-append_seam (replaced_of (front w)) (after w declared)));
       ended = ends-taken k.entries (front w) here.entries (statements_of k) e here.ends.items c.record_end.new.ends.items (stored-blocks k c.requires.stored) l.is l.here (sym (i.ends_count ∙ c.requires.stored.ended.count)) i.ended c.record_end.ensures;
       ends_count = ap length c.record_end.ensures ∙ (length-with e.kind e.last_active.block 0 here.ends.items ∙ i.ends_count);

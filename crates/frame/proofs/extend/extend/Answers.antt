@@ -1,4 +1,4 @@
-use Rattle.frame.proofs.Words.{Extends, IsAfter, Result, Ok, Err, OnErr, append-nil, ◌≡◌, ◌∙◌, ap, sym, subst, arith, refl, length, ◌+◌, ◌++◌, ◌∷◌, [], true, bare, made, may-declare, AreBelow, has_parts, statements_of, ReadsAs, IsKeptOf, NextStatement, history, kept_until, EntryHeader}
+use Rattle.frame.proofs.Words.{Extends, IsAfter, Result, Ok, Err, OnErr, append-nil, ◌≡◌, ◌∙◌, ap, sym, subst, arith, refl, length, ◌+◌, ◌++◌, ◌∷◌, [], true, bare, entry_by, may-declare, AreBelow, has_parts, statements_of, ReadsAs, IsKeptOf, NextStatement, history, kept_until, EntryHeader}
 use Rattle.frame.proofs.EndLemmas.{block-within, ends-next}
 use Rattle.frame.proofs.EnterLemmas.{IsEntered, IsExtended, added-numbers, entered-below, kept-pushed, numbered-pushed, pushed-statements}
 use Rattle.frame.proofs.NamingLemmas.{stored-naming}
@@ -13,13 +13,13 @@ declare_next-requires-clause-free c =
     may-declare (statements_of k) c.args.stmt.now k.numbering c.requires.legal (stored-naming k c.requires.stored).kinds_match
 
 abbrev header : In-Some → EntryHeader
-header c = record { kind = c.kind-kind.result; before = record { label = c.in_ok-place.field-0; names = c.symbol_count.result; last_active = c.args.storage.now.last_active } }
+header c = record { kind = c.kind-kind.result; before = record { label_count = c.in_ok-to_u32.field-0; symbol_count = c.symbol_count.result; last_active = c.args.storage.now.last_active } }
 
 entered : (c : In-Some) → IsEntered c.args.storage.now c.declare_next.new.storage c.args.stmt.now (header c) c.find_numbers.new.recorded c.declare_next.new.recorded
 entered c = record {
   stored = c.requires.stored;
   legal = c.requires.legal;
-  header = record { kind = c.kind-kind.ensures; label = c.in_ok-place.ensures ∙ c.label_count.ensures; names = c.symbol_count.ensures; last_active = refl };
+  header = record { kind = c.kind-kind.ensures; label = c.in_ok-to_u32.ensures ∙ c.label_count.ensures; names = c.symbol_count.ensures; last_active = refl };
   declared = c.in_ok-declare_next.ensures.numbering;
   recorded = c.find_numbers.ensures;
   recorded_after = c.in_ok-declare_next.ensures.recorded;
@@ -104,21 +104,21 @@ returns c =
       linked = c.last_active_after-last_active.ensures s (sym c.kind-kind.ensures);
     } in
     let statements = pushed-statements e c.in-Some.ensures.numbers extended in
-    let x : NextStatement = record { kind = c.kind-kind.result; codes = c.in-Some.codes; at = c.in_ok-place-2.field-0; last_active = new.last_active } in
-    let place : x.at ≡ length k.entries + 1 = omega (arith, c.in_ok-place-2.ensures, c.len-at.ensures.len) in
-    let entries : c.push-2.new.self ≡ k.entries ++ made h codes a ∷ [] = extended.pushed ∙ ap (λ q. q ++ made h codes a ∷ []) told.grown.entries in
+    let x : NextStatement = record { kind = c.kind-kind.result; codes = c.in-Some.codes; at = c.in_ok-to_u32-2.field-0; last_active = new.last_active } in
+    let place : x.at ≡ length k.entries + 1 = omega (arith, c.in_ok-to_u32-2.ensures, c.len-at.ensures.len) in
+    let entries : c.push-2.new.self ≡ k.entries ++ entry_by h codes a ∷ [] = extended.pushed ∙ ap (λ q. q ++ entry_by h codes a ∷ []) told.grown.entries in
     record {
       stored = record {
         kept = kept-pushed e c.in-Some.ensures.numbers extended;
         numbered = numbered-pushed k new c.args.stmt.now _ c.requires.stored told.numbering statements;
         ended = ends-next k s _ c.kind-kind.result new.last_active.block (c.len-at.result + 1) c.push.new.self.items c.record_end.new.ends.items c.requires.stored c.kind-kind.ensures (ap (λ l. l.block) told.grown.last_active)
             (omega (arith, c.len-at.ensures.len)) (c.in_ok-push.ensures.items ∙ ap (λ v. v.items ++ 0 ∷ []) told.grown.ends) c.record_end.ensures statements;
-        disjoints = disjoints-next k s (made h codes a) x c.requires.stored place refl c.kind-kind.ensures told.grown.last_active new.disjoints c.record_active.new.disjoints c.push-2.new.self _ entries statements told.grown.disjoints c.in_ok-record_active.ensures.disjoints;
-        variables = variables-next k s (made h codes a) x c.requires.stored place refl c.kind-kind.ensures told.grown.last_active new.variables c.record_active.new.variables c.push-2.new.self _ entries statements told.grown.variables c.in_ok-record_active.ensures.variables;
-        essentials = essentials-next k s (made h codes a) x c.requires.stored place refl c.kind-kind.ensures told.grown.last_active new.essentials c.record_active.new.essentials c.push-2.new.self _ entries statements told.grown.essentials c.in_ok-record_active.ensures.essentials;
+        disjoints = disjoints-next k s (entry_by h codes a) x c.requires.stored place refl c.kind-kind.ensures told.grown.last_active new.disjoints c.record_active.new.disjoints c.push-2.new.self _ entries statements told.grown.disjoints c.in_ok-record_active.ensures.disjoints;
+        variables = variables-next k s (entry_by h codes a) x c.requires.stored place refl c.kind-kind.ensures told.grown.last_active new.variables c.record_active.new.variables c.push-2.new.self _ entries statements told.grown.variables c.in_ok-record_active.ensures.variables;
+        essentials = essentials-next k s (entry_by h codes a) x c.requires.stored place refl c.kind-kind.ensures told.grown.last_active new.essentials c.record_active.new.essentials c.push-2.new.self _ entries statements told.grown.essentials c.in_ok-record_active.ensures.essentials;
       };
       added = statements;
       numbers = added-numbers e c.in-Some.ensures.numbers extended;
-      more = (made h codes a ∷ [], entries);
+      more = (entry_by h codes a ∷ [], entries);
       after = tt;
     }

@@ -29,9 +29,9 @@ own c list l =
 pub find_floats-requires-clause-codes : goal.find_floats-requires-clause-codes
 find_floats-requires-clause-codes c = (found (goal.at.find_floats-requires-clause-codes c).In-Some).0
 
-pub describe-requires-clause-hypotheses : goal.describe-requires-clause-hypotheses
-describe-requires-clause-hypotheses c =
-    let w = (goal.at.describe-requires-clause-hypotheses c).In-Some in
+pub encode_hypotheses-requires-clause-hypotheses : goal.encode_hypotheses-requires-clause-hypotheses
+encode_hypotheses-requires-clause-hypotheses c =
+    let w = (goal.at.encode_hypotheses-requires-clause-hypotheses c).In-Some in
     let k = c.args.storage.now in
     subst (AreHypotheses k.entries) (sym (c.deref.ensures.value ∙ own w c.find_floats.new.list.items c.in_ok-find_floats.ensures)) (floats-are (names_in k) (labels_in k) k.entries (decode (names_in k) c.in-Some.codes.now))
 
@@ -42,13 +42,13 @@ returns-then-is_essential c =
     let s = bare c.args.stmt.now in
     let list = c.find_floats.new.list.items in
     let partial : c.buffers.inside.whole ≡ false = ap (λ v. v.whole) (c.buffers.view_is ∙ c.clear.ensures) in
-    ok-both c.describe.result (λ required typecodes. parts-for k s _ (record {
+    ok-both c.encode_hypotheses.result (λ required typecodes. parts-for k s _ (record {
       hypotheses_kept = own w list c.in_ok-find_floats.ensures ∙ (ap (floats_in (statements_of k)) (found w).1 ∙ ap (λ b. kept_with b (statements_of k) s) (sym partial));
       required_kept = required ∙ ap (map (required_at k.entries)) c.deref.ensures.value;
       typecodes_kept = typecodes ∙ ap (map (typecode_at k.entries)) c.deref.ensures.value;
       groups_kept = λ whole. absurd (false≢true (sym partial ∙ whole));
       own_kept = λ e. partial;
-    })) c.describe.ensures.required c.describe.ensures.typecodes
+    })) c.encode_hypotheses.ensures.required c.encode_hypotheses.ensures.typecodes
 
 pub fill_from_hypotheses-requires-clause-hypotheses : goal.fill_from_hypotheses-requires-clause-hypotheses
 fill_from_hypotheses-requires-clause-hypotheses c =

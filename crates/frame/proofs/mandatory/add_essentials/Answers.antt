@@ -1,4 +1,4 @@
-use Rattle.frame.proofs.Words.{◌≡◌, ◌-◌, ◌∙◌, ap, sym, subst, arith, map, ◌++◌, ◌∷◌, [], map-append, is_essential, IsWith, In, HasMore, option_kept, names_in, labels_in, stmt_of, seen}
+use Rattle.frame.proofs.Words.{◌≡◌, ◌-◌, ◌∙◌, ap, sym, subst, arith, map, ◌++◌, ◌∷◌, [], map-append, is_essential, IsWith, In, HasMore, option_kept, names_in, labels_in, stmt_of, entry_from_ref}
 use Rattle.frame.proofs.KindWalk.{walked, walk-from, walk-step, essential_chain}
 use Rattle.frame.proofs.CollectLemmas.{last-in, last-out, pushed-more, left-step, left-ordered}
 use Rattle.frame.proofs.mandatory.add_essentials.Goals as goal
@@ -10,12 +10,12 @@ loop-essential-init c =
     record { at = f.at; left = rw f.same (record { there = λ p i. i; back = λ p i. i }) }
 
 pub loop-essential-smaller : goal.loop-essential-smaller
-loop-essential-smaller c = (walk-step (seen c.entry-essential.result c.entry-essential.ensures.0) essential_chain c.requires.stored c.loop-essential.invariant.at c.loop-essential-test.true c.entry-essential.ensures.1).smaller
+loop-essential-smaller c = (walk-step (entry_from_ref c.entry-essential.result c.entry-essential.ensures.0) essential_chain c.requires.stored c.loop-essential.invariant.at c.loop-essential-test.true c.entry-essential.ensures.1).smaller
 
 pub loop-essential-preserved : goal.loop-essential-preserved
 loop-essential-preserved c =
     let k = c.args.storage.now in let p = c.loop-essential.essential in
-    let e = seen c.entry-essential.result c.entry-essential.ensures.0 in let g = c.entry-essential.ensures.1 in
+    let e = entry_from_ref c.entry-essential.result c.entry-essential.ensures.0 in let g = c.entry-essential.ensures.1 in
     let s = walk-step e essential_chain c.requires.stored c.loop-essential.invariant.at c.loop-essential-test.true g in
     let before = map (λ q. q.0) (walked is_essential k c.entry-essential.result.before.last_active.essential) in
     let more : HasMore (IsWith k.entries p) c.loop-essential.list.items c.add_new.new.list.items =
@@ -24,4 +24,4 @@ loop-essential-preserved c =
     record { at = s.at; left = left-step (λ x i. last-out x p before i) (λ x i. last-in x p before i) more (rw here at c.loop-essential.invariant.left) }
 
 pub returns : goal.returns
-returns c = left-ordered _ _ _ _ _ _ (ap (λ n. map (λ q. q.0) (walked is_essential c.args.storage.now n)) c.loop-essential-test.false) c.loop-essential.invariant.left c.order.ensures
+returns c = left-ordered _ _ _ _ _ _ (ap (λ n. map (λ q. q.0) (walked is_essential c.args.storage.now n)) c.loop-essential-test.false) c.loop-essential.invariant.left c.sort_unique.ensures

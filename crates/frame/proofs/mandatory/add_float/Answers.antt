@@ -1,10 +1,10 @@
-use Rattle.frame.proofs.Words.{◌≡◌, ◌<◌, ◌∙◌, ap, sym, arith, inl, refl, ℕ, length, get_or, length-map, Storage, Symbol, AreStored, floats, last_where, names_in, labels_in, statements_of, stmt_of}
+use Rattle.frame.proofs.Words.{◌≡◌, ◌<◌, ◌∙◌, ap, sym, arith, inl, refl, ℕ, length, get_or, length-map, Storage, LastDeclarations, AreStored, floats, last_where, names_in, labels_in, statements_of, stmt_of}
 use Rattle.frame.proofs.CollectLemmas.{index-is, float-stands, float-more, looked-more}
 use Rattle.frame.proofs.mandatory.add_float.Goals as goal
 use Rattle.frame.proofs.mandatory.add_float.Goals.{then-float-eq0-via-then-float-eq0, then-float-eq0-via-else-float-eq0+then-is_some}
 
 -- the position of the last `$f` of a symbol
-last : (k : Storage) (c : ℕ) (s : Symbol) → AreStored k → c < length (names_in k) → s ≡ get_or k.symbols.items c s → s.float ≡ last_where (floats c) k.entries
+last : (k : Storage) (c : ℕ) (s : LastDeclarations) → AreStored k → c < length (names_in k) → s ≡ get_or k.symbols.items c s → s.float ≡ last_where (floats c) k.entries
 last k c s stored below is = ap (λ t. t.float) (index-is k.symbols.items c s _ (stored.kept.symbols_kept c below) is)
 
 pub is_active_at-requires-clause-place : goal.is_active_at-requires-clause-place

@@ -13,4 +13,4 @@ loop-code-preserved c = record {
 }
 
 pub returns : goal.returns
-returns c = those-by (left-ordered _ _ _ _ _ _ (drop_all c.loop-code.code-index c.args.codes.now (omega arith)) c.loop-code.invariant.left c.order.ensures) (λ p. ⊎_elim (λ i. absurd (subst (In p) c.requires.empty i)) (λ f. f)) (λ p f. inr f)
+returns c = those-by (left-ordered _ _ _ _ _ _ (drop_all c.loop-code.code-index c.args.codes.now (omega arith)) c.loop-code.invariant.left c.sort_unique.ensures) (λ p. ⊎_elim (λ i. absurd (subst (In p) c.requires.empty i)) (λ f. f)) (λ p f. inr f)

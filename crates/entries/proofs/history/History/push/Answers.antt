@@ -1,4 +1,4 @@
-use Rattle.entries.proofs.Words.{◌∙◌, ap, sym, subst, is_changed, pushed, AreVersions}
+use Rattle.entries.proofs.Words.{◌∙◌, ap, sym, subst, changed_at, pushed, AreVersions}
 use Rattle.entries.proofs.VersionLemmas.{versions-more, changed-more}
 use Rattle.entries.proofs.history.History.push.Goals as goal
 
@@ -15,5 +15,5 @@ returns-clause-pushed c =
     let v = c.in_ok-version.version in
     let told = rw c.deref.ensures.value at c.in_ok-version.ensures.stack in
     changed-more vs c.push.new.self.items c.args.at _ v c.in_ok-push.ensures.items
-    (ap (is_changed c.args.at) c.self.view_is ∙ (sym c.is_changed.ensures ∙ c.if-is_changed.false)) c.in_ok-version.ensures.since told
+    (ap (changed_at c.args.at) c.self.view_is ∙ (sym c.changed_at.ensures ∙ c.if-changed_at.false)) c.in_ok-version.ensures.since told
     ∙ ap (pushed c.args.at) c.self.view_is

@@ -2,14 +2,14 @@ use Rattle.entries.proofs.Words.{ap, sym, subst, ◌∙◌, arith, nat_tests, ha
 use Rattle.entries.proofs.PositionSetLemmas.{has-below, has-beyond}
 use Rattle.entries.proofs.position_sets.PositionSets.has.Goals as goal
 
-pub loop-top-preserved-in-Less : goal.loop-top-preserved-in-Less
-loop-top-preserved-in-Less c =
-    let top = c.in-Some.ensures.some in
-    sym (has-below c.args.position c.in-Some.top.position _ _ (grind (arith, nat_tests)) (subst Ascends top.is top.ascends))
-    ∙ (ap (has_position c.args.position) (sym top.is) ∙ c.loop-top.invariant)
+pub loop-node-preserved-in-Less : goal.loop-node-preserved-in-Less
+loop-node-preserved-in-Less c =
+    let node = c.in-Some.ensures.some in
+    sym (has-below c.args.position c.in-Some.node.position _ _ (grind (arith, nat_tests)) (subst Ascends node.is node.ascends))
+    ∙ (ap (has_position c.args.position) (sym node.is) ∙ c.loop-node.invariant)
 
-pub loop-top-preserved : goal.loop-top-preserved
-loop-top-preserved c =
-    let top = c.in-Some.ensures.some in
-    sym (has-beyond c.args.position c.in-Some.top.position _ _ (grind (arith, nat_tests)) (subst Ascends top.is top.ascends))
-    ∙ (ap (has_position c.args.position) (sym top.is) ∙ c.loop-top.invariant)
+pub loop-node-preserved : goal.loop-node-preserved
+loop-node-preserved c =
+    let node = c.in-Some.ensures.some in
+    sym (has-beyond c.args.position c.in-Some.node.position _ _ (grind (arith, nat_tests)) (subst Ascends node.is node.ascends))
+    ∙ (ap (has_position c.args.position) (sym node.is) ∙ c.loop-node.invariant)

@@ -12,23 +12,23 @@ invariant_of-self-2 c =
       few = omega arith;
       count = let below = c.len.ensures.len in let above = c.len-2.ensures.len in let count = c.in_ok-count.ensures in omega (arith, length-append {A = ℕ});
       ascends = c.requires.ascends;
-    }) (let size = c.size-size.ensures.size in omega arith)
+    }) (let set_count = c.set_count-set_count.ensures.set_count in omega arith)
 
 pub returns-clause-made : goal.returns-clause-made
 returns-clause-made c =
     let sets = c.args.self.now in
     let s = joined sets c.args.left c.args.position c.args.right in
-    subst (λ new. IsSet new s c.size-size.result)
+    subst (λ new. IsSet new s c.set_count-set_count.result)
     (sym (more-sets c.self.inside.nodes.items c.push.new.self.items _ sets c.self.view_is c.in_ok-push.ensures.items))
     (record {
-      within = let long = length_push sets s in let size = c.size-size.ensures.size in omega arith;
-      is = get_or_at sets s [] [] c.size-size.result (sym c.size-size.ensures.size);
+      within = let long = length_push sets s in let set_count = c.set_count-set_count.ensures.set_count in omega arith;
+      is = get_or_at sets s [] [] c.set_count-set_count.result (sym c.set_count-set_count.ensures.set_count);
     })
 
 pub returns-clause-more : goal.returns-clause-more
 returns-clause-more c = (joined c.args.self.now c.args.left c.args.position c.args.right ∷ [], more-sets c.self.inside.nodes.items c.push.new.self.items _ c.args.self.now c.self.view_is c.in_ok-push.ensures.items)
 
-pub returns-clause-size : goal.returns-clause-size
-returns-clause-size c =
+pub returns-clause-set_count : goal.returns-clause-set_count
+returns-clause-set_count c =
     ap length (more-sets c.self.inside.nodes.items c.push.new.self.items _ c.args.self.now c.self.view_is c.in_ok-push.ensures.items)
     ∙ length_push c.args.self.now _

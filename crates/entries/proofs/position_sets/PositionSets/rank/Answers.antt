@@ -10,18 +10,18 @@ still-few below part left right room few long =
       | inr some ↦ let within = room some in omega arith
     ]
 
-pub loop-top-preserved-then-position-top : goal.loop-top-preserved-then-position-top
-loop-top-preserved-then-position-top c =
-    let top = c.in-Some.ensures.some in
-    let both = below-left c.args.self.now c.loop-top.part c.args.position c.in-Some.top top (omega arith) in
+pub loop-node-preserved-then-position-node : goal.loop-node-preserved-then-position-node
+loop-node-preserved-then-position-node c =
+    let node = c.in-Some.ensures.some in
+    let both = below-left c.args.self.now c.loop-node.part c.args.position c.in-Some.node node (omega arith) in
     let count = both.0 in let long = both.1 in
-    let before = c.loop-top.invariant in
+    let before = c.loop-node.invariant in
     (omega arith, λ some. let room = before.1 some in omega arith)
 
-pub loop-top-preserved : goal.loop-top-preserved
-loop-top-preserved c =
-    let top = c.in-Some.ensures.some in
-    let both = below-right c.args.self.now c.loop-top.part c.args.position c.in-Some.top top (omega arith) in
+pub loop-node-preserved : goal.loop-node-preserved
+loop-node-preserved c =
+    let node = c.in-Some.ensures.some in
+    let both = below-right c.args.self.now c.loop-node.part c.args.position c.in-Some.node node (omega arith) in
     let count = both.0 in let long = both.1 in
-    let before = c.loop-top.invariant in
-    (omega arith, λ _. let few = top.few in let left = c.len.ensures.len in still-few c.loop-top.below _ c.len.result _ before.1 few (omega arith))
+    let before = c.loop-node.invariant in
+    (omega arith, λ _. let few = node.few in let left = c.len.ensures.len in still-few c.loop-node.below _ c.len.result _ before.1 few (omega arith))

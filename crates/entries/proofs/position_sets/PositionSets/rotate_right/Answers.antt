@@ -9,17 +9,17 @@ join-requires-clause-ascends c =
 
 pub join-requires-2-clause-ascends : goal.join-requires-2-clause-ascends
 join-requires-2-clause-ascends c =
-    let top = c.in-Some.ensures.some in
-    let inner = top.right in let within = top.within in
+    let node = c.in-Some.ensures.some in
+    let inner = node.right in let within = node.within in
     subst Ascends (sym (joined-extends c.args.self.now c.join.new.self c.in-Some.inner.right c.args.position c.args.right c.in_ok-below.ensures.more (omega arith) c.requires.right))
-    (parts _ _ _ (subst Ascends (right-whole c.args.self.now c.args.left c.in-Some.inner c.args.position c.args.right top.is) c.requires.ascends)).1
+    (parts _ _ _ (subst Ascends (right-whole c.args.self.now c.args.left c.in-Some.inner c.args.position c.args.right node.is) c.requires.ascends)).1
 
 pub join-requires-3-clause-ascends : goal.join-requires-3-clause-ascends
 join-requires-3-clause-ascends c =
-    let top = c.in-Some.ensures.some in
-    let inner = top.right in let within = top.within in
+    let node = c.in-Some.ensures.some in
+    let inner = node.right in let within = node.within in
     subst Ascends
-    (right-whole c.args.self.now c.args.left c.in-Some.inner c.args.position c.args.right top.is
+    (right-whole c.args.self.now c.args.left c.in-Some.inner c.args.position c.args.right node.is
     ∙ sym (turned c.args.self.now c.join.new.self c.join-2.new.self _ _ _ _ _ _ _ _ _ c.in_ok-below.ensures.more c.in_ok-above.ensures.more (omega arith) c.requires.right c.in_ok-below.ensures.made c.in_ok-above.ensures.made))
     c.requires.ascends
 

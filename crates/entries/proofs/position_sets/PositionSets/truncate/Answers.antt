@@ -8,4 +8,4 @@ invariant_of-self c = rw c.truncate.ensures.items (nodes-take c.self.inside.node
 pub returns : goal.returns
 returns c =
     rw (c.truncate.ensures.items, ← c.self.view_is)
-    (sets-take c.self.inside.nodes.items c.saturating_sub.result (max 1 c.args.size) (omega arith))
+    (sets-take c.self.inside.nodes.items c.saturating_sub.result (max 1 c.args.set_count) (omega arith))

@@ -1,4 +1,4 @@
-use Rattle.frame.proofs.Words.{◌≡◌, ◌<◌, ◌∙◌, sym, subst, length, true≢false, Ess, seen, set_at, statements_of, Ascends, HasMore, In, IfOk-weaker, kept_set}
+use Rattle.frame.proofs.Words.{◌≡◌, ◌<◌, ◌∙◌, sym, subst, length, true≢false, Ess, entry_from_ref, set_at, statements_of, Ascends, HasMore, In, IfOk-weaker, kept_set}
 use Rattle.frame.proofs.EssentialSetLemmas.{kept-ascends, kept-within, set-next}
 use Rattle.frame.proofs.essential_sets.EssentialSets.next_set.Goals as goal
 use Rattle.frame.proofs.essential_sets.EssentialSets.next_set.Goals.{in-Ess, in_default}
@@ -17,7 +17,7 @@ insert_each-requires-clause-ascends c =
 pub returns-clause-given : goal.returns-clause-given
 returns-clause-given c =
     let k = c.args.storage.now in let g = c.args.self.now in
-    let e = seen c.entry-entry.result c.entry-entry.ensures.0 in
+    let e = entry_from_ref c.entry-entry.result c.entry-entry.ensures.0 in
     let kind : e.kind ≡ Ess = elim c.match-matches.branch [ in-Ess w ↦ w.in-Ess.is | in_default w ↦ absurd (true≢false (sym c.if-not-matches.false ∙ w.matches-is)) ] in
     let from = subst (λ b. HasMore (λ p. In p c.hypotheses.result.now) (set_at g.sets b) (set_at c.insert_each.new.sets c.in_ok-set.set)) c.set-base.ensures c.in_ok-set.ensures.inserted in
     let more = subst (λ ps. HasMore (λ p. In p ps) (set_at g.sets (kept_set g.kept.items e.last_active.essential)) (set_at c.insert_each.new.sets c.in_ok-set.set)) (c.hypotheses.ensures e c.entry-entry.ensures.1) from in

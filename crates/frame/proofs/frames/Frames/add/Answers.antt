@@ -5,5 +5,5 @@ use Rattle.frame.proofs.frames.Frames.add.Goals as goal
 pub broken_rule-broken-requires-clause-numbering : goal.broken_rule-broken-requires-clause-numbering
 broken_rule-broken-requires-clause-numbering c = rw (c.requires.same, ← c.self.view_is) (stored-naming c.self.inside.storage c.self.invariant.stored)
 
-pub grow-requires-clause-kept : goal.grow-requires-clause-kept
-grow-requires-clause-kept c = without-facts c.self.inside.storage c.self.inside.given c.self.inside.facts c.self.invariant
+pub extend_with_sets-requires-clause-kept : goal.extend_with_sets-requires-clause-kept
+extend_with_sets-requires-clause-kept c = without-facts c.self.inside.storage c.self.inside.essential_sets c.self.inside.kept_facts c.self.invariant

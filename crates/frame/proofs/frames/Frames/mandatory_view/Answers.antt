@@ -14,7 +14,7 @@ module _ (c : After-len-count) where
   asserts = c.requires.1.1
 
   abbrev set : List ℕ
-  set = set_at c.self.inside.given.sets (kept_set c.self.inside.given.kept.items c.last_active_at.result.essential)
+  set = set_at c.self.inside.essential_sets.sets (kept_set c.self.inside.essential_sets.kept.items c.last_active_at.result.essential)
 
   abbrev own : List ℕ
   own = filter (λ p. not (has_position p set)) there.1.assertion.hypotheses
@@ -22,23 +22,23 @@ module _ (c : After-len-count) where
   items : c.in_ok-own.own.items ≡ own
   items =
       c.in_ok-own.ensures
-      ∙ (ap (λ hs. filter (λ p. not (has_position p (set_at c.self.inside.given.sets c.set-set.result))) hs) (c.hypotheses.ensures there.1 there.2.got)
-      ∙ ap (λ n. filter (λ p. not (has_position p (set_at c.self.inside.given.sets n))) there.1.assertion.hypotheses) c.set-set.ensures)
+      ∙ (ap (λ hs. filter (λ p. not (has_position p (set_at c.self.inside.essential_sets.sets c.set-set.result))) hs) (c.hypotheses.ensures there.1 there.2.got)
+      ∙ ap (λ n. filter (λ p. not (has_position p (set_at c.self.inside.essential_sets.sets n))) there.1.assertion.hypotheses) c.set-set.ensures)
 
-  merged : AreMerged (set_at c.self.inside.given.sets c.set-set.result) c.in_ok-own.own.items
+  merged : AreMerged (set_at c.self.inside.essential_sets.sets c.set-set.result) c.in_ok-own.own.items
   merged =
-      let k = c.self.inside.storage in let g = c.self.inside.given in
+      let k = c.self.inside.storage in let g = c.self.inside.essential_sets in
       let t = there in let place = t.2.place in let within = slice_get_within k.entries t.0 t.1 t.2.here in let many = as-many k in let few = c.len-count.ensures.few in let count = c.len-count.ensures.len in
       subst (λ n. AreMerged (set_at g.sets n) c.in_ok-own.own.items) (sym c.set-set.ensures) (subst (AreMerged set) (sym items)
-      (view-merged k g c.args.a t.0 c.requires.0 t.1 c.last_active_at.result (without-facts k g c.self.inside.facts c.self.invariant) asserts t.2 (sym (c.is_whole.ensures t.1 t.2.got) ∙ c.if-is_whole.false) c.last_active_at.ensures
+      (view-merged k g c.args.a t.0 c.requires.0 t.1 c.last_active_at.result (without-facts k g c.self.inside.kept_facts c.self.invariant) asserts t.2 (sym (c.is_whole.ensures t.1 t.2.got) ∙ c.if-is_whole.false) c.last_active_at.ensures
       (λ z. c.if-set-eq0.false (c.set-set.ensures ∙ z)) (omega arith) (omega arith) (omega arith)))
 
-  list : with_each c.in_ok-own.own.items (set_at c.self.inside.given.sets c.set-set.result) ≡ hypotheses (before (statements_of c.self.inside.storage) c.args.a) c.requires.0
+  list : with_each c.in_ok-own.own.items (set_at c.self.inside.essential_sets.sets c.set-set.result) ≡ hypotheses (before (statements_of c.self.inside.storage) c.args.a) c.requires.0
   list =
-      let k = c.self.inside.storage in let g = c.self.inside.given in
+      let k = c.self.inside.storage in let g = c.self.inside.essential_sets in
       let t = there in let place = t.2.place in let within = slice_get_within k.entries t.0 t.1 t.2.here in let many = as-many k in
       ap (λ ps. with_each ps (set_at g.sets c.set-set.result)) items ∙ (ap (λ n. with_each own (set_at g.sets n)) c.set-set.ensures
-      ∙ view-is k g c.args.a t.0 c.requires.0 t.1 c.last_active_at.result (without-facts k g c.self.inside.facts c.self.invariant) asserts t.2 (sym (c.is_whole.ensures t.1 t.2.got) ∙ c.if-is_whole.false) c.last_active_at.ensures
+      ∙ view-is k g c.args.a t.0 c.requires.0 t.1 c.last_active_at.result (without-facts k g c.self.inside.kept_facts c.self.invariant) asserts t.2 (sym (c.is_whole.ensures t.1 t.2.got) ∙ c.if-is_whole.false) c.last_active_at.ensures
       (λ z. c.if-set-eq0.false (c.set-set.ensures ∙ z)) (omega arith) (omega arith))
 
 pub invariant_of-result : goal.invariant_of-result

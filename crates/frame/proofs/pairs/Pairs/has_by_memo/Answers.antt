@@ -10,21 +10,21 @@ search-requires-clause-left c =
     let s : AreSearched k c.self.inside.at c.args.x c.args.y = record { stored = c.self.invariant.0; distinct = c.self.invariant.1; above = c.self.invariant.2; within = c.self.invariant.3; first = both.0; second = both.1; differ = differ } in
     left-start k c.self.inside.at c.args.x c.args.y c.stack-with_x.result s c.stack-with_x.ensures
 
-pub search-requires-else-is_first-clause-left : goal.search-requires-else-is_first-clause-left
-search-requires-else-is_first-clause-left c =
+pub search-requires-else-searches_first_row-clause-left : goal.search-requires-else-searches_first_row-clause-left
+search-requires-else-searches_first_row-clause-left c =
     let k = c.self.inside.storage.now in
     let differ : nat_eq c.args.x c.args.y ≡ false = let h = c.if-x-y.false in grind (arith, h) in
     let both = rw (← c.self.view_is) at c.requires in
     let s : AreSearched k c.self.inside.at c.args.x c.args.y = record { stored = c.self.invariant.0; distinct = c.self.invariant.1; above = c.self.invariant.2; within = c.self.invariant.3; first = both.0; second = both.1; differ = differ } in
     left-start k c.self.inside.at c.args.y c.args.x c.stack-with_y.result (sought-turn k c.self.inside.at c.args.x c.args.y s) c.stack-with_y.ensures
 
-pub returns-then-is_first : goal.returns-then-is_first
-returns-then-is_first c = rw (← c.self.view_is) c.search.ensures
+pub returns-then-searches_first_row : goal.returns-then-searches_first_row
+returns-then-searches_first_row c = rw (← c.self.view_is) c.search.ensures
 
-pub returns-else-is_first : goal.returns-else-is_first
-returns-else-is_first c =
+pub returns-else-searches_first_row : goal.returns-else-searches_first_row
+returns-else-searches_first_row c =
     let k = c.self.inside.storage.now in
     let differ : nat_eq c.args.x c.args.y ≡ false = let h = c.if-x-y.false in grind (arith, h) in
     let both = rw (← c.self.view_is) at c.requires in
     let s : AreSearched k c.self.inside.at c.args.x c.args.y = record { stored = c.self.invariant.0; distinct = c.self.invariant.1; above = c.self.invariant.2; within = c.self.invariant.3; first = both.0; second = both.1; differ = differ } in
-    rw (← c.self.view_is) (c.search-else-is_first.ensures ∙ pair-turn k c.self.inside.at c.args.x c.args.y s)
+    rw (← c.self.view_is) (c.search-else-searches_first_row.ensures ∙ pair-turn k c.self.inside.at c.args.x c.args.y s)

@@ -1,4 +1,4 @@
-use Rattle.frame.proofs.Words.{◌-◌, arith, length-take, take, length-map, stmt_of, names_in, labels_in, statements_of, seen, Stmt, length}
+use Rattle.frame.proofs.Words.{◌-◌, arith, length-take, take, length-map, stmt_of, names_in, labels_in, statements_of, entry_from_ref, Stmt, length}
 use Rattle.frame.proofs.StoredOneMore.{numbered-at}
 use Rattle.frame.proofs.PairsLemmas.{back, pairs-none, pairs-back}
 use Rattle.frame.proofs.pairs.Pairs.pop_disjoint.Goals as goal
@@ -20,9 +20,9 @@ returns-clause-fewer c =
 
 pub returns-clause-pairs : goal.returns-clause-pairs
 returns-clause-pairs c =
-    rw (← c.self.view_is) (λ x y. pairs-back c.self.inside.storage.now (c.self.inside.at - 1) c.last_active_at-last.result c.last_active_at-last.ensures c.if-last-eq0.false (seen c.entry.result c.entry.ensures.0) x y c.self.invariant.0 c.self.invariant.1 c.entry.ensures.1)
+    rw (← c.self.view_is) (λ x y. pairs-back c.self.inside.storage.now (c.self.inside.at - 1) c.last_active_at-last.result c.last_active_at-last.ensures c.if-last-eq0.false (entry_from_ref c.entry.result c.entry.ensures.0) x y c.self.invariant.0 c.self.invariant.1 c.entry.ensures.1)
 
 pub returns-clause-below : goal.returns-clause-below
 returns-clause-below c =
     let k = c.self.inside.storage.now in
-    numbered-at (length (names_in k)) (length (labels_in k)) k.entries c.self.invariant.0.kept.coded (c.last_active_at-last.result.disjoint - 1) (seen c.entry.result c.entry.ensures.0) c.entry.ensures.1
+    numbered-at (length (names_in k)) (length (labels_in k)) k.entries c.self.invariant.0.kept.coded (c.last_active_at-last.result.disjoint - 1) (entry_from_ref c.entry.result c.entry.ensures.0) c.entry.ensures.1

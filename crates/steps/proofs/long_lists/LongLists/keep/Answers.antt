@@ -8,7 +8,7 @@ returns-clause-kept c =
     let names = c.args.frames.now.names in
     let is = c.in_ok-list.ensures in
     subst (AreKept S names) (sym c.in_ok-push.ensures.items)
-    (kept-push S names _ c.in_ok-list.list c.requires.kept (λ s stands. made-of S names c.args.position s _ c.in_ok-list.list (c.cited_from-cited.ensures s (ap (stmt_at S) (sym is.at) ∙ stands)) is))
+    (kept-push S names _ c.in_ok-list.list c.requires.kept (λ s stands. made-of S names c.args.position s _ c.in_ok-list.list (c.buffered_view-cited.ensures s (ap (stmt_at S) (sym is.at) ∙ stands)) is))
 
 pub returns-clause-index : goal.returns-clause-index
 returns-clause-index c =

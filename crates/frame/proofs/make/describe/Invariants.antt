@@ -1,8 +1,0 @@
-use Rattle.frame.proofs.Words.{◌≡◌, take, map, told, required_at, typecode_at}
-use Rattle.frame.proofs.make.describe.Given as goal
-
-abbrev pub invariant-loop-position : goal.invariant-loop-position
-invariant-loop-position l = record {
-  required : map told l.required.items ≡ map (required_at l.storage.entries) (take l.position-index l.hypotheses);
-  typecodes : l.typecodes.items ≡ map (typecode_at l.storage.entries) (take l.position-index l.hypotheses);
-}

@@ -1,9 +1,0 @@
-use Rattle.names.specs.Stored.Table.{AreNameKeys, OverflowGrows, AreReachable}
-use Rattle.names.proofs.table.table.Given as goal
-
-abbrev pub invariant-loop-code : goal.invariant-loop-code
-invariant-loop-code l = record {
-  name_keys : AreNameKeys l.name_keys l.texts;
-  overflow_grows : OverflowGrows l.initial.name_keys l.name_keys;
-  reachable : AreReachable l.code l.slots.items l.name_keys l.texts;
-}
