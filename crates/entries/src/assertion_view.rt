@@ -59,6 +59,16 @@ impl<'a> Hypotheses<'a> {
         Hypotheses { numbers }
     }
 
+    /// Returns a view of the same hypotheses, as `Groups::copy`.
+    #[inline(always)]
+    pub fn copy(&self) -> Hypotheses<'a>
+        ensures { result ≡ self.now }
+    {
+        Hypotheses {
+            numbers: self.numbers,
+        }
+    }
+
     /// Returns how many hypotheses there are.
     pub fn len(&self) -> usize
         ensures { result ≡ length self.now }

@@ -33,6 +33,19 @@ impl<'a> Groups<'a> {
         Groups { spans, numbers }
     }
 
+    /// Returns a view of the same lists.
+    ///
+    /// A view that is passed on by reference has to lie in memory, so a caller with a rare path passes a copy there.
+    #[inline(always)]
+    pub fn copy(&self) -> Groups<'a>
+        ensures { result ≡ self.now }
+    {
+        Groups {
+            spans: self.spans,
+            numbers: self.numbers,
+        }
+    }
+
     /// Returns how many lists there are.
     pub fn len(&self) -> usize
         ensures { result ≡ length self.now }

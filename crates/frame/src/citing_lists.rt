@@ -45,6 +45,9 @@ pub fn fill_citing_lists(
     ensures filled { OnOk result (IsFilledForCitation storage.now at buffers.old.hypotheses buffers.new) }
 {
     let variables = variables(alloc, storage, &buffers.hypotheses)?;
+    if !has_more_symbols(storage, at, first_budget(&variables)) {
+        return fill_from_hypotheses(storage, at, buffers);
+    }
     let counts = counts(alloc, storage, at, &variables)?;
     if find_pairs(storage, kept, at, facts, buffers, &variables, &counts)? {
         encode_all_hypotheses(storage, buffers)
@@ -62,6 +65,7 @@ fn variables(alloc: Global, storage: &Storage, hypotheses: &[u32]) -> Result<Vec
     ensures { IfOk result (λ list. (c : ℕ) → list_any (λ n. n == c) list.items ≡ is_typed (map (required_at storage.now.entries) hypotheses.now) c) }
 {
     let mut list = Vec::new(alloc);
+    list.reserve(hypotheses.len())?;
     for position in hypotheses {
         let entry = storage.entries.entry(*position as usize - 1);
         add_variable(hypothesis(entry, *position), &mut list)?;
@@ -142,20 +146,26 @@ fn find_pairs(
     ensures none { IfOk result (λ all. all ≡ false → buffers.new.groups ≡ []) }
 {
     facts.make_room();
-    let squared = variables.len().saturating_mul(variables.len());
-    let mut most = squared.saturating_mul(PAIR_COST);
+    let mut most = first_budget(variables);
     for _ in 0..MOST_TRIES {
-        if !has_more_symbols(storage, at, most) {
-            return Ok(false);
-        }
         facts.set_budget(most);
         if add_pairs(storage, kept, at, facts, buffers, variables, counts)? {
             return Ok(true);
         }
         buffers.clear_groups();
         most = most.saturating_mul(4);
+        if !has_more_symbols(storage, at, most) {
+            return Ok(false);
+        }
     }
     Ok(false)
+}
+
+/// Returns how many symbols of `$d` take about as long to go through as the searches for all pairs of the variables, if these
+/// have known facts.
+fn first_budget(variables: &[u32]) -> usize {
+    let squared = variables.len().saturating_mul(variables.len());
+    squared.saturating_mul(PAIR_COST)
 }
 
 /// Returns whether the `$d` that are active at a position have more than `most` symbols together.

@@ -111,7 +111,7 @@ impl DisjointCache {
         if groups.len() == 0 {
             return Ok(true);
         }
-        self.decide_groups(pairs, groups, symbols, images)
+        self.decide_groups(pairs, &groups.copy(), symbols, images)
     }
 
     /// Returns the answer of `are_groups_disjoint`, given that there are groups.

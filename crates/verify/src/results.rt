@@ -245,7 +245,8 @@ impl Results {
             if let Hypothesis::Essential(position) = hypotheses.get(k) {
                 let expr = frames.expr(position as usize);
                 if expr.len() >= LONG_EXPRESSION {
-                    return self.long_hypotheses_match(frames, cited, hypotheses, k, remaining);
+                    let hypotheses = hypotheses.copy();
+                    return self.long_hypotheses_match(frames, cited, &hypotheses, k, remaining);
                 }
                 if !self.symbols.matches(&self.images, expr, places[k]) {
                     return false;
