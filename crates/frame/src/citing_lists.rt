@@ -45,11 +45,7 @@ pub fn fill_citing_lists(
     ensures filled { OnOk result (IsFilledForCitation storage.now at buffers.old.hypotheses buffers.new) }
 {
     let variables = variables(alloc, storage, &buffers.hypotheses)?;
-    if !has_more_symbols(storage, at, first_budget(&variables)) {
-        return fill_from_hypotheses(storage, at, buffers);
-    }
-    let counts = counts(alloc, storage, at, &variables)?;
-    if find_pairs(storage, kept, at, facts, buffers, &variables, &counts)? {
+    if find_pairs(alloc, storage, kept, at, facts, buffers, &variables)? {
         encode_all_hypotheses(storage, buffers)
     } else {
         fill_from_hypotheses(storage, at, buffers)
@@ -127,13 +123,13 @@ fn count_at(counts: &[usize], index: usize) -> usize {
 ///
 /// Errors: an allocation fails. Cost: at most a constant times that of the cheaper of the two.
 fn find_pairs(
+    alloc: Global,
     storage: &Storage,
     kept: &PairFacts,
     at: usize,
     facts: &mut PairFacts,
     buffers: &mut FrameBuffers,
     variables: &[u32],
-    counts: &[usize],
 ) -> Result<bool, AllocError>
     requires place { IsSearchPosition storage.now at }
     requires kept { AreFacts (numbered storage.now) kept.now }
@@ -145,11 +141,15 @@ fn find_pairs(
     ensures same { IfOk result (λ all. HasSameHypotheses buffers.old buffers.new) }
     ensures none { IfOk result (λ all. all ≡ false → buffers.new.groups ≡ []) }
 {
-    facts.make_room();
     let mut most = first_budget(variables);
+    if !has_more_symbols(storage, at, most) {
+        return Ok(false);
+    }
+    let counts = counts(alloc, storage, at, variables)?;
+    facts.make_room();
     for _ in 0..MOST_TRIES {
         facts.set_budget(most);
-        if add_pairs(storage, kept, at, facts, buffers, variables, counts)? {
+        if add_pairs(storage, kept, at, facts, buffers, variables, &counts)? {
             return Ok(true);
         }
         buffers.clear_groups();

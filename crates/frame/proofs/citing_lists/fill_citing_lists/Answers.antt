@@ -9,7 +9,7 @@ typed c = subst (λ ps. (d : ℕ) → list_any (λ n. n == d) c.in_ok-variables.
 pub find_pairs-requires-clause-below : goal.find_pairs-requires-clause-below
 find_pairs-requires-clause-below c =
     let k = c.args.storage.now in
-    subst (AreBelow (length (names_in k))) (sym c.deref-3.ensures.value)
+    subst (AreBelow (length (names_in k))) (sym c.deref-2.ensures.value)
     (all-below (length (names_in k)) (length (labels_in k)) k.entries c.args.buffers.now.hypotheses c.in_ok-variables.variables.items c.requires.place.stored.kept.coded c.requires.hypotheses
     (typed (goal.at.find_pairs-requires-clause-below c).In_ok-variables))
 
@@ -33,6 +33,6 @@ returns-then-branch-clause-filled c =
     let found = c.in_ok-find_pairs.ensures.pairs c.if-branch.true in
     let told = c.encode_all_hypotheses.ensures in
     both-ok c.encode_all_hypotheses.result
-    (λ required typecodes. inr (described-pairs k c.args.at old.hypotheses c.deref-3.result.now old c.find_pairs.new.buffers c.encode_all_hypotheses.new.buffers found c.requires.undescribed.2 refl told.hypotheses told.groups required typecodes
-    (λ d. ap (list_any (λ n. n == d)) c.deref-3.ensures.value ∙ typed (goal.at.returns-then-branch-clause-filled c).In_ok-variables d)))
+    (λ required typecodes. inr (described-pairs k c.args.at old.hypotheses c.deref-2.result.now old c.find_pairs.new.buffers c.encode_all_hypotheses.new.buffers found c.requires.undescribed.2 refl told.hypotheses told.groups required typecodes
+    (λ d. ap (list_any (λ n. n == d)) c.deref-2.ensures.value ∙ typed (goal.at.returns-then-branch-clause-filled c).In_ok-variables d)))
     told.required told.typecodes
