@@ -180,10 +180,10 @@ symbols-variable v f g Old ws new w next n place image grows at takes h = record
 }
 
 -- a variable at a place below 64 is added
-pub symbols-near : (v : Numbered) (f : Places) (bits n place : ℕ) (image : List ℕ) → place < 64 → IsAt f place (get_or image n 0) → AddsSymbols v f (HasPlace []) (HasEither [] (near_word bits)) n image
-    → AddsSymbols v f (HasPlace []) (HasEither [] (near_word (bit_or bits (1 * 2 ^ place % 2 ^ 64)))) (n + 1) image
-symbols-near v f bits n place image low at h =
-    symbols-variable v f f (HasPlace []) [] [] (near_word bits) (near_word (bit_or bits (1 * 2 ^ place % 2 ^ 64))) n place image (grows-own f) at (takes-here [] (near_word bits) place 0 place low (omega arith) refl) h
+pub symbols-near : (v : Numbered) (f g : Places) (bits n place : ℕ) (image : List ℕ) → Grows f g → place < 64 → IsAt g place (get_or image n 0)
+    → AddsSymbols v f (HasPlace []) (HasEither [] (near_word bits)) n image → AddsSymbols v g (HasPlace []) (HasEither [] (near_word (bit_or bits (1 * 2 ^ place % 2 ^ 64)))) (n + 1) image
+symbols-near v f g bits n place image grows low at h =
+    symbols-variable v f g (HasPlace []) [] [] (near_word bits) (near_word (bit_or bits (1 * 2 ^ place % 2 ^ 64))) n place image grows at (takes-here [] (near_word bits) place 0 place low (omega arith) refl) h
 
 pub symbols-near_end : (v : Numbered) (f : Places) (bits n : ℕ) (image : List ℕ) → n ≡ length image → AddsSymbols v f (HasPlace []) (HasEither [] (near_word bits)) n image → AddsSymbols v f (HasPlace []) (HasPlace (near_word bits ∷ [])) (length image) image
 symbols-near_end v f bits n image end h =

@@ -47,7 +47,7 @@ pub use Rattle.subst.specs.Stored.DisjointTables.{AreTables, are_named_disjoint}
 pub use Rattle.subst.specs.Stored.ImagePairs.{AreDisjointPairs, IsDisjointPair, IsInside, RecordsPair}
 pub use Rattle.subst.specs.Stored.ImageVariables.{AddsImage, Appends, AppendsWord, AreImagesRecorded, AreRead, GrowsWords, IsIn, IsLong, IsRangeOf, RecordsReadImage, AppendsAndChangesList, ChangesOnlyList, RecordedImages, RecordsImage}
 pub use Rattle.subst.specs.Stored.PlaceSets.{AddsFirst, AddsSymbols, AddsWord, AddsWords, ArePlacesBelow, HasAmong, HasBit, HasEither, HasPlace, TakesPlace, near_word, no_word}
-pub use Rattle.subst.specs.Stored.Slots.{AreUpTo, placed}
+pub use Rattle.subst.specs.Stored.ImageTables.{AreUpTo, placed}
 pub use Rattle.subst.specs.Stored.SymbolMarks.{AreMarksOf, HasBoth, IsMarked, TakesMark, TakesPlaces, number_at}
 pub use Rattle.subst.specs.Stored.VariablePlaces.{AreBitsOf, ArePlaced, ArePlacesOf, Grows, HasVariable, IsAmong, IsAt, IsListed, IsPlace, IsVariable, Places, are_places_disjoint, variable_name}
 pub use Rattle.subst.specs.Stored.Written.{IsWritten, LacksRoom}
@@ -57,7 +57,6 @@ pub use Rattle.subst.specs.contracts.subject.Subject.{the_row, the_type}
 pub use Rattle.subst.specs.declared.disjoint_rows.RowWord.{RowWord}
 pub use Rattle.subst.specs.declared.disjoint_tables.DisjointTables.{DisjointTables}
 pub use Rattle.subst.specs.declared.image_pairs.ImagePair.{ImagePair}
-pub use Rattle.subst.specs.declared.image_ranges.Slot.{Slot}
 pub use Rattle.subst.specs.declared.image_variables.LongImage.{LongImage}
 pub use Rattle.subst.specs.declared.image_variables.ReadImage.{ReadImage}
 pub use Rattle.subst.specs.declared.image_variables.WordRange.{WordRange}

@@ -1,42 +1,39 @@
 //! Images that are ranges of a buffer, by the number of their symbol.
-ghost use Rattle.std.specs.Prelude.{◌≡◌, ℕ, ◌+◌, ◌<◌, ◌≤◌, ◌++◌, [], ◌==◌, ◌^◌, nat_eq, if◌then◌else◌, length, replicate, Some, OnOk, OnErr};
+ghost use Rattle.std.specs.Prelude.{◌≡◌, ℕ, ◌<◌, ◌≤◌, ◌++◌, [], ◌==◌, ◌^◌, nat_eq, if◌then◌else◌, List, length, replicate, Some, OnOk, OnErr};
 ghost use Rattle.std.specs.Map.{lookup};
+ghost use Rattle.subst.specs.declared.symbol_range.SymbolRange.{SymbolRange};
 
 use crate::symbol_range::SymbolRange;
 use std::alloc::{AllocError, Global};
 use std::marker::Model;
 
-/// The image of one symbol, if it was set in this round.
-#[derive(Clone, Copy, Drop)]
-struct Slot {
-    round: u32,
-    place: SymbolRange,
-}
+/// The round in which no image is set.
+const NO_ROUND: u32 = 0;
 
-/// A slot that was set in no round.
-const UNSET: Slot = Slot {
-    round: 0,
-    place: SymbolRange { start: 0, end: 0 },
-};
+/// The range of a symbol that has no image.
+const NO_PLACE: SymbolRange = SymbolRange { start: 0, end: 0 };
 
-/// A table that grows to have an index gets twice as many slots and this many more, so that it usually has those of constants
+/// A table that grows to have an index becomes twice as long and this much longer, so that it usually has those of constants
 /// too.
 const SPARE: usize = 1024;
 
-/// A read-only view of a table of images, which a loop keeps in registers.
+/// A read-only view of the tables of images, which a loop keeps in registers.
 #[derive(Drop)]
 pub(crate) struct ImageTable<'a> {
-    slots: &'a [Slot],
+    rounds: &'a [u32],
+    places: &'a [SymbolRange],
     round: u32,
 }
 
 impl<'a> Model for ImageTable<'a> {
-    ghost use Rattle.std.specs.Prelude.{ℕ, List};
-    ghost use Rattle.subst.{specs.declared.symbol_range.SymbolRange.SymbolRange, specs.Stored.Slots.placed};
+    ghost use Rattle.std.specs.Prelude.{ℕ, ◌≤◌, List, length};
+    ghost use Rattle.subst.{specs.declared.symbol_range.SymbolRange.SymbolRange, specs.Stored.ImageTables.placed};
 
     ghost Value = { List (ℕ × SymbolRange) };
 
-    ghost view = { λ a. placed a.round 0 a.slots.now };
+    ghost view = { λ a. placed a.round 0 a.rounds.now a.places.now };
+
+    ghost invariant = { λ a. length a.rounds.now ≤ length a.places.now };
 }
 
 impl<'a> ImageTable<'a> {
@@ -45,34 +42,36 @@ impl<'a> ImageTable<'a> {
     pub(crate) fn get(&self, symbol: u32) -> Option<SymbolRange>
         ensures { result ≡ lookup (nat_eq symbol) self.now }
     {
-        match self.slots.get(symbol as usize) {
-            Some(slot) if slot.round == self.round => Some(slot.place),
+        match self.rounds.get(symbol as usize) {
+            Some(round) if *round == self.round => Some(self.places[symbol as usize]),
             _ => None,
         }
     }
 }
 
 /// A table of the images of symbols, each a range of a buffer that is kept elsewhere. Contracts see the symbols with their
-/// ranges.
+/// ranges. Rounds and ranges are two lists, since most look-ups are of constants, which need the round alone.
 ///
 /// Cost: finding an image and removing all take constant time; so does setting one, unless the table grows. The table is about
 /// twice as long as the greatest symbol number that was set.
 #[derive(Drop)]
 pub struct ImageRanges {
-    slots: Vec<Slot>,
+    /// The round in which the image of a symbol was set, by its number.
+    rounds: Vec<u32>,
+    places: Vec<SymbolRange>,
     round: u32,
 }
 
 impl Model for ImageRanges {
-    ghost use Rattle.std.specs.Prelude.{ℕ, ◌≤◌, List};
-    ghost use Rattle.subst.specs.Stored.Slots.{AreUpTo, placed};
+    ghost use Rattle.std.specs.Prelude.{ℕ, ◌≤◌, List, length};
+    ghost use Rattle.subst.specs.Stored.ImageTables.{AreUpTo, placed};
     ghost use Rattle.subst.specs.declared.symbol_range.SymbolRange.{SymbolRange};
 
     ghost Value = { List (ℕ × SymbolRange) };
 
-    ghost view = { λ a. placed a.round 0 a.slots.items };
+    ghost view = { λ a. placed a.round 0 a.rounds.items a.places.items };
 
-    ghost invariant = { λ a. (1 ≤ a.round) × AreUpTo a.round a.slots.items };
+    ghost invariant = { λ a. (1 ≤ a.round) × AreUpTo a.round a.rounds.items × (length a.rounds.items ≤ length a.places.items) };
 }
 
 impl ImageRanges {
@@ -81,7 +80,8 @@ impl ImageRanges {
         ensures { result ≡ [] }
     {
         ImageRanges {
-            slots: Vec::new(alloc),
+            rounds: Vec::new(alloc),
+            places: Vec::new(alloc),
             round: 1,
         }
     }
@@ -93,7 +93,7 @@ impl ImageRanges {
         if self.round < u32::MAX {
             self.round += 1;
         } else {
-            self.slots.clear();
+            self.rounds.clear();
             self.round = 1;
         }
     }
@@ -107,11 +107,11 @@ impl ImageRanges {
         ensures same { OnErr result (self.new ≡ self.old) }
     {
         let index = symbol as usize;
-        if index >= self.slots.len() {
-            add_slots(&mut self.slots, index)?;
+        if index >= self.rounds.len() {
+            widen(&mut self.rounds, &mut self.places, index)?;
         }
-        let round = self.round;
-        self.slots[index] = Slot { round, place };
+        self.rounds[index] = self.round;
+        self.places[index] = place;
         Ok(())
     }
 
@@ -123,29 +123,40 @@ impl ImageRanges {
         self.table().get(symbol)
     }
 
-    /// Returns a read-only view of the table.
+    /// Returns a read-only view of the tables.
     #[inline(always)]
     pub(crate) fn table(&self) -> ImageTable<'_>
         ensures { result ≡ self.now }
     {
         ImageTable {
-            slots: &self.slots,
+            rounds: &self.rounds,
+            places: &self.places,
             round: self.round,
         }
     }
 }
 
-/// Appends slots up to that index, and about as many more.
+/// Makes both tables longer than an index, and about twice as long.
 ///
-/// Errors: an allocation fails; the slots are unchanged.
+/// Errors: an allocation fails; the rounds are unchanged.
 #[cold]
 #[inline(never)]
-fn add_slots(slots: &mut Vec<Slot>, index: usize) -> Result<(), AllocError>
-    requires { (length slots.old.items ≤ index) × (index < 2 ^ 32) }
-    ensures ok { OnOk result ((more : ℕ) × (slots.new.items ≡ slots.old.items ++ replicate more UNSET)) }
-    ensures there { OnOk result (index < length slots.new.items) }
-    ensures err { OnErr result (slots.new.items ≡ slots.old.items) }
+fn widen(
+    rounds: &mut Vec<u32>,
+    places: &mut Vec<SymbolRange>,
+    index: usize,
+) -> Result<(), AllocError>
+    requires index { (length rounds.old.items ≤ index) × (index < 2 ^ 32) }
+    requires ranges { length rounds.old.items ≤ length places.old.items }
+    ensures places { (more : List SymbolRange) × (places.new.items ≡ places.old.items ++ more) }
+    ensures ok { OnOk result ((more : ℕ) × (rounds.new.items ≡ rounds.old.items ++ replicate more 0)) }
+    ensures there { OnOk result ((index < length rounds.new.items) × (length rounds.new.items ≤ length places.new.items)) }
+    ensures err { OnErr result (rounds.new.items ≡ rounds.old.items) }
 {
-    slots.resize(2 * index + SPARE, UNSET)?;
+    let count = 2 * index + SPARE;
+    if places.len() < count {
+        places.resize(count, NO_PLACE)?;
+    }
+    rounds.resize(count, NO_ROUND)?;
     Ok(())
 }

@@ -289,7 +289,7 @@ impl ImageVariables {
 
     /// Reads the places of the variables of an image, and returns the range of their words.
     ///
-    /// Cost: a step for each symbol, or two if one of them was not met before or a place is not below 64.
+    /// Errors: an allocation fails. Cost: a step for each symbol, or two if a place is not below 64.
     #[inline(always)]
     fn read(
         &mut self,
@@ -304,13 +304,13 @@ impl ImageVariables {
         ensures rest { AppendsAndChangesList self.old self.new }
         ensures range { IfOk result (λ range. IsRangeOf pairs.now variables.new self.new.words range image.now) }
     {
-        match variables.near_bits(pairs, image) {
+        match variables.near_bits(pairs, image)? {
             Some(bits) => self.append_word(PlaceWord { index: 0, bits }),
             None => self.read_far(pairs, variables, image),
         }
     }
 
-    /// Reads the places of the variables of an image, not all of which are known and below 64.
+    /// Reads the places of the variables of an image, not all of which are below 64.
     #[cold]
     #[inline(never)]
     fn read_far(

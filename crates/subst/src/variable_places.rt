@@ -135,24 +135,30 @@ impl VariablePlaces {
         Ok(Some(place))
     }
 
-    /// Returns the places of the variables among the symbols, as bits, or `None` if a symbol was not met before or a place
-    /// is not below 64.
+    /// Returns the places of the variables among the symbols, as bits, or `None` if a place is not below 64.
     ///
-    /// Cost: a step for each symbol.
+    /// Errors: an allocation fails. Cost: that of `place_of` for each symbol.
     #[inline(always)]
-    pub fn near_bits(&self, pairs: &Pairs<'_>, image: &[u32]) -> Option<u64>
-        requires { ArePlaced pairs.now self.now }
-        ensures { IfSome result (λ bits. AddsSymbols pairs.now self.now (HasPlace []) (HasPlace (near_word bits ∷ [])) (length image.now) image.now) }
+    pub fn near_bits(
+        &mut self,
+        pairs: &Pairs<'_>,
+        image: &[u32],
+    ) -> Result<Option<u64>, AllocError>
+        requires placed { ArePlaced pairs.now self.old }
+        requires below { AreBelow (length pairs.now.names) image.now }
+        ensures placed { ArePlaced pairs.now self.new }
+        ensures grows { Grows self.old self.new }
+        ensures bits { IfOk result (λ near. IfSome near (λ bits. AddsSymbols pairs.now self.new (HasPlace []) (HasPlace (near_word bits ∷ [])) (length image.now) image.now)) }
     {
         let mut bits = 0;
         for symbol in image {
-            match self.known(*symbol)? {
+            match self.place_of(pairs, *symbol)? {
                 Some(place) if place < 64 => bits |= 1u64 << place,
-                Some(_) => return None,
+                Some(_) => return Ok(None),
                 None => {}
             }
         }
-        Some(bits)
+        Ok(Some(bits))
     }
 
     /// Returns the places below 64 of the variables in a list, as bits, each variable once.

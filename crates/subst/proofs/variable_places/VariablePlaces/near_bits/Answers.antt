@@ -1,28 +1,32 @@
-use Rattle.subst.proofs.Words.{[], arith, get_or, HasEither, HasPlace, near_word}
-use Rattle.subst.proofs.VariablePlaceLemmas.{grows-own, listed-place}
+use Rattle.subst.proofs.Words.{[], arith, below-at, length, HasEither, HasPlace, near_word}
+use Rattle.subst.proofs.VariablePlaceLemmas.{grows-own, grows-twice}
 use Rattle.subst.proofs.PlaceSetLemmas.{symbols-constant, symbols-near, symbols-near_end, symbols-start}
 use Rattle.subst.proofs.variable_places.VariablePlaces.near_bits.Goals as goal
 use Rattle.subst.proofs.variable_places.VariablePlaces.near_bits.Goals.{in-Some, in-None}
 
 pub loop-symbol-init : goal.loop-symbol-init
-loop-symbol-init c = symbols-start c.args.pairs.now c.args.self.now [] c.args.image.now
+loop-symbol-init c = (c.requires.placed, grows-own c.args.self.now, symbols-start c.args.pairs.now c.args.self.now [] c.args.image.now)
+
+pub place_of-requires-clause-named : goal.place_of-requires-clause-named
+place_of-requires-clause-named c = below-at (length c.args.pairs.now.names) c.args.image.now c.loop-symbol.symbol-index 0 c.requires.below c.loop-symbol-test.true
 
 pub loop-symbol-preserved : goal.loop-symbol-preserved
 loop-symbol-preserved c =
     let v = c.args.pairs.now in
-    let f = c.args.self.now in
     let l = c.loop-symbol in
     let n = l.symbol-index in
     let xs = c.args.image.now in
-    let is = listed-place v f (get_or xs n 0) c.in_ok-place.field-0 c.requires c.in_ok-place.ensures in
+    let g = c.place_of.new.self in
+    let grows = c.place_of.ensures.grows in
+    let more = grows-twice _ _ _ l.invariant.1 grows in
     elim c.match-branch-2.branch [
-      | in-Some w ↦ let at = rw w.in-Some.is at is in rw w.bits-is (symbols-near v f l.bits n w.in-Some.place xs w.if-place-lt64.true at l.invariant)
-      | in-None w ↦ let none = rw w.in-None.is at is in rw w.bits-is (symbols-constant v f f (HasPlace []) (HasEither [] (near_word l.bits)) n xs (grows-own f) none l.invariant)
+      | in-Some w ↦ let at = rw w.in-Some.is at c.in_ok-place_of.ensures.place in rw w.bits-is (c.place_of.ensures.placed, more, symbols-near v l.self g l.bits n w.in-Some.place xs grows w.if-place-lt64.true at l.invariant.2)
+      | in-None w ↦ let none = rw w.in-None.is at c.in_ok-place_of.ensures.place in rw w.bits-is (c.place_of.ensures.placed, more, symbols-constant v l.self g (HasPlace []) (HasEither [] (near_word l.bits)) n xs grows none l.invariant.2)
     ]
 
-pub returns : goal.returns
-returns c =
+pub returns-clause-bits : goal.returns-clause-bits
+returns-clause-bits c =
     let l = c.loop-symbol in
     let within = l.auto.symbol-index-end in
     let past = c.loop-symbol-test.false in
-    symbols-near_end c.args.pairs.now c.args.self.now l.bits l.symbol-index c.args.image.now (omega (arith, within, past)) l.invariant
+    symbols-near_end c.args.pairs.now l.self l.bits l.symbol-index c.args.image.now (omega (arith, within, past)) l.invariant.2
