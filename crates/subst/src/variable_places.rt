@@ -139,11 +139,7 @@ impl VariablePlaces {
     ///
     /// Errors: an allocation fails. Cost: that of `place_of` for each symbol.
     #[inline(always)]
-    pub fn near_bits(
-        &mut self,
-        pairs: &Pairs<'_>,
-        image: &[u32],
-    ) -> Result<Option<u64>, AllocError>
+    pub fn near_bits(&mut self, pairs: &Pairs<'_>, image: &[u32]) -> Result<Option<u64>, AllocError>
         requires placed { ArePlaced pairs.now self.old }
         requires below { AreBelow (length pairs.now.names) image.now }
         ensures placed { ArePlaced pairs.now self.new }
