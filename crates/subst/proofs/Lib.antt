@@ -1,7 +1,7 @@
 pub mod Words
 pub mod SymbolRangeLemmas
 pub mod ImageRangesLemmas
-mod SlotLemmas
+mod ImageTableLemmas
 mod WrittenImages
 mod AlikeLemmas
 pub mod MatchLemmas
