@@ -1,5 +1,5 @@
 //! Images that are ranges of a buffer, by the number of their symbol.
-ghost use Rattle.std.specs.Prelude.{◌≡◌, ℕ, ◌<◌, ◌≤◌, ◌++◌, [], ◌==◌, ◌^◌, nat_eq, if◌then◌else◌, List, length, replicate, Some, OnOk, OnErr};
+ghost use Rattle.std.specs.Prelude.{◌≡◌, ℕ, ◌<◌, ◌≤◌, ◌++◌, [], ◌==◌, ◌^◌, nat_eq, if◌then◌else◌, List, length, replicate, slice_set, Some, OnOk, OnErr};
 ghost use Rattle.std.specs.Map.{lookup};
 ghost use Rattle.subst.specs.declared.symbol_range.SymbolRange.{SymbolRange};
 
@@ -110,8 +110,7 @@ impl ImageRanges {
         if index >= self.rounds.len() {
             widen(&mut self.rounds, &mut self.places, index)?;
         }
-        self.rounds[index] = self.round;
-        self.places[index] = place;
+        put(&mut self.rounds, &mut self.places, index, self.round, place);
         Ok(())
     }
 
@@ -134,6 +133,24 @@ impl ImageRanges {
             round: self.round,
         }
     }
+}
+
+/// Writes the round and the range of an image into both tables.
+#[inline(always)]
+fn put(
+    rounds: &mut Vec<u32>,
+    places: &mut Vec<SymbolRange>,
+    index: usize,
+    round: u32,
+    place: SymbolRange,
+)
+    requires rounds { index < length rounds.old.items }
+    requires places { index < length places.old.items }
+    ensures rounds { rounds.new.items ≡ slice_set rounds.old.items index round }
+    ensures places { places.new.items ≡ slice_set places.old.items index place }
+{
+    rounds[index] = round;
+    places[index] = place;
 }
 
 /// Makes both tables longer than an index, and about twice as long.

@@ -20,9 +20,15 @@ loop-symbol-preserved c =
     let grows = c.place_of.ensures.grows in
     let more = grows-twice _ _ _ l.invariant.1 grows in
     elim c.match-branch-2.branch [
-      | in-Some w ↦ let at = rw w.in-Some.is at c.in_ok-place_of.ensures.place in rw w.bits-is (c.place_of.ensures.placed, more, symbols-near v l.self g l.bits n w.in-Some.place xs grows w.if-place-lt64.true at l.invariant.2)
-      | in-None w ↦ let none = rw w.in-None.is at c.in_ok-place_of.ensures.place in rw w.bits-is (c.place_of.ensures.placed, more, symbols-constant v l.self g (HasPlace []) (HasEither [] (near_word l.bits)) n xs grows none l.invariant.2)
+      | in-Some w ↦ let at = rw w.in-Some.is at c.in_ok-place.ensures.place in rw w.bits-is (c.place_of.ensures.placed, more, symbols-near v l.self g l.bits n w.in-Some.place xs grows w.if-place-lt64.true at l.invariant.2)
+      | in-None w ↦ let none = rw w.in-None.is at c.in_ok-place.ensures.place in rw w.bits-is (c.place_of.ensures.placed, more, symbols-constant v l.self g (HasPlace []) (HasEither [] (near_word l.bits)) n xs grows none l.invariant.2)
     ]
+
+pub returns-in_err-place-clause-grows : goal.returns-in_err-place-clause-grows
+returns-in_err-place-clause-grows c = grows-twice _ _ _ c.loop-symbol.invariant.1 c.place_of.ensures.grows
+
+pub returns-in-Some-2-clause-grows : goal.returns-in-Some-2-clause-grows
+returns-in-Some-2-clause-grows c = grows-twice _ _ _ c.loop-symbol.invariant.1 c.place_of.ensures.grows
 
 pub returns-clause-bits : goal.returns-clause-bits
 returns-clause-bits c =
