@@ -1,9 +1,10 @@
 -- A compressed proof that is read without its mandatory labels.
-use Rattle.proof_code.proofs.Words.{◌≡◌, ℕ, ◌+◌, ◌-◌, ◌*◌, ◌<◌, suc, ◌≤◌, Bool, true, false, cond, ◌==◌, nat_le, List, [], ◌∷◌, ◌++◌, length, take, drop, slice_index_or, Option, Some, None, refl, list_all, sym, ◌∙◌, ap, arith, true≢false, length-append, append_assoc, nat_tests, drop_more, list_all-append, none-some, and_parts, Name, is_word, AreWords, Item, items_of, before_rest, IsByteEffect, IsLetterEffect, share_label, IsHeading, Header, header_of, letters_of, starts_with_mark, numbers_from, begin, finish, WritesCompressed, take-append_seam}
+use Rattle.proof_code.proofs.Words.{◌≡◌, ℕ, ◌+◌, ◌-◌, ◌*◌, ◌^◌, ◌<◌, suc, ◌≤◌, true, false, cond, ◌==◌, nat_le, List, [], ◌∷◌, ◌++◌, length, take, drop, slice_index_or, Option, Some, None, refl, list_all, sym, ◌∙◌, ap, arith, true≢false, length-append, append_assoc, nat_tests, drop_more, list_all-append, none-some, and_parts, Name, is_word, AreWords, Item, items_of, before_rest, IsByteEffect, is_last, value_after, ends_number, false_from_ne_true, share_label, IsHeading, Header, header_of, letters_of, starts_with_mark, numbers_from, begin, finish, WritesCompressed, take-append_seam}
 use Rattle.proof_code.proofs.LettersLemmas.{first_bounds, last_bounds}
 use Rattle.proof_code.proofs.LetterItemLemmas.{numbers_from-over, RowIsRead, WritesRow-read, read-WritesRow}
 use Rattle.proof_code.proofs.ListingLemmas.{Counted}
-use Rattle.proof_code.proofs.RowOfNumbers.{joined, by_letter}
+use Rattle.proof_code.proofs.RowOfNumbers.{joined}
+use Rattle.proof_code.proofs.StepLemmas.{by_kind}
 use Rattle.proof_code.proofs.TextLemmas.{letters_of-spaced}
 use Rattle.proof_code.proofs.WritesLemmas.{IsHeader, header-read, row_after, written_after, starts_with_mark-spaced}
 
@@ -33,27 +34,29 @@ module _ (labels : ℕ) (text : List ℕ) (limit digits : ℕ) (numbers : List �
       read ∙ (ap (λ rest. before_rest numbers (numbers_from limit digits (letters_of rest))) (drop_more text index 0 within)
       ∙ (ap (before_rest numbers) (goes rest) ∙ before-more numbers more (numbers_from limit' digits' (letters_of rest))))
 
--- a letter A to Z that takes a word over the limit, however the word ends, gives no numbers; so does a mark after digits
-pub over_limit : (limit most digits letter value : ℕ) (ends : Bool) → IsLetterEffect letter digits value ends → 65 ≤ letter → letter ≤ 90 → limit < 20 * most + 20 → cond ends limit most < value
-    → (text : List ℕ) → numbers_from limit digits (letters_of (letter ∷ text)) ≡ None
-over_limit limit most digits letter value ends is low high room over text =
-    let visible : (letter == 32) ≡ false = grind (arith, nat_tests) in
-    rw visible (by_letter (λ o. o ≡ None) limit digits letter (letters_of text)
-    (λ first.
-    let bounds : (85 ≤ letter) × (letter ≤ 89) = first_bounds letter first in
-    let value_is = is.first bounds.0 bounds.1 in
-    let bound : most < value = rw value_is.1 at over in
-    numbers_from-over limit (5 * digits + (letter - 84)) (letters_of text) (omega (arith, bound, room, value_is.0)))
-    (λ first last.
-    let value_is = is.last (last_bounds letter last).1 in
-    let bound : limit < value = rw value_is.1 at over in
-    let test : nat_le (20 * digits + (letter - 64)) limit ≡ false = grind (arith, nat_tests, bound, value_is.0) in
-    rw test refl)
-    (λ mark none.
-    let value_is = is.mark mark in
-    let bound : limit < value = rw value_is.2 at over in
-    absurd (omega (arith, bound, value_is.0 none)))
-    (λ first last. refl))
+module _ (limit most digits byte : ℕ) (begun : digits ≤ most) (beyond : limit + most < 2 ^ 64) where
+  -- the largest value that is valid with the byte
+  abbrev bound : ℕ
+  bound = cond (ends_number byte) limit most
+
+  -- letters with a byte whose value is not valid give no numbers
+  pub over_limit : limit < 20 * most + 20 → bound < value_after digits byte → (text : List ℕ) → numbers_from limit digits (letters_of (byte ∷ text)) ≡ None
+  over_limit room over text =
+      by_kind (numbers_from limit digits (letters_of (byte ∷ text)) ≡ None) byte
+      (λ f.
+      let bounds = first_bounds byte f in
+      let tests : ((byte == 32) ≡ false) × ((byte == 90) ≡ false) × (is_last byte ≡ false) = (grind (arith, nat_tests, bounds), grind (arith, nat_tests, bounds), grind (arith, nat_tests, bounds)) in
+      rw (tests.0, f) (numbers_from-over limit (5 * digits + (byte - 84)) (letters_of text) (omega (arith, room, rw (tests.1, tests.2, f) at over))))
+      (λ f l.
+      let bounds = last_bounds byte l in
+      let test : (byte == 32) ≡ false = grind (arith, nat_tests, bounds) in
+      let above : nat_le (20 * digits + (byte - 64)) limit ≡ false = grind (arith, nat_tests, rw (f, l) at over) in
+      rw (test, f, l, above) refl)
+      (λ e. absurd (omega (arith, begun, rw e at over)))
+      (λ e.
+      let some : (digits == 0) ≡ false = false_from_ne_true (digits == 0) (λ z. absurd (omega (arith, rw (e, z) at over))) in
+      rw (e, some) refl)
+      (λ f l s m. rw (s, f, l, m) refl)
 
 -- ---- the whole proof
 

@@ -1,65 +1,118 @@
--- The table of the letters, and the value that it gives for a letter and the digits before it.
-use Rattle.proof_code.proofs.Words.{◌≡◌, ℕ, zero, suc, ◌+◌, ◌-◌, ◌*◌, ◌<◌, ◌≤◌, cond, ◌==◌, nat_le, List, [], ◌∷◌, refl, sym, ◌∙◌, ap, arith, map, get_or, range_with_len, get_or-map-range_with_len, cond_both, nat_tests, IsLetterEffect, ◌%◌, ◌^◌, bit_and, and_le_r, and_mask, STEPS}
+-- The table of the bytes, and the value that it gives for a byte and the digits before it.
+use Rattle.proof_code.proofs.Words.{◌≡◌, ℕ, ◌+◌, ◌-◌, ◌*◌, ◌<◌, ◌≤◌, true, false, cond, ◌==◌, [], refl, sym, ◌∙◌, ap, arith, map, get_or, range_with_len, get_or-map-range_with_len, cases_Bool, inl, inr, eqb-true, nat_tests, is_first, is_last, value_after, ends_number, digits_after, limit_after, ◌%◌, ◌^◌, bit_and, and_le_r, and_mask, ByteStep, STEPS}
+use Rattle.proof_code.proofs.LettersLemmas.{first_bounds, last_bounds}
 
--- the four numbers of a letter, where `A` is 0
-abbrev step : ℕ → List ℕ
-step i = cond (nat_le i 19) (20 ∷ (i + 1) ∷ 0 ∷ 1 ∷ []) (cond (nat_le i 24) (5 ∷ (i - 19) ∷ (2 ^ 64 - 1) ∷ 0 ∷ []) ((2 ^ 64 - 1) ∷ 0 ∷ 0 ∷ 1 ∷ []))
+-- the kind of a byte, as a property may depend on it
+pub by_kind : (P : Type 0) (byte : ℕ)
+    → (is_first byte ≡ true → P)
+    → (is_first byte ≡ false → is_last byte ≡ true → P)
+    → (byte ≡ 32 → P)
+    → (byte ≡ 90 → P)
+    → (is_first byte ≡ false → is_last byte ≡ false → (byte == 32) ≡ false → (byte == 90) ≡ false → P) → P
+by_kind P byte first last space mark other = elim (cases_Bool (is_first byte)) [
+  | inl f ↦ first f
+  | inr f ↦ elim (cases_Bool (is_last byte)) [
+    | inl l ↦ last f l
+    | inr l ↦ elim (cases_Bool (byte == 32)) [
+      | inl s ↦ space (eqb-true byte 32 s)
+      | inr s ↦ elim (cases_Bool (byte == 90)) [
+        | inl m ↦ mark (eqb-true byte 90 m)
+        | inr m ↦ other f l s m
+      ]
+    ]
+  ]
+]
 
-columns : (place : ℕ) → place < 4 → map (λ i. get_or STEPS (4 * i + place) 0) (range_with_len 0 26) ≡ map (λ i. get_or (step i) place 0) (range_with_len 0 26)
-columns zero h = refl
-columns (suc zero) h = refl
-columns (suc (suc zero)) h = refl
-columns (suc (suc (suc zero))) h = refl
-columns (suc (suc (suc (suc place)))) h = absurd (omega (arith, h))
+-- ---- the columns of the table
 
--- the table holds these numbers
-step-read : (place i at : ℕ) → place < 4 → i < 26 → at ≡ 4 * i + place → get_or STEPS at 0 ≡ get_or (step i) place 0
-step-read place i at few h is =
-    ap (λ n. get_or STEPS n 0) is ∙ (sym (get_or-map-range_with_len (λ i. get_or STEPS (4 * i + place) 0) 0 26 i i 0 h (omega arith))
-    ∙ (ap (λ xs. get_or xs i 0) (columns place few) ∙ get_or-map-range_with_len (λ i. get_or (step i) place 0) 0 26 i i 0 h (omega arith)))
+-- one number for each kind of byte
+abbrev of_kind : ℕ → ℕ → ℕ → ℕ → ℕ → ℕ → ℕ
+of_kind first last space mark other byte = cond (is_first byte) first (cond (is_last byte) last (cond (byte == 32) space (cond (byte == 90) mark other)))
 
-abbrev value : ℕ → ℕ → ℕ → ℕ
-value digits factor digit = (digits * factor) % 2 ^ 64 + digit
+abbrev factor_of : ℕ → ℕ
+factor_of byte = of_kind 5 20 1 (2 ^ 64 - 1) 0 byte
 
--- the value of the digits with a letter after them, by four numbers, and how many numbers the letter ends
-abbrev Makes : ℕ → ℕ → ℕ → ℕ → ℕ → ℕ → Type 0
-Makes letter digits factor digit kept ends =
-    (value digits factor digit < 2 ^ 64) × IsLetterEffect letter digits (value digits factor digit) (ends == 1)
-    × (bit_and (value digits factor digit) kept ≡ cond (ends == 1) 0 (value digits factor digit)) × (ends ≤ 1)
+abbrev added_of : ℕ → ℕ
+added_of byte = of_kind (byte - 84) (byte - 64) 0 0 (2 ^ 64 - 1) byte
 
-module _ (letter digits : ℕ) (low : 65 ≤ letter) (high : letter ≤ 90) (small : 20 * digits + 26 < 2 ^ 64) where
-  abbrev By : List ℕ → Type 0
-  By numbers = Makes letter digits (get_or numbers 0 0) (get_or numbers 1 0) (get_or numbers 2 0) (get_or numbers 3 0)
+abbrev mask_of : ℕ → ℕ
+mask_of byte = cond (ends_number byte) 0 (2 ^ 64 - 1)
 
-  -- no bit of the value is kept
-  none : (n : ℕ) → bit_and n 0 ≡ 0
-  none n = omega (arith, and_le_r n 0)
+-- two functions that agree on all bytes
+agree : (f g : ℕ → ℕ) → map f (range_with_len 0 256) ≡ map g (range_with_len 0 256) → (byte : ℕ) → byte < 256 → f byte ≡ g byte
+agree f g same byte few =
+    sym (get_or-map-range_with_len f 0 256 byte byte 0 few (omega arith)) ∙ (ap (λ xs. get_or xs byte 0) same ∙ get_or-map-range_with_len g 0 256 byte byte 0 few (omega arith))
 
-  by_last : letter - 65 ≤ 19 → By (20 ∷ (letter - 65 + 1) ∷ 0 ∷ 1 ∷ [])
-  by_last h =
-      let is : value digits 20 (letter - 65 + 1) ≡ 20 * digits + (letter - 64) = omega (arith, low, small, h) in
-      (omega (arith, is, small, low, h), record { last = λ l. (is, refl); first = λ l m. absurd (omega (arith, l, h)); mark = λ e. absurd (omega (arith, e, h)) }, none (value digits 20 (letter - 65 + 1)), omega arith)
+-- the row of a byte, or zeros outside the table
+abbrev pub step : ℕ → ByteStep
+step byte = get_or STEPS byte (record { factor = 0; added = 0; mask = 0; ends = 0; marks = 0; unused = [] })
 
-  by_first : 20 ≤ letter - 65 → letter - 65 ≤ 24 → By (5 ∷ (letter - 65 - 19) ∷ (2 ^ 64 - 1) ∷ 0 ∷ [])
-  by_first h k =
-      let is : value digits 5 (letter - 65 - 19) ≡ 5 * digits + (letter - 84) = omega (arith, low, small, h, k) in
-      let fits : value digits 5 (letter - 65 - 19) < 2 ^ 64 = omega (arith, is, small, high) in
-      let whole : value digits 5 (letter - 65 - 19) % 2 ^ 64 ≡ value digits 5 (letter - 65 - 19) = omega (arith, fits) in
-      (fits, record { last = λ l. absurd (omega (arith, l, h)); first = λ l m. (is, refl); mark = λ e. absurd (omega (arith, e, k)) }, and_mask (value digits 5 (letter - 65 - 19)) 64 ∙ whole, omega arith)
+factors : map (λ byte. (step byte).factor) (range_with_len 0 256) ≡ map factor_of (range_with_len 0 256)
+factors = refl
 
-  by_mark : 25 ≤ letter - 65 → By ((2 ^ 64 - 1) ∷ 0 ∷ 0 ∷ 1 ∷ [])
-  by_mark h =
-      (omega arith, record { last = λ l. absurd (omega (arith, l, h)); first = λ l m. absurd (omega (arith, m, h)); mark = λ e. (λ n. omega (arith, n), λ some. omega (arith, some, small), refl) }, none (value digits (2 ^ 64 - 1) 0), omega arith)
+addends : map (λ byte. (step byte).added) (range_with_len 0 256) ≡ map added_of (range_with_len 0 256)
+addends = refl
 
-  by_step : By (step (letter - 65))
-  by_step =
-      cond_both (nat_le (letter - 65) 19) _ _ By (λ e. by_last (grind (arith, nat_tests, e))) (λ e. cond_both (nat_le (letter - 65) 24) _ _ By
-      (λ f. by_first (grind (arith, nat_tests, e)) (grind (arith, nat_tests, f))) (λ f. by_mark (grind (arith, nat_tests, f))))
+masks : map (λ byte. (step byte).mask) (range_with_len 0 256) ≡ map mask_of (range_with_len 0 256)
+masks = refl
 
-  module _ (from : ℕ) (is : from ≡ letter) where
-    at : (place place' : ℕ) → place < 4 → 4 * (from - 65) + place ≡ place' → get_or STEPS place' 0 ≡ get_or (step (letter - 65)) place 0
-    at place place' few there = step-read place (letter - 65) place' few (omega (arith, high)) (omega (arith, is, there))
+ends : map (λ byte. (step byte).ends) (range_with_len 0 256) ≡ map (λ byte. cond (ends_number byte) 1 0) (range_with_len 0 256)
+ends = refl
 
-    -- the numbers of the table give the effect of the letter
-    pub makes : Makes letter digits (get_or STEPS (4 * (from - 65)) 0) (get_or STEPS (4 * (from - 65) + 1) 0) (get_or STEPS (4 * (from - 65) + 2) 0) (get_or STEPS (4 * (from - 65) + 3) 0)
-    makes = rw (at 0 (4 * (from - 65)) (omega arith) (omega arith), at 1 (4 * (from - 65) + 1) (omega arith) refl, at 2 (4 * (from - 65) + 2) (omega arith) refl, at 3 (4 * (from - 65) + 3) (omega arith) refl) by_step
+marks : map (λ byte. (step byte).marks) (range_with_len 0 256) ≡ map (λ byte. cond (byte == 90) 1 0) (range_with_len 0 256)
+marks = refl
+
+-- how many numbers a byte ends
+ends-is : (byte : ℕ) → byte < 256 → (step byte).ends ≡ cond (ends_number byte) 1 0
+ends-is byte few = agree (λ byte. (step byte).ends) (λ byte. cond (ends_number byte) 1 0) ends byte few
+
+-- the limit after a byte
+marks-is : (limit byte : ℕ) → byte < 256 → (limit + (step byte).marks ≡ limit_after limit byte) × (limit + (step byte).marks ≤ limit + 1)
+marks-is limit byte few =
+    rw (agree (λ byte. (step byte).marks) (λ byte. cond (byte == 90) 1 0) marks byte few)
+    (elim (cases_Bool (byte == 90)) [
+      | inl e ↦ rw e (refl, omega arith)
+      | inr e ↦ rw e (omega arith, omega arith)
+    ])
+
+-- the digits after a byte
+mask-is : (value byte : ℕ) → byte < 256 → value < 2 ^ 64 → bit_and value (step byte).mask ≡ digits_after byte value
+mask-is value byte few small =
+    rw (agree (λ byte. (step byte).mask) mask_of masks byte few)
+    (elim (cases_Bool (ends_number byte)) [
+      | inl e ↦ rw e (omega (arith, and_le_r value 0))
+      | inr e ↦ rw e (and_mask value 64 ∙ omega (arith, small))
+    ])
+
+-- the value of the digits with a byte
+value-of : (digits byte : ℕ) → 20 * digits + 26 < 2 ^ 64 → ((digits * factor_of byte) % 2 ^ 64 + added_of byte ≡ value_after digits byte) × (value_after digits byte < 2 ^ 64)
+value-of digits byte small =
+    by_kind (((digits * factor_of byte) % 2 ^ 64 + added_of byte ≡ value_after digits byte) × (value_after digits byte < 2 ^ 64)) byte
+    (λ f. let bounds = first_bounds byte f in rw f (omega (arith, small, bounds), omega (arith, small, bounds)))
+    (λ f l. let bounds = last_bounds byte l in rw (f, l) (omega (arith, small, bounds), omega (arith, small, bounds)))
+    (λ e. rw e (omega (arith, small), omega (arith, small)))
+    (λ e. rw e (elim (cases_Bool (digits == 0)) [
+      | inl z ↦ let none : digits ≡ 0 = eqb-true digits 0 z in rw none (refl, omega arith)
+      | inr z ↦ let some : 1 ≤ digits = grind (arith, nat_tests) in rw z (omega (arith, some, small), omega (arith, some))
+    ]))
+    (λ f l s m. rw (f, l, s, m) (omega arith, omega arith))
+
+value-is : (digits byte : ℕ) → byte < 256 → 20 * digits + 26 < 2 ^ 64
+    → ((digits * (step byte).factor) % 2 ^ 64 + (step byte).added ≡ value_after digits byte) × (value_after digits byte < 2 ^ 64)
+value-is digits byte few small =
+    rw (agree (λ byte. (step byte).factor) factor_of factors byte few, agree (λ byte. (step byte).added) added_of addends byte few) (value-of digits byte small)
+
+-- the row at a place that is that of a byte
+module _ (byte at : ℕ) (few : byte < 256) (is : at ≡ byte) where
+  pub value-at : (digits : ℕ) → 20 * digits + 26 < 2 ^ 64
+      → ((digits * (step at).factor) % 2 ^ 64 + (step at).added ≡ value_after digits byte) × (value_after digits byte < 2 ^ 64)
+  value-at digits small = rw is (value-is digits byte few small)
+
+  pub ends-at : (step at).ends ≡ cond (ends_number byte) 1 0
+  ends-at = rw is (ends-is byte few)
+
+  pub marks-at : (limit : ℕ) → (limit + (step at).marks ≡ limit_after limit byte) × (limit + (step at).marks ≤ limit + 1)
+  marks-at limit = rw is (marks-is limit byte few)
+
+  pub mask-at : (value : ℕ) → value < 2 ^ 64 → bit_and value (step at).mask ≡ digits_after byte value
+  mask-at value small = rw is (mask-is value byte few small)

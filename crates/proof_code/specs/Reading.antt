@@ -1,13 +1,13 @@
 -- How a compressed proof is read: the effect of one byte of the letters, and the items that the whole proof writes.
 -- Source: Metamath, appendix B.
 -- The code reads without the mandatory labels: the caller tests whether a listed label is one of them.
-use Rattle.std.specs.Prelude.{◌≡◌, ℕ, ◌+◌, ◌-◌, ◌*◌, ◌^◌, ◌≤◌, ◌==◌, Bool, true, false, IsTrue, IsFalse, if◌then◌else◌, List, [], ◌∷◌, ◌++◌, length, Option, Some, None}
+use Rattle.std.specs.Prelude.{◌≡◌, ℕ, ◌+◌, ◌-◌, ◌*◌, ◌^◌, ◌==◌, ◌||◌, Bool, IsTrue, IsFalse, if◌then◌else◌, List, [], ◌∷◌, ◌++◌, length, Option}
 use Rattle.std.specs.List.{list_any}
 use Rattle.std.specs.Option.{option_map}
 use Rattle.mm_lex.specs.Alphabet.{Name, has_name}
 use Rattle.proof_code.specs.declared.item.Item.{Item}
-use Rattle.proof_code.specs.declared.letter_numbers.LetterEffect.{LetterEffect}
 use Rattle.proof_code.specs.ItemNumbers.{items_of}
+use Rattle.proof_code.specs.Letters.{is_first, is_last}
 use Rattle.proof_code.specs.Text.{letters_of, numbers_from}
 use Rattle.proof_code.specs.Writes.{finish, WritesCompressed}
 
@@ -15,22 +15,34 @@ use Rattle.proof_code.specs.Writes.{finish, WritesCompressed}
 abbrev pub before_rest : List ℕ → Option (List ℕ) → Option (List ℕ)
 before_rest numbers rest = option_map (λ more. numbers ++ more) rest
 
--- the number that a letter ends, if there is a letter and it ends one
-abbrev pub ended : Option LetterEffect → List ℕ
-ended None = []
-ended (Some letter) = if letter.ends == 1 then letter.value ∷ [] else []
+-- the value of the digits with a byte after them, where Z is a mark; it is over every limit for a mark after digits, and for a
+-- byte that is neither a letter nor a space
+abbrev pub value_after : ℕ → ℕ → ℕ
+value_after digits byte =
+    if is_first byte then 5 * digits + (byte - 84)
+    else (if is_last byte then 20 * digits + (byte - 64)
+    else (if byte == 32 then digits
+    else (if byte == 90 then (if digits == 0 then 0 else 2 ^ 64 - digits) else 2 ^ 64 - 1)))
+
+-- whether a byte ends a number: it is a letter A to T, or a mark
+abbrev pub ends_number : ℕ → Bool
+ends_number byte = is_last byte || (byte == 90)
+
+-- the number that a byte ends, if it ends one, and the digits before the next byte, by the value of the digits with the byte
+abbrev pub ended : ℕ → ℕ → List ℕ
+ended byte value = if ends_number byte then value ∷ [] else []
+
+abbrev pub digits_after : ℕ → ℕ → ℕ
+digits_after byte value = if ends_number byte then 0 else value
+
+-- the largest number that is valid after a byte
+abbrev pub limit_after : ℕ → ℕ → ℕ
+limit_after limit byte = if byte == 90 then limit + 1 else limit
 
 -- one byte changes the limit and the digits in this way, and ends these numbers, whatever text follows
 abbrev pub IsByteEffect : ℕ → ℕ → ℕ → List ℕ → ℕ → ℕ → Type 0
 IsByteEffect limit digits byte numbers limit' digits' =
     (text : List ℕ) → numbers_from limit digits (letters_of (byte ∷ text)) ≡ before_rest numbers (numbers_from limit' digits' (letters_of text))
-
--- the value of the digits with a letter A to Z after them, and whether it ends a number; for a mark the value is 0, or more
--- than any limit if there are digits
-pub record IsLetterEffect (letter digits value : ℕ) (ends : Bool) : Type 0 where
-  pub last : letter ≤ 84 → (value ≡ 20 * digits + (letter - 64)) × (ends ≡ true)
-  pub first : 85 ≤ letter → letter ≤ 89 → (value ≡ 5 * digits + (letter - 84)) × (ends ≡ false)
-  pub mark : letter ≡ 90 → (digits ≡ 0 → value ≡ 0) × (1 ≤ digits → value ≡ 2 ^ 64 - digits) × (ends ≡ true)
 
 -- some listed label is a mandatory one
 abbrev pub share_label : List Name → List Name → Bool

@@ -1,51 +1,29 @@
 //! The letters of a compressed proof, and the numbers that they write.
 //!
-//! A processor cannot predict the next letter, so no branch depends on it: a table has the numbers by which a letter
-//! changes the digits before it, and the only test for each letter is whether a value is over the limit.
-ghost use Rattle.std.specs.Prelude.{◌≡◌, ◌==◌, if◌then◌else◌, ◌+◌, ◌*◌, ◌^◌, ◌<◌, ◌≤◌, ◌∷◌, ℕ, List, length, take, max, None, Some, IfNone, IfSome, MatchOption};
+//! A processor cannot predict the next letter, so no branch depends on it: a table has the numbers by which each byte
+//! changes the digits before it, and the only test for each byte is whether a value is over the limit.
+ghost use Rattle.std.specs.Prelude.{◌≡◌, if◌then◌else◌, ◌+◌, ◌*◌, ◌^◌, ◌<◌, ◌≤◌, ◌∷◌, ℕ, List, length, take, max, None, Some, IfNone, IfSome, MatchOption};
 ghost use Rattle.proof_code.specs.Text.{letters_of, numbers_from, starts_with_mark};
-ghost use Rattle.proof_code.specs.Reading.{IsByteEffect, IsLetterEffect, ended};
+ghost use Rattle.proof_code.specs.Reading.{IsByteEffect, digits_after, ended, ends_number, limit_after, value_after};
 
-/// The effect of a letter on the digits before it.
-#[derive(Clone, Copy)]
-struct LetterEffect {
-    /// The value of the digits with the letter. For a mark it is 0, or more than any limit if there are digits.
-    value: usize,
-    /// The digits before the next letter.
-    digits: usize,
-    /// How many numbers the letter ends: 0 or 1, and 1 for a mark.
-    ends: usize,
+use crate::byte_step::STEPS;
+
+/// Returns the value of the digits with a byte after them. It is over every limit if the byte cannot stand there.
+#[inline(always)]
+fn value_after(digits: usize, byte: u8) -> usize
+    requires { 20 * digits + 26 < 2 ^ 64 }
+    ensures { result ≡ value_after digits byte }
+{
+    let step = &STEPS[usize::from(byte)];
+    digits.wrapping_mul(step.factor) + step.added
 }
 
-/// Four numbers for each letter: the factor of the digits before it (for a mark -1, modulo 2^64), the number that is added,
-/// a mask that keeps that value as the digits before the next letter, or clears it, and how many numbers the letter ends.
-const STEPS: [usize; 104] = [
-    20, 1, 0, 1, 20, 2, 0, 1, 20, 3, 0, 1, 20, 4, 0, 1, 20, 5, 0, 1, 20, 6, 0, 1, 20, 7, 0, 1, 20,
-    8, 0, 1, 20, 9, 0, 1, 20, 10, 0, 1, 20, 11, 0, 1, 20, 12, 0, 1, 20, 13, 0, 1, 20, 14, 0, 1, 20,
-    15, 0, 1, 20, 16, 0, 1, 20, 17, 0, 1, 20, 18, 0, 1, 20, 19, 0, 1, 20, 20, 0, 1, 5, 1, ALL, 0,
-    5, 2, ALL, 0, 5, 3, ALL, 0, 5, 4, ALL, 0, 5, 5, ALL, 0, ALL, 0, 0, 1,
-];
-
-/// All bits.
-const ALL: usize = usize::MAX;
-
-/// Returns the effect of a letter A to Z on the digits before it.
+/// Returns how many numbers a byte ends: 1 for a letter A to T and for a mark, else 0.
 #[inline(always)]
-fn letter_after(byte: u8, digits: usize) -> LetterEffect
-    requires first { 65 ≤ byte }
-    requires last { byte ≤ 90 }
-    requires small { 20 * digits + 26 < 2 ^ 64 }
-    ensures letter { IsLetterEffect byte digits result.value (result.ends == 1) }
-    ensures digits { result.digits ≡ if result.ends == 1 then 0 else result.value }
-    ensures one { result.ends ≤ 1 }
+fn count_ended(byte: u8) -> usize
+    ensures { result ≡ if ends_number byte then 1 else 0 }
 {
-    let step = 4 * (usize::from(byte) - 65);
-    let value = digits.wrapping_mul(STEPS[step]) + STEPS[step + 1];
-    LetterEffect {
-        value,
-        digits: value & STEPS[step + 2],
-        ends: STEPS[step + 3],
-    }
+    STEPS[usize::from(byte)].ends
 }
 
 /// The state between two bytes of the letters.
@@ -58,44 +36,48 @@ struct LetterState {
 }
 
 impl LetterState {
-    /// Reads one byte, and returns its letter, or `Some(None)` for a space, which is ignored. Returns `None` if the
-    /// letters with this byte write no numbers, whatever follows.
+    /// Returns the value of the digits with a byte after them, or `None` if the letters with this byte write no numbers,
+    /// whatever follows.
     ///
     /// A word with digits over `digits_limit` has a number over the limit, however it ends.
     #[inline(always)]
-    fn read(&mut self, byte: u8, digits_limit: usize) -> Option<Option<LetterEffect>>
-        requires begun { self.old.digits ≤ digits_limit }
-        requires digits_limit { self.old.limit < 20 * digits_limit + 20 }
+    fn value(&self, byte: u8, digits_limit: usize) -> Option<usize>
+        requires begun { self.now.digits ≤ digits_limit }
+        requires digits_limit { self.now.limit < 20 * digits_limit + 20 }
         requires small { 20 * digits_limit + 26 < 2 ^ 64 }
-        requires beyond { self.old.limit + digits_limit < 2 ^ 64 }
-        ensures some { IfSome result (λ letter. IsByteEffect self.old.limit self.old.digits byte (ended letter) self.new.limit self.new.digits) }
-        ensures none { IfNone result ((text : List ℕ) → numbers_from self.old.limit self.old.digits (letters_of (byte ∷ text)) ≡ None) }
-        ensures limit { (self.old.limit ≤ self.new.limit) × (self.new.limit ≤ self.old.limit + 1) }
-        ensures begun { self.new.digits ≤ digits_limit }
-        ensures value { IfSome result (λ letter. IfSome letter (λ letter. (letter.value ≤ max self.old.limit digits_limit) × (letter.ends ≤ 1))) }
+        requires beyond { self.now.limit + digits_limit < 2 ^ 64 }
+        ensures some { IfSome result (λ value. IsByteEffect self.now.limit self.now.digits byte (ended byte value) (limit_after self.now.limit byte) (digits_after byte value)) }
+        ensures none { IfNone result ((text : List ℕ) → numbers_from self.now.limit self.now.digits (letters_of (byte ∷ text)) ≡ None) }
+        ensures within { IfSome result (λ value. value ≤ max self.now.limit digits_limit) }
+        ensures begun { IfSome result (λ value. digits_after byte value ≤ digits_limit) }
     {
-        if byte < b'A' || byte > b'Z' {
-            return if byte == b' ' { Some(None) } else { None };
-        }
-        let letter = letter_after(byte, self.digits);
-        let bound = if letter.ends == 1 {
+        let value = value_after(self.digits, byte);
+        let bound = if count_ended(byte) == 1 {
             self.limit
         } else {
             digits_limit
         };
-        if letter.value > bound {
-            return None;
-        }
-        self.digits = letter.digits;
-        self.limit += usize::from(letter.value == 0);
-        Some(Some(letter))
+        if value > bound { None } else { Some(value) }
+    }
+
+    /// Goes past a byte, with which the digits have this value.
+    #[inline(always)]
+    fn pass(&mut self, byte: u8, value: usize)
+        requires { self.old.limit + 1 < 2 ^ 64 }
+        ensures limit { self.new.limit ≡ limit_after self.old.limit byte }
+        ensures digits { self.new.digits ≡ digits_after byte value }
+        ensures within { self.new.limit ≤ self.old.limit + 1 }
+    {
+        let step = &STEPS[usize::from(byte)];
+        self.digits = value & step.mask;
+        self.limit += step.marks;
     }
 }
 
 /// Stores the numbers that the letters of a text write, if there are `labels` labels, and returns how many there are, or
 /// `None` if the letters write no numbers. Spaces may be anywhere among the letters.
 ///
-/// The value of the word is stored for each letter, and overwritten unless the letter ends a number.
+/// The value of the word is stored for each byte, and overwritten unless the byte ends a number.
 #[inline(never)]
 pub(crate) fn write_numbers(text: &[u8], labels: usize, numbers: &mut [u32]) -> Option<usize>
     requires small { labels + length text.now < 2 ^ 32 }
@@ -109,13 +91,11 @@ pub(crate) fn write_numbers(text: &[u8], labels: usize, numbers: &mut [u32]) -> 
         digits: 0,
     };
     let mut count = 0;
-    for byte in text {
-        let limit = state.limit;
-        let Some(letter) = state.read(*byte, limit)? else {
-            continue;
-        };
-        numbers[count] = letter.value as u32;
-        count += letter.ends;
+    for &byte in text {
+        let value = state.value(byte, state.limit)?;
+        numbers[count] = value as u32;
+        count += count_ended(byte);
+        state.pass(byte, value);
     }
     if state.digits == 0 { Some(count) } else { None }
 }
@@ -131,8 +111,9 @@ pub(crate) fn check_letters(text: &[u8], labels: usize) -> Option<()>
         limit: labels,
         digits: 0,
     };
-    for byte in text {
-        state.read(*byte, digits_limit)?;
+    for &byte in text {
+        let value = state.value(byte, digits_limit)?;
+        state.pass(byte, value);
     }
     if state.digits == 0 { Some(()) } else { None }
 }

@@ -6,9 +6,10 @@
 //! another into one buffer, without the mandatory labels, which the caller has.
 //!
 //! Reading order: `item`, `items`, `fault`, then `normal_proof`; `reader` with its parts `listing` (counts the labels)
-//! and `letter_numbers`; `compressed_proof`, which uses it; and `laws`.
+//! and `letter_numbers`, with its table `byte_step`; `compressed_proof`, which uses it; and `laws`.
 #![tactic(auto)]
 
+mod byte_step;
 mod compressed_proof;
 mod fault;
 mod item;
