@@ -39,8 +39,7 @@ ready c =
 pub invariant_of-self-2 : goal.invariant_of-self-2
 invariant_of-self-2 c =
     let t = c.if-index-len.self-inside in
-    let r = ready c in
-    (
+    let r = ready c in (
       r.0,
       subst (AreUpTo t.round) (sym c.put.ensures.rounds) (up_to-set t.round t.rounds.items c.args.symbol t.round r.1 (omega arith)),
       rw (c.put.ensures.rounds, c.put.ensures.places) (omega (arith, length-set t.rounds.items c.args.symbol t.round, length-set t.places.items c.args.symbol c.args.place, r.2)),
