@@ -104,6 +104,7 @@ impl Frames {
     }
 
     /// Returns the position of the statement with this label, or `None` if there is none.
+    #[inline(always)]
     pub fn position(&self, label: &[u8]) -> Option<usize>
         ensures { IsPosition self.now.statements label.now result }
     {
@@ -169,6 +170,7 @@ impl Frames {
     }
 
     /// Returns the meaning at `at` of a citation of the statement at `i`.
+    #[inline(always)]
     pub fn meaning(&self, at: usize, i: usize) -> Meaning<'_>
         requires { (1 ≤ at) × (at ≤ length self.now.statements) }
         ensures { IsMeaning self.now.statements self.now.names at i result }

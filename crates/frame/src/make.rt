@@ -209,4 +209,4 @@ fn fill_own(storage: &Storage, buffers: &mut FrameBuffers, codes: &[u32]) -> Res
 }
 
 /// The largest number of numbers of parts that are kept whole with an assertion.
-const MOST_KEPT: usize = 160;
+const MOST_KEPT: usize = 128;

@@ -104,7 +104,7 @@ pub fn add_essentials(storage: &Storage, at: usize, list: &mut Vec<u32>) -> Resu
 const FEW: usize = 64;
 
 /// The largest number of mandatory hypotheses, brought along by the active `$e`, that are not kept as a set.
-pub const MOST_WITHOUT_SET: usize = 32;
+pub const MOST_WITHOUT_SET: usize = 48;
 
 /// Returns how many mandatory hypotheses the active `$e` bring along, counting a `$f` once for each `$e` that has its
 /// variable. Counting stops above `MOST_WITHOUT_SET`.

@@ -29,6 +29,7 @@ pub struct NextStatement<'a> {
 /// Errors: an allocation fails; the stacks at earlier positions are then the same. Cost: the symbols of a `$d`, `$v` or
 /// long `$e`; for a `$}` those of the `$d`, `$v` and long `$e` that it makes inactive, for each of these symbols a binary
 /// search, and a constant for each short `$e` that it makes inactive.
+#[inline(always)]
 pub fn record_active(
     disjoints: &mut Histories,
     variables: &mut Histories,

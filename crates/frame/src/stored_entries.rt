@@ -112,6 +112,7 @@ impl StoredEntries {
     ///
     /// Errors: an allocation fails; the list is as before.
     /// Cost: its size; n log n for n symbols of a long expression.
+    #[inline(always)]
     pub fn push(
         &mut self,
         header: EntryHeader,

@@ -20,6 +20,7 @@ pub fn symbol_number(numbering: &Numbering, word: &[u8]) -> Option<u32>
 }
 
 /// Returns the number of a label, or `None` if the word is not a label.
+#[inline(always)]
 pub fn label_number(numbering: &Numbering, word: &[u8]) -> Option<u32>
     ensures found { IfSome result (λ n. IsNumberOf (declared_labels numbering.now) word.now n) }
     ensures none { IfNone result (is_label_kind (kind_in numbering.now word.now) ≡ false) }
