@@ -1,5 +1,5 @@
 -- A compressed proof that is read without its mandatory labels.
-use Rattle.proof_code.proofs.Words.{◌≡◌, ℕ, ◌+◌, ◌-◌, ◌*◌, ◌^◌, ◌<◌, suc, ◌≤◌, true, false, cond, ◌==◌, nat_le, List, [], ◌∷◌, ◌++◌, length, take, drop, slice_index_or, Option, Some, None, refl, list_all, sym, ◌∙◌, ap, arith, true≢false, length-append, append_assoc, nat_tests, drop_more, list_all-append, none-some, and_parts, Name, is_word, AreWords, Item, items_of, before_rest, IsByteEffect, is_last, value_after, ends_number, false_from_ne_true, share_label, IsHeading, Header, header_of, letters_of, starts_with_mark, numbers_from, begin, finish, WritesCompressed, take-append_seam}
+use Rattle.proof_code.proofs.Words.{◌≡◌, ℕ, ◌+◌, ◌-◌, ◌*◌, ◌^◌, ◌<◌, suc, ◌≤◌, true, false, cond, ◌==◌, nat_le, List, [], ◌∷◌, ◌++◌, length, take, drop, slice_index_or, Option, Some, None, refl, list_all, sym, ◌∙◌, ap, arith, true≢false, length-append, append_assoc, nat_tests, drop_more, list_all-append, none-some, and_parts, Name, is_word, AreWords, Item, items_of, before_rest, IsByteEffect, IsNextRead, is_last, value_after, ends_number, false_from_ne_true, share_label, IsHeading, Header, header_of, letters_of, starts_with_mark, numbers_from, begin, finish, WritesCompressed, take-append_seam}
 use Rattle.proof_code.proofs.LettersLemmas.{first_bounds, last_bounds}
 use Rattle.proof_code.proofs.LetterItemLemmas.{numbers_from-over, RowIsRead, WritesRow-read, read-WritesRow}
 use Rattle.proof_code.proofs.ListingLemmas.{Counted}
@@ -10,29 +10,26 @@ use Rattle.proof_code.proofs.WritesLemmas.{IsHeader, header-read, row_after, wri
 
 -- ---- the letters
 
--- the letters up to an index are read, and their numbers come before those of the rest
-abbrev pub IsRead : ℕ → List ℕ → ℕ → ℕ → List ℕ → ℕ → Type 0
-IsRead labels text limit digits numbers index =
-    numbers_from labels 0 (letters_of text) ≡ before_rest numbers (numbers_from limit digits (letters_of (drop index text)))
-
-pub before-none : (o : Option (List ℕ)) → o ≡ before_rest [] o
-before-none None = refl
-before-none (Some xs) = refl
+-- these numbers are read, and come before those of the rest of the text
+abbrev pub IsRead : ℕ → List ℕ → ℕ → ℕ → List ℕ → List ℕ → Type 0
+IsRead labels text limit digits numbers rest =
+    numbers_from labels 0 (letters_of text) ≡ before_rest numbers (numbers_from limit digits (letters_of rest))
 
 before-more : (numbers more : List ℕ) (o : Option (List ℕ)) → before_rest numbers (before_rest more o) ≡ before_rest (numbers ++ more) o
 before-more numbers more None = refl
 before-more numbers more (Some rest) = ap Some (sym (append_assoc numbers more rest))
 
-pub read-none : (labels : ℕ) (text : List ℕ) → IsRead labels text labels 0 [] 0
-read-none labels text = before-none (numbers_from labels 0 (letters_of text))
+-- the numbers that a byte ends come after those that were read
+pub next-read : (before : List ℕ) (limit digits byte : ℕ) (more : List ℕ) (limit' digits' : ℕ) → IsByteEffect limit digits byte more limit' digits' → IsNextRead before limit digits byte (before ++ more) limit' digits'
+next-read before limit digits byte more limit' digits' goes =
+    λ text. ap (before_rest before) (goes text) ∙ before-more before more (numbers_from limit' digits' (letters_of text))
 
-module _ (labels : ℕ) (text : List ℕ) (limit digits : ℕ) (numbers : List ℕ) (index : ℕ) (read : IsRead labels text limit digits numbers index) where
-  -- one more byte is read
-  pub read-more : (limit' digits' : ℕ) (more : List ℕ) → index < length text → IsByteEffect limit digits (slice_index_or text index 0) more limit' digits' → IsRead labels text limit' digits' (numbers ++ more) (index + 1)
-  read-more limit' digits' more within goes =
-      let rest : List ℕ = drop (index + 1) text in
-      read ∙ (ap (λ rest. before_rest numbers (numbers_from limit digits (letters_of rest))) (drop_more text index 0 within)
-      ∙ (ap (before_rest numbers) (goes rest) ∙ before-more numbers more (numbers_from limit' digits' (letters_of rest))))
+-- one more byte is read
+pub read-more : (labels : ℕ) (text : List ℕ) (limit digits : ℕ) (numbers bytes : List ℕ) (index : ℕ) → IsRead labels text limit digits numbers (drop index bytes)
+    → (numbers' : List ℕ) (limit' digits' next : ℕ) → next ≡ index + 1 → index < length bytes → IsNextRead numbers limit digits (slice_index_or bytes index 0) numbers' limit' digits'
+    → IsRead labels text limit' digits' numbers' (drop next bytes)
+read-more labels text limit digits numbers bytes index read numbers' limit' digits' next next-is within goes =
+    rw next-is (read ∙ (ap (λ rest. before_rest numbers (numbers_from limit digits (letters_of rest))) (drop_more bytes index 0 within) ∙ goes (drop (index + 1) bytes)))
 
 module _ (limit most digits byte : ℕ) (begun : digits ≤ most) (beyond : limit + most < 2 ^ 64) where
   -- the largest value that is valid with the byte

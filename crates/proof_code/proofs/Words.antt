@@ -8,7 +8,7 @@ pub use Rattle.proof_code.specs.LabelNames.{AreNames}
 pub use Rattle.proof_code.specs.Laws.{OneAnswer}
 pub use Rattle.proof_code.specs.Letters.{IsNumber, first_letters, is_first, is_last, number_from, number_of, words_below, words_of_size}
 pub use Rattle.proof_code.specs.Listing.{are_listed, after_none, class_of, listed_count, is_listed, letters_from, more_labels}
-pub use Rattle.proof_code.specs.Reading.{IsByteEffect, IsHeading, before_rest, digits_after, ended, ends_number, limit_after, share_label, value_after}
+pub use Rattle.proof_code.specs.Reading.{IsByteEffect, IsHeading, IsNextRead, before_rest, digits_after, ended, ends_number, limit_after, share_label, value_after}
 pub use Rattle.proof_code.specs.Text.{Header, header_of, letters_of, numbers_from, starts_with_mark, with_label, with_number}
 pub use Rattle.proof_code.specs.Writes.{AreItems, IsMalformed, Writes, WritesCompressed, WritesNormal, WritesFinishedCompressed, WritesFinishedNormal, WritesRow, begin, finish, is_compressed, is_unfinished, mark, question_mark, starts_with_result}
 pub use Rattle.proof_code.specs.declared.item.Item.{Item}

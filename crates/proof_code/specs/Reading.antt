@@ -44,6 +44,11 @@ abbrev pub IsByteEffect : ℕ → ℕ → ℕ → List ℕ → ℕ → ℕ → T
 IsByteEffect limit digits byte numbers limit' digits' =
     (text : List ℕ) → numbers_from limit digits (letters_of (byte ∷ text)) ≡ before_rest numbers (numbers_from limit' digits' (letters_of text))
 
+-- one byte is read: whatever text follows, the numbers before the rest and those of the rest are the same as before
+abbrev pub IsNextRead : List ℕ → ℕ → ℕ → ℕ → List ℕ → ℕ → ℕ → Type 0
+IsNextRead before limit digits byte after limit' digits' =
+    (text : List ℕ) → before_rest before (numbers_from limit digits (letters_of (byte ∷ text))) ≡ before_rest after (numbers_from limit' digits' (letters_of text))
+
 -- some listed label is a mandatory one
 abbrev pub share_label : List Name → List Name → Bool
 share_label mandatory listed = list_any (λ label. has_name label mandatory) listed

@@ -4,9 +4,12 @@
 //! changes the digits before it, and the only test for each byte is whether a value is over the limit.
 ghost use Rattle.std.specs.Prelude.{◌≡◌, if◌then◌else◌, ◌+◌, ◌*◌, ◌^◌, ◌<◌, ◌≤◌, ◌∷◌, ℕ, List, length, take, max, None, Some, IfNone, IfSome, MatchOption};
 ghost use Rattle.proof_code.specs.Text.{letters_of, numbers_from, starts_with_mark};
-ghost use Rattle.proof_code.specs.Reading.{IsByteEffect, digits_after, ended, ends_number, limit_after, value_after};
+ghost use Rattle.proof_code.specs.Reading.{IsByteEffect, IsNextRead, digits_after, ended, ends_number, limit_after, value_after};
 
 use crate::byte_step::STEPS;
+
+/// The bits of a number that is stored.
+const NUMBER_BITS: usize = 0xffff_ffff;
 
 /// Returns the value of the digits with a byte after them. It is over every limit if the byte cannot stand there.
 #[inline(always)]
@@ -36,28 +39,28 @@ struct LetterState {
 }
 
 impl LetterState {
-    /// Returns the value of the digits with a byte after them, or `None` if the letters with this byte write no numbers,
-    /// whatever follows.
+    /// Returns `Some` if the digits may have this value with the byte after them, or `None` if the letters with this byte
+    /// write no numbers, whatever follows.
     ///
     /// A word with digits over `digits_limit` has a number over the limit, however it ends.
     #[inline(always)]
-    fn value(&self, byte: u8, digits_limit: usize) -> Option<usize>
+    fn check(&self, byte: u8, value: usize, digits_limit: usize) -> Option<()>
+        requires value { value ≡ value_after self.now.digits byte }
         requires begun { self.now.digits ≤ digits_limit }
         requires digits_limit { self.now.limit < 20 * digits_limit + 20 }
         requires small { 20 * digits_limit + 26 < 2 ^ 64 }
         requires beyond { self.now.limit + digits_limit < 2 ^ 64 }
-        ensures some { IfSome result (λ value. IsByteEffect self.now.limit self.now.digits byte (ended byte value) (limit_after self.now.limit byte) (digits_after byte value)) }
+        ensures some { IfSome result (λ _. IsByteEffect self.now.limit self.now.digits byte (ended byte value) (limit_after self.now.limit byte) (digits_after byte value)) }
         ensures none { IfNone result ((text : List ℕ) → numbers_from self.now.limit self.now.digits (letters_of (byte ∷ text)) ≡ None) }
-        ensures within { IfSome result (λ value. value ≤ max self.now.limit digits_limit) }
-        ensures begun { IfSome result (λ value. digits_after byte value ≤ digits_limit) }
+        ensures within { IfSome result (λ _. value ≤ max self.now.limit digits_limit) }
+        ensures begun { IfSome result (λ _. digits_after byte value ≤ digits_limit) }
     {
-        let value = value_after(self.digits, byte);
         let bound = if count_ended(byte) == 1 {
             self.limit
         } else {
             digits_limit
         };
-        if value > bound { None } else { Some(value) }
+        if value > bound { None } else { Some(()) }
     }
 
     /// Goes past a byte, with which the digits have this value.
@@ -72,12 +75,36 @@ impl LetterState {
         self.digits = value & step.mask;
         self.limit += step.marks;
     }
+
+    /// Goes past a byte, and stores the value of the digits with it after the first `count` numbers. Returns how many
+    /// numbers there are then, or `None` if the letters with this byte write no numbers, whatever follows.
+    ///
+    /// The value is stored before it is tested: stored after the test it makes the compiler take two instructions to add to
+    /// the count.
+    #[inline(always)]
+    fn write_next(&mut self, byte: u8, count: usize, numbers: &mut [u32]) -> Option<usize>
+        requires begun { self.old.digits ≤ self.old.limit }
+        requires small { self.old.limit + 1 < 2 ^ 32 }
+        requires room { count < length numbers.old }
+        ensures some { IfSome result (λ next. IsNextRead (take count numbers.old) self.old.limit self.old.digits byte (take next numbers.new) self.new.limit self.new.digits) }
+        ensures none { IfNone result ((text : List ℕ) → numbers_from self.old.limit self.old.digits (letters_of (byte ∷ text)) ≡ None) }
+        ensures within { IfSome result (λ next. next ≤ count + 1) }
+        ensures limit { self.new.limit ≤ self.old.limit + 1 }
+        ensures begun { IfSome result (λ _. self.new.digits ≤ self.new.limit) }
+    {
+        let value = value_after(self.digits, byte);
+        numbers[count] = (value & NUMBER_BITS) as u32;
+        self.check(byte, value, self.limit)?;
+        self.pass(byte, value);
+        Some(count + count_ended(byte))
+    }
 }
 
 /// Stores the numbers that the letters of a text write, if there are `labels` labels, and returns how many there are, or
 /// `None` if the letters write no numbers. Spaces may be anywhere among the letters.
 ///
-/// The value of the word is stored for each byte, and overwritten unless the byte ends a number.
+/// The value of the word is stored for each byte, and overwritten unless the byte ends a number. Four bytes are read in
+/// each turn, which share the instructions of the loop itself.
 #[inline(never)]
 pub(crate) fn write_numbers(text: &[u8], labels: usize, numbers: &mut [u32]) -> Option<usize>
     requires small { labels + length text.now < 2 ^ 32 }
@@ -91,11 +118,16 @@ pub(crate) fn write_numbers(text: &[u8], labels: usize, numbers: &mut [u32]) -> 
         digits: 0,
     };
     let mut count = 0;
-    for &byte in text {
-        let value = state.value(byte, state.limit)?;
-        numbers[count] = value as u32;
-        count += count_ended(byte);
-        state.pass(byte, value);
+    let fours = text.len() / 4;
+    for four in 0..fours {
+        let at = 4 * four;
+        count = state.write_next(text[at], count, numbers)?;
+        count = state.write_next(text[at + 1], count, numbers)?;
+        count = state.write_next(text[at + 2], count, numbers)?;
+        count = state.write_next(text[at + 3], count, numbers)?;
+    }
+    for &byte in &text[4 * fours..] {
+        count = state.write_next(byte, count, numbers)?;
     }
     if state.digits == 0 { Some(count) } else { None }
 }
@@ -112,7 +144,8 @@ pub(crate) fn check_letters(text: &[u8], labels: usize) -> Option<()>
         digits: 0,
     };
     for &byte in text {
-        let value = state.value(byte, digits_limit)?;
+        let value = value_after(state.digits, byte);
+        state.check(byte, value, digits_limit)?;
         state.pass(byte, value);
     }
     if state.digits == 0 { Some(()) } else { None }

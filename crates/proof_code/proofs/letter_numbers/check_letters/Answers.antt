@@ -1,12 +1,15 @@
-use Rattle.std.proofs.Common.{arith}
-use Rattle.proof_code.proofs.ReadProofLemmas.{read-more}
+use Rattle.proof_code.proofs.Words.{slice_index_or, refl, arith}
+use Rattle.proof_code.proofs.ReadProofLemmas.{next-read, read-more}
 use Rattle.proof_code.proofs.letter_numbers.check_letters.Goals as goal
 
 pub loop-byte-preserved : goal.loop-byte-preserved
 loop-byte-preserved c =
-    let more = read-more _ _ _ _ _ _ c.loop-byte.invariant.read.1 _ _ _ c.loop-byte-test.true c.in_ok-value.ensures.some in
+    let text = c.args.text.now in
+    let loop = c.loop-byte in
+    let goes = next-read loop.invariant.read.0 loop.state.limit loop.state.digits (slice_index_or text loop.byte-index 0) _ _ _ c.in_ok-check.ensures.some in
+    let more = read-more c.args.labels text _ _ _ text _ loop.invariant.read.1 _ _ _ _ refl c.loop-byte-test.true goes in
     record {
       read = (_, rw (← c.pass.ensures.limit, ← c.pass.ensures.digits) at more);
-      room = omega (arith, c.pass.ensures.within, c.loop-byte.invariant.room);
-      begun = rw c.pass.ensures.digits c.in_ok-value.ensures.begun;
+      room = omega (arith, c.pass.ensures.within, loop.invariant.room);
+      begun = rw c.pass.ensures.digits c.in_ok-check.ensures.begun;
     }
