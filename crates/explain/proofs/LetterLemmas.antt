@@ -1,9 +1,13 @@
 -- Letters that are read up to an index, and the effect of the next letter.
-use Rattle.explain.proofs.Words.{◌≡◌, ◌≢◌, ℕ, ◌+◌, ◌-◌, ◌*◌, ◌<◌, ◌≤◌, Bool, true, false, ◌&&◌, nat_le, List, [], ◌∷◌, ◌++◌, length, Some, slice_get, refl, option_map, sym, ◌∙◌, ap, subst, arith, append_assoc, append-nil, length-append, inl, inr, list_all-append, or_left, or_right, le-leb, Name, Item, IsNumber, is_first, is_last, number_from, items_of, before_rest, numbers_from, starts_with_mark, WritesRow, is_first-true, number_of-placed, placed-number_of, first_bounds, last_bounds, is_first-false, is_last-true, WritesRow-read, LetterBreak, LetterFault, marks_in, IsEndOrMark, fault_index, IsAllowed, IsTooGreat, BeginsWith, Breaks, IsLetterBreak, zeros, IsReadTo, before-none}
+use Rattle.explain.proofs.Words.{◌≡◌, ◌≢◌, ℕ, ◌+◌, ◌-◌, ◌*◌, ◌<◌, ◌≤◌, Bool, true, false, ◌&&◌, nat_le, List, [], ◌∷◌, ◌++◌, length, Option, Some, None, slice_get, refl, option_map, sym, ◌∙◌, ap, subst, arith, append_assoc, append-nil, length-append, inl, inr, list_all-append, or_left, or_right, le-leb, Name, Item, IsNumber, is_first, is_last, number_from, items_of, before_rest, numbers_from, starts_with_mark, WritesRow, is_first-true, number_of-placed, placed-number_of, first_bounds, last_bounds, is_first-false, is_last-true, WritesRow-read, LetterBreak, LetterFault, marks_in, IsEndOrMark, fault_index, IsAllowed, IsTooGreat, BeginsWith, Breaks, IsLetterBreak, zeros, IsReadTo}
 use Rattle.explain.specs.Breaks.{IsNotLetter}
 use Rattle.explain.proofs.LetterNumberLemmas.{at-append, not-empty, marks-zeros, zeros-number, zeros-mark, before-push, over, last-over, zero-or}
 
 -- ---- no letters are read yet
+
+before-none : (o : Option (List ℕ)) → o ≡ before_rest [] o
+before-none None = refl
+before-none (Some xs) = refl
 
 pub read-none : (labels : ℕ) (letters : List ℕ) → starts_with_mark letters ≡ false → IsReadTo labels letters 0 labels 0 0
 read-none labels letters starts = record {

@@ -41,7 +41,6 @@ pub use Rattle.names.specs.Codes.{AreDistinct, decode, name_at}
 pub use Rattle.proof_code.proofs.LetterItemLemmas.{WritesRow-read}
 pub use Rattle.proof_code.proofs.LettersLemmas.{first_bounds, is_first-false, is_first-true, is_last-true, last_bounds, number_of-placed, placed-number_of}
 pub use Rattle.proof_code.proofs.OneList.{malformed-none, one_answer}
-pub use Rattle.proof_code.proofs.ReadProofLemmas.{before-none}
 pub use Rattle.proof_code.proofs.WritesLemmas.{begins}
 pub use Rattle.proof_code.specs.ItemNumbers.{item_of, items_of}
 pub use Rattle.proof_code.specs.Letters.{IsNumber, is_first, is_last, number_from}
