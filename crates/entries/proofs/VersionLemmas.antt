@@ -1,5 +1,6 @@
 -- The versions of a stack: a version is added, the first ones alone, and the last one made before a position.
-use Rattle.entries.proofs.Words.{◌≡◌, ℕ, zero, suc, ◌+◌, ◌-◌, ◌<◌, ◌≤◌, true, false, nat_eq, nat_lt, cond, List, [], ◌∷◌, ◌++◌, length, map, take, get_or, slice_get, Option, Some, None, SomeIff, refl, ◌∙◌, ap, sym, arith, subst, add-one, append-nil, append_assoc, ⊎_elim, take_all, cases_lt, length-append, length-take, get_or-take, map-append, take-map, get_or_past, take_more, IsNonDecreasingBy-take, IsNonDecreasingBy-push, get_or_from_slice_get, slice_get-get_or, slice_get_within, IsPartitionPoint, Version, StackVersion, with_version, stack_from, stack_at, changed_at, IsUntil, no_version, stacked, stack_of, version_of, versions_after, versions_of, AreVersions, IsReadable, IsFound}
+use Rattle.entries.proofs.Words.{◌≡◌, ◌⊎◌, inl, inr, ℕ, zero, suc, ◌+◌, ◌-◌, ◌<◌, ◌≤◌, true, false, nat_eq, nat_lt, cond, List, [], ◌∷◌, ◌++◌, length, take, get_or, slice_get, Some, None, refl, ◌∙◌, ap, sym, arith, append-nil, append_assoc, le-ltb, take_all, take-length, take-take, take-append_seam, get_or-append_seam, get_or_append_left, cases_lt, length-append, length-take, length-take-le, get_or-take, take_more, IsNonDecreasingBy-take, IsNonDecreasingBy-push, get_or_from_slice_get, slice_get-get_or, slice_get_within, IsPartitionPoint, RESTORED, Version, StackVersion, with_version, stack_from, stack_at, changed_at, IsUntil, no_version, last_stack, stack_after, stack_of, version_of, versions_after, versions_of, AreVersions, IsBefore, IsLinked, IsNext, IsReadable, IsUpToTop}
+use Rattle.std.proofs.lemmas.List.{take_min}
 use Rattle.std.proofs.Common.{lt-ltb}
 
 -- ---- decoding versions
@@ -27,7 +28,7 @@ after-get done (v ∷ vs) (suc i) w lt =
     after-get (done ++ x ∷ []) vs i w (omega (arith, lt))
     ∙ ap (λ d. version_of d (get_or vs i w)) (append_assoc done (x ∷ []) (take i (versions_after (done ++ x ∷ []) vs)))
 
-pub versions-push : (vs : List Version) (v : Version) → versions_of (vs ++ v ∷ []) ≡ versions_of vs ++ version_of (versions_of vs) v ∷ []
+versions-push : (vs : List Version) (v : Version) → versions_of (vs ++ v ∷ []) ≡ versions_of vs ++ version_of (versions_of vs) v ∷ []
 versions-push vs v = after-push [] vs v
 
 -- each version was made at `at` or before
@@ -37,96 +38,138 @@ until-at done (v ∷ vs) zero w at until lt = until.0
 until-at done (v ∷ vs) (suc i) w at until lt = until-at (done ++ version_of done v ∷ []) vs i w at until.1 (omega (arith, lt))
 
 none : Version
-none = record { since = 0; top = 0; below = 0; height = 0 }
+none = record { since = 0; link = 0 }
 
--- ---- heights
+-- ---- the stack of the last of the first versions
 
-heights-at : (vs : List Version) (V : List StackVersion) (i : ℕ) (w : Version) → map (λ v. v.height) vs ≡ map (λ v. length v.stack) V → i < length vs → (get_or vs i w).height ≡ length (get_or V i no_version).stack
-heights-at [] V i w h lt = absurd (omega arith)
-heights-at (v ∷ vs) [] i w h lt = cc
-heights-at (v ∷ vs) (x ∷ V) zero w h lt = cc
-heights-at (v ∷ vs) (x ∷ V) (suc i) w h lt = heights-at vs V i w (cc) (omega (arith, lt))
+first-take : (vs : List Version) (n : ℕ) → take n vs ≡ take (length (take n vs)) vs
+first-take vs n = sym (ap (λ m. take m vs) (length-take n vs) ∙ take_min n vs)
 
-pub stacked-above : (h top : ℕ) (below : List ℕ) → h ≡ length below → stacked (h + 1) top below ≡ top ∷ below
-stacked-above zero top [] e = refl
-stacked-above zero top (x ∷ below) e = cc
-stacked-above (suc h) top [] e = cc
-stacked-above (suc h) top (x ∷ below) e = rw add-one refl
+after-fewer : (n m : ℕ) (V : List StackVersion) → n ≤ m → stack_after n (take m V) ≡ stack_after n V
+after-fewer zero m V le = refl
+after-fewer (suc i) m V le = ap (λ x. x.stack) (get_or-take m V i no_version (omega (arith, le)))
+
+module _ (us vs : List Version) (first : us ≡ take (length us) vs) where
+  fewer : length us ≤ length vs
+  fewer = omega (arith, ap length first, length-take (length us) vs)
+
+  stack-first : (n : ℕ) → n ≤ length us → stack_after n (versions_of us) ≡ stack_after n (versions_of vs)
+  stack-first n le = ap (λ l. stack_after n (versions_of l)) first ∙ (ap (stack_after n) (after-take (length us) [] vs) ∙ after-fewer n (length us) (versions_of vs) le)
+
+  get-first : (i : ℕ) (w : Version) → i < length us → get_or us i w ≡ get_or vs i w
+  get-first i w lt = ap (λ l. get_or l i w) first ∙ get_or-take (length us) vs i w lt
+
+  linked-fewer : (n : ℕ) (v : Version) → n ≤ length us → IsLinked vs n v → IsLinked us n v
+  linked-fewer n v le is = record {
+    height = λ lt. is.height lt ∙ ap (λ s. suc (length s)) (sym (stack-first n le));
+    within = is.within;
+    pushed = λ i w e. let within = is.within in rw (get-first i w (omega (arith, within, e, le))) (is.pushed i w e);
+  }
+
+  linked-more : (n : ℕ) (v : Version) → n ≤ length us → IsLinked us n v → IsLinked vs n v
+  linked-more n v le is = record {
+    height = λ lt. is.height lt ∙ ap (λ s. suc (length s)) (stack-first n le);
+    within = is.within;
+    pushed = λ i w e. let within = is.within in rw (← get-first i w (omega (arith, within, e, le))) (is.pushed i w e);
+  }
+
+-- the stack of the version at an index
+stack-next : (vs : List Version) (i : ℕ) (w : Version) → AreVersions vs → i < length vs
+    → stack_after (suc i) (versions_of vs) ≡ cond (nat_lt (get_or vs i w).link RESTORED) ((get_or vs i w).since ∷ stack_after i (versions_of vs)) (stack_after ((get_or vs i w).link - RESTORED) (versions_of vs))
+stack-next vs i w are lt =
+    let V = versions_of vs in
+    let v = get_or vs i w in
+    let size : length (take i V) ≡ i = length-take-le i V (omega (arith, after-length [] vs, lt)) in
+    let below : stack_after (length (take i V)) (take i V) ≡ stack_after i V = ap (λ n. stack_after n (take i V)) size ∙ after-fewer i i V (omega arith) in
+    let named : stack_after (v.link - RESTORED) (take i V) ≡ stack_after (v.link - RESTORED) V = after-fewer (v.link - RESTORED) i V ((are.linked i w lt).within) in
+    ap (λ x. x.stack) (after-get [] vs i w lt)
+    ∙ (ap (λ s. cond (nat_lt v.link RESTORED) (v.since ∷ s) (stack_after (v.link - RESTORED) (take i V))) below
+    ∙ ap (λ s. cond (nat_lt v.link RESTORED) (v.since ∷ stack_after i V) s) named)
+
+stack-pushed : (vs : List Version) (i : ℕ) (w : Version) → AreVersions vs → i < length vs → (get_or vs i w).link < RESTORED → stack_after (suc i) (versions_of vs) ≡ (get_or vs i w).since ∷ stack_after i (versions_of vs)
+stack-pushed vs i w are lt low =
+    let V = versions_of vs in
+    let v = get_or vs i w in
+    stack-next vs i w are lt ∙ ap (λ b. cond b (v.since ∷ stack_after i V) (stack_after (v.link - RESTORED) V)) (lt-ltb v.link RESTORED low)
+
+stack-restored : (vs : List Version) (i : ℕ) (w : Version) → AreVersions vs → i < length vs → RESTORED ≤ (get_or vs i w).link → stack_after (suc i) (versions_of vs) ≡ stack_after ((get_or vs i w).link - RESTORED) (versions_of vs)
+stack-restored vs i w are lt high =
+    let V = versions_of vs in
+    let v = get_or vs i w in
+    stack-next vs i w are lt ∙ ap (λ b. cond b (v.since ∷ stack_after i V) (stack_after (v.link - RESTORED) V)) (le-ltb v.link RESTORED high)
 
 -- ---- the versions of a list
 
 pub fewer-versions : (vs : List Version) (n : ℕ) → AreVersions vs → AreVersions (take n vs)
 fewer-versions vs n are = record {
-  heights = sym (take-map (λ v. v.height) n vs) ∙ (ap (take n) are.heights ∙ (take-map (λ v. length v.stack) n (versions_of vs) ∙ ap (map (λ v. length v.stack)) (sym (after-take n [] vs))));
+  linked = λ i w lt.
+      let l : i < length vs = omega (arith, lt, length-take n vs) in
+      rw (get_or-take n vs i w (omega (arith, lt, length-take n vs)))
+      (linked-fewer (take n vs) vs (first-take vs n) i (get_or vs i w) (omega (arith, lt)) (are.linked i w l));
   ordered = IsNonDecreasingBy-take (λ v. v.since) n vs are.ordered;
 }
 
--- the version at an index can be read, with the versions before it
-pub record IsVersionAt (vs : List Version) (i : ℕ) (v : Version) : Type 0 where
-  pub readable : IsReadable (take i vs) v
-  pub decoded : get_or (versions_of vs) i no_version ≡ version_of (versions_of (take i vs)) v
-
-pub version-at : (vs : List Version) (i : ℕ) (w : Version) → AreVersions vs → i < length vs → IsVersionAt vs i (get_or vs i w)
-version-at vs i w are lt =
-    let V = versions_of vs in
-    let front = after-take i [] vs in
-    let decoded : get_or V i no_version ≡ version_of (versions_of (take i vs)) (get_or vs i w) = after-get [] vs i w lt ∙ ap (λ d. version_of d (get_or vs i w)) (sym front) in
-    record {
-      readable = record {
-        versions = fewer-versions vs i are;
-        height = heights-at vs V i w are.heights lt ∙ ap (λ x. length x.stack) decoded;
-      };
-      decoded = decoded;
-    }
-
--- the stack below the top of a stack of two or more is that of an earlier version
-pub below-within : (vs : List Version) (v : Version) (n : ℕ) → v.height ≡ length (stack_of (versions_of vs) v) → v.height ≡ suc (suc n) → v.below < length vs
-below-within vs v n readable tall = ⊎_elim (λ lt. lt) (λ ge. absurd (past-all ge)) (cases_lt v.below (length vs))
-  where
-    past-all : length vs ≤ v.below → ⊥
-    past-all ge =
-        let past : get_or (versions_of vs) v.below no_version ≡ no_version = get_or_past (versions_of vs) v.below no_version (omega (arith, after-length [] vs, ge)) in
-        let short : suc (suc n) ≡ 1 = sym tall ∙ (readable ∙ (ap (λ h. length (stacked h v.top (get_or (versions_of vs) v.below no_version).stack)) tall ∙ ap (λ x. suc (length x.stack)) past)) in
-        omega (arith, short)
-
--- the stack of a version, read with all versions, is the same as with those before it
-pub stack-again : (vs : List Version) (i : ℕ) (w : Version) → AreVersions vs → i < length vs → stack_of (versions_of vs) (get_or vs i w) ≡ (get_or (versions_of vs) i no_version).stack
-stack-again vs i w are lt = by (get_or vs i w).height refl
-  where
-    v : Version
-    v = get_or vs i w
-
-    at : IsVersionAt vs i v
-    at = version-at vs i w are lt
-
-    by : (h : ℕ) → v.height ≡ h → stack_of (versions_of vs) v ≡ (get_or (versions_of vs) i no_version).stack
-    by zero e = ap (λ n. stacked n v.top (get_or (versions_of vs) v.below no_version).stack) e ∙ sym (ap (λ x. x.stack) at.decoded ∙ ap (λ n. stacked n v.top (get_or (versions_of (take i vs)) v.below no_version).stack) e)
-    by (suc zero) e = ap (λ n. stacked n v.top (get_or (versions_of vs) v.below no_version).stack) e ∙ sym (ap (λ x. x.stack) at.decoded ∙ ap (λ n. stacked n v.top (get_or (versions_of (take i vs)) v.below no_version).stack) e)
-    by (suc (suc n)) e =
-        let low = below-within (take i vs) v n at.readable.height e in
-        let same : get_or (versions_of vs) v.below no_version ≡ get_or (versions_of (take i vs)) v.below no_version =
-        sym (ap (λ d. get_or d v.below no_version) (after-take i [] vs) ∙ get_or-take i (versions_of vs) v.below no_version (omega (arith, low, length-take i vs))) in
-        ap (λ x. stacked v.height v.top x.stack) same ∙ sym (ap (λ x. x.stack) at.decoded)
-
 -- a version is added
-pub versions-more : (vs : List Version) (v : Version) → AreVersions vs → v.height ≡ length (stack_of (versions_of vs) v) → IsUntil v.since (versions_of vs) → AreVersions (vs ++ v ∷ [])
-versions-more vs v are high until = record {
-  heights =
-      let x = version_of (versions_of vs) v in
-      map-append (λ u. u.height) vs (v ∷ [])
-      ∙ (ap (λ hs. hs ++ v.height ∷ []) are.heights
-      ∙ (ap (λ h. map (λ u. length u.stack) (versions_of vs) ++ h ∷ []) high
-      ∙ sym (ap (map (λ u. length u.stack)) (versions-push vs v) ∙ map-append (λ u. length u.stack) (versions_of vs) (x ∷ []))));
+pub versions-more : (vs : List Version) (v : Version) → AreVersions vs → IsLinked vs (length vs) v → IsUntil v.since (versions_of vs) → AreVersions (vs ++ v ∷ [])
+versions-more vs v are new until = record {
+  linked = λ i w lt. by i w lt (cases_lt i (length vs));
   ordered = IsNonDecreasingBy-push (λ u. u.since) vs v are.ordered (λ w some. until-at [] vs (length vs - 1) w v.since until (omega (arith, some)));
 }
+  where
+    us : List Version
+    us = vs ++ v ∷ []
+
+    first : vs ≡ take (length vs) us
+    first = sym (take-append_seam vs (v ∷ []))
+
+    by : (i : ℕ) (w : Version) → i < length us → (i < length vs) ⊎ (length vs ≤ i) → IsLinked us i (get_or us i w)
+    by i w lt (inl l) = rw (get_or_append_left vs (v ∷ []) w i l) (linked-more vs us first i (get_or vs i w) (omega (arith, l)) (are.linked i w l))
+    by i w lt (inr ge) =
+        let here : i ≡ length vs = omega (arith, ge, lt, length-append vs (v ∷ [])) in
+        let is : get_or us i w ≡ v = ap (λ k. get_or us k w) here ∙ get_or-append_seam vs v [] w in
+        rw (is, here) (linked-more vs us first (length vs) v (omega arith) new)
+
+-- ---- the version that pushed the top
+
+-- the last version of a stack that is read
+pub record IsTop (vs : List Version) (v : Version) : Type 0 where
+  pub height : v.link ≡ length (last_stack vs)
+  pub stack : last_stack vs ≡ v.since ∷ last_stack (take (length vs - 1) vs)
+
+pub is-top : (vs : List Version) (v : Version) → IsReadable vs → Some v ≡ slice_get vs (length vs - 1) → IsTop vs v
+is-top vs v read e =
+    let i = length vs - 1 in
+    let lt : i < length vs = slice_get_within vs i v (sym e) in
+    let n : length vs ≡ suc i = omega (arith, lt) in
+    let is : get_or vs i v ≡ v = get_or_from_slice_get vs i v v (sym e) in
+    let low : (get_or vs i v).link < RESTORED = read.pushed i v n in
+    let on : stack_after (suc i) (versions_of vs) ≡ (get_or vs i v).since ∷ stack_after i (versions_of vs) = stack-pushed vs i v read.versions lt low in
+    let size : length (take i vs) ≡ i = length-take-le i vs (omega (arith, lt)) in
+    let below : stack_after i (versions_of vs) ≡ last_stack (take i vs) = sym (ap (λ m. stack_after m (versions_of (take i vs))) size ∙ stack-first (take i vs) vs (first-take vs i) i (omega (arith, size))) in
+    let whole : last_stack vs ≡ v.since ∷ stack_after i (versions_of vs) = ap (λ m. stack_after m (versions_of vs)) n ∙ (on ∙ ap (λ (u : Version). u.since ∷ stack_after i (versions_of vs)) is) in
+    record {
+      height = ap (λ (u : Version). u.link) (sym is) ∙ ((read.versions.linked i v lt).height low ∙ sym (ap length whole));
+      stack = whole ∙ ap (λ s. v.since ∷ s) below;
+    }
+
+-- the stack without its top
+pub is-popped-top : (vs : List Version) (p : ℕ) → IsReadable vs → Some p ≡ slice_get (last_stack vs) 0 → last_stack vs ≡ p ∷ last_stack (take (length vs - 1) vs)
+is-popped-top [] p read e = cc
+is-popped-top (v ∷ vs) p read e =
+    let i = length (v ∷ vs) - 1 in
+    let u = get_or (v ∷ vs) i v in
+    let top = is-top (v ∷ vs) u read (sym (slice_get-get_or (v ∷ vs) i v (omega arith))) in
+    let here : Some p ≡ Some u.since = e ∙ ap (λ s. slice_get s 0) top.stack in
+    let same : p ≡ u.since = cc in
+    top.stack ∙ ap (λ q. q ∷ last_stack (take i (v ∷ vs))) (sym same)
 
 -- ---- when versions were made
 
-pub since-at : (vs : List Version) (i : ℕ) (w : Version) → i < length vs → (get_or (versions_of vs) i no_version).since ≡ (get_or vs i w).since
+since-at : (vs : List Version) (i : ℕ) (w : Version) → i < length vs → (get_or (versions_of vs) i no_version).since ≡ (get_or vs i w).since
 since-at vs i w lt = ap (λ x. x.since) (after-get [] vs i w lt)
 
 -- a version was made at `at` exactly if the last one was
-pub changed-last : (done : List StackVersion) (at : ℕ) (vs : List Version) (i : ℕ) (w : Version) → length vs ≡ suc i → changed_at at (versions_after done vs) ≡ nat_eq (get_or vs i w).since at
+changed-last : (done : List StackVersion) (at : ℕ) (vs : List Version) (i : ℕ) (w : Version) → length vs ≡ suc i → changed_at at (versions_after done vs) ≡ nat_eq (get_or vs i w).since at
 changed-last done at [] i w n = cc
 changed-last done at (v ∷ []) zero w n = refl
 changed-last done at (v ∷ []) (suc i) w n = absurd (omega (arith, n))
@@ -135,12 +178,12 @@ changed-last done at (v ∷ u ∷ vs) (suc i) w n = changed-last (done ++ versio
 
 -- ---- the last version made before a position
 
-abbrev last_of : List ℕ → ℕ → List StackVersion → List ℕ
-last_of found zero V = found
-last_of found (suc i) V = (get_or V i no_version).stack
+abbrev last_from : List ℕ → ℕ → List StackVersion → List ℕ
+last_from found zero V = found
+last_from found (suc i) V = (get_or V i no_version).stack
 
 found-from : (found : List ℕ) (V : List StackVersion) (at n : ℕ) → n ≤ length V → ((k : ℕ) → k < n → nat_lt (get_or V k no_version).since at ≡ true) → ((k : ℕ) → n ≤ k → k < length V → nat_lt (get_or V k no_version).since at ≡ false)
-    → stack_from found V at ≡ last_of found n V
+    → stack_from found V at ≡ last_from found n V
 found-from found [] at zero le low high = refl
 found-from found [] at (suc n) le low high = absurd (omega (arith, le))
 found-from found (v ∷ V) at zero le low high =
@@ -150,48 +193,121 @@ found-from found (v ∷ V) at (suc zero) le low high =
 found-from found (v ∷ V) at (suc (suc n)) le low high =
     ap (λ b. stack_from (cond b v.stack found) V at) (low 0 (omega arith)) ∙ found-from v.stack V at (suc n) (omega (arith, le)) (λ k lt. low (suc k) (omega (arith, lt))) (λ k ge lt. high (suc k) (omega (arith, ge)) (omega (arith, lt)))
 
--- the stack at `at` is that of the last of the versions made before `at`
-pub found-before : (vs : List Version) (at n : ℕ) → n ≤ length vs → IsPartitionPoint (λ v. nat_lt v.since at ≡ true) (λ v. nat_lt v.since at ≡ false) vs n → stack_at (versions_of vs) at ≡ last_of [] n (versions_of vs)
-found-before vs at n le point =
-    let size = after-length [] vs in
-    found-from [] (versions_of vs) at n (omega (arith, size, le))
-    (λ k lt. ap (λ s. nat_lt s at) (since-at vs k none (omega (arith, lt, le))) ∙ point.0 k none (omega arith) lt)
-    (λ k ge lt. ap (λ s. nat_lt s at) (since-at vs k none (omega (arith, lt, size))) ∙ point.1 k none ge (omega (arith, lt, size)))
+-- the versions made before `at` are the first n
+pub is-before : (vs : List Version) (at n : ℕ) → AreVersions vs → n ≤ length vs → IsPartitionPoint (λ v. nat_lt v.since at ≡ true) (λ v. nat_lt v.since at ≡ false) vs n → IsBefore vs at (take n vs)
+is-before vs at n are le point = record {
+  first = first-take vs n;
+  versions = fewer-versions vs n are;
+  stack = found ∙ from n ∙ sym (ap (λ m. stack_after m (versions_of (take n vs))) few ∙ stack-first (take n vs) vs (first-take vs n) n (omega (arith, few)));
+}
+  where
+    few : length (take n vs) ≡ n
+    few = length-take-le n vs le
 
-pub is-found : (vs : List Version) (at n : ℕ) (r : Option ℕ) → n ≤ length vs → IsPartitionPoint (λ v. nat_lt v.since at ≡ true) (λ v. nat_lt v.since at ≡ false) vs n → SomeIff r (1 ≤ n) (n - 1) → IsFound vs at r
-is-found vs at n (Some i) le point e = let up : n ≡ suc i = omega (arith, e.0, e.1) in (omega (arith, le, up), found-before vs at n le point ∙ ap (λ m. last_of [] m (versions_of vs)) up)
-is-found vs at zero None le point e = found-before vs at zero le point
-is-found vs at (suc n) None le point e = absurd (e (omega arith))
+    size : length (versions_of vs) ≡ length vs
+    size = after-length [] vs
+
+    found : stack_at (versions_of vs) at ≡ last_from [] n (versions_of vs)
+    found =
+        found-from [] (versions_of vs) at n (omega (arith, size, le))
+        (λ k lt. ap (λ s. nat_lt s at) (since-at vs k none (omega (arith, lt, le))) ∙ point.0 k none (omega arith) lt)
+        (λ k ge lt. ap (λ s. nat_lt s at) (since-at vs k none (omega (arith, lt, size))) ∙ point.1 k none ge (omega (arith, lt, size)))
+
+    from : (m : ℕ) → last_from [] m (versions_of vs) ≡ stack_after m (versions_of vs)
+    from zero = refl
+    from (suc i) = refl
 
 -- if no version was made at `at` or later, the stack at `at` is that of the last version
-pub found-last : (vs : List Version) (at i : ℕ) (w : Version) → AreVersions vs → length vs ≡ suc i → IsUntil at (versions_of vs) → changed_at at (versions_of vs) ≡ false → stack_at (versions_of vs) at ≡ (get_or (versions_of vs) i no_version).stack
-found-last vs at i w are n until same =
-    found-before vs at (suc i) (omega (arith, n)) (
+found-last : (vs : List Version) (at : ℕ) → AreVersions vs → IsUntil at (versions_of vs) → changed_at at (versions_of vs) ≡ false → stack_at (versions_of vs) at ≡ last_stack vs
+found-last vs at are until same =
+    (is-before vs at (length vs) are (omega arith) (
       (λ k u low lt. lt-ltb (get_or vs k u).since at (below k u lt)),
-      (λ k u ge lt. absurd (omega (arith, ge, lt, n))),
-    )
+      (λ k u ge lt. absurd (omega (arith, ge, lt))),
+    )).stack ∙ ap last_stack (take-length vs)
   where
-    below : (k : ℕ) (u : Version) → k < suc i → (get_or vs k u).since < at
+    below : (k : ℕ) (u : Version) → k < length vs → (get_or vs k u).since < at
     below k u lt =
+        let i = length vs - 1 in
+        let n : length vs ≡ suc i = omega (arith, lt) in
         let most = until-at [] vs i u at until (omega (arith, n)) in
         let order = are.ordered k i u (omega (arith, lt)) (omega (arith, n)) in
         let differ : nat_eq (get_or vs i u).since at ≡ false = sym (changed-last [] at vs i u n) ∙ same in
         grind (arith, most, order, differ)
 
--- the position pushed on the stack of the last version
-pub record IsAbove (vs : List Version) (at h below : ℕ) : Type 0 where
-  pub stack : stacked h at (get_or (versions_of vs) below no_version).stack ≡ at ∷ stack_at (versions_of vs) at
-  pub height : h ≡ length (stacked h at (get_or (versions_of vs) below no_version).stack)
+-- ---- the versions up to the one that pushed the top
 
-pub is-above : (vs : List Version) (at i h below : ℕ) (w : Version) → AreVersions vs → length vs ≡ suc i → IsUntil at (versions_of vs) → changed_at at (versions_of vs) ≡ false → h ≡ (get_or vs i w).height + 1 → below ≡ i → IsAbove vs at h below
-is-above vs at i h below w are n until same high here =
-    let last = (get_or (versions_of vs) i no_version).stack in
-    let v = version-at vs i w are (omega (arith, n)) in
-    let tall : (get_or vs i w).height ≡ length last = v.readable.height ∙ ap (λ x. length x.stack) (sym v.decoded) in
-    let on : stacked h at (get_or (versions_of vs) below no_version).stack ≡ at ∷ last = ap (λ k. stacked h at (get_or (versions_of vs) k no_version).stack) here ∙ (ap (λ m. stacked m at last) high ∙ stacked-above (get_or vs i w).height at last tall) in
+-- the count that a restored version has is that of some versions before it
+link-within : (vs : List Version) (v : Version) → AreVersions vs → Some v ≡ slice_get vs (length vs - 1) → v.link - RESTORED < length vs
+link-within vs v are e =
+    let i = length vs - 1 in
+    let lt : i < length vs = slice_get_within vs i v (sym e) in
+    let is : get_or vs i v ≡ v = get_or_from_slice_get vs i v v (sym e) in
+    let within = (are.linked i v lt).within in
+    omega (arith, within, lt, ap (λ (u : Version). u.link) is)
+
+pub up-to-restored : (vs : List Version) (v : Version) → AreVersions vs → Some v ≡ slice_get vs (length vs - 1) → RESTORED ≤ v.link → IsUpToTop vs (take (v.link - RESTORED) vs)
+up-to-restored vs v are e high =
+    let i = length vs - 1 in
+    let m = v.link - RESTORED in
+    let lt : i < length vs = slice_get_within vs i v (sym e) in
+    let n : length vs ≡ suc i = omega (arith, lt) in
+    let is : get_or vs i v ≡ v = get_or_from_slice_get vs i v v (sym e) in
+    let link : (get_or vs i v).link ≡ v.link = ap (λ (u : Version). u.link) is in
+    let few : length (take m vs) ≡ m = length-take-le m vs (omega (arith, link-within vs v are e)) in
     record {
-      stack = on ∙ ap (λ r. at ∷ r) (sym (found-last vs at i w are n until same));
-      height = omega (arith, high, tall, ap length on);
+      first = first-take vs m;
+      readable = record {
+        versions = fewer-versions vs m are;
+        pushed = λ k w size.
+            rw (get-first (take m vs) vs (first-take vs m) k w (omega (arith, size)))
+            ((are.linked i v lt).pushed k w (omega (arith, link, size, few, high)));
+      };
+      stack =
+          ap (λ k. stack_after k (versions_of (take m vs))) few
+          ∙ (stack-first (take m vs) vs (first-take vs m) m (omega (arith, few))
+          ∙ (ap (λ l. stack_after (l - RESTORED) (versions_of vs)) (sym link)
+          ∙ (sym (stack-restored vs i v are lt (omega (arith, link, high))) ∙ ap (λ k. stack_after k (versions_of vs)) (sym n))));
+    }
+
+-- ---- a version that is made
+
+-- the position pushed on the stack of the last version
+pub pushed-next : (vs : List Version) (at : ℕ) (v : Version) → AreVersions vs → IsUntil at (versions_of vs) → changed_at at (versions_of vs) ≡ false
+    → v.since ≡ at → v.link ≡ length (last_stack vs) + 1 → v.link < RESTORED → IsNext vs at (at ∷ stack_at (versions_of vs) at) v
+pushed-next vs at v are until same since link low =
+    let V = versions_of vs in
+    let size : length V ≡ length vs = after-length [] vs in
+    record {
+      since = since;
+      decoded =
+          ap (λ b. cond b (v.since ∷ stack_after (length V) V) (stack_after (v.link - RESTORED) V)) (lt-ltb v.link RESTORED low)
+          ∙ (ap (λ n. v.since ∷ stack_after n V) size
+          ∙ (ap (λ p. p ∷ last_stack vs) since ∙ ap (λ s. at ∷ s) (sym (found-last vs at are until same))));
+      linked = record {
+        height = λ lt. omega (arith, link);
+        within = omega (arith, low);
+        pushed = λ i w e. absurd (omega (arith, low, e));
+      };
+    }
+
+-- the stack as it was at `before`
+pub restored-next : (vs us tops : List Version) (at before : ℕ) (v : Version) → IsBefore vs before us → IsUpToTop us tops → v.since ≡ at → v.link ≡ RESTORED + length tops → IsNext vs at (stack_at (versions_of vs) before) v
+restored-next vs us tops at before v made top since link =
+    let V = versions_of vs in
+    let n = length tops in
+    let within : n ≤ length us = fewer tops us top.first in
+    let first : tops ≡ take n vs = top.first ∙ (ap (take n) made.first ∙ take-take n (length us) vs within) in
+    record {
+      since = since;
+      decoded =
+          ap (λ b. cond b (v.since ∷ stack_after (length V) V) (stack_after (v.link - RESTORED) V)) (le-ltb v.link RESTORED (omega (arith, link)))
+          ∙ (ap (λ m. stack_after m V) (omega (arith, link))
+          ∙ (sym (stack-first tops vs first n (omega arith)) ∙ (top.stack ∙ sym made.stack)));
+      linked = record {
+        height = λ lt. absurd (omega (arith, lt, link));
+        within = omega (arith, link, fewer tops vs first);
+        pushed = λ i w e. let size : n ≡ suc i = omega (arith, e, link) in rw (← get-first tops vs first i w (omega (arith, size))) (top.readable.pushed i w size);
+      };
     }
 
 -- ---- the last version
@@ -233,16 +349,6 @@ changed-more vs us at stack v more same since is =
 
 pub changed-already : (vs : List StackVersion) (at : ℕ) (stack : List ℕ) → changed_at at vs ≡ true → vs ≡ with_version at stack vs
 changed-already vs at stack e = sym (ap (λ b. cond b vs (vs ++ record { since = at; stack = stack } ∷ [])) e)
-
--- the version that was found can be read
-pub found-readable : (vs us before : List Version) (at i : ℕ) (v : Version) → AreVersions vs → us ≡ vs → IsFound us at (Some i) → before ≡ take i us → slice_get us i ≡ Some v → IsReadable before v × (stack_of (versions_of before) v ≡ stack_at (versions_of vs) at)
-found-readable vs us before at i v are same found part here =
-    let a = version-at us i v (subst AreVersions (sym same) are) found.0 in
-    let is : get_or us i v ≡ v = get_or_from_slice_get us i v v here in
-    let front : before ≡ take i us = part in (
-      rw (front, ← is) a.readable,
-      ap (λ b. stack_of (versions_of b) v) front ∙ (ap (stack_of (versions_of (take i us))) (sym is) ∙ (sym (ap (λ x. x.stack) a.decoded) ∙ (sym found.1 ∙ ap (λ r. stack_at (versions_of r) at) same))),
-    )
 
 -- w was made when the last version v was, and the versions before it are `front`
 pub record IsPopped (vs : List Version) (front : List StackVersion) (v : StackVersion) (w : Version) : Type 0 where

@@ -6,10 +6,11 @@ pub use Rattle.entries.specs.Stored.Keys.{AreKeys, AreKeysOf, AreRuns, IsRun, in
 pub use Rattle.entries.specs.Stored.PositionSets.{AreNodes, AreSets, IsNode, IsNodeOf, joined, set_of, sets_from, sets_of}
 pub use Rattle.entries.specs.Stored.Records.{AreKept, ArePacked, Body, IsKept, IsOrdered, IsStored, bodies_of, body_of, counts_of, end_by, groups_by, has_parts, layout_in, record_by, numbers_by, numbers_of, spans_by, with_state_before, with_states_before}
 pub use Rattle.entries.specs.Stored.Spans.{AreSpansIn, Extends, cut}
-pub use Rattle.entries.specs.Stored.Versions.{AreLogged, AreVersions, Change, IsFound, IsReadable, no_version, sinces_of, stack_of, stacked, version_of, versions_after, versions_of}
+pub use Rattle.entries.specs.Stored.Versions.{AreLogged, AreVersions, Change, IsBefore, IsLinked, IsNext, IsReadable, IsUpToTop, last_stack, no_version, sinces_of, stack_after, stack_of, version_of, versions_after, versions_of}
 pub use Rattle.entries.specs.SymbolPlaces.{AreGroupsFrom, ArePlacesOf, IsGroupOf, IsGrouped, SymbolGroups}
 pub use Rattle.entries.specs.declared.buffer_part.BufferPart.{BufferPart}
 pub use Rattle.entries.specs.declared.entry_header.StateBefore.{StateBefore}
+pub use Rattle.entries.specs.declared.history.TheConstants.{RESTORED}
 pub use Rattle.entries.specs.declared.history.Version.{Version}
 pub use Rattle.entries.specs.declared.kind.Kind.{Kind}
 pub use Rattle.entries.specs.declared.layout.Layout.{Layout}
@@ -24,7 +25,7 @@ pub use Rattle.std.proofs.Math.Seq.{drop-append_seam, get_or-append_seam, take-a
 pub use Rattle.std.proofs.lemmas.Bool.{cases_eq, cases_lt, cond_both, eq-eqb, le-ltb, leb-false, lt-leb, lt-ltb, ltb-false, ltb-true, ne_eqb}
 pub use Rattle.std.proofs.lemmas.Bool.Decides.{nat_tests}
 pub use Rattle.std.proofs.lemmas.Grind.{common_steps, get_or-set_at}
-pub use Rattle.std.proofs.lemmas.List.{drop-append-le, drop_more, get_or-drop, get_or-map, get_or-set_other, get_or-take, get_or_append_left, get_or_at, get_or_default, get_or_past, get_or_read, length-append, length-drop, length-map, length-take, length-take-le, length_push, map-append, nil_from_length, reverse-append, take-append-drop, take-append-le, take-map, take_at, take_more, take_rest}
+pub use Rattle.std.proofs.lemmas.List.{drop-append-le, drop_more, get_or-drop, get_or-map, get_or-set_other, get_or-take, get_or_append_left, get_or_at, get_or_default, get_or_past, get_or_read, length-append, length-drop, length-map, length-take, length-take-le, length_push, map-append, nil_from_length, reverse-append, take-append-drop, take-append-le, take-map, take-take, take_at, take_more, take_rest}
 pub use Rattle.std.proofs.lemmas.List.Elements.{All-tail, Contains-get_or, filter-append}
 pub use Rattle.std.proofs.lemmas.List.Filters.{dedup_is}
 pub use Rattle.std.proofs.lemmas.List.Kept.{AllPairs-from_increasing, Contains-dedup_nat, Contains-from_dedup}

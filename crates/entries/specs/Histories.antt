@@ -1,6 +1,7 @@
 -- Stacks of positions whose earlier versions can be read.
 -- Driscoll, Sarnak, Sleator and Tarjan, Making data structures persistent (1989): a stack that is fully persistent.
--- The code stores the top of each version, and the index of the version below it.
+-- The stack of a version that was pushed is its position above the stack of the version before it, so the code stores its height
+-- alone, and for a version that was restored the index of a pushed one with its stack.
 use Rattle.std.specs.Prelude.{◌≡◌, ℕ, ◌≤◌, ◌==◌, Bool, false, nat_lt, nat_le, if◌then◌else◌, List, [], ◌∷◌, ◌++◌, filter, get_or}
 
 -- a stack, from the last position back, and the position at which this version was made

@@ -1,37 +1,23 @@
 //! The versions of one stack of positions.
-ghost use Rattle.std.specs.Prelude.{◌≡◌, ◌∷◌, ◌++◌, [], length, false, nat_lt, if◌then◌else◌, OnOk, OnErr, IfOk, IsTrue, List};
-ghost use Rattle.std.specs.List.Sorted.{IsNonDecreasingBy};
-ghost use Rattle.{entries.specs.Histories.StackVersion, entries.specs.Histories.IsUntil, entries.specs.Histories.changed_at, entries.specs.Histories.pushed, entries.specs.Histories.reverted, entries.specs.Histories.stack_at, entries.specs.Stored.Versions.IsFound, entries.specs.Stored.Versions.AreVersions, entries.specs.Stored.Versions.stack_of, entries.specs.Stored.Versions.versions_of};
+ghost use Rattle.std.specs.Prelude.{◌≡◌, ◌∷◌, ◌++◌, [], false, nat_lt, if◌then◌else◌, OnOk, OnErr, IfOk, IsTrue, List};
+ghost use Rattle.{entries.specs.Histories.StackVersion, entries.specs.Histories.IsUntil, entries.specs.Histories.changed_at, entries.specs.Histories.pushed, entries.specs.Histories.reverted, entries.specs.Histories.stack_at, entries.specs.Stored.Versions.AreVersions, entries.specs.Stored.Versions.IsBefore, entries.specs.Stored.Versions.IsNext, entries.specs.Stored.Versions.IsUpToTop, entries.specs.Stored.Versions.versions_of};
 
-use crate::buffer_part::{item, to_u32};
 use crate::position_stack::PositionStack;
 use crate::room::give_back;
 use std::alloc::{AllocError, Global};
 use std::marker::Model;
+
+/// The least link of a version that restored an earlier stack.
+pub const RESTORED: u32 = 2_147_483_648;
 
 /// A version of a stack: the stack as it is from just after one position on, up to the next version.
 #[derive(Clone, Copy, Drop)]
 pub struct Version {
     /// The position at which this version was made.
     pub since: u32,
-    /// The position on top, or 0 if there is none.
-    pub top: u32,
-    /// The index of an earlier version, whose stack is this one without its top. Read only if the height is 2 or more.
-    pub below: u32,
-    /// How many positions the stack has.
-    pub height: u32,
-}
-
-/// Returns a version with an empty stack, made at `since`.
-pub fn empty_version(since: u32) -> Version
-    ensures { (result.since ≡ since) × (result.height ≡ 0) }
-{
-    Version {
-        since,
-        top: 0,
-        below: 0,
-        height: 0,
-    }
+    /// If `since` was pushed, how many positions the stack has. Else `RESTORED` plus how many versions there are up to the one
+    /// that pushed the top of the stack, 0 if the stack is empty.
+    pub link: u32,
 }
 
 /// A stack of positions with its earlier versions, in the order in which they were made.
@@ -100,7 +86,7 @@ impl History {
         if self.changed_at(at) {
             return Ok(());
         }
-        let version = restored_version(&self.versions, at, before);
+        let version = restored_version(&self.versions, at, before)?;
         self.versions.push(version)?;
         Ok(())
     }
@@ -134,62 +120,68 @@ impl History {
     pub fn stack(&self, at: usize) -> PositionStack<'_>
         ensures { result ≡ stack_at self.now at }
     {
-        let versions = self.versions.as_slice();
-        match version_before(versions, at) {
-            Some(index) => PositionStack::new(&versions[..index], item(versions, index)),
-            None => PositionStack::empty(),
-        }
+        PositionStack::new(versions_before(&self.versions, at))
     }
 }
 
 /// Returns a version made at `at`: the stack of the last version with `at` pushed on it.
+///
+/// Errors: a stack of 2^31 positions or more is reported as a failed allocation.
 fn pushed_version(versions: &[Version], at: u32) -> Result<Version, AllocError>
     requires versions { AreVersions versions.now }
     requires until { IsUntil at (versions_of versions.now) }
     requires unchanged { changed_at at (versions_of versions.now) ≡ false }
-    ensures since { IfOk result (λ v. v.since ≡ at) }
-    ensures stack { IfOk result (λ v. stack_of (versions_of versions.now) v ≡ at ∷ stack_at (versions_of versions.now) at) }
-    ensures height { IfOk result (λ v. v.height ≡ length (stack_of (versions_of versions.now) v)) }
+    ensures { IfOk result (IsNext versions.now at (at ∷ stack_at (versions_of versions.now) at)) }
 {
-    if versions.is_empty() {
-        return Ok(Version {
-            since: at,
-            top: at,
-            below: 0,
-            height: 1,
-        });
+    let below = PositionStack::new(versions).len();
+    if below >= RESTORED as usize - 1 {
+        return Err(AllocError);
     }
-    let below = versions.len() - 1;
-    let last = item(versions, below);
     Ok(Version {
         since: at,
-        top: at,
-        below: to_u32(below)?,
-        height: to_u32(last.height as usize + 1)?,
+        link: below as u32 + 1,
     })
 }
 
 /// Returns a version made at `at`, with the stack as it was at `before`.
-fn restored_version(versions: &[Version], at: u32, before: u32) -> Version
-    requires versions { AreVersions versions.now }
-    ensures since { result.since ≡ at }
-    ensures stack { stack_of (versions_of versions.now) result ≡ stack_at (versions_of versions.now) before }
-    ensures height { result.height ≡ length (stack_of (versions_of versions.now) result) }
+///
+/// Errors: more than 2^31 - 1 versions up to the one that pushed the top are reported as a failed allocation.
+fn restored_version(versions: &[Version], at: u32, before: u32) -> Result<Version, AllocError>
+    requires { AreVersions versions.now }
+    ensures { IfOk result (IsNext versions.now at (stack_at (versions_of versions.now) before)) }
 {
-    match version_before(versions, before as usize) {
-        Some(index) => Version {
-            since: at,
-            ..versions[index]
-        },
-        None => empty_version(at),
+    let count = up_to_top(versions_before(versions, before as usize)).len();
+    if count >= RESTORED as usize {
+        return Err(AllocError);
     }
+    Ok(Version {
+        since: at,
+        link: RESTORED + count as u32,
+    })
 }
 
-/// Returns the index of the last version that was made before `at`, or `None` if there is none.
-fn version_before(versions: &[Version], at: usize) -> Option<usize>
-    requires { IsNonDecreasingBy (λ v. v.since) versions.now }
-    ensures { IsFound versions.now at result }
+/// Returns the versions that were made before `at`.
+fn versions_before(versions: &[Version], at: usize) -> &[Version]
+    requires { AreVersions versions.now }
+    ensures { IsBefore versions.now at result.now }
 {
     let count = versions.partition_point(|version| (version.since as usize) < at);
-    count.checked_sub(1)
+    &versions[..count]
+}
+
+/// Returns the versions up to the one that pushed the top of the last one's stack, or none if that stack is empty.
+pub fn up_to_top(versions: &[Version]) -> &[Version]
+    requires { AreVersions versions.now }
+    ensures { IsUpToTop versions.now result.now }
+{
+    match versions.last() {
+        Some(last) => {
+            if last.link < RESTORED {
+                versions
+            } else {
+                &versions[..(last.link - RESTORED) as usize]
+            }
+        }
+        None => versions,
+    }
 }

@@ -44,7 +44,7 @@ impl<'a> Row<'a> {
 
     /// Returns the symbols of the last `$d` and goes on to the one before it, or `None` if there is none.
     ///
-    /// Cost: two look-ups.
+    /// Cost: three look-ups.
     pub fn next(&mut self) -> Option<&'a [u32]>
         ensures some { IfSome result (λ list. self.old ≡ list.now ∷ self.new) }
         ensures none { IfNone result (self.old ≡ []) }

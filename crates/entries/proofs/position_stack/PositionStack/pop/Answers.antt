@@ -1,16 +1,12 @@
-use Rattle.entries.proofs.Words.{◌≡◌, ◌∙◌, ◌-◌, ◌∷◌, suc, ap, sym, arith, get_or, stacked, versions_of, no_version}
-use Rattle.entries.proofs.VersionLemmas.{version-at, below-within}
+use Rattle.entries.proofs.Words.{◌∙◌, ◌-◌, ◌∷◌, ap, length, slice_get, sym}
+use Rattle.entries.proofs.VersionLemmas.{fewer-versions, is-popped-top}
 use Rattle.entries.proofs.position_stack.PositionStack.pop.Goals as goal
 
-pub invariant_of-self-else-height-eq1 : goal.invariant_of-self-else-height-eq1
-invariant_of-self-else-height-eq1 c =
-    let s = c.self.inside in
-    (version-at s.before.now s.version.below _ c.self.invariant.versions (below-within s.before.now s.version (s.version.height - 2) c.self.invariant.height (omega (arith, c.if-height-eq0.false, c.if-height-eq1.false)))).readable
+pub new-requires : goal.new-requires
+new-requires c = fewer-versions c.self.inside.versions.now (length c.self.inside.versions.now - 1) c.self.invariant.versions
 
-pub returns-else-height-eq1-clause-some : goal.returns-else-height-eq1-clause-some
-returns-else-height-eq1-clause-some c =
-    let s = c.self.inside in
-    let two : s.version.height ≡ suc (suc (s.version.height - 2)) = omega (arith, c.if-height-eq0.false, c.if-height-eq1.false) in
+pub returns-clause-some : goal.returns-clause-some
+returns-clause-some c =
     sym c.self.view_is
-    ∙ (ap (λ h. stacked h s.version.top (get_or (versions_of s.before.now) s.version.below no_version).stack) two
-    ∙ ap (λ x. s.version.top ∷ x.stack) (version-at s.before.now s.version.below _ c.self.invariant.versions (below-within s.before.now s.version (s.version.height - 2) c.self.invariant.height two)).decoded)
+    ∙ (is-popped-top c.self.inside.versions.now c.in_ok-top.top c.self.invariant (c.in_ok-top.ensures ∙ ap (λ s. slice_get s 0) (sym c.self.view_is))
+    ∙ ap (λ s. c.in_ok-top.top ∷ s) (sym c.new.ensures ∙ sym c.self-2.view_is))
