@@ -1,5 +1,6 @@
 -- The sets of the hypotheses that the active `$e` bring along: read at a position, kept for the next statement, and truncated.
-use Rattle.frame.proofs.Words.{◌≡◌, ◌∙◌, ap, sym, subst, arith, refl, inl, inr, ⊎_elim, ⊎_map, ℕ, zero, suc, ◌+◌, ◌-◌, ◌<◌, ◌≤◌, ◌⊎◌, true, false, cond, List, [], ◌∷◌, ◌++◌, length, length-append, length-take, length-take-le, map, map-append, take, take-take, take_all, take-append-le, nat_lt, slice_get, Option, Some, None, take-get, get-push, slice_get_within, Database, Entry, Stmt, LastActive, Ess, actives, last_active_of, is_essential, is_close, stmt_of, names_in, labels_in, statements_of, AreStored, Storage, Extends, extends-length, extends-take, In, Ascends, AreThose, HasMore, OfSome, IsFromEssentials, IsWith, kept_at, option_kept, set_at, with_position, cond_both, max, nat_tests, ascends-with, set_at-extends, EssentialSet, EssentialSets, option_set, kept_set, IsSetFromEssentials, IsEssentialSet, AreEssentialSets}
+use Rattle.frame.proofs.Words.{◌≡◌, ◌∙◌, ap, sym, subst, arith, refl, inl, inr, ⊎_elim, ⊎_map, ℕ, zero, suc, ◌+◌, ◌-◌, ◌<◌, ◌≤◌, ◌⊎◌, true, false, cond, List, [], ◌∷◌, ◌++◌, length, length-take, length-take-le, map, map-append, take, take-take, take_all, take-append-le, nat_lt, slice_get, Option, Some, None, take-get, get-push, slice_get_within, Database, Entry, Stmt, LastActive, Ess, actives, last_active_of, is_essential, is_close, stmt_of, names_in, labels_in, statements_of, AreStored, Storage, Extends, extends-length, extends-take, In, Ascends, AreThose, HasMore, OfSome, IsFromEssentials, IsWith, kept_at, option_kept, set_at, with_position, cond_both, max, nat_tests, ascends-with, set_at-extends, KeptSet, EssentialSets, AreAmong, index_of, item_by, option_set, kept_set, IsSetFromEssentials, IsKeptSet, AreEssentialSets}
+use Rattle.frame.proofs.SparseLemmas.{item-found}
 use Rattle.frame.proofs.BlockWalkLemmas.{get-take, take-one}
 use Rattle.frame.proofs.CollectLemmas.{last-in, last-out, those-by}
 use Rattle.frame.proofs.KindWalk.{walk-from, essential_chain, as-many}
@@ -54,22 +55,24 @@ module _ (es : List Entry) (n m : ℕ) (S : Database) (le : m ≤ n) where
 -- ---- the set that is kept with the last active `$e`
 
 pub given-at : (k : Storage) (g : EssentialSets) (at q : ℕ) (l : LastActive) → AreStored k → AreEssentialSets g k.entries (statements_of k) → 1 ≤ at → at ≤ length (statements_of k) + 1 → l ≡ last_active_of (take (at - 1) (statements_of k)) → q ≡ l.essential
-    → IsSetFromEssentials k.entries (take (at - 1) (statements_of k)) g.sets (kept_set g.kept.items q)
+    → IsSetFromEssentials k.entries (take (at - 1) (statements_of k)) g.sets (kept_set g.kept q)
 given-at k g at zero l stored sets low high last_active is some = absurd (some refl)
-given-at k g at (suc i) l stored sets low high last_active is some = by (slice_get g.kept.items i) refl some
+given-at k g at (suc i) l stored sets low high last_active is some = by (item_by index_of g.kept i) refl some
   where
-    by : (o : Option EssentialSet) → slice_get g.kept.items i ≡ o → (kept_set g.kept.items (suc i) ≡ 0 → ⊥) → AreThose (IsFromEssentials k.entries (take (at - 1) (statements_of k))) (set_at g.sets (kept_set g.kept.items (suc i)))
+    by : (o : Option KeptSet) → item_by index_of g.kept i ≡ o → (kept_set g.kept (suc i) ≡ 0 → ⊥) → AreThose (IsFromEssentials k.entries (take (at - 1) (statements_of k))) (set_at g.sets (kept_set g.kept (suc i)))
     by None e some = absurd (some (ap option_set e))
     by (Some x) e some =
         let S = statements_of k in
-        let same : kept_set g.kept.items (suc i) ≡ x.set = ap option_set e in
+        let item = item-found index_of g.kept i x e in
+        let same : kept_set g.kept (suc i) ≡ x.set = ap option_set e in
         let f = walk-from k (at - 1) l essential_chain (omega arith) last_active in
-        let list : actives is_essential (take (suc i) S) ≡ actives is_essential (take (at - 1) S) = ap (λ n. actives is_essential (take n S)) is ∙ f.same in
-        let those = (sets.each i x e).given (λ z. some (same ∙ z)) in
-        let there : (p : ℕ) → IsFromEssentials (take (suc i) k.entries) (take (suc i) S) p → IsFromEssentials k.entries (take (at - 1) S) p
-        = λ p h. subst (λ ps. OfSome (IsWith k.entries) (map (λ r. r.0) ps) p) list (given-back k.entries (suc i) (suc i) S (omega arith) p h) in
-        let back : (p : ℕ) → IsFromEssentials k.entries (take (at - 1) S) p → IsFromEssentials (take (suc i) k.entries) (take (suc i) S) p
-        = λ p h. given-forth k.entries (suc i) (suc i) S (omega arith) p (subst (λ ps. OfSome (IsWith k.entries) (map (λ r. r.0) ps) p) (sym list) h) in
+        let m = suc x.index in
+        let list : actives is_essential (take m S) ≡ actives is_essential (take (at - 1) S) = ap (λ n. actives is_essential (take n S)) (ap suc item.index ∙ is) ∙ f.same in
+        let those = (sets.each item.place x item.got).given (λ z. some (same ∙ z)) in
+        let there : (p : ℕ) → IsFromEssentials (take m k.entries) (take m S) p → IsFromEssentials k.entries (take (at - 1) S) p
+        = λ p h. subst (λ ps. OfSome (IsWith k.entries) (map (λ r. r.0) ps) p) list (given-back k.entries m m S (omega arith) p h) in
+        let back : (p : ℕ) → IsFromEssentials k.entries (take (at - 1) S) p → IsFromEssentials (take m k.entries) (take m S) p
+        = λ p h. given-forth k.entries m m S (omega arith) p (subst (λ ps. OfSome (IsWith k.entries) (map (λ r. r.0) ps) p) (sym list) h) in
         subst (λ n. AreThose (IsFromEssentials k.entries (take (at - 1) S)) (set_at g.sets n)) (sym same) (those-by those there back)
 
 -- ---- the next `$e` brings along the hypotheses of the last active one, itself, and the `$f` of its own variables
@@ -104,25 +107,29 @@ given-next k last e xs new size got kind those ascends more =
     }
 
 -- the number kept with a statement is that of one of the sets
-pub kept-within : (g : EssentialSets) (es : List Entry) (S : Database) (q : ℕ) → AreEssentialSets g es S → kept_set g.kept.items q < length g.sets
+pub kept-within : (g : EssentialSets) (es : List Entry) (S : Database) (q : ℕ) → AreEssentialSets g es S → kept_set g.kept q < length g.sets
 kept-within g es S zero are = are.some
-kept-within g es S (suc i) are = by (slice_get g.kept.items i) refl
+kept-within g es S (suc i) are = by (item_by index_of g.kept i) refl
   where
-    by : (o : Option EssentialSet) → slice_get g.kept.items i ≡ o → option_set (slice_get g.kept.items i) < length g.sets
+    by : (o : Option KeptSet) → item_by index_of g.kept i ≡ o → option_set (item_by index_of g.kept i) < length g.sets
     by None e = subst (λ o. option_set o < length g.sets) (sym e) are.some
-    by (Some x) e = subst (λ o. option_set o < length g.sets) (sym e) (are.each i x e).within
+    by (Some x) e =
+        let item = item-found index_of g.kept i x e in
+        subst (λ o. option_set o < length g.sets) (sym e) (are.each item.place x item.got).within
 
-pub kept-ascends : (g : EssentialSets) (es : List Entry) (S : Database) (q : ℕ) → AreEssentialSets g es S → (kept_set g.kept.items q ≡ 0 → ⊥) → Ascends (set_at g.sets (kept_set g.kept.items q))
+pub kept-ascends : (g : EssentialSets) (es : List Entry) (S : Database) (q : ℕ) → AreEssentialSets g es S → (kept_set g.kept q ≡ 0 → ⊥) → Ascends (set_at g.sets (kept_set g.kept q))
 kept-ascends g es S zero are some = absurd (some refl)
-kept-ascends g es S (suc i) are some = by (slice_get g.kept.items i) refl some
+kept-ascends g es S (suc i) are some = by (item_by index_of g.kept i) refl some
   where
-    by : (o : Option EssentialSet) → slice_get g.kept.items i ≡ o → (option_set (slice_get g.kept.items i) ≡ 0 → ⊥) → Ascends (set_at g.sets (option_set (slice_get g.kept.items i)))
+    by : (o : Option KeptSet) → item_by index_of g.kept i ≡ o → (option_set (item_by index_of g.kept i) ≡ 0 → ⊥) → Ascends (set_at g.sets (option_set (item_by index_of g.kept i)))
     by None e some = absurd (some (ap option_set e))
-    by (Some x) e some = subst (λ o. Ascends (set_at g.sets (option_set o))) (sym e) ((are.each i x e).given (λ z. some (ap option_set e ∙ z))).ascends
+    by (Some x) e some =
+        let item = item-found index_of g.kept i x e in
+        subst (λ o. Ascends (set_at g.sets (option_set o))) (sym e) ((are.each item.place x item.got).given (λ z. some (ap option_set e ∙ z))).ascends
 
 -- the set of the next `$e` is that of the last active one, with the `$f` of its own variables and itself
 pub set-next : (k : Storage) (g : EssentialSets) (n : ℕ) (e : Entry) (mid new : List (List ℕ)) (set made : ℕ) → AreStored k → AreEssentialSets g k.entries (statements_of k) → n ≡ length k.entries → slice_get k.entries (n - 1) ≡ Some e → e.kind ≡ Ess
-    → (kept_set g.kept.items e.last_active.essential ≡ 0 → ⊥) → Ascends (set_at mid set) → HasMore (λ p. In p e.assertion.hypotheses) (set_at g.sets (kept_set g.kept.items e.last_active.essential)) (set_at mid set) → set_at new made ≡ with_position (n - 1 + 1) (set_at mid set)
+    → (kept_set g.kept e.last_active.essential ≡ 0 → ⊥) → Ascends (set_at mid set) → HasMore (λ p. In p e.assertion.hypotheses) (set_at g.sets (kept_set g.kept e.last_active.essential)) (set_at mid set) → set_at new made ≡ with_position (n - 1 + 1) (set_at mid set)
     → AreThose (IsFromEssentials k.entries (statements_of k)) (set_at new made)
 set-next k g n e mid new set made stored sets size got kind some ascends more is =
     let S = statements_of k in
@@ -130,12 +137,12 @@ set-next k g n e mid new set made stored sets size got kind some ascends more is
     let last = n - 1 in
     let long : length k.entries ≡ suc last = omega arith in
     let before = given-at k g (suc last) e.last_active.essential e.last_active stored sets (omega arith) (omega (arith, as-many k)) (stored.kept.linked last e got ∙ ap (λ m. last_active_of (take m S)) (omega arith)) refl some in
-    let those : AreThose (IsFromEssentials k.entries (take last S)) (set_at g.sets (kept_set g.kept.items e.last_active.essential)) =
-    subst (λ m. AreThose (IsFromEssentials k.entries (take m S)) (set_at g.sets (kept_set g.kept.items e.last_active.essential))) (omega arith) before in
+    let those : AreThose (IsFromEssentials k.entries (take last S)) (set_at g.sets (kept_set g.kept e.last_active.essential)) =
+    subst (λ m. AreThose (IsFromEssentials k.entries (take m S)) (set_at g.sets (kept_set g.kept e.last_active.essential))) (omega arith) before in
     let q = last + 1 in
     let same : q ≡ suc last = omega arith in
     subst (AreThose (IsFromEssentials k.entries S)) (sym is)
-    (given-next k last e (set_at g.sets (kept_set g.kept.items e.last_active.essential)) (with_position q (set_at mid set)) long got kind those (ascends-with q (set_at mid set) ascends)
+    (given-next k last e (set_at g.sets (kept_set g.kept e.last_active.essential)) (with_position q (set_at mid set)) long got kind those (ascends-with q (set_at mid set) ascends)
     (record {
       stays = λ p i. with-in p q (set_at mid set) (inr (more.stays p i));
       all = λ p. ⊎_elim (λ h. with-in p q (set_at mid set) (inl (h ∙ sym same))) (λ i. with-in p q (set_at mid set) (inr (more.all p i)));
@@ -144,87 +151,108 @@ set-next k g n e mid new set made stored sets size got kind some ascends more is
 
 -- ---- the sets that are kept depend only on the statements that they are kept with
 
-pub sets-moved : (g h : EssentialSets) (es fs : List Entry) (S T : Database) → AreEssentialSets g es S → h.sets ≡ g.sets → h.kept.items ≡ g.kept.items → length g.kept.items ≤ length fs
-    → ((i : ℕ) → i < length g.kept.items → (take (suc i) es ≡ take (suc i) fs) × (take (suc i) S ≡ take (suc i) T)) → AreEssentialSets h fs T
-sets-moved g h es fs S T are sets kept low same = record {
+pub sets-moved : (g h : EssentialSets) (es fs : List Entry) (S T : Database) (n : ℕ) → AreEssentialSets g es S → h.sets ≡ g.sets → h.kept ≡ g.kept → AreAmong n g.kept → n ≤ length fs
+    → ((i : ℕ) → i < n → (take (suc i) es ≡ take (suc i) fs) × (take (suc i) S ≡ take (suc i) T)) → AreEssentialSets h fs T
+sets-moved g h es fs S T n are sets kept among low same = record {
   some = subst (λ v. 1 ≤ length v) (sym sets) are.some;
-  within = subst (λ v. length v ≤ length fs) (sym kept) low;
   each = λ i x at.
       let there = ap (λ v. slice_get v i) (sym kept) ∙ at in
       let k = are.each i x there in
-      let fronts = same i (slice_get_within g.kept.items i x there) in
-      rw (sets, kept) (record { some = k.some; before = k.before; within = k.within; earlier = k.earlier; given = rw (← fronts.0, ← fronts.1) k.given });
+      let lt = among i x there in
+      let fronts = same x.index lt in
+      rw (sets, kept) (record { some = k.some; before = k.before; within = k.within; among = omega (arith, lt, low); earlier = k.earlier; given = rw (← fronts.0, ← fronts.1) k.given });
 }
+
+-- the sets are kept with some of the statements
+all-among : (g : EssentialSets) (es : List Entry) (S : Database) → AreEssentialSets g es S → AreAmong (length es) g.kept
+all-among g es S are i x at = (are.each i x at).among
+
+-- the sets kept stay for the same statements
+pub sets-same : (g h : EssentialSets) (es : List Entry) (S : Database) → AreEssentialSets g es S → h.sets ≡ g.sets → h.kept ≡ g.kept → AreEssentialSets h es S
+sets-same g h es S are sets kept = sets-moved g h es es S S (length es) are sets kept (all-among g es S are) (omega arith) (λ i lt. (refl, refl))
 
 -- the sets kept stay after statements are appended
 pub sets-more : (g : EssentialSets) (es fs : List Entry) (S T : Database) → AreEssentialSets g es S → length S ≡ length es → Extends es fs → Extends S T → AreEssentialSets g fs T
 sets-more g es fs S T are long entries statements =
-    let low = are.within in
-    sets-moved g g es fs S T are refl refl (omega (arith, extends-length es fs entries))
+    sets-moved g g es fs S T (length es) are refl refl (all-among g es S are) (omega (arith, extends-length es fs entries))
     (λ i lt. (
       sym (ap (take (suc i)) entries.1 ∙ take-append-le (suc i) es entries.0 (omega arith)),
       sym (ap (take (suc i)) statements.1 ∙ take-append-le (suc i) S statements.0 (omega arith)),
     ))
 
 -- the sets kept stay if only the first n statements remain, and no set is kept with a later one
-pub sets-front : (g h : EssentialSets) (es : List Entry) (S : Database) (n : ℕ) → AreEssentialSets g es S → h.sets ≡ g.sets → h.kept.items ≡ g.kept.items → length g.kept.items ≤ n → AreEssentialSets h (take n es) (take n S)
-sets-front g h es S n are sets kept low =
-    let within = are.within in
-    sets-moved g h es (take n es) S (take n S) are sets kept (omega (arith, length-take {A = Entry}))
-    (λ i lt. (sym (take-take (suc i) n es (omega arith)), sym (take-take (suc i) n S (omega arith))))
+pub sets-front : (g h : EssentialSets) (es : List Entry) (S : Database) (n : ℕ) → AreEssentialSets g es S → h.sets ≡ g.sets → h.kept ≡ g.kept → AreAmong n g.kept → AreEssentialSets h (take n es) (take n S)
+sets-front g h es S n are sets kept among =
+    sets-moved g h es (take n es) S (take n S) (length (take n es)) are sets kept
+    (λ i x at. let lt = among i x at in let all = (are.each i x at).among in omega (arith, lt, all, length-take n es)) (omega arith)
+    (λ i lt. (
+      sym (take-take (suc i) n es (omega (arith, lt, length-take n es))),
+      sym (take-take (suc i) n S (omega (arith, lt, length-take n es))),
+    ))
 
 -- the sets kept with the first n statements, if those made later are truncated
-pub sets-cut : (g h : EssentialSets) (es : List Entry) (S : Database) (n : ℕ) (first : EssentialSet) → AreEssentialSets g es S → slice_get g.kept.items n ≡ Some first → h.sets ≡ take (max 1 first.before) g.sets → h.kept.items ≡ take n g.kept.items
+pub sets-cut : (g h : EssentialSets) (es : List Entry) (S : Database) (n c : ℕ) (first : KeptSet) → AreEssentialSets g es S → slice_get g.kept c ≡ Some first → h.sets ≡ take (max 1 first.before) g.sets → h.kept ≡ take c g.kept → AreAmong n h.kept
     → AreEssentialSets h (take n es) (take n S)
-sets-cut g h es S n first are here sets kept =
-    let f = are.each n first here in
+sets-cut g h es S n c first are here sets kept among =
+    let f = are.each c first here in
     let b = first.before in
     let fb = f.before in
     let one = f.some in
     let is : h.sets ≡ take b g.sets = sets ∙ ap (λ m. take m g.sets) (omega arith) in
     let long : length h.sets ≡ b = ap length is ∙ length-take-le b g.sets fb in
     let front : Extends h.sets g.sets = subst (λ v. Extends v g.sets) (sym is) (extends-take b g.sets) in
-    let there = slice_get_within g.kept.items n first here in
-    let low = are.within in
-    let count : length h.kept.items ≡ n = ap length kept ∙ length-take-le n g.kept.items (omega arith) in
-    let each : (i : ℕ) (x : EssentialSet) → slice_get h.kept.items i ≡ Some x → IsEssentialSet h.sets h.kept.items (take n es) (take n S) i x = λ i x at.
-    let t = take-get n i g.kept.items x (ap (λ v. slice_get v i) (sym kept) ∙ at) in
+    let each : (i : ℕ) (x : KeptSet) → slice_get h.kept i ≡ Some x → IsKeptSet h.sets h.kept (take n es) (take n S) i x = λ i x at.
+    let t = take-get c i g.kept x (ap (λ v. slice_get v i) (sym kept) ∙ at) in
     let lt = t.0 in
     let k = are.each i x t.1 in
     let e = f.earlier i x lt t.1 in
-    let earlier : (j : ℕ) (y : EssentialSet) → j < i → slice_get h.kept.items j ≡ Some y → (y.before ≤ x.before) × (y.set < x.before) = λ j y less got.
-    k.earlier j y less ((take-get n j g.kept.items y (ap (λ v. slice_get v j) (sym kept) ∙ got)).1) in
+    let low = among i x at in
+    let all = k.among in
+    let earlier : (j : ℕ) (y : KeptSet) → j < i → slice_get h.kept j ≡ Some y → (y.before ≤ x.before) × (y.set < x.before) = λ j y less got.
+    k.earlier j y less ((take-get c j g.kept y (ap (λ v. slice_get v j) (sym kept) ∙ got)).1) in
     let set = set_at-extends h.sets g.sets x.set front (let a = e.1 in omega arith) in
-    let given : IsSetFromEssentials (take (suc i) (take n es)) (take (suc i) (take n S)) h.sets x.set
-    = rw (take-take (suc i) n es (omega arith), take-take (suc i) n S (omega arith)) (λ z. subst (AreThose (IsFromEssentials (take (suc i) es) (take (suc i) S))) set (k.given z)) in
-    record { some = k.some; before = (let a = e.0 in omega arith); within = (let a = e.1 in omega arith); earlier = earlier; given = given } in
-    record { some = omega arith; within = (let l = length-take-le n es (omega arith) in omega arith); each = each }
+    let given : IsSetFromEssentials (take (suc x.index) (take n es)) (take (suc x.index) (take n S)) h.sets x.set
+    = rw (take-take (suc x.index) n es (omega arith), take-take (suc x.index) n S (omega arith)) (λ z. subst (AreThose (IsFromEssentials (take (suc x.index) es) (take (suc x.index) S))) set (k.given z)) in
+    record { some = k.some; before = (let a = e.0 in omega arith); within = (let a = e.1 in omega arith); among = omega (arith, low, all, length-take n es); earlier = earlier; given = given } in
+    record { some = omega arith; each = each }
 
 -- ---- a set is kept with the next statement
 
-pub sets-next : (g h : EssentialSets) (es : List Entry) (S : Database) (x : EssentialSet) → AreEssentialSets g es S → length g.kept.items + 1 ≡ length es → length S ≡ length es → Extends g.sets h.sets → h.kept.items ≡ g.kept.items ++ x ∷ []
+-- the sets kept stay as others are made
+wider : (g h : EssentialSets) (es : List Entry) (S : Database) (i : ℕ) (x : KeptSet) → Extends g.sets h.sets → IsKeptSet g.sets g.kept es S i x → ((j : ℕ) (y : KeptSet) → j < i → slice_get h.kept j ≡ Some y → slice_get g.kept j ≡ Some y) → IsKeptSet h.sets h.kept es S i x
+wider g h es S i x more k old = record {
+  some = k.some;
+  before = (let wider = extends-length g.sets h.sets more in let b = k.before in omega arith);
+  within = (let wider = extends-length g.sets h.sets more in let w = k.within in omega arith);
+  among = k.among;
+  earlier = λ j y less got. k.earlier j y less (old j y less got);
+  given = λ z. subst (AreThose (IsFromEssentials (take (suc x.index) es) (take (suc x.index) S))) (sym (set_at-extends g.sets h.sets x.set more k.within)) (k.given z);
+}
+
+-- no set is kept with the next statement
+pub sets-wider : (g h : EssentialSets) (es : List Entry) (S : Database) → AreEssentialSets g es S → Extends g.sets h.sets → h.kept ≡ g.kept → AreEssentialSets h es S
+sets-wider g h es S are more kept = record {
+  some = (let wider = extends-length g.sets h.sets more in let one = are.some in omega arith);
+  each = λ i x at. wider g h es S i x more (are.each i x (ap (λ v. slice_get v i) (sym kept) ∙ at)) (λ j y less got. ap (λ v. slice_get v j) (sym kept) ∙ got);
+}
+
+pub sets-next : (g h : EssentialSets) (es : List Entry) (S : Database) (x : KeptSet) → AreEssentialSets g es S → x.index + 1 ≡ length es → length S ≡ length es → Extends g.sets h.sets → h.kept ≡ g.kept ++ x ∷ []
     → x.before ≡ length g.sets → x.set < length h.sets → IsSetFromEssentials es S h.sets x.set → AreEssentialSets h es S
 sets-next g h es S x are next long more kept before within given =
-    let count : length h.kept.items ≡ length g.kept.items + 1 = ap length kept ∙ length-append g.kept.items (x ∷ []) in
-    let wider = extends-length g.sets h.sets more in
+    let longer = extends-length g.sets h.sets more in
     let some = are.some in
-    let old : (j : ℕ) (y : EssentialSet) → j < length g.kept.items → slice_get h.kept.items j ≡ Some y → slice_get g.kept.items j ≡ Some y = λ j y lt got.
-    ⊎_elim (λ p. p.1) (λ p. absurd (let a = p.0 in omega arith)) (get-push g.kept.items x y j (ap (λ v. slice_get v j) (sym kept) ∙ got)) in
-    let each : (i : ℕ) (y : EssentialSet) → slice_get h.kept.items i ≡ Some y → IsEssentialSet h.sets h.kept.items es S i y = λ i y at.
+    let old : (j : ℕ) (y : KeptSet) → j < length g.kept → slice_get h.kept j ≡ Some y → slice_get g.kept j ≡ Some y = λ j y lt got.
+    ⊎_elim (λ p. p.1) (λ p. absurd (let a = p.0 in omega arith)) (get-push g.kept x y j (ap (λ v. slice_get v j) (sym kept) ∙ got)) in
+    let each : (i : ℕ) (y : KeptSet) → slice_get h.kept i ≡ Some y → IsKeptSet h.sets h.kept es S i y = λ i y at.
     ⊎_elim
-    (λ p. let k = are.each i y p.1 in let lt = p.0 in let kb = k.before in let kw = k.within in record {
-      some = k.some;
-      before = omega arith;
-      within = omega arith;
-      earlier = λ j z less got. k.earlier j z less (old j z (omega arith) got);
-      given = λ z. subst (AreThose (IsFromEssentials (take (suc i) es) (take (suc i) S))) (sym (set_at-extends g.sets h.sets y.set more kw)) (k.given z);
-    })
-    (λ p. let here = p.0 in subst (λ v. IsEssentialSet h.sets h.kept.items es S i v) p.1 (record {
+    (λ p. let lt = p.0 in wider g h es S i y more (are.each i y p.1) (λ j z less got. old j z (omega arith) got))
+    (λ p. let here = p.0 in subst (λ v. IsKeptSet h.sets h.kept es S i v) p.1 (record {
       some = omega arith;
       before = omega arith;
       within = within;
+      among = omega arith;
       earlier = λ j z less got. let k = are.each j z (old j z (omega arith) got) in let kb = k.before in let kw = k.within in (omega arith, omega arith);
-      given = rw (take_all (suc i) es (omega arith), take_all (suc i) S (omega arith)) given;
+      given = rw (take_all (suc x.index) es (omega arith), take_all (suc x.index) S (omega arith)) given;
     }))
-    (get-push g.kept.items x y i (ap (λ v. slice_get v i) (sym kept) ∙ at)) in
-    record { some = omega arith; within = omega arith; each = each }
+    (get-push g.kept x y i (ap (λ v. slice_get v i) (sym kept) ∙ at)) in
+    record { some = omega arith; each = each }

@@ -78,7 +78,7 @@ facts-front S n f le a =
 -- ---- with the storage and the sets
 
 pub without-facts : (k : Storage) (g : EssentialSets) (f : KeptFacts) → AreFramesAndFacts k g f → AreFrames k g
-without-facts k g f a = record { stored = a.stored; sets = a.sets; count = a.count }
+without-facts k g f a = record { stored = a.stored; sets = a.sets }
 
 pub with-facts : (k : Storage) (g : EssentialSets) (f : KeptFacts) → AreFrames k g → AreKeptFacts (statements_of k) f → AreFramesAndFacts k g f
-with-facts k g f a facts = record { stored = a.stored; sets = a.sets; count = a.count; facts = facts }
+with-facts k g f a facts = record { stored = a.stored; sets = a.sets; facts = facts }

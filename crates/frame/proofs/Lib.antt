@@ -31,6 +31,7 @@ pub mod PlacedHypotheses
 pub mod KeptStatementLemmas
 pub mod BoundLemmas
 pub mod BufferedHypotheses
+pub mod SparseLemmas
 pub mod EssentialSetLemmas
 pub mod MergedLemmas
 pub mod MandatoryViewLemmas

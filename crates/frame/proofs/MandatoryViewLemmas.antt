@@ -16,9 +16,9 @@ within S s p i =
     let all = ap length h.whole ∙ length-append h.front (h.stmt ∷ h.rest) in omega arith
 
 module _ (k : Storage) (g : EssentialSets) (a i : ℕ) (s : Stmt) (e : Entry) (l : LastActive) (held : AreFrames k g) (asserts : is_assertion s ≡ true) (t : IsThere k a i s e) (own : e.assertion.whole ≡ false)
-    (is : l ≡ last_active_of (take (a - 1) (statements_of k))) (some : kept_set g.kept.items l.essential ≡ 0 → ⊥) (low : 1 ≤ a) (high : a ≤ length (statements_of k)) where
+    (is : l ≡ last_active_of (take (a - 1) (statements_of k))) (some : kept_set g.kept l.essential ≡ 0 → ⊥) (low : 1 ≤ a) (high : a ≤ length (statements_of k)) where
   abbrev set : List ℕ
-  set = set_at g.sets (kept_set g.kept.items l.essential)
+  set = set_at g.sets (kept_set g.kept l.essential)
 
   given : AreThose (IsFromEssentials k.entries (take (a - 1) (statements_of k))) set
   given = given-at k g a l.essential l held.stored held.sets low (omega (arith, high)) is refl some

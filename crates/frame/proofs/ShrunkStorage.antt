@@ -1,6 +1,6 @@
 -- The storage after memory was released: its lists are as before.
-use Rattle.frame.proofs.Words.{◌≡◌, ◌∙◌, ap, sym, subst, refl, Bool, List, length, map, is_essential, long_entry, Stmt, Database, Entry, Storage, AreStored, statements_of, is_disj, is_var, StackVersion, IsUntil, AreSame, stack_at, AreFrames, AreStacks, EssentialSets}
-use Rattle.frame.proofs.EssentialSetLemmas.{sets-moved}
+use Rattle.frame.proofs.Words.{◌≡◌, ◌∙◌, ap, sym, subst, Bool, List, length, map, is_essential, long_entry, Stmt, Database, Entry, Storage, AreStored, statements_of, is_disj, is_var, StackVersion, IsUntil, AreSame, stack_at, AreFrames, AreStacks, EssentialSets}
+use Rattle.frame.proofs.EssentialSetLemmas.{sets-same}
 
 pub record IsShrunk (k new : Storage) : Type 0 where
   pub numbering : new.numbering ≡ k.numbering
@@ -30,9 +30,8 @@ stored-shrunk k new are s = record {
   essentials = rw (s.numbering, s.entries) (stacks-same is_essential k.essentials new.essentials (map long_entry k.entries) (statements_of k) are.essentials s.essentials);
 }
 
-pub frames-shrunk : (k new : Storage) (g h : EssentialSets) → AreFrames k g → IsShrunk k new → h.sets ≡ g.sets → h.kept.items ≡ g.kept.items → AreFrames new h
+pub frames-shrunk : (k new : Storage) (g h : EssentialSets) → AreFrames k g → IsShrunk k new → h.sets ≡ g.sets → h.kept ≡ g.kept → AreFrames new h
 frames-shrunk k new g h are s sets kept = record {
   stored = stored-shrunk k new are.stored s;
-  sets = rw (s.numbering, s.entries) (sets-moved g h k.entries k.entries (statements_of k) (statements_of k) are.sets sets kept are.sets.within (λ i lt. (refl, refl)));
-  count = ap length kept ∙ (are.count ∙ sym (ap length s.entries));
+  sets = rw (s.numbering, s.entries) (sets-same g h k.entries (statements_of k) are.sets sets kept);
 }

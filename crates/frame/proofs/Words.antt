@@ -36,7 +36,9 @@ pub use Rattle.frame.specs.Stored.AssertionParts.{IsKeptAs, floats_in, groups_by
 pub use Rattle.frame.specs.Stored.Counts.{AreNumbered, AreUndeclared, AreZeroAfter, HasMoreNames, HasRoom, HasTwo, IsAfter, IsLabelBelow, IsPlain, KeepsCounts, kind_of, next_last_active, with_declared, with_entry, undeclared_symbol}
 pub use Rattle.frame.specs.Stored.Ends.{AreBlocks, AreEnds, AreBlockEnds, end_from, end_of, with_end}
 pub use Rattle.frame.specs.Stored.EntryMeanings.{AreAllLegal, ReadsAs, declared_by, declares, floats, is_float_kind, is_var_kind, labels_in, last_from, last_of, last_where, names_in, option_position, positions_from, replaced_after, replaced_by, replaced_of, second_is, statements_of, stmt_by, stmt_of, last_declarations_of, with_last}
-pub use Rattle.frame.specs.Stored.EssentialSets.{AreFrames, AreEssentialSets, IsSetFromEssentials, IsEssentialSet, kept_set, option_set}
+pub use Rattle.frame.specs.Stored.EssentialSets.{AreFrames, AreEssentialSets, IsSetFromEssentials, IsKeptSet}
+pub use Rattle.frame.specs.Stored.KeptSets.{AreAmong, index_of, kept_set, option_set}
+pub use Rattle.frame.specs.Stored.Sparse.{AreAmongBy, IsCountBy, IsCutBy, RiseBy, item_by}
 pub use Rattle.frame.specs.Stored.Hypotheses.{AreCollected, AreDescribed, AreFloats, AreHypotheses, AreLooked, AreThose, AreWith, HasMore, In, IsFilledFrom, IsFloatOf, IsFromEssentials, IsWith, OfSome, SomeFloat, is_hypothesis_entry, kept_at, option_kept}
 pub use Rattle.frame.specs.Stored.Labels.{is_label_kind}
 pub use Rattle.frame.specs.Stored.LongExpressions.{AreLongIn, IsLongIn}
@@ -47,7 +49,7 @@ pub use Rattle.frame.specs.Stored.PairSearch.{AreSearched, IsLeft, are_pair}
 pub use Rattle.frame.specs.Stored.Stacks.{AreChangedBy, AreOfKind, AreStacks, IsNext, IsOfKind, KeepsUntil, codes_by, entries_by, has_code, positions_with, having_after, kind_test, last_by_kind, latest_of, long_codes, long_entry, opening, with_top}
 pub use Rattle.frame.specs.Stored.Whole.{AreKept, ArePartsFor, AreStored, IsEntryHeader, IsKeptOf, AreStacksOfStorage}
 pub use Rattle.frame.specs.declared.essential_sets.EssentialSets.{EssentialSets}
-pub use Rattle.frame.specs.declared.essential_sets.EssentialSet.{EssentialSet}
+pub use Rattle.frame.specs.declared.kept_sets.KeptSet.{KeptSet}
 pub use Rattle.frame.specs.declared.stacks.NextStatement.{NextStatement}
 pub use Rattle.frame.specs.declared.storage.Storage.{Storage}
 pub use Rattle.frame.specs.declared.storage.LastDeclarations.{LastDeclarations}

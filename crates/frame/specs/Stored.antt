@@ -8,6 +8,8 @@ pub mod Labels
 pub mod OneFrame
 pub mod Naming
 pub mod Ends
+pub mod Sparse
+pub mod KeptSets
 pub mod Stacks
 pub mod LongExpressions
 pub mod Whole

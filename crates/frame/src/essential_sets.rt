@@ -5,25 +5,17 @@ ghost use Rattle.entries.specs.PositionSets.{Ascends, set_at};
 ghost use Rattle.entries.specs.Stored.Spans.{Extends};
 ghost use Rattle.frame.specs.Words.{Database, Entry};
 ghost use Rattle.frame.specs.Stored.EntryMeanings.{statements_of};
-ghost use Rattle.frame.specs.Stored.EssentialSets.{AreEssentialSets, IsSetFromEssentials, kept_set};
+ghost use Rattle.frame.specs.Stored.EssentialSets.{AreEssentialSets, IsSetFromEssentials};
 ghost use Rattle.frame.specs.Stored.Hypotheses.{AreWith, HasMore, In};
+ghost use Rattle.frame.specs.Stored.KeptSets.{AreAmong, kept_set};
 ghost use Rattle.frame.specs.Stored.Whole.{AreStored};
 
 use crate::at_position::last_active_at;
+use crate::kept_sets::{KeptSet, KeptSets};
 use crate::mandatory::{MOST_WITHOUT_SET, add_essentials, given_count, sort_unique};
 use crate::storage::Storage;
-use entries::buffer_part::item;
-use entries::{Kind, PositionSets, give_back};
+use entries::{Kind, PositionSets};
 use std::alloc::{AllocError, Global};
-
-/// The set that one statement keeps.
-#[derive(Clone, Copy, Drop)]
-pub struct EssentialSet {
-    /// The number of the set, or 0 if none is kept.
-    pub set: u32,
-    /// How many sets there were before the statement.
-    pub before: u32,
-}
 
 /// For each `$e`, the mandatory hypotheses that it and the active `$e` before it bring along, as a set if they are many. If
 /// they are few, they are collected by a walk over the `$e`.
@@ -31,34 +23,30 @@ pub struct EssentialSet {
 pub struct EssentialSets {
     pub alloc: Global,
     pub sets: PositionSets,
-    /// The set of each statement, by index.
-    pub kept: Vec<EssentialSet>,
+    /// Which statements keep one of the sets.
+    pub kept: KeptSets,
 }
 
 impl EssentialSets {
     /// Returns the sets of an empty database. Does not allocate.
     pub fn new(alloc: Global) -> EssentialSets
-        ensures sets { AreEssentialSets result [] [] }
-        ensures count { length result.kept.items ≡ 0 }
+        ensures { AreEssentialSets result [] [] }
     {
         EssentialSets {
             alloc,
             sets: PositionSets::new(alloc),
-            kept: Vec::new(alloc),
+            kept: KeptSets::new(alloc),
         }
     }
 
     /// Returns the number of the set that is kept with the statement at a position, or 0 if none is.
     pub fn set(&self, at: u32) -> u32
-        ensures { result ≡ kept_set self.now.kept.items at }
+        ensures { result ≡ kept_set self.now.kept at }
     {
         if at == 0 {
             return 0;
         }
-        match self.kept.get(at as usize - 1) {
-            Some(kept) => kept.set,
-            None => 0,
-        }
+        self.kept.set(at - 1)
     }
 
     /// Returns the number of hypotheses in a set.
@@ -91,10 +79,10 @@ impl EssentialSets {
     pub fn record_set(&mut self, storage: &Storage) -> Result<(), AllocError>
         requires stored { AreStored storage.now }
         requires sets { AreEssentialSets self.old storage.now.entries (statements_of storage.now) }
-        requires next { length self.old.kept.items + 1 ≡ length storage.now.entries }
+        requires some { 1 ≤ length storage.now.entries }
+        requires next { AreAmong (length storage.now.entries - 1) self.old.kept }
         ensures sets { AreEssentialSets self.new storage.now.entries (statements_of storage.now) }
-        ensures count { OnOk result (length self.new.kept.items ≡ length storage.now.entries) }
-        ensures same { OnErr result (self.new.kept.items ≡ self.old.kept.items) }
+        ensures same { OnErr result (self.new.kept ≡ self.old.kept) }
     {
         let set_count = self.sets.set_count();
         let recorded = self.record_next(storage, set_count as u32);
@@ -108,30 +96,33 @@ impl EssentialSets {
     fn record_next(&mut self, storage: &Storage, set_count: u32) -> Result<(), AllocError>
         requires stored { AreStored storage.now }
         requires sets { AreEssentialSets self.old storage.now.entries (statements_of storage.now) }
-        requires next { length self.old.kept.items + 1 ≡ length storage.now.entries }
+        requires some { 1 ≤ length storage.now.entries }
+        requires next { AreAmong (length storage.now.entries - 1) self.old.kept }
         requires set_count { set_count ≡ length self.old.sets }
         ensures recorded { OnOk result (AreEssentialSets self.new storage.now.entries (statements_of storage.now)) }
-        ensures count { OnOk result (length self.new.kept.items ≡ length storage.now.entries) }
         ensures more { Extends self.old.sets self.new.sets }
-        ensures same { OnErr result (self.new.kept.items ≡ self.old.kept.items) }
+        ensures same { OnErr result (self.new.kept ≡ self.old.kept) }
     {
         let set = self.next_set(storage)?;
-        self.kept.push(EssentialSet {
+        if set == 0 {
+            return Ok(());
+        }
+        self.kept.push(KeptSet {
+            index: storage.entries.len() as u32 - 1,
             set,
             before: set_count,
-        })?;
-        Ok(())
+        })
     }
 
     /// Makes the set of the last statement, and returns its number, or 0 if it needs none.
     fn next_set(&mut self, storage: &Storage) -> Result<u32, AllocError>
         requires stored { AreStored storage.now }
         requires sets { AreEssentialSets self.old storage.now.entries (statements_of storage.now) }
-        requires next { length self.old.kept.items + 1 ≡ length storage.now.entries }
+        requires some { 1 ≤ length storage.now.entries }
         ensures given { IfOk result (IsSetFromEssentials storage.now.entries (statements_of storage.now) self.new.sets) }
         ensures within { IfOk result (λ set. set < length self.new.sets) }
         ensures more { Extends self.old.sets self.new.sets }
-        ensures kept { self.new.kept.items ≡ self.old.kept.items }
+        ensures kept { self.new.kept ≡ self.old.kept }
     {
         let last = storage.entries.len() - 1;
         let entry = storage.entries.entry(last);
@@ -154,7 +145,7 @@ impl EssentialSets {
         ensures given { IfOk result (IsSetFromEssentials storage.now.entries (statements_of storage.now) self.new.sets) }
         ensures within { IfOk result (λ set. set < length self.new.sets) }
         ensures more { Extends self.old.sets self.new.sets }
-        ensures kept { self.new.kept.items ≡ self.old.kept.items }
+        ensures kept { self.new.kept ≡ self.old.kept }
     {
         if given_count(storage) <= MOST_WITHOUT_SET {
             return Ok(0);
@@ -166,22 +157,20 @@ impl EssentialSets {
 
     /// Truncates to the sets of the first `len` statements. Does not allocate.
     pub fn truncate(&mut self, len: usize)
-        ensures { (es : List Entry) (S : Database) → AreEssentialSets self.old es S → length self.old.kept.items ≡ length es → AreEssentialSets self.new (take len es) (take len S) × (length self.new.kept.items ≡ length (take len es)) }
+        ensures { (es : List Entry) (S : Database) → AreEssentialSets self.old es S → AreEssentialSets self.new (take len es) (take len S) }
     {
-        if len < self.kept.len() {
-            let first = item(&self.kept, len);
+        if let Some(first) = self.kept.truncate(len) {
             self.sets.truncate(first.before as usize);
-            self.kept.truncate(len);
         }
     }
 
     /// Gives back the room of removed sets, if it is more than that of the remaining ones.
     pub fn shrink(&mut self)
         ensures sets { self.new.sets ≡ self.old.sets }
-        ensures kept { self.new.kept.items ≡ self.old.kept.items }
+        ensures kept { self.new.kept ≡ self.old.kept }
     {
         self.sets.shrink();
-        give_back(&mut self.kept);
+        self.kept.shrink();
     }
 }
 

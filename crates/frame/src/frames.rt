@@ -311,13 +311,13 @@ impl Frames {
         requires { (s : Statement) × HasAssertion self.now.statements a s }
         ensures { (s : Statement) → stmt_at self.now.statements a ≡ Some s → IfOk result (λ view. IfSome view (λ list. list ≡ hypotheses (before self.now.statements a) s)) }
     {
+        if self.storage.entries.is_whole(a - 1) {
+            return Ok(None);
+        }
         let set = self
             .essential_sets
             .set(last_active_at(&self.storage, a).essential);
-        if set == 0
-            || self.essential_sets.count(set) <= MOST_WITHOUT_VIEW
-            || self.storage.entries.is_whole(a - 1)
-        {
+        if set == 0 || self.essential_sets.count(set) <= MOST_WITHOUT_VIEW {
             return Ok(None);
         }
         let sets = &self.essential_sets.sets;

@@ -5,9 +5,9 @@
 //! from the active statements.
 //!
 //! Reading order: `storage`, `stored_entries`, `shape`, `frame_buffers`; `symbol_numbers`, `at_position`, `stacks`, `declare`,
-//! `mandatory`, `essential_sets`, `make`, `extend` (appending and truncating); `meaning`, `frames`, `mandatory_view`, `row`,
-//! `long_searches`, `pair_memo`, `fact_slots`, `pair_facts`, `kept_facts`, `repeated_searches`, `pairs`, `active_disjoint`,
-//! `citing_lists` (queries); `assertion`, `one_frame`; `laws`.
+//! `mandatory`, `kept_sets`, `essential_sets`, `make`, `extend` (appending and truncating); `meaning`, `frames`,
+//! `mandatory_view`, `row`, `long_searches`, `pair_memo`, `fact_slots`, `pair_facts`, `kept_facts`, `repeated_searches`,
+//! `pairs`, `active_disjoint`, `citing_lists` (queries); `assertion`, `one_frame`; `laws`.
 #![tactic(auto)]
 
 mod active_disjoint;
@@ -21,6 +21,7 @@ mod fact_slots;
 mod frame_buffers;
 mod frames;
 mod kept_facts;
+mod kept_sets;
 mod laws;
 mod long_searches;
 mod make;

@@ -1,6 +1,6 @@
 -- Facts about pairs of variables that are kept with the statements. The code's own form: no public clause cites it.
 -- They are about the first `count` statements, so they stay true as others are added.
-use Rattle.std.specs.Prelude.{◌≡◌, ℕ, ◌≤◌, length, take}
+use Rattle.std.specs.Prelude.{ℕ, ◌≤◌, length, take}
 use Rattle.frame.specs.Words.{Database, symbols_of}
 use Rattle.frame.specs.declared.essential_sets.EssentialSets.{EssentialSets}
 use Rattle.frame.specs.declared.kept_facts.KeptFacts.{KeptFacts}
@@ -19,9 +19,8 @@ pub record AreKeptFacts (S : Database) (f : KeptFacts) : Type 0 where
   pub within : f.count ≤ length S
   pub each : AreFacts (first_of f.count S) f.facts
 
--- the storage, the sets that are kept with each of its statements, and facts about these
+-- the storage, the sets that are kept with some of its statements, and facts about these
 pub record AreFramesAndFacts (k : Storage) (g : EssentialSets) (f : KeptFacts) : Type 0 where
   pub stored : AreStored k
   pub sets : AreEssentialSets g k.entries (statements_of k)
-  pub count : length g.kept.items ≡ length k.entries
   pub facts : AreKeptFacts (statements_of k) f

@@ -20,6 +20,6 @@ returns-clause-given c =
     let e = entry_from_ref c.entry-entry.result c.entry-entry.ensures.0 in
     let kind : e.kind ≡ Ess = elim c.match-matches.branch [ in-Ess w ↦ w.in-Ess.is | in_default w ↦ absurd (true≢false (sym c.if-not-matches.false ∙ w.matches-is)) ] in
     let from = subst (λ b. HasMore (λ p. In p c.hypotheses.result.now) (set_at g.sets b) (set_at c.insert_each.new.sets c.in_ok-set.set)) c.set-base.ensures c.in_ok-set.ensures.inserted in
-    let more = subst (λ ps. HasMore (λ p. In p ps) (set_at g.sets (kept_set g.kept.items e.last_active.essential)) (set_at c.insert_each.new.sets c.in_ok-set.set)) (c.hypotheses.ensures e c.entry-entry.ensures.1) from in
+    let more = subst (λ ps. HasMore (λ p. In p ps) (set_at g.sets (kept_set g.kept e.last_active.essential)) (set_at c.insert_each.new.sets c.in_ok-set.set)) (c.hypotheses.ensures e c.entry-entry.ensures.1) from in
     IfOk-weaker c.insert.result _ _ (λ made is. λ some. set-next k g c.len-last.result e c.insert_each.new.sets c.insert.new.self c.in_ok-set.set made c.requires.stored c.requires.sets c.len-last.ensures.len c.entry-entry.ensures.1 kind
     (λ z. c.if-base-eq0.false (c.set-base.ensures ∙ z)) c.in_ok-set.ensures.ascends more is.is) c.insert.ensures.inserted

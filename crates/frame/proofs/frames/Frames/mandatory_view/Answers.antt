@@ -14,7 +14,7 @@ module _ (c : After-len-count) where
   asserts = c.requires.1.1
 
   abbrev set : List ℕ
-  set = set_at c.self.inside.essential_sets.sets (kept_set c.self.inside.essential_sets.kept.items c.last_active_at.result.essential)
+  set = set_at c.self.inside.essential_sets.sets (kept_set c.self.inside.essential_sets.kept c.last_active_at.result.essential)
 
   abbrev own : List ℕ
   own = filter (λ p. not (has_position p set)) there.1.assertion.hypotheses

@@ -1,4 +1,4 @@
-use Rattle.frame.proofs.Words.{rules, ◌∙◌, ap, sym, length, is_disj, is_essential, is_var}
+use Rattle.frame.proofs.Words.{rules, is_disj, is_essential, is_var}
 use Rattle.frame.proofs.StackLemmas.{stacks-none}
 use Rattle.frame.proofs.frames.Frames.new.Goals as goal
 
@@ -12,7 +12,6 @@ invariant_of-result c = record {
     variables = rw (c.new-8.ensures, c.new-6.ensures) (stacks-none is_var);
     essentials = rw (c.new-9.ensures, c.new-6.ensures) (stacks-none is_essential);
   };
-  sets = rw c.new-6.ensures c.new-10.ensures.sets;
-  count = c.new-10.ensures.count ∙ sym (ap length c.new-6.ensures);
+  sets = rw c.new-6.ensures c.new-10.ensures;
   facts = c.new-11.ensures _;
 }

@@ -1,15 +1,14 @@
-use Rattle.frame.proofs.Words.{◌∙◌, ap, sym, subst, length, take, statements_of, AreEssentialSets}
+use Rattle.frame.proofs.Words.{sym, subst, take, statements_of, AreEssentialSets}
 use Rattle.frame.specs.Stored.KeptFacts.{AreKeptFacts}
 use Rattle.frame.proofs.frames.Frames.shorten.Goals as goal
 
 pub invariant_of-self : goal.invariant_of-self
 invariant_of-self c =
     let k = c.self.inside.storage in let new = c.truncate_storage.new.storage in let g = c.truncate.new.self in
-    let t = c.truncate.ensures k.entries (statements_of k) c.self.invariant.sets c.self.invariant.count in
+    let t = c.truncate.ensures k.entries (statements_of k) c.self.invariant.sets in
     record {
       stored = c.truncate_storage.ensures.stored;
-      sets = subst (λ es. AreEssentialSets g es (statements_of new)) (sym c.truncate_storage.ensures.entries) (subst (AreEssentialSets g (take c.args.len k.entries)) (sym c.truncate_storage.ensures.statements) t.0);
-      count = t.1 ∙ sym (ap length c.truncate_storage.ensures.entries);
+      sets = subst (λ es. AreEssentialSets g es (statements_of new)) (sym c.truncate_storage.ensures.entries) (subst (AreEssentialSets g (take c.args.len k.entries)) (sym c.truncate_storage.ensures.statements) t);
       facts = subst (λ R. AreKeptFacts R c.truncate-2.new.self) (sym c.truncate_storage.ensures.statements) (c.truncate-2.ensures (statements_of k) c.self.invariant.facts);
     }
 
