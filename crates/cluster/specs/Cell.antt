@@ -1,23 +1,24 @@
 -- The cell of a node: the entries that it has taken over from its log, and the library of those that it applied.
 -- Source: Lamport, Paxos Made Simple, section 3: a server executes the commands in the order of their numbers.
--- `nodes` keeps these under a lock of their own; that the entries are a prefix of the log is tested where both are borrowed.
+-- `nodes` keeps a cell and the switch under two locks; `belongs` tests whether the entries are a prefix of the log.
 use Rattle.std.specs.Prelude.{◌≡◌, ℕ, ◌+◌, ◌≤◌, Bool, true, false, List, [], ◌∷◌, ◌++◌, Option, Some, None, Result, Ok, Err, length, slice_get}
 use Rattle.cluster.specs.Words.{SLOTS, Entry, Carried, StepFault, Memory, entries_of, NodeLibrary, new_node_library, IsOfLog}
 
 pub record Cell : Type 0 where
   pub node : ℕ
-  pub entries : List (Option Carried)  -- taken over, in order
-  pub replica : NodeLibrary  -- the library, and how many of the entries made it
+  pub entries : List (Option Carried)  -- taken over, in the order of the log; None is a no-operation
+  pub replica : NodeLibrary  -- the library, and the number of entries applied to it
 
 abbrev pub new_cell : ℕ → Cell
 new_cell k = record { node = k; entries = []; replica = new_node_library }
 
--- the library is that of the first entries taken over, as many as were applied
+-- the entries are no more than a log has slots, and the library is that of the first of them, as many as were applied
 pub record IsCell (c : Cell) : Type 0 where
   pub few : length c.entries ≤ SLOTS
   pub of_entries : IsOfLog (entries_of c.entries) c.replica
 
--- the next entry is appended, or there is none; or an allocation fails, and nothing is appended
+-- the next entry is appended, or there is none; or an allocation fails, and nothing is appended. The third argument is
+-- the next entry: None if there is none, Some None if it is a no-operation.
 abbrev pub AddsEntry : List (Option Carried) → List (Option Carried) → Option (Option Carried) → Result Bool StepFault → Type 0
 AddsEntry old new (Some entry) (Ok true) = new ≡ old ++ entry ∷ []
 AddsEntry old new (Some entry) (Ok false) = ⊥

@@ -1,4 +1,4 @@
--- The definitions of the layers below that this crate's definitions use, re-exported from one place.
+-- The definitions of the layers below that this crate's definitions use, except those of `Outcome`, re-exported.
 pub use Rattle.library.specs.declared.entry.Entry.{Entry}
 pub use Rattle.mm_read.specs.Statements.{Database}
 pub use Rattle.net.specs.Agree.{IsPrefixOf}

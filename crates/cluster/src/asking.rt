@@ -1,4 +1,4 @@
-//! Questions about a cell: a question to the cell of a named node, and the outcome of an entry.
+//! Questions about a cell: any question, if the cell is that of node `k`, and the outcome of an entry.
 ghost use Rattle.std.specs.Prelude.{◌≡◌, ◌↔◌, Err, IfOk, IsOk, IsTrue, Some};
 ghost use Rattle.std.specs.Fn.{FnOnceReturnsAt};
 ghost use Rattle.net.specs.declared.fault.StepFault.TheVariants.{Apart};
@@ -45,7 +45,7 @@ pub fn outcome_on(cell: &NodeCell, entry: &Entry) -> Option<Verdict>
     }
 }
 
-/// Returns whether the entry is the first under its author and serial number.
+/// Returns whether this entry is the first of `entries` with its author and serial number.
 fn is_first(entries: &[Option<Carried>], entry: &Entry) -> bool
     ensures { IsTrue result ↔ (first_with_key entry.now entries.now ≡ Some (record { 0 = entry.now })) }
 {

@@ -23,14 +23,17 @@ use synod::{Keep, Weights, copy_value};
 use verify_pool::{Gate, Workers};
 use world::{Carried, Replica};
 
-/// The entries that `node` has taken over from its log, and the library of those applied: the first `applied` of them.
+/// The entries that a node has taken over from its log, and the library of those applied, the first of them.
 ///
 /// Contracts see the node's number, those entries, the count applied and what the library holds.
 #[derive(Drop)]
 pub struct NodeCell {
     alloc: Global,
+    /// The number of the node.
     node: u8,
+    /// The entries taken over, in the order of the log; `None` is a no-operation.
     entries: Vec<Option<Carried>>,
+    /// The library, and the number of entries applied to it.
     replica: Replica,
 }
 
@@ -72,7 +75,7 @@ impl NodeCell {
         self.replica.library()
     }
 
-    /// Returns the entries taken over from the node's log, in order. It does not allocate.
+    /// Returns the entries taken over from the node's log, in order; `None` is a no-operation. It does not allocate.
     pub fn entries(&self) -> &[Option<Carried>]
         ensures { result.now ≡ self.now.entries }
     {
@@ -102,7 +105,8 @@ impl NodeCell {
     }
 }
 
-/// Returns whether the cell belongs to the switch: the switch has its node, and the entries taken over are a prefix of its log.
+/// Returns whether the cell belongs to the switch: the switch has the cell's node, and the entries that the cell has
+/// taken over are a prefix of that node's log.
 ///
 /// Cost: the size of the entries taken over, each compared with one of the log.
 pub fn belongs<K: Keep<Carried>>(cell: &NodeCell, switch: &Switch<Carried, K>) -> bool
@@ -163,11 +167,12 @@ pub fn apply_on(cell: &mut NodeCell) -> Result<Option<Verdict>, StepFault>
     cell.replica.apply_next(next)
 }
 
-/// Applies the next of the entries taken over as `apply_on` does, with its proofs checked by workers in parallel. Each worker
-/// passes the gate before each proof. No answer depends on the number of workers.
+/// Applies the next of the entries taken over as `apply_on` does, with its proofs checked by workers in parallel. Each
+/// worker passes the gate before each proof. The verdict does not depend on the number of workers; whether `Memory` is
+/// returned may.
 ///
-/// Errors: those of `apply_on`, and `Memory` if a proof is heavy and the gate keeps heavy proofs out. Cost: that of
-/// `Library::apply_with` on the entry.
+/// Errors: those of `apply_on`; `Memory` may also be returned if a proof is too heavy for a worker and the gate keeps
+/// heavy proofs out (`Gate::admits_heavy`). Cost: that of `Library::apply_with` on the entry.
 pub fn apply_on_with<G: Gate + Sync, R: Threads + Sync>(
     rt: &R,
     cell: &mut NodeCell,
@@ -198,7 +203,8 @@ pub fn list_on(cell: &NodeCell) -> Result<Vec<Listed>, AllocError>
     cell.replica.library().list()
 }
 
-/// Creates a switch of new nodes, one for each weight, and their cells. Each keep has the record of a new node.
+/// Creates a switch of new nodes, one for each weight, and their cells. There has to be one keep for each weight, with
+/// the record of a new node.
 ///
 /// Errors: `Memory`.
 pub fn cells<K: Keep<Carried>>(

@@ -1,9 +1,14 @@
-//! The nodes of one agreement on the entries of libraries, each with the entries that it has taken over from its log.
+//! A cluster: a switch, which has the nodes that agree on a log, and for each node a cell, with the entries taken over
+//! from its log and their library.
 //!
-//! The crates above use the contracts of the calls that borrow locked values: each of `begin_on`, `offer_on`,
-//! `deliver_on` and `restart_on` plays one event of a history that is taken (`Plays` of `switch/specs/Switch.antt`).
-//! The clauses of `Switch::history` hold of every switch, those of `NodeCell::library` of every cell. The cells that
-//! `cells` creates belong to its switch after each call of this crate; `compare_on` returns which of two libraries is ahead.
+//! A call with `_on` in its name acts on a switch or on cells that the caller lends, such as values under locks. Each
+//! of `begin_on`, `offer_on`, `deliver_on` and `restart_on` plays one event after a history that is taken; the event
+//! itself may be refused (`Plays` of `switch/specs/Switch.antt`). The clauses of `Switch::history` hold of every
+//! switch, those of `NodeCell::library` of every cell.
+//!
+//! `cells` creates a switch and the cells that belong to it. They still belong to it after each call of this crate, if
+//! each call is given cells only with the switch that they were created with. `compare_on` returns which of two such
+//! cells is ahead.
 //!
 //! Read the definitions, specs/Cell and Belongs; then `memory_keep`, `cell`, `log`, `events`, `asking` and `compare`.
 #![tactic(auto)]

@@ -1,4 +1,4 @@
-//! Tests of whether entries are a prefix of a node's log.
+//! Tests whether entries are a prefix of a node's log.
 ghost use Rattle.std.specs.Prelude.{◌≡◌, ◌↔◌, ◌≤◌, ◌<◌, Some, length, slice_get, option_map, IsTrue, IsOk};
 ghost use Rattle.slots.specs.declared.slots.TheConstants.{SLOTS};
 ghost use Rattle.net.specs.World.{log_after};
@@ -11,7 +11,7 @@ use switch::Switch;
 use synod::Keep;
 use world::Carried;
 
-/// Returns whether there is a node `k`, and the entries are a prefix of its log.
+/// Returns whether there is a node `k` and the entries are a prefix of its log.
 ///
 /// Cost: the size of the entries, each compared with one of the log.
 pub(crate) fn is_log_prefix<K: Keep<Carried>>(

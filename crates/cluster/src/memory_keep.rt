@@ -10,12 +10,16 @@ use slots::SLOTS;
 use std::alloc::{AllocError, Global};
 use synod::{AcceptedEntry, Change, Failed, Keep, Record, Value, copy_value};
 
-/// The storage of a node in the memory of the process. A call fails if an allocation fails.
+/// The stable storage of a node, in the memory of the process. A call fails if an allocation fails; a store also fails
+/// if its slot is not below `SLOTS`.
 #[derive(Drop)]
 pub struct MemoryKeep<V: Value> {
     alloc: Global,
+    /// The record that a load copies.
     stored: Record<V>,
+    /// The number of failed calls, which only contracts see.
     failures: Steps,
+    /// The list of accepted entries does not end in an empty slot, so the slots up to the last entry are all of it.
     ghost whole: { trimmed stored.kept.accepted ≡ stored.kept.accepted },
 }
 
@@ -58,7 +62,7 @@ impl<V: Value> Keep<V> for MemoryKeep<V> {
 
 /// Returns a copy of a change, and reserves room for it in the record.
 ///
-/// Errors: an allocation fails, or the slot is past the limit.
+/// Errors: an allocation fails, or the slot is not below `SLOTS`.
 fn ready_change<V: Value>(kept: &mut Record<V>, change: &Change<V>) -> Result<Change<V>, AllocError>
     ensures change { IfOk result (λ copy. copy ≡ change.now) }
     ensures room { OnOk result (HasRoomFor kept.new.room (Some change.now)) }

@@ -60,8 +60,8 @@ impl Replica {
         &self.library
     }
 
-    /// Applies `next`, the next entry of the log, and returns its verdict; `Some(None)` is a no-operation. Returns `None` if the
-    /// log ends here.
+    /// Applies `next`, the next entry of the log, and returns its verdict; `Some(None)` is a no-operation. Returns
+    /// `None` if the log ends here.
     ///
     /// Errors: `Memory`; the replica is then unchanged. Cost: that of `Library::apply` on the entry.
     pub fn apply_next(
@@ -79,10 +79,12 @@ impl Replica {
         Ok(Some(verdict))
     }
 
-    /// Applies the next entry of the log as `apply_next` does, with its proofs checked by workers in parallel. Each worker
-    /// passes the gate before each proof. No answer depends on the number of workers.
+    /// Applies the next entry of the log as `apply_next` does, with its proofs checked by workers in parallel. Each
+    /// worker passes the gate before each proof. The verdict does not depend on the number of workers; whether `Memory`
+    /// is returned may.
     ///
-    /// Errors: those of `apply_next`. Cost: that of `Library::apply_with` on the entry.
+    /// Errors: those of `apply_next`; `Memory` may also be returned if a proof is too heavy for a worker and the gate
+    /// keeps heavy proofs out (`Gate::admits_heavy`). Cost: that of `Library::apply_with` on the entry.
     pub fn apply_next_with<G: Gate + Sync, R: Threads + Sync>(
         &mut self,
         rt: &R,
