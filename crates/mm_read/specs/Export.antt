@@ -8,7 +8,7 @@ use Rattle.mm_read.specs.declared.stmt.Stmt.{Stmt}
 use Rattle.mm_read.specs.declared.stmt.Stmt.TheVariants.{Prove}
 use Rattle.mm_read.specs.Statements.{Database, stmt_tokens}
 
--- a statement's tokens, separated by single spaces, and a line feed
+-- a statement's tokens, separated by single spaces, and a line feed (byte 10)
 abbrev pub line_of : Stmt → List ℕ
 line_of s = spaced (stmt_tokens s) ++ 10 ∷ []
 

@@ -17,12 +17,13 @@ pub record IsNext (text : List ℕ) (at : ℕ) (s : Stmt) (next : ℕ) : Type 0 
   pub later : at < next
   pub between : HasBetween text at next (stmt_tokens s)
 
--- if the tokens from an earlier offset up to `at` are `before`, those from there up to `next` are the tokens of s
+-- s begins with the tokens `before`, which end at `at`, and ends at `next`: wherever these tokens start, the tokens
+-- from there to `next` are those of s
 abbrev pub IsNextAfter : List ℕ → List Name → ℕ → Stmt → ℕ → Type 0
 IsNextAfter text before at s next = (from : ℕ) → from < at → HasBetween text from at before → IsNext text from s next
 
--- why no statement begins with the tokens `before`, up to `at`: a comment fault after `at`, a shape fault, which is counted from
--- the first of `before`, or a failed allocation
+-- why no statement begins with the tokens `before`, which end at `at`: a comment fault after `at`; or, if no comment
+-- after `at` is malformed, a shape fault that counts from the first of `before`; or a failed allocation
 abbrev pub IsFaultAfter : List ℕ → List Name → ℕ → ReadFault → Type 0
 IsFaultAfter text before at (Text fault) = IsCommentFaultAfter text at fault
 IsFaultAfter text before at (Shape token) = (tokens : List Name) → AreAfter text at tokens → IsShapeFault (before ++ tokens) token

@@ -22,7 +22,7 @@ pub record Reads (text : List ℕ) (S : Database) : Type 0 where
   pub shaped : AreShaped S
   pub tokens : HasTokens text (tokens_of S)
 
--- some list of statements begins with these tokens
+-- some list of well-shaped statements is written as these tokens followed by others, or by none
 pub record IsStatementsPrefix (tokens : List Name) : Type 0 where
   pub statements : Database
   pub rest : List Name
@@ -33,8 +33,8 @@ pub record IsStatementsPrefix (tokens : List Name) : Type 0 where
 abbrev pub IsNoDatabase : List Name → Type 0
 IsNoDatabase tokens = (S : Database) → AreShaped S → tokens_of S ≡ tokens → ⊥
 
--- the number, from 1, of the first token such that no list of statements begins with the tokens up to it; or, if the last
--- statement is not whole, the number of tokens plus 1
+-- the number, from 1, of the first token such that no list of statements begins with the tokens up to it; or, if the
+-- last statement is not whole, the number of tokens plus 1
 pub record IsShapeFault (tokens : List Name) (token : ℕ) : Type 0 where
   pub none : IsNoDatabase tokens
   pub before : IsStatementsPrefix (take (token - 1) tokens)
@@ -44,7 +44,7 @@ pub record IsShapeFault (tokens : List Name) (token : ℕ) : Type 0 where
 abbrev pub HasShapeFault : List ℕ → ℕ → Type 0
 HasShapeFault text token = (tokens : List Name) × HasTokens text tokens × IsShapeFault tokens token
 
--- the meaning of a fault of the text
+-- the fault is one of the text; `Memory` says nothing of the text
 abbrev pub IsReadFault : List ℕ → ReadFault → Type 0
 IsReadFault text (Text fault) = IsLexFault text fault × (fault ≢ lex.Memory)
 IsReadFault text (Shape token) = HasShapeFault text token

@@ -29,13 +29,14 @@ IsKeyword Axiom w = w ≡ codes "$a"
 IsKeyword Prove w = w ≡ codes "$p"
 IsKeyword Other w = IsFalse (has_name w keywords)
 
--- a list that needs at least `least` symbols and then the keyword `end` breaks off after the symbols `ws`: no token follows, or
--- one that neither continues the list nor ends it
+-- a list that needs at least `least` symbols and then the keyword `end` breaks off after the symbols `ws`: no token
+-- follows, or one that neither continues the list nor ends it
 abbrev pub BreaksList : ℕ → Name → List Name → List Name → Type 0
 BreaksList least end ws [] = Unit {0}
 BreaksList least end ws (t ∷ rest) = IsFalse (is_symbol t) × ((length ws < least) ⊎ IsFalse (name_eq t end))
 
--- these tokens begin with a list that breaks off at the token numbered `token`, if the first of them is numbered `number`
+-- these tokens begin with a list that breaks off at the token of number `token`, if the first of them has the number
+-- `number`
 pub record BeginsBrokenList (tokens : List Name) (number least : ℕ) (end : Name) (token : ℕ) : Type 0 where
   pub ws : List Name
   pub rest : List Name
@@ -44,12 +45,14 @@ pub record BeginsBrokenList (tokens : List Name) (number least : ℕ) (end : Nam
   pub place : token ≡ number + length ws
   pub stop : BreaksList least end ws rest
 
--- the tokens after an offset begin with such a list; `few` bounds the token's number by the bytes that are left
+-- if no comment after an offset is malformed, the tokens after it begin with such a list; in any case the token's
+-- number is bounded by the bytes that are left (`few`)
 pub record HasBrokenList (text : List ℕ) (at number least : ℕ) (end : Name) (token : ℕ) : Type 0 where
   pub few : token + at ≤ number + length text
   pub stops : (tokens : List Name) → AreAfter text at tokens → BeginsBrokenList tokens number least end token
 
--- why no whole list follows an offset: a comment fault, the token at which it breaks off, or a failed allocation
+-- why no whole list follows an offset: a comment fault; the token at which it breaks off, if no comment is malformed;
+-- or a failed allocation
 abbrev pub IsListFault : List ℕ → ℕ → ℕ → ℕ → Name → ReadFault → Type 0
 IsListFault text at number least end (Text fault) = IsCommentFaultAfter text at fault
 IsListFault text at number least end (Shape token) = HasBrokenList text at number least end token
@@ -60,7 +63,8 @@ abbrev pub StartsOtherwise : (Name → Bool) → List Name → Type 0
 StartsOtherwise fits [] = Unit {0}
 StartsOtherwise fits (t ∷ rest) = IsFalse (fits t)
 
--- why no fitting token follows an offset: a comment fault, another token or none, or a failed allocation
+-- why no fitting token follows an offset: a comment fault; another token or none, if no comment is malformed; or a
+-- failed allocation
 abbrev pub IsTokenFault : List ℕ → ℕ → ℕ → (Name → Bool) → ReadFault → Type 0
 IsTokenFault text at number fits (Text fault) = IsCommentFaultAfter text at fault
 IsTokenFault text at number fits (Shape token) =

@@ -11,7 +11,7 @@ use Rattle.mm_read.specs.declared.stmt.Stmt.TheVariants.{Open, Close, Const, Var
 abbrev pub Expr : Type 0
 Expr = List Name
 
--- a list of statements
+-- a list of statements: those of a database, or of a part of one
 abbrev pub Database : Type 0
 Database = List Stmt
 

@@ -72,7 +72,7 @@ pub fn push_line_with_proof(
     }
 }
 
-/// Appends the line of a `$c`, `$v` or `$d`.
+/// Appends the line of a `$c`, `$v` or `$d`: its tokens separated by single spaces, and a line feed (byte 10).
 fn push_list(text: &mut Vec<u8>, keyword: &[u8], symbols: &Words) -> Result<(), AllocError>
     requires { IsTrue (are_symbols symbols.now) }
     ensures line { OnOk result (text.new.items

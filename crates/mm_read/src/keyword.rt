@@ -31,7 +31,7 @@ pub fn keyword_of(token: &[u8]) -> Keyword
     }
 }
 
-/// Returns the keyword of `$` and this letter, or `Other`.
+/// Returns the keyword of `$` (byte 36) and this letter, or `Other`.
 fn keyword_of_letter(letter: u8) -> Keyword
     ensures { IsKeyword result (36 ∷ letter ∷ []) }
 {

@@ -23,8 +23,9 @@ const GROWTH_BYTES: usize = 120_000;
 /// Returns the statements that the text reads as.
 ///
 /// Errors: `Text`, with the first byte that is not allowed or else the comment fault, even if every allocation fails;
-/// else `Shape`, with the first misplaced token. If an allocation fails, `Memory` may be returned in place of `Shape`
-/// or of the statements. Cost: the size of the text.
+/// else `Shape`, with the number of the first misplaced token, or the number of tokens plus 1 if the text ends within a
+/// statement. If an allocation fails, `Memory` may be returned in place of `Shape` or of the statements. Cost: the size
+/// of the text.
 /// Source: Metamath, 4.1 and appendix E.
 pub fn read(alloc: Global, text: &[u8]) -> Result<Vec<Stmt>, ReadFault>
     ensures found { IfOk result (λ statements. Reads text.now statements.items) }
@@ -34,7 +35,8 @@ pub fn read(alloc: Global, text: &[u8]) -> Result<Vec<Stmt>, ReadFault>
     ensures statements { (S : Database) → Reads text.now S
         → MatchResult result (λ statements. statements.items ≡ S) (λ fault. fault ≡ ReadFault.Memory) }
 
-    // A bad byte or a comment fault is returned even if every allocation fails; a shape fault, or else `Memory`.
+    // A bad byte or a comment fault of the text is returned even if every allocation fails. In place of a shape fault,
+    // `Memory` may be returned.
     ensures text_fault { (offset : ℕ) → IsFirstBadByte text.now offset
         → result ≡ Err (ReadFault.Text (LexFault.Text offset)) }
     ensures comment_fault { (offset : ℕ) → IsCommentFault text.now offset
@@ -88,16 +90,17 @@ fn add_next(
     Ok(Some(next))
 }
 
-/// Allocates a block and frees it, once for each `BYTES_BETWEEN_GROWTHS` bytes of text. A heap that otherwise grows by one
-/// request at a time, as that of a thread may, then grows once for hundreds of statements. A failed allocation is ignored.
+/// Allocates a block and frees it at once, if a multiple of `BYTES_BETWEEN_GROWTHS` lies after `at` and up to `next`,
+/// so at most once for that many bytes of text. A heap that would grow by one request at a time, as that of a thread
+/// may, then grows once for hundreds of statements. A failed allocation is ignored.
 fn grow_heap(alloc: Global, at: usize, next: usize) {
     if at / BYTES_BETWEEN_GROWTHS != next / BYTES_BETWEEN_GROWTHS {
         let _ = Vec::<u8>::with_capacity(alloc, GROWTH_BYTES);
     }
 }
 
-/// Returns why the whole text is refused. Its statements up to `at` are read, and `fault` is why no statement can be
-/// read there; a `Shape` fault counts from `at`, the one returned from the start of the text.
+/// Returns the fault of the whole text. The statements up to `at` are read, and `fault` is why no statement can be read
+/// there. A `Shape` in `fault` counts tokens from `at`; one that is returned counts them from the start of the text.
 ///
 /// Errors: the comment fault of the text, if there is one: it takes precedence over `fault`.
 fn first_fault(text: &[u8], at: usize, fault: ReadFault) -> Result<ReadFault, LexFault>

@@ -13,9 +13,11 @@ use std::alloc::Global;
 
 /// Returns the symbols after `at`, at least `least` of them, up to the token `end`, and the offset after that token.
 ///
-/// `number` is the number that `Shape` gives to the first token after `at`. Errors: `Text`, if a comment before the end
-/// of the list is malformed; `Shape`, with the number of the token that does not fit, or one past the last if the text
-/// ends first; `Memory`, if an allocation fails.
+/// `number` is the number that `Shape` gives to the first token after `at`. It is at most 3, the number of the first
+/// symbol of an expression. Errors: `Text`, if a comment before the end of the list is malformed; `Shape`, with the
+/// number of the token that does not fit, or one past the last if the text ends first; `Memory`, if an allocation
+/// fails. Here and below, the clause `fault` states what a `Shape` means only if no comment after `at` is
+/// malformed.
 pub fn symbols_until(
     alloc: Global,
     text: &[u8],
@@ -44,7 +46,7 @@ pub fn symbols_until(
     })
 }
 
-/// Returns whether there are at least `least` words. Cost: constant for up to one, else the size of their text.
+/// Returns whether there are at least `least` words. Cost: a constant if `least` is 0 or 1, else the size of the words.
 fn has_least(words: &Words, least: usize) -> bool
     ensures { result ≡ nat_le least (length words.now) }
 {

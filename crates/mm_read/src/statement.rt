@@ -16,8 +16,8 @@ use std::alloc::Global;
 ///
 /// Errors: `Text`, if a comment in the statement is malformed; `Shape`, with the number of the first misplaced token,
 /// counted from 1 at `first`, or one past the last token if the text ends within the statement; `Memory`, if an
-/// allocation fails.
-/// Cost: the size of the statement with its comments.
+/// allocation fails. The clause `fault` states what a `Shape` means only if no comment after `first` is malformed, in
+/// the statement or after it. Cost: the size of the statement with its comments.
 pub fn statement(alloc: Global, text: &[u8], first: Span) -> Result<(Stmt, usize), ReadFault>
     requires allowed { HasOnlyAllowedBytes text.now }
     requires token { IsWordAt text.now first }

@@ -3,6 +3,9 @@ use mm_lex::{Word, Words};
 
 /// One statement. Its words are labels, symbols and tokens of a proof as they are written in the text.
 ///
+/// Reading asks only for symbols. By the rules of `scope`, those of `$c` are constants, those of `$v` and `$d` are
+/// variables, those of `$f` are a constant and a variable, and an expression begins with a constant.
+///
 /// Source: Metamath, 4.1. `specs/Statements` defines which statements are well shaped.
 #[derive(Drop)]
 pub enum Stmt {
@@ -10,19 +13,19 @@ pub enum Stmt {
     Open,
     /// `$}`
     Close,
-    /// `$c`, constants, `$.`
+    /// `$c`, one or more symbols, `$.`
     Const(Words),
-    /// `$v`, variables, `$.`
+    /// `$v`, one or more symbols, `$.`
     Var(Words),
-    /// `$d`, variables, `$.`
+    /// `$d`, two or more symbols, `$.`
     Disj(Words),
-    /// A label, `$f`, a constant, a variable, `$.`
+    /// A label, `$f`, two symbols, `$.`
     Float {
         label: Word,
         constant: Word,
         variable: Word,
     },
-    /// A label, `$e`, an expression, `$.`
+    /// A label, `$e`, an expression of one or more symbols, `$.`
     Ess {
         label: Word,
         expr: Words,
