@@ -1,4 +1,4 @@
--- Charters: which authors may declare constants and axioms.
+-- Charters: which authors may declare constants and axioms, and have the next charter added.
 -- Source: this project's profile.
 -- The code keeps the numbers of the authors in order; contracts see the list.
 use Rattle.std.specs.Prelude.{ℕ, ◌+◌, ◌≤◌, Bool, true, false, ◌&&◌, nat_lt, ◌==◌, IsTrue, if◌then◌else◌, List, [], ◌∷◌, length, Option, Some, None}

@@ -1,6 +1,7 @@
 -- Laws of the library of a log.
 -- Source: this project's profile.
--- The working calls make the steps of these definitions; the laws state that the definitions leave no choice.
+-- The code makes the step `Applies`. The first two laws state that the definitions leave no choice, the next two that
+-- libraries grow and are good, and the last what a library is without charters.
 use Rattle.std.specs.Prelude.{◌≡◌, ◌↔◌, List, ◌++◌, map, option_map, Option, None}
 use Rattle.mm_read.specs.Statements.{Database}
 use Rattle.library.specs.declared.submission.Submission.{Submission}
@@ -20,7 +21,7 @@ OneVerdict = (old new other : Replica) (entry : Option Entry) (v w : Verdict)
 abbrev pub OneLibrary : Type 0
 OneLibrary = (log : List (Option Entry)) (replica other : Replica) → IsLibraryOf log replica → IsLibraryOf log other → replica ≡ other
 
--- the statements of a log's library are a prefix of those of a longer log's library
+-- the statements of a log's library are a prefix of those of the library of a log that continues it
 abbrev pub LibrariesGrow : Type 0
 LibrariesGrow = (log later : List (Option Entry)) (replica longer : Replica)
     → IsLibraryOf log replica → IsLibraryOf (log ++ later) longer → (more : Database) × (longer.statements ≡ replica.statements ++ more)
@@ -33,7 +34,7 @@ LibrariesAreGood = (log : List (Option Entry)) (replica : Replica) → IsLibrary
 abbrev pub without_charter : Replica → PlainReplica
 without_charter replica = record { statements = replica.statements; decided = replica.decided }
 
--- a log without charters has the list and the verdicts of the plain library, and no charter
+-- a log without charters has the statements and the verdicts of the plain library, and no charter
 abbrev pub PlainWithoutCharters : Type 0
 PlainWithoutCharters = (log : List (Option Submission)) (replica : Replica)
     → IsLibraryOf (map (option_map Text) log) replica ↔ (IsPlainLibraryOf log (without_charter replica) × (replica.charter ≡ None))

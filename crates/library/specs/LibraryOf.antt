@@ -79,7 +79,7 @@ abbrev pub AppliesAt : Option Verdict → Replica → Entry → Verdict → Repl
 AppliesAt (Some first) old entry verdict new = (verdict ≡ Repeat) × (new ≡ old)
 AppliesAt None old entry verdict new = Decides old entry verdict new
 
--- one entry of the log, or a no-operation, turns the replica old into new, with this verdict
+-- one entry of the log, or a no-operation (`None`), turns the replica old into new, with this verdict
 abbrev pub Applies : Replica → Option Entry → Verdict → Replica → Type 0
 Applies old None verdict new = (verdict ≡ Nothing) × (new ≡ old)
 Applies old (Some entry) verdict new = AppliesAt (status_of old entry) old entry verdict new

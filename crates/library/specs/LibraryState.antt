@@ -45,12 +45,13 @@ IsDecision Added = ⊤
 IsDecision (Refused cause) = ⊤
 IsDecision verdict = ⊥
 
--- the judging of a text takes at most three steps for each statement, and none if the text does not read
+-- the judging of a text raises the count of steps by at most three for each statement, and not at all if the text does
+-- not read; a statement that is given to the rules and frames is a step
 pub record HasFewStepsText (submission : Submission) (before after : ℕ) : Type 0 where
   pub read : (T : Database) → Reads submission.text T → after ≤ before + 3 * length T
   pub unread : ((T : Database) → ¬ Reads submission.text T) → after ≡ before
 
--- the judging of an entry that was not decided before: a charter takes no step
+-- the judging of an entry that was not decided before: a charter leaves the count as it is
 abbrev pub HasFewStepsEntry : Entry → ℕ → ℕ → Type 0
 HasFewStepsEntry (Text submission) before after = HasFewStepsText submission before after
 HasFewStepsEntry (Charter author serial names) before after = after ≡ before

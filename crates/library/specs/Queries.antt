@@ -25,11 +25,11 @@ pub record NamesProof (S : Database) (label : Name) (j : ℕ) : Type 0 where
   pub carries : Carries S j stmt label
   pub provable : IsProvable S j stmt
 
--- the labels of the `$a` that the proof of the label uses
+-- the labels of the `$a` that the `$p` with the label rests on
 abbrev pub IsTrace : Database → Name → List Name → Type 0
 IsTrace S label labels = (j : ℕ) × NamesProof S label j × AreLabelsOf S (Uses S j) labels
 
--- the labels of the `$p` that use what has the label
+-- the labels of the `$p` that cite the statement with the label, or, where all are meant, that rest on it
 abbrev pub IsUsage : Database → Name → Bool → List Name → Type 0
 IsUsage S label all labels = (a : ℕ) × (s : Stmt) × Carries S a s label × AreLabelsOf S (IsUser S all a) labels
 
@@ -49,6 +49,6 @@ IsNoProof S label fault = ⊥
 abbrev pub SpellsTree : Database → ℕ → Derivation → Type 0
 SpellsTree S j t = (items : List Item) × HasItems S j items × Derives (bares S) j items t
 
--- the derivation that the proof of the label spells
+-- the derivation that the proof of the `$p` with the label spells
 abbrev pub IsTreeOf : Database → Name → Derivation → Type 0
 IsTreeOf S label t = (j : ℕ) × NamesProof S label j × SpellsTree S j t

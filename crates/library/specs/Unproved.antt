@@ -1,4 +1,4 @@
--- The `$p` after the first statements, as work for a pool.
+-- The `$p` after the first statements, as jobs for a pool of workers.
 -- Source: none; for the private functions of `unproved`.
 -- The code keeps their positions, in order.
 use Rattle.std.specs.Prelude.{◌≡◌, ℕ, ◌<◌, ◌≤◌, List, [], ◌∷◌, length, slice_get, get_or, Option, Some, Result, IfOk}
@@ -9,13 +9,13 @@ use Rattle.verify_pool.specs.Least.{IsLeast}
 use Rattle.verify_pool.specs.declared.checkers.Checkers.{Checkers}
 use Rattle.library.specs.Judging.{IsProvedIfProvable}
 
--- statements, the names that their frames number, and positions of `$p` among them
+-- statements, the list of names that their frames give numbers, and positions among the statements
 pub record ProofsAt : Type 0 where
   pub statements : Database
   pub names : List Name
   pub positions : List ℕ
 
--- the `$p` of that index is proved
+-- if a `$p` is at the position of that index, it is proved
 abbrev pub IsRightProof : ProofsAt → ℕ → Type 0
 IsRightProof proofs k = IsProvedIfProvable proofs.statements (get_or proofs.positions k 0)
 

@@ -1,6 +1,6 @@
 -- Which positions a walk over citations has marked.
 -- Source: none; for the private functions of `axioms_used` and `cited_by`.
--- The marks are a list with one flag for each position, the first for position 1.
+-- The marks are a list with one flag for each position, the first for position 1; they are not the marks of proof code.
 use Rattle.std.specs.Prelude.{◌≡◌, ◌⊎◌, ℕ, zero, suc, ◌≤◌, Bool, true, false, List, [], ◌∷◌, length, map, if◌then◌else◌, Option, Some, None, slice_index_or, slice_set}
 use Rattle.library.specs.Words.{Name, name_eq, has_name, Stmt, Database, Carries, Item, finish}
 use Rattle.frame.specs.AtPosition.{ArePositions}

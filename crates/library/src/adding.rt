@@ -1,5 +1,5 @@
-//! Appends the statements of a text to the rules and the frames, up to the first that breaks a rule; with several workers,
-//! judges the proofs of the first ones meanwhile.
+//! Appends the statements of a text to the rules and the frames, up to the first that breaks a rule. With several
+//! workers, the proofs of a first part of a long text are judged ahead: while the statements are appended.
 ghost use Rattle.std.specs.Prelude.{◌≡◌, ◌+◌, ◌*◌, ◌≤◌, length};
 ghost use Rattle.std.specs.Thread.{IsSync};
 ghost use Rattle.mm_read.specs.Statements.{AreShaped};
@@ -13,7 +13,7 @@ use std::alloc::{AllocError, Global};
 use std::thread::{Threads, join_mut};
 use verify_pool::{Checkers, Gate, Workers, judge_all};
 
-/// The proofs of the first part of a text are judged ahead only if that part has more statements than this.
+/// The proofs of a first part of a text are judged ahead only if that part has more statements than this.
 const MANY: usize = 8_192;
 
 /// Tables that judge the next statement: the state of the rules, and the frames of the statements.
@@ -23,7 +23,8 @@ pub(crate) struct Tables {
     pub frames: Frames,
 }
 
-/// Steps that a library took: those of the calling thread, and those of threads that judge proofs ahead.
+/// How many statements were given to the rules and frames: by the calling thread, and by threads that judge proofs
+/// ahead.
 #[derive(Drop)]
 pub(crate) struct StepCounts {
     pub calling: Steps,
@@ -49,10 +50,10 @@ pub(crate) struct Added {
     pub known: usize,
 }
 
-/// Adds the statements to the frames and the rules, up to the first that breaks a rule. Reserves room for
-/// the labels of half of them first, if allocation succeeds.
+/// Adds the statements to the frames and the rules, up to the first that breaks a rule. Before that, has the frames
+/// make room for half as many labels as there are statements, if allocation succeeds.
 ///
-/// Cost: that of the statements, one step each.
+/// Cost: that of the statements, at most one step each.
 pub(crate) fn add_all(statements: &[Stmt], tables: &mut Tables, steps: &mut Steps) -> Added
     requires shaped { AreShaped statements.now }
     requires same { tables.old.frames.statements ≡ tables.old.rules.statements }
@@ -79,11 +80,14 @@ pub(crate) fn add_all(statements: &[Stmt], tables: &mut Tables, steps: &mut Step
     Added { broken, known }
 }
 
-/// Adds the statements as `add_all` does. If they are the first of a library and many, another thread meanwhile adds a first
-/// part of them to tables of its own and judges the proofs of this part with half of the workers less one, but at least
-/// one: these leave a processor to the calling thread.
+/// Adds the statements as `add_all` does. If they are the first of a library, there are at least two workers and
+/// `count_ahead` returns more than 0, another thread meanwhile adds so many of them to tables of its own and judges
+/// their proofs. Half of the workers less one take part in that, but at least one, so that a processor is left to the
+/// calling thread. The position returned as `known` is the last of that part if its proofs are found to be right, else
+/// 0.
 ///
-/// Cost: that of `add_all`, and one step more for each statement of the first part.
+/// Cost: that of `add_all`, and meanwhile that of `verify_ahead`: at most one step more for each statement of that
+/// part.
 pub(crate) fn add_all_verifying<G: Gate + Sync, R: Threads + Sync>(
     parallel: &Parallel<'_, G, R>,
     statements: &[Stmt],
@@ -128,11 +132,12 @@ pub(crate) fn add_all_verifying<G: Gate + Sync, R: Threads + Sync>(
     added
 }
 
-/// Returns the length of the part that is judged ahead: the shortest prefix with more than five sixteenths of the
-/// statements, and more than `MANY`, at whose end no block is open; 0 if there is none.
+/// Returns the length of the part that is judged ahead: the shortest prefix with more than about five sixteenths of the
+/// statements (five for each full sixteen), and more than `MANY`, at whose end no block is open; 0 if there is none.
 fn count_ahead(statements: &[Stmt]) -> usize
     ensures { result ≤ length statements.now }
 {
+    // The part has more statements than this.
     let near = (statements.len() / 16 * 5).max(MANY);
     let mut open = 0usize;
     for (index, statement) in statements.iter().enumerate() {
@@ -148,10 +153,10 @@ fn count_ahead(statements: &[Stmt]) -> usize
     0
 }
 
-/// Adds the statements to tables of their own and judges their proofs, and returns a position up to which each `$p` is
-/// found to be proved: the last one, or 0.
+/// Adds the statements to new tables and judges their proofs. Returns the position of the last statement if each `$p`
+/// is found to be proved, else 0: if a rule is broken, a proof is not right, or an allocation fails.
 ///
-/// Cost: that of `add_all`, one step for each statement, and of the proofs.
+/// Cost: that of `add_all`, and that of the proofs, divided among the workers.
 fn verify_ahead<G: Gate + Sync, R: Threads + Sync>(
     parallel: &Parallel<'_, G, R>,
     statements: &[Stmt],

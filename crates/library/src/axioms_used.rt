@@ -45,8 +45,9 @@ pub(crate) fn items_of(database: &CheckedDatabase, at: usize) -> Result<Option<I
 /// Errors: an allocation fails. Cost: that of the proofs that it rests on, each read once, and a byte for each
 /// statement before it.
 ///
-/// Marks the position of the `$p`, and each position whose statement is cited by the proof of a marked `$p`. A proof cites
-/// earlier statements only, so one walk down the positions is enough.
+/// Marks the position of the `$p`, and each position whose statement is cited by the proof of a marked `$p`. A proof
+/// cites earlier statements only, so one walk down the positions is enough. (`marks` has a flag for each position;
+/// these are not the marks of proof code.)
 pub(crate) fn axioms_used(database: &CheckedDatabase, at: usize) -> Result<Vec<Word>, AllocError>
     requires { (s : Statement) × IsProvable database.now at s }
     ensures { IfOk result (λ labels. AreLabelsOf database.now (Uses database.now at) labels.items) }

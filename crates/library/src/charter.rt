@@ -1,4 +1,4 @@
-//! The authors that a charter names.
+//! The authors that a charter names, by their numbers.
 ghost use Rattle.std.specs.Prelude.{◌≡◌, IfOk, MatchOption};
 ghost use Rattle.library.specs.Charters.{AreNames, is_rising, names_author};
 
@@ -26,7 +26,7 @@ impl Model for Names {
 }
 
 impl Names {
-    /// Returns the names with these numbers; `None` if the list is empty, has more than 64 numbers,
+    /// Returns the authors with these numbers; `None` if the list is empty, has more than 64 numbers,
     /// or is not strictly increasing.
     /// Does not allocate.
     pub fn new(numbers: Vec<u64>) -> Option<Names>

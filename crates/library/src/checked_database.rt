@@ -113,8 +113,9 @@ impl CheckedDatabase {
 
     /// Appends the statements if the whole list is then good; otherwise appends none and returns the cause.
     ///
-    /// Errors: an allocation fails; nothing is added then. Cost: that of the statements added, two steps each at most. Rolling
-    /// back cannot fail. Memory that only refused statements needed is given back, if smaller blocks can be allocated.
+    /// Errors: an allocation fails; nothing is added then. Cost: that of the statements added, at most two steps each;
+    /// that of their proofs; and that of `Checkers::repeat_searches`. Rolling back cannot fail. Most of the memory that
+    /// only refused statements needed is given back, if smaller blocks can be allocated.
     pub(crate) fn extend<
         E: Fn(&[Stmt], &mut Tables, &mut StepCounts, &mut Checkers) -> Added,
         F: Fn(&Proofs<'_>, &mut Checkers) -> Result<Option<usize>, AllocError>,
@@ -170,10 +171,10 @@ fn append_all(statements: &mut Vec<Stmt>, mut more: Vec<Stmt>) -> Result<(), All
     Ok(())
 }
 
-/// Adds the statements after the first `front` to the tables, which have taken these first ones. Before, the frames take over
-/// what the checkers found when they judged the text before.
+/// Adds the statements after the first `front` to the tables, which have taken these first ones. Before that, the
+/// frames repeat long searches that the checkers made for the text before, and keep the answers.
 ///
-/// Cost: that of `add`, and of `Checkers::repeat_searches`.
+/// Cost: that of `add`, and that of `Checkers::repeat_searches`.
 fn add_after<E: Fn(&[Stmt], &mut Tables, &mut StepCounts, &mut Checkers) -> Added>(
     statements: &[Stmt],
     front: usize,

@@ -22,8 +22,11 @@ use std::alloc::AllocError;
 /// Returns the labels of the `$p` that cite the statement at a position, each once, in order; with `all` also of those that
 /// cite one of them, and so on.
 ///
-/// Errors: an allocation fails. Cost: that of the proofs after the position, each read once, and once more if it lists a sought
-/// label, and a byte for each statement.
+/// Errors: an allocation fails. Cost: a byte for each statement, and the proofs after the position, each read once, or
+/// twice if it lists a label that is sought.
+///
+/// A position is marked if the statement there is sought: `marks` has a flag for each position. These are not the marks
+/// of proof code.
 pub(crate) fn citing_labels(
     database: &CheckedDatabase,
     at: usize,
@@ -130,8 +133,9 @@ impl Search {
     }
 }
 
-/// Returns whether one of the numbers cites a marked statement, from one flag for each mandatory hypothesis and then for
-/// each listed label. The first marked one is usually cited, so the numbers are searched once as soon as it is found.
+/// Returns whether one of the numbers cites a marked statement. Puts into `label_marks` a flag for each mandatory
+/// hypothesis and then for each listed label: whether its statement is marked. A label that is listed is usually cited,
+/// so the numbers are searched at the first marked one, and after the last label only if that found nothing.
 fn numbers_cite_marked(
     frames: &Frames,
     heading: Heading<'_>,
@@ -167,7 +171,8 @@ fn numbers_cite_marked(
     Ok(has_marked(numbers, label_marks))
 }
 
-/// Answers as `numbers_cite_marked` does, with the mandatory hypotheses read through a view, and flags for the listed labels alone.
+/// Answers as `numbers_cite_marked` does, with the mandatory hypotheses read through a view, and flags for the listed
+/// labels alone.
 fn numbers_cite_marked_by_view(
     frames: &Frames,
     heading: Heading<'_>,

@@ -1,4 +1,4 @@
-//! The states of entries, and the verdicts in the order of the log, which only contracts see.
+//! The state of an entry, and the list of verdicts in the order of the log. Only contracts see that list.
 ghost use Rattle.std.specs.Prelude.{◌≡◌, ◌++◌, ◌∷◌, [], List};
 ghost use Rattle.std.specs.Borrow.{ftrue};
 ghost use Rattle.library.specs.LibraryOf.{Decided};
@@ -16,7 +16,8 @@ pub enum EntryState {
     Decided(Option<Cause>),
 }
 
-/// An entry with its verdict: the cause if it was refused.
+/// The author, the number and the outcome of an entry that is decided: the cause if it was refused, `None` if it was
+/// added.
 #[derive(Drop)]
 pub struct DecidedEntry {
     pub author: u64,

@@ -11,7 +11,8 @@ use std::alloc::AllocError;
 pub enum Entry {
     /// A text, to be added whole or not at all.
     Text(Submission),
-    /// A charter: after it in the log, the named authors alone may declare constants and axioms.
+    /// A charter. Once it is added, and until the next one is, the named authors alone may declare constants and
+    /// axioms, and only a charter of theirs is added. The first charter may be any author's.
     Charter {
         author: u64,
         serial: u64,
@@ -40,7 +41,7 @@ impl Entry {
         }
     }
 
-    /// Returns the number of bytes of the text, or 8 for each name of a charter.
+    /// Returns the number of bytes of the text, or 8 for each author that a charter names.
     pub fn size(&self) -> usize
         ensures { result ≡ size_of self.now }
     {

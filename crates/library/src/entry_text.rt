@@ -1,4 +1,4 @@
-//! The statements of a text, and those of them that the charter forbids its author.
+//! The statements of a text, and the first of them that the charter forbids its author.
 ghost use Rattle.std.specs.Prelude.{◌≡◌, IfOk};
 ghost use Rattle.library.specs.Charters.{first_forbidden, is_declaration, may_declare};
 ghost use Rattle.library.specs.Judging.{IsReading, ReadsTexts};
@@ -10,8 +10,9 @@ use crate::verdict::Cause;
 use mm_read::{ReadFault, Stmt};
 use std::alloc::AllocError;
 
-/// Returns the statements of the text if it is within the limit, reads, and has none that the charter forbids its author;
-/// else the cause of its refusal, whatever statements the library has. `read` returns the statements that a text writes.
+/// Returns the statements of the text if it has at most `MOST_BYTES` bytes, it reads as statements, and the charter
+/// forbids its author none of these. Otherwise returns the cause of its refusal, which does not depend on the
+/// statements of the library. `read` returns the statements that a text writes.
 ///
 /// Errors: an allocation fails. Cost: that of reading, and the number of statements.
 pub(crate) fn read_text<T: Fn(&[u8]) -> Result<Vec<Stmt>, ReadFault>>(
@@ -37,7 +38,8 @@ pub(crate) fn read_text<T: Fn(&[u8]) -> Result<Vec<Stmt>, ReadFault>>(
     }
 }
 
-/// Returns whether the author may declare constants and axioms: there is no charter, or it names him.
+/// Returns whether the author may declare constants and axioms, and have a charter of his added: there is no charter in
+/// force, or it names him.
 pub(crate) fn may_declare(charter: &Option<Names>, author: u64) -> bool
     ensures { result ≡ may_declare charter.now author }
 {

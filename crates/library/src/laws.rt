@@ -11,7 +11,7 @@ pub fn one_library()
     ensures { OneLibrary }
 {}
 
-/// The statements of a log's library are a prefix of those of a longer log's library.
+/// The statements of a log's library are a prefix of those of the library of a log that continues it.
 pub fn libraries_grow()
     ensures { LibrariesGrow }
 {}
@@ -21,7 +21,7 @@ pub fn libraries_are_good()
     ensures { LibrariesAreGood }
 {}
 
-/// A log without charters has the list and the verdicts of the plain library, and no charter.
+/// A log without charters has the statements and the verdicts of the plain library, and no charter.
 pub fn plain_without_charters()
     ensures { PlainWithoutCharters }
 {}

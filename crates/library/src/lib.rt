@@ -3,9 +3,10 @@
 //! The main contract, which `world` uses: applying an entry makes the step of `specs/LibraryOf` and returns its verdict; if an
 //! allocation fails, nothing is decided.
 //!
-//! Reading order: `submission`, `charter`, `entry` (the entries of a log), `verdict`; `library`, `decided`; `entry_text` (a
-//! text and its charter), `checked_database` (all or nothing), `adding` (the rules), `unproved` (the proofs); `queries`
-//! (questions on a label), `axioms_used`, `cited_by`; `listed`; `laws`.
+//! Reading order: `submission`, `charter`, `entry` (the entries of a log), `verdict`; `library`, `decided`;
+//! `entry_text` (reads a text under the charter in force), `checked_database` (all or nothing), `adding` (the rules),
+//! `unproved` (the first proof that is not right); `queries` (questions on a label), `axioms_used`, `cited_by`;
+//! `listed` (the assertions); `laws`. The README explains the words: charter, good, right, heavy, gate.
 #![tactic(auto)]
 
 mod adding;

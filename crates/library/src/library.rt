@@ -28,8 +28,9 @@ use std::marker::Model;
 use std::thread::Threads;
 use verify_pool::{Checkers, Gate, Workers, judge_all, judge_here};
 
-/// The statements added, the state of each entry by its author and serial number, and the charter in force. Contracts see a
-/// replica, with the verdicts in the order of the log, and the count of the steps that the library took.
+/// The statements added, the state of each entry by its author and serial number, and the charter in force. Contracts
+/// see a replica (`Replica` of `specs/LibraryOf`, with the verdicts in the order of the log), and a count of steps: of
+/// the statements that were given to the rules and frames.
 ///
 /// Authors choose the numbers, so the table is an ordered map: no choice makes a look-up cost more than the logarithm of the
 /// count of entries.
@@ -72,7 +73,7 @@ impl Library {
     }
 
     /// Returns a library of good statements, given with their rules and frames, without verdicts and charter. Does not
-    /// allocate. Judges nothing: the caller knows that the statements are good.
+    /// allocate. Judges nothing: the caller knows that the statements are good (`Good`).
     ///
     /// Cost: a constant.
     pub fn from_good(alloc: Global, statements: Vec<Stmt>, rules: Rules, frames: Frames) -> Library
@@ -95,11 +96,13 @@ impl Library {
         }
     }
 
-    /// Applies the next entry of the log, or a no-operation.
+    /// Applies the next entry of the log; `None` is a no-operation. Raises the count of steps, which only contracts
+    /// see, by at most three for each statement of the text.
     ///
     /// Errors: an allocation fails; the entry stays undecided, and statements, verdicts and charter are as before.
-    /// Cost: that of the entry's own text, whatever was added before and whoever submitted it; at most three steps for each
-    /// of its statements: a step is one statement that is given to the rules and frames, and only contracts see their count.
+    /// Cost: that of reading the entry's text and of judging its statements and proofs, whatever was added before and
+    /// whoever submitted it, with the exceptions of `docs/COSTS.md`; the logarithm of the count of entries; and the
+    /// searches of the text before that the frames repeat (`Checkers::repeat_searches`).
     pub fn apply(&mut self, next: Option<&Entry>) -> Result<Verdict, AllocError>
         ensures step { IfOk result (λ verdict. Applies self.old.replica (option_map (λ e. e.now) next.entry) verdict self.new.replica) }
         ensures same { OnErr result (self.new.replica ≡ self.old.replica) }
@@ -118,12 +121,19 @@ impl Library {
         )
     }
 
-    /// Applies the next entry as `apply` does, its text read and its proofs checked by some workers in parallel. Each passes
-    /// the gate before each proof; the jobs are the `$p` of the text, in order; if a long text is judged ahead, those of its
-    /// first part and then those of the rest, each counted from 0. No answer depends on the number of workers.
+    /// Applies the next entry as `apply` does, its text read and its proofs judged in parallel, by `workers` at most.
     ///
-    /// Errors and steps: those of `apply`, and `AllocError` if a proof is heavy and the gate keeps these out
-    /// (`Gate::admits_heavy`). Cost: that of the entry's own text; a large text and its proofs are divided among the workers.
+    /// Each worker passes the gate before each proof. The jobs (`Place::Job`) are the `$p` of the text, in order,
+    /// counted from 0. If the proofs of a first part of a long text are judged ahead, the jobs are first the `$p` of
+    /// that part; then those of the rest, again counted from 0, or all `$p` of the text if the first part was not found
+    /// to be proved. Proofs for which a worker lacks memory are judged again (`judge_all`). The verdict does not depend
+    /// on the number of workers; whether an allocation fails may.
+    ///
+    /// Errors: those of `apply`; `AllocError` may also be returned if a proof is heavy, that is, if its results have
+    /// more symbols than a worker holds (`MOST_WORKER_SYMBOLS`), and the gate keeps such proofs out
+    /// (`Gate::admits_heavy`).
+    /// Cost: that of `apply`; reading a large text and judging its proofs are divided among the workers. Statements
+    /// that are added again, and proofs that are judged again, cost twice.
     pub fn apply_with<G: Gate + Sync, R: Threads + Sync>(
         &mut self,
         rt: &R,
@@ -159,7 +169,7 @@ impl Library {
 
     /// Applies the next entry, where `read` returns the statements that a text writes, `add` adds statements to the
     /// tables, and `least` returns the index of the first proof that is not right, or `None`. The statements of a text
-    /// are added if they are good; a charter that is added is in force from now on.
+    /// are added if the whole list is good with them; a charter that is added is in force from now on.
     fn apply_by<
         T: Fn(&[u8]) -> Result<Vec<Stmt>, ReadFault>,
         E: Fn(&[Stmt], &mut Tables, &mut StepCounts, &mut Checkers) -> Added,
@@ -181,6 +191,7 @@ impl Library {
             None => {}
         }
         let key = (entry.author(), entry.serial());
+        // Makes room for the entry, so that its decision is recorded without an allocation.
         self.entry_states.insert(key, EntryState::Undecided)?;
         let cause = match entry {
             Entry::Text(submission) => match read_text(&self.charter, submission, read)? {

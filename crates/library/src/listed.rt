@@ -9,7 +9,7 @@ use mm_lex::Word;
 use mm_read::{Stmt, spell};
 use std::alloc::AllocError;
 
-/// An assertion of a library.
+/// An assertion as `Library::list` returns it: by its label and its kind.
 #[derive(Drop)]
 pub struct Listed {
     pub label: Word,

@@ -26,7 +26,7 @@ pub enum AskFault {
     NoLabel,
     /// The statement with the label is no `$p`.
     NotProvable,
-    /// The derivation has more nodes or a greater depth than the limits allow.
+    /// The derivation has more than 65,536 nodes (`MOST_NODES` of `verify`) or a depth above 1,024 (`MOST_DEPTH`).
     TooLarge,
     /// An allocation failed.
     Memory,
@@ -62,8 +62,9 @@ impl Library {
     /// Returns the labels of the `$p` whose proofs cite the statement with the label, a hypothesis or an assertion, each once,
     /// in the order of the library; with `all` also of those that use it through other `$p`.
     ///
-    /// Errors: `NoLabel` if no statement has the label, even if every allocation fails; else `Memory`. Cost: that of the
-    /// proofs after the statement, each read once, and once more if it lists a sought label, and a byte for each statement.
+    /// Errors: `NoLabel` if no statement has the label, even if every allocation fails; else `Memory`. Cost: a byte for
+    /// each statement, and the proofs after the one with the label. Each of these is read once, or twice if it lists a
+    /// label that is sought: this label or, with `all`, that of a `$p` found before.
     /// Source: Metamath, 4.2.6 and appendix B.
     pub fn usage(&self, label: &[u8], all: bool) -> Result<Vec<Word>, AskFault>
         ensures labels { IfOk result (λ labels. IsUsage self.now.replica.statements label.now all labels.items) }

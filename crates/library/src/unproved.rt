@@ -1,4 +1,4 @@
-//! The least `$p` that is not proved.
+//! The least `$p` of a text that is not proved. (The crate `unproved` finds all of a database.)
 ghost use Rattle.std.specs.Prelude.{◌≡◌, ◌≤◌, length, IfOk};
 ghost use Rattle.library.specs.Judging.{IsLeastUnproved};
 ghost use Rattle.library.specs.Unproved.{FindsLeast};
@@ -12,8 +12,8 @@ use std::marker::Model;
 use verify::{Answer, Checker};
 use verify_pool::{Checkers, Work};
 
-/// The `$p` after the first statements, as work for a pool. Contracts see the statements, the names that their frames number,
-/// and the positions of these `$p`.
+/// The `$p` to be judged, by position, as jobs for a pool of workers. Contracts see all statements, the list of names
+/// that the frames give numbers, and positions among the statements.
 #[derive(Drop)]
 pub(crate) struct Proofs<'a> {
     frames: &'a Frames,
