@@ -11,6 +11,7 @@ pub struct Expected<'a> {
     pub output: &'a [u8],
     /// The number of lines of the output, if `output` is only its beginning.
     pub lines: Option<u64>,
+    /// The expected standard error.
     pub faults: &'a Faults,
     pub status: u8,
 }
@@ -19,6 +20,7 @@ pub struct Expected<'a> {
 #[derive(Drop)]
 pub struct Printed {
     pub output: Vec<u8>,
+    /// The text on standard error.
     pub faults: Vec<u8>,
     pub status: u8,
 }
@@ -76,7 +78,7 @@ fn faults_match(expected: &Expected<'_>, text: &[u8]) -> bool {
     }
 }
 
-/// Returns whether the last line of the output refuses a text.
+/// Returns whether the last line of the output that is not empty begins with `refused C`.
 fn is_refusal(output: &[u8]) -> bool {
     let mut refuses = false;
     for line in output.split(|byte| *byte == b'\n') {

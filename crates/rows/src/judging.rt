@@ -194,7 +194,8 @@ impl<'a, 'w, R: AllocGlobal + Threads + Wait + Copy + Send + Sync + Drop + 'stat
         difference_at(alloc, format_args!("{calls} reads"), &difference)
     }
 
-    /// Runs the program on writers that fail at each of their calls, and on one that writes all.
+    /// Runs the program on writers that fail after each proper prefix of the output, and on one that
+    /// writes all.
     fn judge_failing_writes(&self, input: &[u8], expected: &Expected<'_>) -> Difference {
         let message = Vec::from_slice(self.rt.alloc(), b"standard output cannot be written\n")?;
         let faults = Faults::Exactly(message);

@@ -1,6 +1,6 @@
 //! Rows: the expected output of the program for a command line and an input.
 
-/// A row: a test of what the program prints for an input.
+/// A row: a test case of what the program prints for an input.
 #[derive(Drop)]
 pub struct Row {
     /// A sentence that states what the row shows.
@@ -14,11 +14,12 @@ pub struct Row {
     pub endings: Vec<Ending>,
     /// The number of lines of the output, if `output` is only its beginning.
     pub lines: Option<u64>,
+    /// The expected standard error.
     pub faults: Faults,
-    /// `None` means 1 if a line of the output begins with `refused`, else 0.
+    /// The exit status; `None` means 1 if a line of the output begins with `refused`, else 0.
     pub status: Option<u8>,
     pub mode: Mode,
-    /// How many calls the folder of `pages` answers, if not all.
+    /// How many calls, to open it or to write a file, the folder of `pages` answers, if not all.
     pub folder_calls: Option<u64>,
     /// The outputs for prefixes of the input.
     pub truncations: Vec<Truncation>,
@@ -34,11 +35,13 @@ pub struct Ending {
 /// The expected text on standard error.
 #[derive(Drop)]
 pub enum Faults {
-    /// Not given: it is empty, or any text if a text is refused, since the explanation is written there.
+    /// Not given: it is empty; or any text, if the output ends with a line that begins with `refused C`,
+    /// since the explanation is written there; or the line that there is no statement, if the output is
+    /// `proved 0`.
     Unspecified,
     /// This text.
     Exactly(Vec<u8>),
-    /// A text that begins with this one.
+    /// A text that is not empty and begins with this one.
     Beginning(Vec<u8>),
 }
 

@@ -67,7 +67,7 @@ fn new_row(alloc: Global, sentence: &str) -> Result<Row, AllocError> {
     })
 }
 
-/// Parses a line of a row: a mark, and a text after a space.
+/// Parses a line of a row: a mark, which is its keyword, and the text after a space, or an empty text.
 fn parse_row_line(alloc: Global, row: &mut Row, line: &str) -> Result<(), RowFault> {
     let (mark, text) = line.split_once(' ').unwrap_or((line, ""));
     match mark {
@@ -120,7 +120,7 @@ fn set_folder_calls(row: &mut Row, text: &str) -> Result<(), RowFault> {
     Ok(())
 }
 
-/// Sets the mode, which must come before the input and the output.
+/// Sets the mode, at most once, and before the input and the output.
 fn set_mode(row: &mut Row, mode: Mode, text: &str, expected: &str) -> Result<(), RowFault> {
     if text != expected
         || !row.input.is_empty()
@@ -147,7 +147,7 @@ fn add_fault(alloc: Global, row: &mut Row, text: &str) -> Result<(), RowFault> {
     }
 }
 
-/// Sets the beginning of the standard error.
+/// Sets the beginning of the standard error, in place of what earlier lines say of it.
 fn set_beginning(alloc: Global, row: &mut Row, text: &str) -> Result<(), RowFault> {
     row.faults = Faults::Beginning(word_of(alloc, text)?.into_bytes());
     Ok(())
