@@ -34,7 +34,7 @@ promises n p b first = record {
   posts = promise_posts n.me p b (pages_of (reports_from first 0 n.accepted));
 }
 
--- p is informed of the promise for which its ballot b is refused
+-- ballot b of p is refused: p is told which ballot this node has promised
 abbrev pub refuses : {V : Type 0} → Node V → ℕ → Ballot → StepResult V
 refuses n p b = volatile_step n (packet n.me p (Nack b n.promise) ∷ [])
 

@@ -57,6 +57,7 @@ assembled me weights kept p l = record {
   learned = l.learned;
 }
 
+-- `NodeCore` as contracts see it
 pub record Core (V : Type 0) : Type 0 where
   pub node : Node V
   pub accepted_room : ℕ

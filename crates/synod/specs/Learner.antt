@@ -46,18 +46,18 @@ counted tallies s b k = put_at tallies s (counted_in (tallies_at (entry_at talli
 abbrev pub learns : {V : Type 0} → Node V → ℕ → Option V → Node V
 learns n s v = record n { learned = put_at n.learned s v }
 
--- if the gap is below slot s, all other nodes are asked for it
+-- if `gap`, the first gap of the node, is below slot s, all other nodes are asked for it
 abbrev pub asks_below : {V : Type 0} → Node V → ℕ → ℕ → List (Packet V)
 asks_below n s gap = if nat_lt gap s then to_others n.me n.weights (Ask gap) else []
 
 abbrev pub asks_for_first_gap : {V : Type 0} → Node V → ℕ → List (Packet V)
 asks_for_first_gap n s = asks_below n s (log_length n)
 
--- the value is learned, since a quorum accepted it under one ballot
+-- the value is chosen, since a quorum accepted it under one ballot, and the node learns it
 abbrev pub chooses : {V : Type 0} → Node V → ℕ → Option V → StepResult V
 chooses n s v = volatile_step (learns n s v) (asks_for_first_gap (learns n s v) s)
 
--- the step once the vote is counted: the value is learned if the voters are a quorum
+-- the step of a node n that has counted the vote: if those counted at slot s under ballot b are a quorum, v is learned
 abbrev pub counts : {V : Type 0} → Node V → Ballot → ℕ → Option V → StepResult V
 counts n b s v = if is_quorum n.weights (has_voter n.tallies s b) then chooses n s v else unchanged n
 
@@ -77,7 +77,7 @@ on_ask_at (Some v) n p s = volatile_step n (packet n.me p (Told s v) ∷ [])
 abbrev pub on_ask : {V : Type 0} → Node V → ℕ → ℕ → StepResult V
 on_ask n p s = on_ask_at (entry_at n.learned s) n p s
 
--- p is asked for the next gap, unless the log is full
+-- p is asked for `gap`, the first gap of the node, unless the log is full
 abbrev pub asks_for : {V : Type 0} → Node V → ℕ → ℕ → List (Packet V)
 asks_for n p gap = if nat_lt gap SLOTS then (packet n.me p (Ask gap) ∷ []) else []
 

@@ -7,7 +7,7 @@ use Rattle.synod.specs.Words.{AllByRecursion, SLOTS, MOST_PAGES, Ballot, SlotRep
 abbrev pub packet : {V : Type 0} → ℕ → ℕ → Body V → Packet V
 packet from to body = record { from = from; to = to; body = body }
 
--- one packet to each of the nodes from k on, one for each of these weights
+-- the packets to the nodes k, k + 1 and so on, as many as there are weights in the list
 abbrev pub to_all_from : {V : Type 0} → ℕ → Body V → ℕ → List ℕ → List (Packet V)
 to_all_from me body k [] = []
 to_all_from me body k (w ∷ ws) = packet me k body ∷ to_all_from me body (suc k) ws
@@ -30,8 +30,9 @@ abbrev pub accept_posts : {V : Type 0} → ℕ → List ℕ → Ballot → ℕ �
 accept_posts me weights ballot s [] = []
 accept_posts me weights ballot s (v ∷ vs) = to_all me weights (Accept ballot s v) ++ accept_posts me weights ballot (suc s) vs
 
--- The limits of every packet: each slot in it is below SLOTS, the first slot of a Prepare is at most SLOTS, and the number of a
--- page is from 1 to the count of pages.
+-- The limits of every packet: its sender is one of the nodes, each slot in it is below SLOTS, the first slot of a
+-- Prepare is at most SLOTS, the number of a page is from 1 to the count of pages, and this count is at most MOST_PAGES.
+-- IsReport, IsPage, IsBody and IsPacket say that a report, a page, a body and a packet are within these limits.
 
 abbrev pub IsReport : {V : Type 0} → SlotReport V → Type 0
 IsReport report = report.slot < SLOTS

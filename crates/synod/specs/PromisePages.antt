@@ -1,5 +1,5 @@
 -- The pages of a promise: its reports are sent in pages of 256.
--- Source: this project's profile of Lamport, Paxos Made Simple, section 3, where one promise serves all instances.
+-- Source: this project's choice, for Lamport, Paxos Made Simple, section 3, where one promise serves all instances.
 -- The code stores the received pages by sender and number. Here a list is cut into pages, and received pages are joined.
 use Rattle.std.specs.Prelude.{ℕ, zero, suc, Bool, not, nat_lt, List, [], ◌∷◌, ◌++◌, Option, Some, None}
 use Rattle.synod.specs.Words.{front_of}
@@ -8,7 +8,8 @@ abbrev pub onto_first : {T : Type 0} → T → List (List T) → List (List T)
 onto_first x [] = (x ∷ []) ∷ []
 onto_first x (page ∷ pages) = (x ∷ page) ∷ pages
 
--- the pages that a list is cut into; the first has at most `room` elements, and each other one at most 256
+-- the pages that a list is cut into: at most `room` elements are on the first, and at most 256 on each other one; this
+-- room is space on a page, not reserved memory
 abbrev pub pages_with_room : {T : Type 0} → ℕ → List T → List (List T)
 pages_with_room room [] = [] ∷ []
 pages_with_room (suc room) (x ∷ xs) = onto_first x (pages_with_room room xs)

@@ -35,7 +35,7 @@ offer_as Idle n v = offer_waits n v
 offer_as (Preparing b first) n v = offer_waits n v
 offer_as (Leading b next) n v = offer_leads n b next v
 
--- offer(v)
+-- offer(v): the step, or the refusal that it meets
 abbrev pub offered : {V : Type 0} → (V → ℕ) → Node V → V → Result (StepResult V) Refusal
 offered size n v = if nat_lt MOST_BYTES (size v) then Err TooLong else offer_as n.role n v
 
@@ -61,7 +61,7 @@ begins n = record {
   posts = to_all n.me n.weights (Prepare (next_ballot n) (log_length n));
 }
 
--- begin
+-- begin: the step `begins`, or the refusal that it meets
 abbrev pub begun : {V : Type 0} → Node V → Result (StepResult V) Refusal
 begun n = if nat_lt (next_round n) (2 ^ 64) then Ok (begins n) else Err RoundsSpent
 

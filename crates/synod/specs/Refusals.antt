@@ -1,5 +1,5 @@
 -- The result of a call: its step, its refusal, or Memory in place of a step.
--- Source: this project's profile. The refusal is the one that the event meets, even if every allocation fails.
+-- Source: this project's choice. The refusal is the one that the event meets, even if every allocation fails.
 -- The code stages a step, and then commits it.
 use Rattle.std.specs.Prelude.{◌≡◌, Result, Ok, Err, Vec}
 use Rattle.synod.specs.Words.{Global, Packet, Refusal, Memory}

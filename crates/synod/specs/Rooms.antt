@@ -8,7 +8,7 @@ use Rattle.synod.specs.Core.{Core}
 abbrev pub RoomsGrow : List ℕ → List ℕ → Type 0
 RoomsGrow old new = (k : ℕ) → slice_index_or old k 0 ≤ slice_index_or new k 0
 
--- the second has no less room than the first
+-- the second has no less room than the first: HasNoLessRoom old new says that new has at least the room of old
 pub record HasNoLessRoom {V : Type 0} (one other : Core V) : Type 0 where
   pub accepted : one.accepted_room ≤ other.accepted_room
   pub pages : RoomsGrow one.page_rooms other.page_rooms

@@ -1,4 +1,5 @@
--- The names that the specifications of this crate use, re-exported from one module.
+-- Names that the specifications of this crate use, re-exported from one module. The specifications import all others
+-- directly.
 pub use Rattle.slots.specs.FiniteMap.{SlotsView, entries_to_gap, entry_at, front_of, put_at}
 pub use Rattle.slots.specs.declared.slots.TheConstants.{SLOTS}
 pub use Rattle.std.specs.Borrow.{Bor}

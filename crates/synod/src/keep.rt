@@ -8,7 +8,7 @@ use crate::record::Record;
 #[derive(Clone, Copy, PartialEq, Eq)]
 pub struct Failed;
 
-/// The stable storage of a node. If an allocation fails in a call, the call fails.
+/// The stable storage of a node. A call may fail, for instance because an allocation fails.
 ///
 /// Source: Lamport, Paxos Made Simple, 2.5: an acceptor writes to it before it sends its answer.
 pub trait Keep<V: Drop>: Drop {

@@ -219,8 +219,9 @@ pub(crate) struct Lead<V> {
     pub proposed: usize,
 }
 
-/// Returns the proposals of a new leader: reported values at the slots from `first` on, with no-operations
-/// between them, then waiting values while slots are left.
+/// Returns the proposals of a new leader. At each slot from `first` up to the greatest one reported it proposes the
+/// value reported there under the highest ballot, or the no-operation if none is reported there. From the next slot on,
+/// or from `first` on if nothing is reported, it proposes waiting values while slots are left.
 ///
 /// Cost: the reports, the slots from `first` to the greatest one reported, and the posts.
 pub(crate) fn lead_posts<V: Value>(

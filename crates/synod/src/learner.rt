@@ -20,7 +20,7 @@ pub enum LearnerUpdate<V> {
         ballot: Ballot,
         node: u8,
     },
-    /// A vote that completes a quorum is counted.
+    /// A vote that completes a quorum is counted: the value is chosen, and it is learned here.
     Choose {
         slot: u32,
         ballot: Ballot,
@@ -135,7 +135,8 @@ impl<V: Drop> Learner<V> {
 
     /// Counts a vote. It does not allocate.
     ///
-    /// Cost: one look-up, however many ballots have votes at the slot.
+    /// Cost: a constant number of look-ups, however many ballots have votes at the slot. The first vote at the first
+    /// slot without votes scans on to the next such slot.
     fn count(&mut self, slot: u32, ballot: Ballot, node: u8)
         requires { CanCount self.old slot node }
         ensures tallies { self.new.state.tallies ≡ counted self.old.state.tallies slot ballot node }

@@ -23,7 +23,8 @@ pub use state::NodeState;
 use std::alloc::{AllocError, Global};
 use std::marker::Model;
 
-/// One node of a replicated log, generic over its values.
+/// One node of a replicated log, generic over its values. Contracts see a `Core`: its state (`Node`) and the room that
+/// it has reserved.
 ///
 /// Source: Lamport, Paxos Made Simple, 2 and 3; `specs/Step.antt` and `specs/Proposer.antt` define the steps.
 #[derive(Drop)]
@@ -191,8 +192,10 @@ impl<V: Value> NodeCore<V> {
         }
     }
 
-    /// Commits a staged step, and returns its posts. It does not allocate. Steps that were staged since and not committed
-    /// do no harm.
+    /// Commits a staged step, and returns its posts. It does not allocate.
+    ///
+    /// The node has to be as it was when it staged the step, with no less room than it had then. It still is if it only
+    /// staged steps since then and committed none.
     pub fn commit(&mut self, ready: Ready<V>) -> Vec<Packet<V>>
         requires node { self.old.node ≡ ready.before.node }
         requires room { HasNoLessRoom ready.before self.old }
@@ -217,7 +220,8 @@ impl<V: Value> NodeCore<V> {
     /// Begins a ballot above all that the node has begun or promised, and returns the posts. After an error the node is
     /// unchanged.
     ///
-    /// Errors, the first that applies: `RoundsSpent`, `Memory`. Cost: the posts.
+    /// Errors, the first that applies: `RoundsSpent`, `Memory`. Cost: the posts, and the pages of an earlier ballot,
+    /// which it discards.
     pub fn begin(&mut self) -> Result<Vec<Packet<V>>, Refusal>
         ensures outcome { IsCallResult self.old.node self.new.node (begun self.old.node) result }
         ensures posts { IfOk result (λ posts. AllByRecursion (IsPost (length self.old.node.weights)) posts.items) }
@@ -265,7 +269,10 @@ impl<V: Value> NodeCore<V> {
 
     /// Receives a packet, and returns the posts. After `Memory` the node is unchanged, as if the packet were lost.
     ///
-    /// Cost: the packet and the posts; a promise costs its reports.
+    /// Cost: the packet, the posts, and the room that it reserves, up to the slot or the page of the packet. A Prepare
+    /// that is not refused also costs the slots from its first one up to the top of the record. The page that completes
+    /// a quorum also costs all pages received for the ballot. A packet that fills the first gap of a map scans on to
+    /// the next gap.
     pub fn on_packet(&mut self, packet: &Packet<V>) -> Result<Vec<Packet<V>>, Refusal>
         requires { IsPacket (length self.old.node.weights) packet.now }
         ensures outcome { IsCallResult self.old.node self.new.node (Ok (on_packet self.old.node packet.now)) result }
@@ -306,7 +313,7 @@ impl<V: Value> NodeCore<V> {
         Ok(log)
     }
 
-    /// Returns the posts of a restart, which ask the others for missed entries, or `Memory`.
+    /// Returns the posts of a restart, which ask all other nodes for the first entry, or `Memory`.
     pub fn ready_restart(&self) -> Result<Vec<Packet<V>>, Refusal>
         ensures asks { IfOk result (λ posts. posts.items ≡ to_others self.now.node.me self.now.node.weights (Ask 0)) }
         ensures posts { IfOk result (λ posts. AllByRecursion (IsPost (length self.now.node.weights)) posts.items) }
@@ -335,8 +342,8 @@ impl<V: Value> NodeCore<V> {
         self.commit_restart();
     }
 
-    /// Restarts: the kept part stays, the rest is that of a new node. Returns posts that ask the others for missed
-    /// entries. After `Memory` the node is unchanged.
+    /// Restarts: the kept part stays, the rest is that of a new node. Returns posts that ask all other nodes for the
+    /// first entry. After `Memory` the node is unchanged.
     pub fn restart(&mut self) -> Result<Vec<Packet<V>>, Refusal>
         ensures outcome { IsCallResult self.old.node self.new.node (Ok (restarted self.old.node)) result }
         ensures posts { IfOk result (λ posts. AllByRecursion (IsPost (length self.old.node.weights)) posts.items) }

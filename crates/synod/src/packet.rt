@@ -76,8 +76,8 @@ pub(crate) fn copy_reports<V: Value>(
 
 /// The message of a packet.
 ///
-/// Source: Lamport, Paxos Made Simple, 2.2 and 2.3. A `Nack` informs a proposer of the promise for which it is refused;
-/// `Ask` and `Told` pass on learned values.
+/// Source: Lamport, Paxos Made Simple, 2.2 and 2.3. A `Nack` is an acceptor's answer to a ballot that it refuses. An
+/// `Ask` asks for a learned value, and a `Told` passes it on.
 #[derive(Drop)]
 pub enum Body<V> {
     /// Phase 1(a), for every slot from `first` on.
@@ -85,7 +85,7 @@ pub enum Body<V> {
         ballot: Ballot,
         first: u32,
     },
-    /// Phase 1(b): page `page` of `count`, numbered from 1.
+    /// Phase 1(b): page `page` of `count`, numbered from 1. The proposer stores it at index `page - 1`.
     Promise {
         ballot: Ballot,
         page: u32,
@@ -104,7 +104,7 @@ pub enum Body<V> {
         slot: u32,
         value: Option<V>,
     },
-    /// The refused ballot, and the promise for which it is refused.
+    /// The sender refuses `ballot`, since it has promised `promise`.
     Nack {
         ballot: Ballot,
         promise: Ballot,

@@ -1,4 +1,5 @@
-//! The pages of promises that a proposer has received, by node and then by page, from 0.
+//! The pages of promises that a proposer has received, by node and then by index, from 0. The index of a page is one
+//! less than its number in the packet.
 ghost use Rattle.std.specs.Prelude.{◌≡◌, ◌<◌, ◌≤◌, List, OnOk, IfOk, Some, None, MatchOption, length, slice_index_or};
 ghost use Rattle.slots.specs.declared.slots.TheConstants.{SLOTS};
 ghost use Rattle.slots.specs.FiniteMap.{entry_at, put_at, front_of};
@@ -13,7 +14,7 @@ use slots::Slots;
 use std::alloc::{AllocError, Global};
 use std::marker::Model;
 
-/// The received pages: for each node a finite map from page numbers to pages.
+/// The received pages: for each node a finite map from indexes to pages.
 #[derive(Drop)]
 pub struct ReceivedPages<V> {
     by_node: Vec<Slots<Reports<V>>>,
@@ -83,7 +84,7 @@ impl<V: Drop> ReceivedPages<V> {
         }
     }
 
-    /// Returns the number of the first page of a node that is missing.
+    /// Returns the index of the first missing page of a node.
     pub(crate) fn front(&self, node: u8) -> u32
         ensures { result ≡ front_of (pages_from (entries_of self.now) node) }
     {
@@ -100,7 +101,7 @@ impl<V: Drop> ReceivedPages<V> {
         self.by_node.len()
     }
 
-    /// Returns the number of the first page of a node that is missing once `page` is added.
+    /// Returns the index of the first missing page of a node once `page` is put.
     pub(crate) fn front_with(&self, node: u8, page: u32) -> u32
         requires node { node < length self.now }
         requires page { page < SLOTS }
@@ -111,7 +112,8 @@ impl<V: Drop> ReceivedPages<V> {
     }
 }
 
-/// Returns the number of the first page of a node that is missing once `page` is received, perhaps not for the first time.
+/// Returns the index of the first missing page of a node once `page` is received. If it was received before, nothing
+/// changes.
 pub(crate) fn front_after<V: Drop>(pages: &ReceivedPages<V>, node: u8, page: u32) -> u32
     requires node { node < length pages.now }
     requires page { page < SLOTS }

@@ -69,7 +69,7 @@ pub enum ProposerUpdate<V> {
         page: u32,
         reports: Reports<V>,
     },
-    /// A promise is complete, and all its pages were received before.
+    /// A page that was received before arrived again, and no page of its promise is missing: its sender is heard.
     AddHeard(Heard),
     /// The page that completes a promise arrived.
     CompletePromise {

@@ -79,7 +79,8 @@ impl<V: Drop> Ready<V> {
         }
     }
 
-    /// Returns the changes and the posts. It does not allocate.
+    /// Returns the changes and the posts. It does not allocate. The changes can be committed to the node as it was when
+    /// it staged the step (`follows`).
     pub(crate) fn into_staged(self) -> (StagedStep<V>, Vec<Packet<V>>)
         ensures follows { CanCommit self.before result.0 }
         ensures node { self.step.node ≡ staged_node self.before.node result.0 }

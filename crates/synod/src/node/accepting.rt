@@ -18,7 +18,8 @@ impl<V: Value> NodeCore<V> {
     ghost use Rattle.synod.specs.Rooms.{HasNoLessRoom};
     ghost use Rattle.synod.specs.Ready.{IsReadyFor};
 
-    /// Stages a Nack to a proposer, with the promise for which its ballot is refused.
+    /// Stages a Nack to the proposer `from`, which says that `ballot` is refused and which ballot this node has
+    /// promised.
     fn stage_refusal(&self, from: u8, ballot: Ballot) -> Result<Ready<V>, AllocError>
         ensures { IfOk result (IsReadyFor self.now (refuses self.now.node from ballot)) }
     {

@@ -191,6 +191,7 @@ impl<V: Value> NodeCore<V> {
         if is_heard(self.proposer.heard(), from) {
             return Ok(self.stage_nothing());
         }
+        // While it prepares, a proposer has a map of pages for each node, but no invariant says so.
         if from as usize >= self.proposer.pages().nodes() {
             return Ok(self.stage_nothing());
         }

@@ -101,7 +101,8 @@ impl<V: Value> NodeCore<V> {
         }
     }
 
-    /// Returns whether a quorum has accepted at a slot under a ballot once `node` is counted.
+    /// Returns whether the nodes counted at a slot under a ballot are a quorum once `node` is counted: the value that
+    /// they accepted is then chosen.
     fn is_chosen(&self, slot: u32, ballot: Ballot, node: u8) -> bool
         requires { node < MOST_NODES }
         ensures { result ≡ is_quorum self.now.node.weights (has_voter (counted self.now.node.tallies slot ballot node) slot ballot) }
@@ -110,7 +111,8 @@ impl<V: Value> NodeCore<V> {
         self.weights.is_quorum(&voters)
     }
 
-    /// Returns Asks to all other nodes for the first gap, if it is below the slot.
+    /// Returns Asks to all other nodes for `gap`, the first gap once a value is learned at `slot`, if it is below
+    /// `slot`.
     fn asks_for_first_gap(&self, slot: u32, gap: u32) -> Result<Vec<Packet<V>>, AllocError>
         ensures { IfOk result (λ posts. posts.items ≡ asks_below self.now.node slot gap) }
     {
@@ -121,7 +123,8 @@ impl<V: Value> NodeCore<V> {
         broadcast_posts(self.alloc, self.me, &self.weights, &message)
     }
 
-    /// Stages an update that learns a chosen value, and asks for the first gap if it is below the slot.
+    /// Stages an update that learns a chosen value, and asks for `gap`, the first gap once it is learned, if that is
+    /// below the slot.
     fn stage_chosen(
         &self,
         update: LearnerUpdate<V>,
@@ -136,7 +139,8 @@ impl<V: Value> NodeCore<V> {
         Ok(self.stage_learner_update(update, posts))
     }
 
-    /// Stages an update that learns a value that `from` sent in a Told, and asks `from` for the next gap.
+    /// Stages an update that learns a value that `from` sent in a Told, and asks `from` for `gap`, the first gap once
+    /// it is learned, unless the log is then full.
     fn stage_told_next(
         &self,
         update: LearnerUpdate<V>,
@@ -165,7 +169,7 @@ impl<V: Value> NodeCore<V> {
         Ready::new(self, staged, posts)
     }
 
-    /// Returns the Ask for the next gap, unless the log is full.
+    /// Returns the Ask to `from` for `gap`, unless the log is full.
     fn asks_for_next_gap(&self, from: u8, gap: u32) -> Result<Vec<Packet<V>>, AllocError>
         ensures { IfOk result (λ posts. posts.items ≡ asks_for self.now.node from gap) }
     {

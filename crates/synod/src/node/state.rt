@@ -13,7 +13,7 @@ pub struct NodeState {
     pub role: Role,
     /// The ballot that its acceptor promised.
     pub promise: Ballot,
-    /// The number of entries of its log.
+    /// The number of entries of its log: of the values learned before the first gap.
     pub learned: u32,
     /// The number of offered values that wait until it leads.
     pub waiting: usize,
