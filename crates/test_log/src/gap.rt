@@ -1,5 +1,6 @@
-//! A scenario with a gap in the log, by the calls that borrow the locked values. Each cell fills the gap, and cells compare as
-//! their statements do, even if the first node's keep fails at any call and the node restarts after any event.
+//! A scenario in which a node may learn its second entry before its first, by the calls that borrow the locked values.
+//! Each cell applies the entries of its node's log up to the first gap, and cells compare as their statements do. The
+//! latter holds as well if the first node's keep fails at any call and the node restarts after any event.
 
 use crate::fuse::{Fuse, entry, make_three, restart_first};
 use cluster::{
