@@ -11,7 +11,7 @@ pub record IsListed (k : ℕ) (list : List Listed) : Type 0 where
   pub is_cell : IsCell cell
   pub lists : list ≡ listed cell.replica.library.statements
 
--- the verdict of the library of some cell of node k on the author's entry of that serial number
+-- the verdict of the library of some cell of node k on the author's entry of that serial number, if it has decided one
 pub record IsStatus (k author serial : ℕ) (verdict : Option Verdict) : Type 0 where
   pub cell : Cell
   pub at : cell.node ≡ k

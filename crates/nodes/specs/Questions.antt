@@ -1,4 +1,4 @@
--- The answers to questions at a desk about the state of a node, and about the history.
+-- The answers of a desk to questions about the state of a node, and about the history.
 -- Source: this project's profile.
 -- The code releases the lock before it returns, so the definitions state that there is such a cell or switch.
 use Rattle.std.specs.Prelude.{◌≡◌, ℕ, List, Some, IsOk}

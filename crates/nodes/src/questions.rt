@@ -1,4 +1,4 @@
-//! Questions at a desk: about the state of a node, and about the history.
+//! The calls of a desk that ask for the state of a node, for the history, or any question about a cell.
 ghost use Rattle.std.specs.Prelude.{◌≡◌, ◌≤◌, ◌<◌, ◌⊎◌, Err, IfErr, IfOk, IsOkUnless};
 ghost use Rattle.std.specs.Fn.{FnOnceReturnsAt};
 ghost use Rattle.net.specs.declared.fault.StepFault.TheVariants.{Apart, Memory, NoNode};

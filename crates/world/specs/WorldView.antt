@@ -1,6 +1,7 @@
 -- A world as contracts see it: its weights, the events taken, and each node's library with the count of entries applied.
 -- Source: Lamport, Paxos Made Simple, section 3: a server executes the commands in order, each when it knows all earlier ones.
--- The code has the nodes and packets too; by its type, each library is that of the first entries of its node's log.
+-- The code has the nodes and packets too; by an invariant of its type (`AreLibrariesOfLogs`), each library is that of the
+-- first entries of its node's log.
 use Rattle.std.specs.Prelude.{◌≡◌, ◌+◌, ◌≤◌, ℕ, List, [], Option, Some, None, Result, Ok, Err, length, take, replicate, slice_get, slice_set}
 use Rattle.world.specs.Words.{Entry, Verdict, Replica, empty, Applies, IsLibraryOf, Event, StepFault, Memory, Offer, Begin, Deliver, Restart, log_after, History, world_of, with_event}
 use Rattle.world.specs.declared.carried.Carried.{Carried}
@@ -55,7 +56,7 @@ pub record AreLibrariesOfLogs (r : WorldView) : Type 0 where
   pub one_each : length r.libraries ≡ length r.history.weights
   pub of_logs : (k : ℕ) (node : NodeLibrary) → slice_get r.libraries k ≡ Some node → IsOfLog (log_entries r.history k) node
 
--- The next entry of a log.
+-- The entry of a log to be applied next to a node's library, if there is such a node and such an entry.
 
 abbrev pub next_of : List (Option Entry) → Option NodeLibrary → Option (Option Entry)
 next_of log None = None

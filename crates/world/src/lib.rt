@@ -1,4 +1,4 @@
-//! The libraries of all nodes of one agreement, driven by a list of events.
+//! All nodes that agree on one log, each with its library, driven by a list of events.
 //!
 //! The main theorem is `headline`: whatever packets are lost, repeated or delayed and whichever nodes restart, of any two
 //! nodes' libraries, at any two moments, one is a prefix of the other. `program` and `run_pictures` use `World`, `cluster` uses
