@@ -37,12 +37,12 @@ fn apply_two(rt: &HostRuntime) -> Result<()> {
         let verdict = library.apply(Some(&entry(rt.alloc(), serial, text)?))?;
         println!(rt; "submission {serial}: {verdict:?}")?;
         if let Verdict::Refused(Cause::Proof { statement }) = verdict {
-            let mut whole = library.export()?;
-            let before = whole.len();
-            whole.extend_from_slice(text)?;
+            let mut database = library.export()?;
+            let library_len = database.len();
+            database.extend_from_slice(text)?;
             let statement = library.statements().len().saturating_add(statement);
             let fault = DatabaseFault::Proof { statement };
-            let lines = explain_after(rt.alloc(), whole.as_slice(), before, fault)?;
+            let lines = explain_after(rt.alloc(), database.as_slice(), library_len, fault)?;
             print!(rt; "{}", str::from_utf8(lines.as_slice())?)?;
         }
     }

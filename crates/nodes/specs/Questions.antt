@@ -21,7 +21,7 @@ pub record IsHistory (history : List (Event Carried)) : Type 0 where
 pub record IsNodeStatus (k : ℕ) (node_status : NodeStatus) : Type 0 where
   pub cell : Cell
   pub of_node : IsCellAt k cell
-  pub applied : node_status.applied ≡ cell.replica.applied
+  pub applied : node_status.applied ≡ cell.node_library.applied
   pub switch : SwitchView Carried
   pub state : state_after (world_of carried_size switch) k ≡ Some node_status.state
   pub is_down : node_status.is_down ≡ is_down_at switch.stores (Some k)

@@ -76,8 +76,8 @@ impl<G: Gate, K: Keep<Carried>> Desk<G, K> {
 
     /// Returns whether node `k` leads.
     fn leads<R: Wait>(&self, rt: &R, k: u8) -> bool {
-        let shared = self.shared.switch.lock(rt);
-        match shared.switch.state(k) {
+        let guard = self.shared.switch.lock(rt);
+        match guard.switch.state(k) {
             Ok(state) => matches!(state.role, Role::Leading { .. }),
             Err(_) => false,
         }

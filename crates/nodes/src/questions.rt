@@ -60,12 +60,12 @@ impl<G: Gate, K: Keep<Carried>> Desk<G, K> {
             return Err(StepFault::Apart);
         }
         let applied = node.cell.applied();
-        let shared = self.shared.switch.lock(rt);
-        let state = shared.switch.state(k)?;
+        let guard = self.shared.switch.lock(rt);
+        let state = guard.switch.state(k)?;
         Ok(NodeStatus {
             state,
             applied,
-            is_down: shared.switch.is_down(Some(k)),
+            is_down: guard.switch.is_down(Some(k)),
         })
     }
 
@@ -77,8 +77,8 @@ impl<G: Gate, K: Keep<Carried>> Desk<G, K> {
         ensures history { IfOk result (λ events. IsHistory events.items) }
         ensures only_memory { IsOkUnless result Memory }
     {
-        let shared = self.shared.switch.lock(rt);
-        Ok(copy_events(self.shared.alloc, shared.switch.history())?)
+        let guard = self.shared.switch.lock(rt);
+        Ok(copy_events(self.shared.alloc, guard.switch.history())?)
     }
 }
 

@@ -124,11 +124,11 @@ impl<G: Gate, K: Keep<Carried>> SharedNodes<G, K> {
     {
         let one = self.cell(low)?.lock(rt);
         let other = self.cell(high)?.lock(rt);
-        let shared = self.switch.lock(rt);
-        if is_cell_of(&one.cell, low, &shared.switch)
-            && is_cell_of(&other.cell, high, &shared.switch)
+        let guard = self.switch.lock(rt);
+        if is_cell_of(&one.cell, low, &guard.switch)
+            && is_cell_of(&other.cell, high, &guard.switch)
         {
-            Ok(compare_on(&one.cell, &other.cell, &shared.switch))
+            Ok(compare_on(&one.cell, &other.cell, &guard.switch))
         } else {
             Err(StepFault::Apart)
         }

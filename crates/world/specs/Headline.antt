@@ -1,4 +1,4 @@
--- The headline theorem: of any two replicas' libraries, at any two moments, one is a prefix of the other; each has exactly the
+-- The headline theorem: of any two nodes' libraries, at any two moments, one is a prefix of the other; each has exactly the
 -- statements that the entries applied to it validly add, in order; and each of its provable assertions has a derivation.
 -- Source: Lamport, Paxos Made Simple, section 3; Megill and Wheeler, Metamath, 2nd ed. 2019, 4.2.
 -- No code computes this; it follows from agreement and from the definition of the library of a log.

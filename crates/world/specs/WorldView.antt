@@ -40,7 +40,7 @@ with_library_reset libraries (Some k) = slice_set libraries k new_node_library
 
 -- a world after one more event: the library of a node that restarts is emptied
 abbrev pub after_event : WorldView → Event Carried → WorldView
-after_event r e = record { history = with_event r.history e; libraries = with_library_reset r.libraries (node_restarted e) }
+after_event w e = record { history = with_event w.history e; libraries = with_library_reset w.libraries (node_restarted e) }
 
 -- the log of node k after the events
 abbrev pub log_entries : History Carried → ℕ → List (Option Entry)
@@ -52,9 +52,9 @@ pub record IsOfLog (log : List (Option Entry)) (node : NodeLibrary) : Type 0 whe
   pub library : IsLibraryOf (take node.applied log) node.library
 
 -- there is one library for each node, each of its node's log
-pub record AreLibrariesOfLogs (r : WorldView) : Type 0 where
-  pub one_each : length r.libraries ≡ length r.history.weights
-  pub of_logs : (k : ℕ) (node : NodeLibrary) → slice_get r.libraries k ≡ Some node → IsOfLog (log_entries r.history k) node
+pub record AreLibrariesOfLogs (w : WorldView) : Type 0 where
+  pub one_each : length w.libraries ≡ length w.history.weights
+  pub of_logs : (k : ℕ) (node : NodeLibrary) → slice_get w.libraries k ≡ Some node → IsOfLog (log_entries w.history k) node
 
 -- The entry of a log to be applied next to a node's library, if there is such a node and such an entry.
 
@@ -64,7 +64,7 @@ next_of log (Some node) = slice_get log node.applied
 
 -- the entry of node k's log to be applied next, if there is one
 abbrev pub next_entry : WorldView → ℕ → Option (Option Entry)
-next_entry r k = next_of (log_entries r.history k) (slice_get r.libraries k)
+next_entry w k = next_of (log_entries w.history k) (slice_get w.libraries k)
 
 -- the entry is applied to the library of node k, with this verdict, and nothing else changes
 pub record IsApplied (old : WorldView) (k : ℕ) (entry : Option Entry) (verdict : Verdict) (new : WorldView) : Type 0 where
