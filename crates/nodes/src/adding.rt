@@ -76,8 +76,8 @@ impl<G: Gate, K: Keep<Carried>> Desk<G, K> {
 
     /// Returns whether node `k` leads.
     fn leads<R: Wait>(&self, rt: &R, k: u8) -> bool {
-        let guard = self.shared.switch.lock(rt);
-        match guard.switch.state(k) {
+        let shared_switch = self.shared.switch.lock(rt);
+        match shared_switch.switch.state(k) {
             Ok(state) => matches!(state.role, Role::Leading { .. }),
             Err(_) => false,
         }

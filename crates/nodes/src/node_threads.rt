@@ -27,8 +27,8 @@ use synod::{Keep, Weights};
 use verify_pool::{Gate, Workers};
 use world::Carried;
 
-/// The running node threads. It cannot be sent to another thread. If it is dropped without `stop`, the node threads stay
-/// blocked. Contracts see the number of nodes.
+/// A running cluster: the threads of its nodes. It cannot be sent to another thread. If it is dropped without `stop`, the
+/// threads stay blocked. Contracts see the number of nodes.
 #[derive(Drop)]
 pub struct Cluster<G: Gate, K: Keep<Carried>> {
     alloc: Global,
@@ -88,7 +88,7 @@ pub fn start<
     }
 }
 
-/// Creates the locks, and the receiving ends of the nodes' channels.
+/// Creates the locks that threads and desks share, and the receiving ends of the nodes' channels.
 fn share<G: Gate + Drop, K: Keep<Carried>>(
     alloc: Global,
     weights: Weights,
@@ -148,7 +148,7 @@ fn channels(
 impl<G: Gate, K: Keep<Carried>> Cluster<G, K> {
     /// Starts the thread of node `k`.
     ///
-    /// Errors: no thread can be started; nothing changes then.
+    /// Errors: an allocation fails or no thread can be started; no thread is added then.
     fn start_thread<
         W: Weather + Send + Drop + 'static,
         R: Threads + Wait + Copy + Send + Sync + Drop + 'static,
@@ -223,7 +223,7 @@ impl<G: Gate, K: Keep<Carried>> Cluster<G, K> {
         }
         let handled = vec![in self.alloc; 0; usize::from(self.nodes)]?;
         self.join_threads(rt);
-        let guard = self.shared.switch.lock(rt);
-        Ok(count_events(&guard.switch, self.nodes, handled))
+        let shared_switch = self.shared.switch.lock(rt);
+        Ok(count_events(&shared_switch.switch, self.nodes, handled))
     }
 }

@@ -1,4 +1,4 @@
-//! The switch under its lock, and the hints of the packets that it posts.
+//! The switch under its lock, and the hints by which the receivers of its packets learn of them.
 ghost use Rattle.std.specs.Prelude.{◌≡◌, ◌⊎◌};
 ghost use Rattle.net.specs.declared.event.Event.TheVariants.{Restart};
 ghost use Rattle.net.specs.declared.fault.StepFault.TheVariants.{EventsSpent, NoNode};
