@@ -15,8 +15,8 @@ pub record IsLibraryIn (history : History Carried) (library : Replica) : Type 0 
   pub applied : ℕ
   pub of_log : IsLibraryOf (take applied (entries_of (log world node))) library
 
--- the assertion at that position has a derivation of its expression, from the hypotheses active there, by substitution instances
--- that respect its `$d`, of assertions before it
+-- the expression of the assertion at that position has a derivation from the hypotheses active there; each of its steps is an
+-- instance of an earlier assertion, by a substitution that meets the disjoint variable conditions
 pub record HasDerivation (S : Database) (at : ℕ) : Type 0 where
   pub stmt : Stmt
   pub derivation : Derivation

@@ -12,13 +12,16 @@ pub record NodeLibrary : Type 0 where
   pub applied : ℕ
   pub library : Replica
 
+-- what contracts see of a world
 pub record WorldView : Type 0 where
   pub history : History Carried
   pub libraries : List NodeLibrary  -- one for each node
 
+-- the library of a new node: empty, and no entry applied
 abbrev pub new_node_library : NodeLibrary
 new_node_library = record { applied = 0; library = empty }
 
+-- the libraries of new nodes, one for each weight
 abbrev pub new_node_libraries : List ℕ → List NodeLibrary
 new_node_libraries weights = replicate (length weights) new_node_library
 
@@ -33,7 +36,7 @@ node_restarted (Begin k) = None
 node_restarted (Deliver number) = None
 node_restarted (Restart k) = Some k
 
--- the libraries, with that of this node, if there is one, emptied
+-- the libraries, with that of this node, if a node is given, replaced by that of a new node
 abbrev pub with_library_reset : List NodeLibrary → Option ℕ → List NodeLibrary
 with_library_reset libraries None = libraries
 with_library_reset libraries (Some k) = slice_set libraries k new_node_library
