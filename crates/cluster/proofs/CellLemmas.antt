@@ -3,7 +3,7 @@ use Rattle.cluster.proofs.Words.{◌≡◌, ℕ, ◌<◌, Bool, true, false, Lis
 
 -- the cell as a call sees it
 abbrev pub cell : ℕ → List (Option Carried) → NodeLibrary → Cell
-cell k entries node = record { node = k; entries = entries; replica = node }
+cell k entries node = record { node = k; entries = entries; node_library = node }
 
 -- An entry is taken over.
 
@@ -55,6 +55,6 @@ applied_cell k entries old new h (Some entry) at (Err fault) applies = subst (λ
 
 -- the call applies the next entry of the cell, in terms of its view
 pub applied_seen : (k : ℕ) (entries : List (Option Carried)) (old new : NodeLibrary) (seen : Cell) → cell k entries old ≡ seen → (next : Option (Option Entry)) → slice_get (entries_of entries) old.applied ≡ next
-    → (result : Result (Option Verdict) StepFault) → AppliesNext old new next result → AppliesNext seen.replica new (next_entry seen) result
+    → (result : Result (Option Verdict) StepFault) → AppliesNext old new next result → AppliesNext seen.node_library new (next_entry seen) result
 applied_seen k entries old new seen is next at result applies =
-    subst (λ (c : Cell). AppliesNext c.replica new (next_entry c) result) is (subst (λ (o : Option (Option Entry)). AppliesNext old new o result) (sym at) applies)
+    subst (λ (c : Cell). AppliesNext c.node_library new (next_entry c) result) is (subst (λ (o : Option (Option Entry)). AppliesNext old new o result) (sym at) applies)

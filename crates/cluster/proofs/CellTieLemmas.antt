@@ -51,7 +51,7 @@ module _ (s : SwitchView Carried) (k : ℕ) (old new : List (Option Carried)) (b
 -- The next entry of the log.
 
 abbrev cell_of : ℕ → List (Option Carried) → NodeLibrary → Cell
-cell_of k entries node = record { node = k; entries = entries; replica = node }
+cell_of k entries node = record { node = k; entries = entries; node_library = node }
 
 -- the cell takes over the next entry of its node's log, as the switch shows it
 pub takes_over : (s : SwitchView Carried) (k : ℕ) (node : NodeLibrary) (es : List (Option Carried)) (now : Cell) → cell_of k es node ≡ now → (fs : List (Option Carried)) (found : Option (Bor (Option Carried))) (slot : ℕ) → slot ≡ length es

@@ -6,23 +6,23 @@ module _ (s : SwitchView Carried) (w : World Carried) (is : world_of carried_siz
   history = record { weights = s.weights; events = s.history }
 
   -- the library of a cell is that of the log of its node
-  of_log : (c : Cell) → Belongs c s → IsCell c → IsOfLog (entries_of (log w c.node)) c.replica
-  of_log c b h = of_longer (entries_of c.entries) (entries_of (log w c.node)) c.replica
+  of_log : (c : Cell) → Belongs c s → IsCell c → IsOfLog (entries_of (log w c.node)) c.node_library
+  of_log c b h = of_longer (entries_of c.entries) (entries_of (log w c.node)) c.node_library
       (entries_begin c.entries (log w c.node) (subst (λ (es : List (Option Carried)). IsPrefixOf c.entries es) (ap (λ (r : Result (World Carried) StepFault). log_after r c.node) is) b.begins)) h.of_entries
 
   -- the statements of two cells of the switch agree, by the headline in its world
-  agree_in : (one other : Cell) → Belongs one s → Belongs other s → IsCell one → IsCell other → Agree one.replica.library.statements other.replica.library.statements
+  agree_in : (one other : Cell) → Belongs one s → Belongs other s → IsCell one → IsCell other → Agree one.node_library.library.statements other.node_library.library.statements
   agree_in one other b d h k =
       let line : Headline history = headline_holds history (subst (λ (r : Result (World Carried) StepFault). IsOk r) (sym is) refl) in
       let moment : IsMoment carried_size history w = record { early = s.history; begins = ([], append-nil s.history); is_after = is } in
-      line.libraries_agree one.replica.library other.replica.library
-      record { world = w; moment = moment; node = one.node; applied = one.replica.applied; of_log = (of_log one b h).library }
-      record { world = w; moment = moment; node = other.node; applied = other.replica.applied; of_log = (of_log other d k).library }
+      line.libraries_agree one.node_library.library other.node_library.library
+      record { world = w; moment = moment; node = one.node; applied = one.node_library.applied; of_log = (of_log one b h).library }
+      record { world = w; moment = moment; node = other.node; applied = other.node_library.applied; of_log = (of_log other d k).library }
 
 -- the statements of two cells of one switch agree
-pub cells_agree : (one other : Cell) (s : SwitchView Carried) → IsOk (world_of carried_size s) → Belongs one s → Belongs other s → IsCell one → IsCell other → Agree one.replica.library.statements other.replica.library.statements
+pub cells_agree : (one other : Cell) (s : SwitchView Carried) → IsOk (world_of carried_size s) → Belongs one s → Belongs other s → IsCell one → IsCell other → Agree one.node_library.library.statements other.node_library.library.statements
 cells_agree one other s ok b d h k = from (world_of carried_size s) refl ok where
-  from : (r : Result (World Carried) StepFault) → world_of carried_size s ≡ r → IsOk r → Agree one.replica.library.statements other.replica.library.statements
+  from : (r : Result (World Carried) StepFault) → world_of carried_size s ≡ r → IsOk r → Agree one.node_library.library.statements other.node_library.library.statements
   from (Ok w) is ok = agree_in s w is one other b d h k
   from (Err fault) is ok = let no : false ≡ true = ok in cc
 

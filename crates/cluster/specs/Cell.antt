@@ -7,15 +7,15 @@ use Rattle.cluster.specs.Words.{SLOTS, Entry, Carried, StepFault, Memory, entrie
 pub record Cell : Type 0 where
   pub node : ℕ
   pub entries : List (Option Carried)  -- taken over, in the order of the log; None is a no-operation
-  pub replica : NodeLibrary  -- the library, and the number of entries applied to it
+  pub node_library : NodeLibrary  -- the library, and the number of entries applied to it
 
 abbrev pub new_cell : ℕ → Cell
-new_cell k = record { node = k; entries = []; replica = new_node_library }
+new_cell k = record { node = k; entries = []; node_library = new_node_library }
 
 -- the entries are no more than a log has slots, and the library is that of the first of them, as many as were applied
 pub record IsCell (c : Cell) : Type 0 where
   pub few : length c.entries ≤ SLOTS
-  pub of_entries : IsOfLog (entries_of c.entries) c.replica
+  pub of_entries : IsOfLog (entries_of c.entries) c.node_library
 
 -- the next entry is appended, or there is none; or an allocation fails, and nothing is appended. The third argument is
 -- the next entry: None if there is none, Some None if it is a no-operation.
@@ -34,4 +34,4 @@ pub record TakesOver (old new : Cell) (next : Option (Option Carried)) (result :
 
 -- the next entry to apply, if it is taken over
 abbrev pub next_entry : Cell → Option (Option Entry)
-next_entry c = slice_get (entries_of c.entries) c.replica.applied
+next_entry c = slice_get (entries_of c.entries) c.node_library.applied

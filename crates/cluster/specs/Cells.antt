@@ -1,6 +1,6 @@
 -- The cells of a cluster before any event: nothing is taken over.
 -- Source: Lamport, Paxos Made Simple, section 2.
--- The code makes them one after another.
+-- The code creates them one after another.
 use Rattle.std.specs.Prelude.{ℕ, suc, List, [], ◌∷◌}
 use Rattle.cluster.specs.Cell.{Cell, new_cell}
 

@@ -28,4 +28,4 @@ IsOutcomeGiven (Some verdict) first entry outcome =
 
 abbrev pub IsOutcomeOf : Cell → Entry → Option Verdict → Type 0
 IsOutcomeOf cell entry outcome =
-    IsOutcomeGiven (status cell.replica.library.decided (author_of entry) (serial_of entry)) (first_with_key entry cell.entries) entry outcome
+    IsOutcomeGiven (status cell.node_library.library.decided (author_of entry) (serial_of entry)) (first_with_key entry cell.entries) entry outcome

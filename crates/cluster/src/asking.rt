@@ -1,4 +1,4 @@
-//! Questions about a cell: any question, if the cell is that of node `k`, and the outcome of an entry.
+//! Questions about a cell: any question to the cell of node `k` (`ask_on`), and the outcome of an entry (`outcome_on`).
 ghost use Rattle.std.specs.Prelude.{◌≡◌, ◌↔◌, Err, IfOk, IsOk, IsTrue, Some};
 ghost use Rattle.std.specs.Fn.{FnOnceReturnsAt};
 ghost use Rattle.net.specs.declared.fault.StepFault.TheVariants.{Apart};

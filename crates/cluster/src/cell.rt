@@ -21,7 +21,7 @@ use std::thread::Threads;
 use switch::Switch;
 use synod::{Keep, Weights, copy_value};
 use verify_pool::{Gate, Workers};
-use world::{Carried, Replica};
+use world::{Carried, NodeLibrary};
 
 /// The entries that a node has taken over from its log, and the library of those applied, the first of them.
 ///
@@ -34,7 +34,7 @@ pub struct NodeCell {
     /// The entries taken over, in the order of the log; `None` is a no-operation.
     entries: Vec<Option<Carried>>,
     /// The library, and the number of entries applied to it.
-    replica: Replica,
+    node_library: NodeLibrary,
 }
 
 impl Model for NodeCell {
@@ -42,9 +42,9 @@ impl Model for NodeCell {
 
     ghost Value = { Cell };
 
-    ghost view = { λ c. record { node = c.node; entries = c.entries.items; replica = c.replica } };
+    ghost view = { λ c. record { node = c.node; entries = c.entries.items; node_library = c.node_library } };
 
-    ghost invariant = { λ c. IsCell (record { node = c.node; entries = c.entries.items; replica = c.replica }) };
+    ghost invariant = { λ c. IsCell (record { node = c.node; entries = c.entries.items; node_library = c.node_library }) };
 }
 
 impl NodeCell {
@@ -56,7 +56,7 @@ impl NodeCell {
             alloc,
             node,
             entries: Vec::new(alloc),
-            replica: Replica::new(alloc),
+            node_library: NodeLibrary::new(alloc),
         }
     }
 
@@ -69,10 +69,10 @@ impl NodeCell {
 
     /// Returns the library: that of the first `applied` entries taken over. It does not allocate.
     pub fn library(&self) -> &Library
-        ensures library { result.now.replica ≡ self.now.replica.library }
+        ensures library { result.now.replica ≡ self.now.node_library.library }
         ensures of_entries { IsCell self.now }
     {
-        self.replica.library()
+        self.node_library.library()
     }
 
     /// Returns the entries taken over from the node's log, in order; `None` is a no-operation. It does not allocate.
@@ -84,16 +84,16 @@ impl NodeCell {
 
     /// Returns the number of entries applied. It does not allocate.
     pub fn applied(&self) -> u32
-        ensures { result ≡ self.now.replica.applied }
+        ensures { result ≡ self.now.node_library.applied }
     {
-        self.replica.applied()
+        self.node_library.applied()
     }
 
     /// Returns whether an entry that was taken over is still to be applied.
     pub fn has_unapplied(&self) -> bool
-        ensures { IsTrue result ↔ self.now.replica.applied < length self.now.entries }
+        ensures { IsTrue result ↔ self.now.node_library.applied < length self.now.entries }
     {
-        (self.replica.applied() as usize) < self.entries.len()
+        (self.node_library.applied() as usize) < self.entries.len()
     }
 
     /// Discards the entries taken over, and empties the library. It does not allocate.
@@ -101,7 +101,7 @@ impl NodeCell {
         ensures { self.new ≡ new_cell self.old.node }
     {
         self.entries.clear();
-        self.replica.reset(self.alloc);
+        self.node_library.reset(self.alloc);
     }
 }
 
@@ -160,11 +160,11 @@ fn add_entry(
 ///
 /// Errors: `Memory`; the entry is then still to be applied. Cost: that of `Library::apply` on the entry.
 pub fn apply_on(cell: &mut NodeCell) -> Result<Option<Verdict>, StepFault>
-    ensures applies { AppliesNext cell.old.replica cell.new.replica (next_entry cell.old) result }
-    ensures rest { cell.new ≡ record cell.old { replica = cell.new.replica } }
+    ensures applies { AppliesNext cell.old.node_library cell.new.node_library (next_entry cell.old) result }
+    ensures rest { cell.new ≡ record cell.old { node_library = cell.new.node_library } }
 {
-    let next = entry_at(&cell.entries, cell.replica.applied());
-    cell.replica.apply_next(next)
+    let next = entry_at(&cell.entries, cell.node_library.applied());
+    cell.node_library.apply_next(next)
 }
 
 /// Applies the next of the entries taken over as `apply_on` does, with its proofs checked by workers in parallel. Each
@@ -179,11 +179,11 @@ pub fn apply_on_with<G: Gate + Sync, R: Threads + Sync>(
     workers: Workers,
     gate: &G,
 ) -> Result<Option<Verdict>, StepFault>
-    ensures applies { AppliesNext cell.old.replica cell.new.replica (next_entry cell.old) result }
-    ensures rest { cell.new ≡ record cell.old { replica = cell.new.replica } }
+    ensures applies { AppliesNext cell.old.node_library cell.new.node_library (next_entry cell.old) result }
+    ensures rest { cell.new ≡ record cell.old { node_library = cell.new.node_library } }
 {
-    let next = entry_at(&cell.entries, cell.replica.applied());
-    cell.replica.apply_next_with(rt, next, workers, gate)
+    let next = entry_at(&cell.entries, cell.node_library.applied());
+    cell.node_library.apply_next_with(rt, next, workers, gate)
 }
 
 /// Returns the entry of a slot, if it was taken over.
@@ -197,10 +197,10 @@ fn entry_at(entries: &[Option<Carried>], slot: u32) -> Option<&Option<Carried>>
 ///
 /// Errors: an allocation fails. Cost: one pass over all statements.
 pub fn list_on(cell: &NodeCell) -> Result<Vec<Listed>, AllocError>
-    ensures lists { IfOk result (λ list. list.items ≡ listed cell.now.replica.library.statements) }
+    ensures lists { IfOk result (λ list. list.items ≡ listed cell.now.node_library.library.statements) }
     ensures of_entries { IsCell cell.now }
 {
-    cell.replica.library().list()
+    cell.node_library.library().list()
 }
 
 /// Creates a switch of new nodes, one for each weight, and their cells. There has to be one keep for each weight, with

@@ -30,7 +30,7 @@ pub fn compare_on<K: Keep<Carried>>(
 ) -> Ahead
     requires one { Belongs one.now switch.now }
     requires other { Belongs other.now switch.now }
-    ensures { IsAhead result one.now.replica.library.statements other.now.replica.library.statements }
+    ensures { IsAhead result one.now.node_library.library.statements other.now.node_library.library.statements }
 {
     // The switch has the node of `one`, so this call of `entry` succeeds; its clause `taken` states that the history of
     // the switch is taken.

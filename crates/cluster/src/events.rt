@@ -1,4 +1,4 @@
-//! The events of the nodes, each one call on a borrowed switch.
+//! The four events of a node, each played by one call on a switch that the caller lends.
 ghost use Rattle.std.specs.Prelude.{◌≡◌, OnOk, OnErr};
 ghost use Rattle.net.specs.declared.event.Event.TheVariants.{Offer, Begin, Deliver, Restart};
 ghost use Rattle.switch.specs.Switch.{Plays};

@@ -75,11 +75,13 @@ pub(crate) fn is_same(one: &Entry, other: &Entry) -> bool
                 names,
             },
             Entry::Charter {
-                author: by,
-                serial: number,
-                names: others,
+                author: other_author,
+                serial: other_serial,
+                names: other_names,
             },
-        ) => *author == *by && *serial == *number && names.as_slice() == others.as_slice(),
+        ) => *author == *other_author
+            && *serial == *other_serial
+            && names.as_slice() == other_names.as_slice(),
         _ => false,
     }
 }

@@ -20,7 +20,7 @@ pub struct MemoryKeep<V: Value> {
     /// The number of failed calls, which only contracts see.
     failures: Steps,
     /// The list of accepted entries does not end in an empty slot, so the slots up to the last entry are all of it.
-    ghost whole: { trimmed stored.kept.accepted ≡ stored.kept.accepted },
+    ghost is_trimmed: { trimmed stored.kept.accepted ≡ stored.kept.accepted },
 }
 
 impl<V: Value> MemoryKeep<V> {
@@ -63,10 +63,13 @@ impl<V: Value> Keep<V> for MemoryKeep<V> {
 /// Returns a copy of a change, and reserves room for it in the record.
 ///
 /// Errors: an allocation fails, or the slot is not below `SLOTS`.
-fn ready_change<V: Value>(kept: &mut Record<V>, change: &Change<V>) -> Result<Change<V>, AllocError>
+fn ready_change<V: Value>(
+    stored: &mut Record<V>,
+    change: &Change<V>,
+) -> Result<Change<V>, AllocError>
     ensures change { IfOk result (λ copy. copy ≡ change.now) }
-    ensures room { OnOk result (HasRoomFor kept.new.room (Some change.now)) }
-    ensures kept { kept.new.kept ≡ kept.old.kept }
+    ensures room { OnOk result (HasRoomFor stored.new.room (Some change.now)) }
+    ensures kept { stored.new.kept ≡ stored.old.kept }
 {
     match change {
         Change::Round(round) => Ok(Change::Round(*round)),
@@ -75,7 +78,7 @@ fn ready_change<V: Value>(kept: &mut Record<V>, change: &Change<V>) -> Result<Ch
             if *slot >= SLOTS {
                 return Err(AllocError);
             }
-            kept.room(*slot)?;
+            stored.room(*slot)?;
             Ok(Change::Entry {
                 slot: *slot,
                 entry: copy_entry(entry)?,

@@ -1,4 +1,4 @@
-//! Applies two submissions to a library; has three nodes agree on one (see docs/EMBEDDING.md).
+//! Applies two submissions to a library, and lets three nodes agree on one (docs/EMBEDDING.md).
 #![tactic(auto)]
 
 use anyhow::Result;
@@ -21,7 +21,7 @@ fn main(rt: HostRuntime) -> Result<()> {
     agree_on_one(&rt)
 }
 
-/// Makes an entry from a text by author 7.
+/// Returns an entry with a text of author 7.
 fn entry(alloc: Global, serial: u64, text: &[u8]) -> Result<Entry> {
     Ok(Entry::Text(Submission {
         author: 7,
@@ -30,19 +30,19 @@ fn entry(alloc: Global, serial: u64, text: &[u8]) -> Result<Entry> {
     }))
 }
 
-/// Applies two submissions; prints their verdicts, why one is refused, and a theorem's axioms.
+/// Applies two submissions; prints the verdicts, why the second is refused, and the axioms of `th`.
 fn apply_two(rt: &HostRuntime) -> Result<()> {
     let mut library = Library::new(rt.alloc());
     for (serial, text) in [(1, GOOD), (2, WRONG)] {
         let verdict = library.apply(Some(&entry(rt.alloc(), serial, text)?))?;
         println!(rt; "submission {serial}: {verdict:?}")?;
         if let Verdict::Refused(Cause::Proof { statement }) = verdict {
-            let mut whole = library.export()?;
-            let before = whole.len();
-            whole.extend_from_slice(text)?;
+            let mut database = library.export()?;
+            let library_len = database.len();
+            database.extend_from_slice(text)?;
             let statement = library.statements().len().saturating_add(statement);
             let fault = DatabaseFault::Proof { statement };
-            let lines = explain_after(rt.alloc(), whole.as_slice(), before, fault)?;
+            let lines = explain_after(rt.alloc(), database.as_slice(), library_len, fault)?;
             print!(rt; "{}", str::from_utf8(lines.as_slice())?)?;
         }
     }
@@ -54,7 +54,7 @@ fn apply_two(rt: &HostRuntime) -> Result<()> {
     Ok(())
 }
 
-/// Has three nodes agree on an entry and apply it; compares the libraries of the first and last.
+/// Lets three nodes agree on an entry and apply it; compares the libraries of the first and last.
 fn agree_on_one(rt: &HostRuntime) -> Result<()> {
     let alloc = rt.alloc();
     let (one, two) = (MemoryKeep::new(alloc), MemoryKeep::new(alloc));

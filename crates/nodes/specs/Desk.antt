@@ -9,14 +9,14 @@ pub record IsListed (k : ℕ) (list : List Listed) : Type 0 where
   pub cell : Cell
   pub at : cell.node ≡ k
   pub is_cell : IsCell cell
-  pub lists : list ≡ listed cell.replica.library.statements
+  pub lists : list ≡ listed cell.node_library.library.statements
 
--- the verdict of the library of some cell of node k on the author's entry of that serial number
+-- the verdict of the library of some cell of node k on the author's entry of that serial number, if it has decided one
 pub record IsStatus (k author serial : ℕ) (verdict : Option Verdict) : Type 0 where
   pub cell : Cell
   pub at : cell.node ≡ k
   pub is_cell : IsCell cell
-  pub decides : verdict ≡ status cell.replica.library.decided author serial
+  pub decides : verdict ≡ status cell.node_library.library.decided author serial
 
 -- which library has more statements: that of a cell of node j or that of a cell of node k, both of one switch
 pub record IsCompared (j k : ℕ) (ahead : Ahead) : Type 0 where
@@ -27,7 +27,7 @@ pub record IsCompared (j k : ℕ) (ahead : Ahead) : Type 0 where
   pub other_at : other.node ≡ k
   pub one_belongs : Belongs one switch
   pub other_belongs : Belongs other switch
-  pub compares : IsAhead ahead one.replica.library.statements other.replica.library.statements
+  pub compares : IsAhead ahead one.node_library.library.statements other.node_library.library.statements
 
 -- The event that a call at a desk plays on the switch under the lock.
 

@@ -1,4 +1,4 @@
--- The answers to questions at a desk about the state of a node, and about the history.
+-- The answers of a desk to questions about the state of a node, and about the history.
 -- Source: this project's profile.
 -- The code releases the lock before it returns, so the definitions state that there is such a cell or switch.
 use Rattle.std.specs.Prelude.{◌≡◌, ℕ, List, Some, IsOk}
@@ -21,7 +21,7 @@ pub record IsHistory (history : List (Event Carried)) : Type 0 where
 pub record IsNodeStatus (k : ℕ) (node_status : NodeStatus) : Type 0 where
   pub cell : Cell
   pub of_node : IsCellAt k cell
-  pub applied : node_status.applied ≡ cell.replica.applied
+  pub applied : node_status.applied ≡ cell.node_library.applied
   pub switch : SwitchView Carried
   pub state : state_after (world_of carried_size switch) k ≡ Some node_status.state
   pub is_down : node_status.is_down ≡ is_down_at switch.stores (Some k)

@@ -1,4 +1,4 @@
--- The definitions of the layers below that this crate's definitions use, re-exported from one place.
+-- Most of the definitions of the layers below that this crate's definitions use, re-exported.
 pub use Rattle.cluster.specs.Belongs.{Belongs, IsAhead}
 pub use Rattle.cluster.specs.Cell.{Cell, IsCell}
 pub use Rattle.cluster.specs.declared.compare.Ahead.{Ahead}

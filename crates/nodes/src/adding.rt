@@ -22,7 +22,7 @@ const FIRST_WAIT: u64 = 1024;
 /// The greatest number of times that the wait doubles. So all waits together have fewer than 10,000,000 turns.
 const MOST_DOUBLINGS: u32 = 9;
 
-/// The number of turns from one query for the outcome to the next: each takes the lock that the node needs.
+/// The number of turns from one query for the outcome to the next. Each query takes the lock that the node's thread needs.
 const TURNS_PER_QUERY: u64 = 64;
 
 /// 2^64 divided by the golden ratio: its multiples modulo 2^64 are far from one another.
@@ -76,8 +76,8 @@ impl<G: Gate, K: Keep<Carried>> Desk<G, K> {
 
     /// Returns whether node `k` leads.
     fn leads<R: Wait>(&self, rt: &R, k: u8) -> bool {
-        let shared = self.shared.switch.lock(rt);
-        match shared.switch.state(k) {
+        let shared_switch = self.shared.switch.lock(rt);
+        match shared_switch.switch.state(k) {
             Ok(state) => matches!(state.role, Role::Leading { .. }),
             Err(_) => false,
         }

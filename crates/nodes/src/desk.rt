@@ -61,8 +61,8 @@ impl<G: Gate, K: Keep<Carried>> Desk<G, K> {
             return Err(StepFault::Stopped);
         }
         let hints = {
-            let mut switch = self.shared.switch.lock(rt);
-            switch.play(self.shared.alloc, event)?
+            let mut shared_switch = self.shared.switch.lock(rt);
+            shared_switch.play(self.shared.alloc, event)?
         };
         self.shared.send(rt, &hints);
         Ok(())
@@ -86,13 +86,13 @@ impl<G: Gate, K: Keep<Carried>> Desk<G, K> {
             let Ok(lock) = self.shared.cell(k) else {
                 return Err(self.shared.switch.lock(rt).missing_node_fault());
             };
-            let mut node = lock.lock(rt);
-            if node.cell.node() != k {
+            let mut shared_cell = lock.lock(rt);
+            if shared_cell.cell.node() != k {
                 return Err(StepFault::Apart);
             }
-            node.clear_postponement();
-            let mut switch = self.shared.switch.lock(rt);
-            switch.restart(self.shared.alloc, &mut node.cell, other_count)?
+            shared_cell.clear_postponement();
+            let mut shared_switch = self.shared.switch.lock(rt);
+            shared_switch.restart(self.shared.alloc, &mut shared_cell.cell, other_count)?
         };
         self.shared.send(rt, &hints);
         Ok(())
@@ -106,11 +106,11 @@ impl<G: Gate, K: Keep<Carried>> Desk<G, K> {
         ensures no_node { self.now ≤ k → result ≡ Err NoNode }
         ensures only_memory { k < self.now → IfErr result (λ fault. (fault ≡ Apart) ⊎ (fault ≡ Memory)) }
     {
-        let node = self.shared.cell(k)?.lock(rt);
-        if node.cell.node() != k {
+        let shared_cell = self.shared.cell(k)?.lock(rt);
+        if shared_cell.cell.node() != k {
             return Err(StepFault::Apart);
         }
-        Ok(list_on(&node.cell)?)
+        Ok(list_on(&shared_cell.cell)?)
     }
 
     /// Returns the verdict of node `k`'s library on the author's entry of that serial number, or `None` if it is not
@@ -128,11 +128,11 @@ impl<G: Gate, K: Keep<Carried>> Desk<G, K> {
         ensures no_node { self.now ≤ k → result ≡ Err NoNode }
         ensures only_apart { k < self.now → IsOkUnless result Apart }
     {
-        let node = self.shared.cell(k)?.lock(rt);
-        if node.cell.node() != k {
+        let shared_cell = self.shared.cell(k)?.lock(rt);
+        if shared_cell.cell.node() != k {
             return Err(StepFault::Apart);
         }
-        Ok(node.cell.library().status(author, serial))
+        Ok(shared_cell.cell.library().status(author, serial))
     }
 
     /// Returns which of two nodes has the library with more statements, if one has.

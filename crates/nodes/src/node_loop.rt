@@ -13,7 +13,7 @@ use world::Carried;
 /// The largest number of hints that a node takes at once: each lock is taken once for all of them.
 const MOST_HINTS: usize = 32;
 
-/// Takes the waiting hints, up to `MOST_HINTS` at once, until the channel ends.
+/// Takes the waiting hints, up to `MOST_HINTS` at once, until the channel is closed.
 pub(crate) fn run_node<
     G: Gate + Sync + Drop,
     K: Keep<Carried> + Drop,

@@ -27,8 +27,8 @@ use synod::{Keep, Weights};
 use verify_pool::{Gate, Workers};
 use world::Carried;
 
-/// The running node threads. It cannot be sent to another thread. If it is dropped without `stop`, the node threads stay
-/// blocked. Contracts see the number of nodes.
+/// A running cluster: the threads of its nodes. It cannot be sent to another thread. If it is dropped without `stop`, the
+/// threads stay blocked. Contracts see the number of nodes.
 #[derive(Drop)]
 pub struct Cluster<G: Gate, K: Keep<Carried>> {
     alloc: Global,
@@ -79,16 +79,16 @@ pub fn start<
         shared,
         threads: Vec::new(alloc),
     };
-    match cluster.add_all(rt, weathers, receivers) {
+    match cluster.start_threads(rt, weathers, receivers) {
         Ok(()) => Ok(cluster),
         Err(_) => {
-            cluster.end(rt);
+            cluster.join_threads(rt);
             Err(StepFault::Memory)
         }
     }
 }
 
-/// Creates the locks, and the receiving ends of the nodes' channels.
+/// Creates the locks that threads and desks share, and the receiving ends of the nodes' channels.
 fn share<G: Gate + Drop, K: Keep<Carried>>(
     alloc: Global,
     weights: Weights,
@@ -148,8 +148,8 @@ fn channels(
 impl<G: Gate, K: Keep<Carried>> Cluster<G, K> {
     /// Starts the thread of node `k`.
     ///
-    /// Errors: no thread can be started; nothing changes then.
-    fn add<
+    /// Errors: an allocation fails or no thread can be started; no thread is added then.
+    fn start_thread<
         W: Weather + Send + Drop + 'static,
         R: Threads + Wait + Copy + Send + Sync + Drop + 'static,
     >(&mut self, rt: &R, k: u8, weather: W, receiver: Receiver<u64>) -> Result<(), AllocError>
@@ -159,15 +159,18 @@ impl<G: Gate, K: Keep<Carried>> Cluster<G, K> {
         ensures { self.new ≡ self.old }
     {
         self.threads.reserve(1)?;
-        let theirs = Arc::try_clone(&self.shared)?;
-        let mine = *rt;
-        let child = thread::spawn(rt, move || run_node(mine, theirs, k, weather, receiver))?;
+        let shared = Arc::try_clone(&self.shared)?;
+        let thread_rt = *rt;
+        let child = thread::spawn(
+            rt,
+            move || run_node(thread_rt, shared, k, weather, receiver),
+        )?;
         self.threads.push_reserved(child);
         Ok(())
     }
 
     /// Starts each node's thread.
-    fn add_all<
+    fn start_threads<
         W: Weather + Send + Drop + 'static,
         R: Threads + Wait + Copy + Send + Sync + Drop + 'static,
     >(&mut self, rt: &R, weathers: Vec<W>, receivers: Vec<Receiver<u64>>) -> Result<(), AllocError>
@@ -177,7 +180,7 @@ impl<G: Gate, K: Keep<Carried>> Cluster<G, K> {
         ensures { self.new ≡ self.old }
     {
         for (k, (weather, receiver)) in (0..self.nodes).zip(weathers.into_iter().zip(receivers)) {
-            self.add(rt, k, weather, receiver)?;
+            self.start_thread(rt, k, weather, receiver)?;
         }
         Ok(())
     }
@@ -192,8 +195,8 @@ impl<G: Gate, K: Keep<Carried>> Cluster<G, K> {
         Ok(Desk { shared })
     }
 
-    /// Ends the channels, and joins the threads. It does not allocate.
-    fn end<R: Threads + Wait>(&mut self, rt: &R)
+    /// Closes the channels, so that each thread ends, and joins the threads. It does not allocate.
+    fn join_threads<R: Threads + Wait>(&mut self, rt: &R)
         ensures { self.new ≡ self.old }
     {
         {
@@ -206,7 +209,7 @@ impl<G: Gate, K: Keep<Carried>> Cluster<G, K> {
         }
     }
 
-    /// Ends the channels, joins the threads, and counts each node's events.
+    /// Closes the channels, joins the threads, and counts each node's events.
     ///
     /// Errors: `Stopped` if the cluster was stopped before; else `Memory`, and the cluster keeps running. Cost: one pass over the
     /// history.
@@ -219,8 +222,8 @@ impl<G: Gate, K: Keep<Carried>> Cluster<G, K> {
             return Err(StepFault::Stopped);
         }
         let handled = vec![in self.alloc; 0; usize::from(self.nodes)]?;
-        self.end(rt);
-        let shared = self.shared.switch.lock(rt);
-        Ok(count_events(&shared.switch, self.nodes, handled))
+        self.join_threads(rt);
+        let shared_switch = self.shared.switch.lock(rt);
+        Ok(count_events(&shared_switch.switch, self.nodes, handled))
     }
 }

@@ -1,4 +1,4 @@
-//! Questions at a desk: about the state of a node, and about the history.
+//! The calls of a desk that ask for the state of a node, for the history, or any question about a cell.
 ghost use Rattle.std.specs.Prelude.{◌≡◌, ◌≤◌, ◌<◌, ◌⊎◌, Err, IfErr, IfOk, IsOkUnless};
 ghost use Rattle.std.specs.Fn.{FnOnceReturnsAt};
 ghost use Rattle.net.specs.declared.fault.StepFault.TheVariants.{Apart, Memory, NoNode};
@@ -14,7 +14,7 @@ use synod::{Keep, NodeState, Value};
 use verify_pool::Gate;
 use world::Carried;
 
-/// The state of a node and of its cell.
+/// The state of a node, and how far its cell is.
 #[derive(Clone, Copy, PartialEq, Eq)]
 pub struct NodeStatus {
     /// The state that the node reports.
@@ -42,8 +42,8 @@ impl<G: Gate, K: Keep<Carried>> Desk<G, K> {
         ensures no_node { self.now ≤ k → result ≡ Err NoNode }
         ensures only_apart { k < self.now → IsOkUnless result Apart }
     {
-        let node = self.shared.cell(k)?.lock(rt);
-        ask_on(&node.cell, k, question)
+        let shared_cell = self.shared.cell(k)?.lock(rt);
+        ask_on(&shared_cell.cell, k, question)
     }
 
     /// Returns the state of node `k` and of its cell. The cell and the switch are locked meanwhile. It does not
@@ -55,17 +55,17 @@ impl<G: Gate, K: Keep<Carried>> Desk<G, K> {
         ensures no_node { self.now ≤ k → result ≡ Err NoNode }
         ensures faults { IfErr result (λ fault. (fault ≡ NoNode) ⊎ (fault ≡ Apart)) }
     {
-        let node = self.shared.cell(k)?.lock(rt);
-        if node.cell.node() != k {
+        let shared_cell = self.shared.cell(k)?.lock(rt);
+        if shared_cell.cell.node() != k {
             return Err(StepFault::Apart);
         }
-        let applied = node.cell.applied();
-        let shared = self.shared.switch.lock(rt);
-        let state = shared.switch.state(k)?;
+        let applied = shared_cell.cell.applied();
+        let shared_switch = self.shared.switch.lock(rt);
+        let state = shared_switch.switch.state(k)?;
         Ok(NodeStatus {
             state,
             applied,
-            is_down: shared.switch.is_down(Some(k)),
+            is_down: shared_switch.switch.is_down(Some(k)),
         })
     }
 
@@ -77,8 +77,8 @@ impl<G: Gate, K: Keep<Carried>> Desk<G, K> {
         ensures history { IfOk result (λ events. IsHistory events.items) }
         ensures only_memory { IsOkUnless result Memory }
     {
-        let shared = self.shared.switch.lock(rt);
-        Ok(copy_events(self.shared.alloc, shared.switch.history())?)
+        let shared_switch = self.shared.switch.lock(rt);
+        Ok(copy_events(self.shared.alloc, shared_switch.switch.history())?)
     }
 }
 

@@ -39,7 +39,7 @@ impl<G: Gate, K: Keep<Carried>> SharedNodes<G, K> {
         self.senders.lock(rt).is_empty()
     }
 
-    /// Returns the lock of node `k`, or `NoNode`.
+    /// Returns the lock of node `k`'s cell, or `NoNode`.
     pub fn cell(&self, k: u8) -> Result<&Mutex<SharedCell>, StepFault>
         ensures found { k < vec_len self.now.cells → IsOk result }
         ensures no_node { vec_len self.now.cells ≤ k → result ≡ Err NoNode }
@@ -71,50 +71,50 @@ impl<G: Gate, K: Keep<Carried>> SharedNodes<G, K> {
         let Ok(lock) = self.cell(k) else {
             return;
         };
-        let mut node = lock.lock(rt);
+        let mut shared_cell = lock.lock(rt);
         let hints = {
-            let mut switch = self.switch.lock(rt);
-            let hints = switch.deliver_all(self.alloc, packets);
-            take_all(&mut node.cell, &switch.switch);
+            let mut shared_switch = self.switch.lock(rt);
+            let hints = shared_switch.deliver_all(self.alloc, packets);
+            take_all(&mut shared_cell.cell, &shared_switch.switch);
             hints
         };
         self.send(rt, &hints);
-        if node.is_due_after(packets.len()) {
-            self.apply_all(rt, &mut node, k);
+        if shared_cell.is_due_after(packets.len()) {
+            self.apply_all(rt, &mut shared_cell, k);
         }
     }
 
     /// Applies the entries taken over, and passes the gate before each. Postpones an entry for which an allocation fails.
-    fn apply_all<R: Threads + Wait + Sync>(&self, rt: &R, node: &mut SharedCell, k: u8)
+    fn apply_all<R: Threads + Wait + Sync>(&self, rt: &R, shared_cell: &mut SharedCell, k: u8)
     where
         G: Sync,
     {
         let gate: &G = &self.gate;
         for _entry in 0..SLOTS {
-            if !node.cell.has_unapplied() {
+            if !shared_cell.cell.has_unapplied() {
                 break;
             }
             gate.pass(Place::Apply(k));
-            if !self.apply_next(rt, node) {
-                node.postpone();
+            if !self.apply_next(rt, shared_cell) {
+                shared_cell.postpone();
                 break;
             }
-            node.clear_postponement();
+            shared_cell.clear_postponement();
         }
     }
 
     /// Applies the next entry that was taken over, and returns whether that succeeded. An entry that fails while heavy proofs
     /// are kept out is tried once more, under the lock of heavy proofs.
-    fn apply_next<R: Threads + Wait + Sync>(&self, rt: &R, node: &mut SharedCell) -> bool
+    fn apply_next<R: Threads + Wait + Sync>(&self, rt: &R, shared_cell: &mut SharedCell) -> bool
     where
         G: Sync,
     {
         let gate: &G = &self.gate;
-        if apply_on_with(rt, &mut node.cell, self.workers, &LightGate { gate }).is_ok() {
+        if apply_on_with(rt, &mut shared_cell.cell, self.workers, &LightGate { gate }).is_ok() {
             return true;
         }
         let _heavy = self.heavy.lock(rt);
-        apply_on_with(rt, &mut node.cell, self.workers, gate).is_ok()
+        apply_on_with(rt, &mut shared_cell.cell, self.workers, gate).is_ok()
     }
 
     /// Returns which of two nodes is ahead, or `Apart`; `low` is the lower number.
@@ -124,19 +124,19 @@ impl<G: Gate, K: Keep<Carried>> SharedNodes<G, K> {
     {
         let one = self.cell(low)?.lock(rt);
         let other = self.cell(high)?.lock(rt);
-        let shared = self.switch.lock(rt);
-        if is_cell_of(&one.cell, low, &shared.switch)
-            && is_cell_of(&other.cell, high, &shared.switch)
+        let shared_switch = self.switch.lock(rt);
+        if is_cell_of(&one.cell, low, &shared_switch.switch)
+            && is_cell_of(&other.cell, high, &shared_switch.switch)
         {
-            Ok(compare_on(&one.cell, &other.cell, &shared.switch))
+            Ok(compare_on(&one.cell, &other.cell, &shared_switch.switch))
         } else {
             Err(StepFault::Apart)
         }
     }
 }
 
-/// Returns whether the cell is node `k`'s and belongs to the switch. No fact relates values under two locks, so this is tested
-/// while both are held.
+/// Returns whether the cell is node `k`'s and belongs to the switch. No clause relates values under two locks, so this is
+/// tested while both are held.
 fn is_cell_of<K: Keep<Carried>>(cell: &NodeCell, k: u8, switch: &Switch<Carried, K>) -> bool
     ensures { IsTrue result → (cell.now.node ≡ k) × Belongs cell.now switch.now }
 {

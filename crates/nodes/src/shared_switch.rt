@@ -1,4 +1,4 @@
-//! The switch under its lock, and the hints of the packets that it posts.
+//! The switch under its lock, and the hints by which the receivers of its packets learn of them.
 ghost use Rattle.std.specs.Prelude.{◌≡◌, ◌⊎◌};
 ghost use Rattle.net.specs.declared.event.Event.TheVariants.{Restart};
 ghost use Rattle.net.specs.declared.fault.StepFault.TheVariants.{EventsSpent, NoNode};
@@ -43,7 +43,7 @@ impl<K: Keep<Carried>> SharedSwitch<K> {
     }
 
     /// Restarts the cell's node. Returns the hints of the `other_count` packets by which it asks the other nodes.
-    /// If the node was down, the packets of the event that it owed have no hint: they are lost.
+    /// If the node was down because a store failed, the packets of the event of that store get no hint: they are lost.
     ///
     /// Errors and cost: those of `cluster::restart_on`.
     pub fn restart(

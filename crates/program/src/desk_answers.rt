@@ -35,7 +35,7 @@ impl<R: Wait> AnsweringDesk<'_, R> {
     /// Appends the statements of a node's library.
     pub fn push_export(&self, node: u8, text: &mut Vec<u8>) -> Result<(), Fault>
         ensures { OnOk result ((cell : Cell) × IsCellAt node cell
-            × (text.new.items ≡ text.old.items ++ export_text cell.replica.library.statements)) }
+            × (text.new.items ≡ text.old.items ++ export_text cell.node_library.library.statements)) }
     {
         let alloc = self.alloc;
         let export = self
@@ -71,7 +71,7 @@ impl<R: Wait> AnsweringDesk<'_, R> {
         text: &mut Vec<u8>,
     ) -> Result<(), Fault>
         ensures { OnOk result ((cell : Cell) × IsCellAt question.now.node cell × (answer : List ℕ)
-            × IsLabelAnswer cell.replica.library.statements question.now.kind question.now.label answer
+            × IsLabelAnswer cell.node_library.library.statements question.now.kind question.now.label answer
             × (text.new.items ≡ text.old.items ++ answer)) }
     {
         let alloc = self.alloc;
@@ -124,7 +124,7 @@ fn decision_at(
 
 /// Returns the statements of the library of a cell.
 fn export_of(alloc: Global, cell: &NodeCell) -> Result<Vec<u8>, AllocError>
-    ensures { IfOk result (λ text. text.items ≡ export_text cell.now.replica.library.statements) }
+    ensures { IfOk result (λ text. text.items ≡ export_text cell.now.node_library.library.statements) }
 {
     let mut text = Vec::new(alloc);
     push_export(&mut text, cell.library())?;

@@ -87,7 +87,7 @@ fn push_deliveries(events: &mut Vec<Event<Entry>>, numbers: &[u64]) -> Result<()
     Ok(())
 }
 
-/// A replica stays at its slot after a failed allocation, and the next application returns the verdict.
+/// A node's library stays at its slot after a failed allocation, and the next application returns the verdict.
 #[test]
 fn applies_after_a_failed_allocation(rt: HostRuntime) {
     assert!(rt; applies_if_learned(rt.alloc()));

@@ -1,7 +1,7 @@
 -- The answer of a call that applies the next entry of a node's log.
 use Rattle.world.proofs.Words.{◌≡◌, ℕ, List, set, slice_get, Option, Some, None, Result, Ok, Err, refl, ap, sym, ◌∙◌, subst, IfOk, IfSome, IsSomeAnd, MatchOption, option_map, Bor, Entry, Verdict, Carried, StepFault, log, entry_of, entries_of, NodeLibrary, WorldView, log_entries, IsOfLog, AreLibrariesOfLogs, AppliesNext, next_of, next_entry, IsApplied, set_same}
 use Rattle.world.proofs.EntryLogs.{entries_of-get, entries_of-none}
-use Rattle.world.proofs.WorldViewLemmas.{of_log_applied, applied_are_replicas}
+use Rattle.world.proofs.WorldViewLemmas.{of_log_applied, applied_are_libraries}
 
 -- the entry found at a slot of a log of values is the one at the same index of the log of entries
 pub entry_next : (log : List (Option Carried)) (s t : ℕ) (found : Option (Bor (Option Carried))) → t ≡ s
@@ -69,4 +69,4 @@ module _ (old : WorldView) (k : ℕ) (node next : NodeLibrary) (result : Result 
 
   -- after the call each library is still that of its log
   pub call_keeps : AreLibrariesOfLogs old → AreLibrariesOfLogs becomes
-  call_keeps h = applied_are_replicas old k next h (of_log_at (slice_get (log_entries old.history k) node.applied) refl result from (h.of_logs k node is))
+  call_keeps h = applied_are_libraries old k next h (of_log_at (slice_get (log_entries old.history k) node.applied) refl result from (h.of_logs k node is))

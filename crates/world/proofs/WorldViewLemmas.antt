@@ -41,8 +41,8 @@ get-replicate (suc n) zero x y is = cc
 get-replicate (suc n) (suc k) x y is = get-replicate n k x y is
 
 -- new libraries, one for each node, are those of their logs
-pub new_are_replicas : (history : History Carried) (nodes : ℕ) → nodes ≡ length history.weights → (libraries : List NodeLibrary) → libraries ≡ replicate nodes new_node_library → AreLibrariesOfLogs (record { history = history; libraries = libraries })
-new_are_replicas history nodes count libraries new = subst (λ (ls : List NodeLibrary). AreLibrariesOfLogs (record { history = history; libraries = ls })) (sym new) record {
+pub new_are_libraries : (history : History Carried) (nodes : ℕ) → nodes ≡ length history.weights → (libraries : List NodeLibrary) → libraries ≡ replicate nodes new_node_library → AreLibrariesOfLogs (record { history = history; libraries = libraries })
+new_are_libraries history nodes count libraries new = subst (λ (ls : List NodeLibrary). AreLibrariesOfLogs (record { history = history; libraries = ls })) (sym new) record {
   one_each = length-replicate nodes new_node_library ∙ count;
   of_logs = λ k node is. subst (λ (n : NodeLibrary). IsOfLog (log_entries history k) n) (sym (get-replicate nodes k new_node_library node is)) (new_is_of_log (log_entries history k));
 }
@@ -109,8 +109,8 @@ ok_before history e is = before (world_of carried_size history) (subst IsOk (eve
   before (Err fault) h = h
 
 -- after an event that is taken each library is that of its log
-then_are_replicas : (old : WorldView) (e : Event Carried) → IsOk (world_of carried_size (with_event old.history e)) → AreLibrariesOfLogs old → AreLibrariesOfLogs (after_event old e)
-then_are_replicas old e is h = both (world_of carried_size old.history) refl (world_of carried_size (with_event old.history e)) refl (ok_before old.history e is) is where
+then_are_libraries : (old : WorldView) (e : Event Carried) → IsOk (world_of carried_size (with_event old.history e)) → AreLibrariesOfLogs old → AreLibrariesOfLogs (after_event old e)
+then_are_libraries old e is h = both (world_of carried_size old.history) refl (world_of carried_size (with_event old.history e)) refl (ok_before old.history e is) is where
   both : (r : Result (World Carried) StepFault) → world_of carried_size old.history ≡ r → (s : Result (World Carried) StepFault) → world_of carried_size (with_event old.history e) ≡ s → IsOk r → IsOk s → AreLibrariesOfLogs (after_event old e)
   both (Ok w) at (Ok x) then ok done = record {
     one_each = as_many old.libraries (node_restarted e) ∙ h.one_each;
@@ -138,15 +138,15 @@ pub step_keeps : (old : WorldView) (e : Event Carried) (history : History Carrie
     → IfErr (world_of carried_size (with_event old.history e)) (λ fault. let answer : Result ℕ StepFault = Ok count in answer ≡ Err fault) → AreLibrariesOfLogs (record { history = history; libraries = libraries })
 step_keeps old e history libraries restarted count h is restarts_is given refused =
     subst AreLibrariesOfLogs (sym (record_is history (with_event old.history e) libraries (with_library_reset old.libraries (node_restarted e)) is (given ∙ ap (λ (o : Option ℕ). with_library_reset old.libraries o) restarts_is)))
-    (then_are_replicas old e (ok_unless_met (world_of carried_size (with_event old.history e)) count refused) h) where
+    (then_are_libraries old e (ok_unless_met (world_of carried_size (with_event old.history e)) count refused) h) where
       record_is : (s t : History Carried) (ls ms : List NodeLibrary) → s ≡ t → ls ≡ ms → let r : WorldView = record { history = s; libraries = ls } in r ≡ record { history = t; libraries = ms }
       record_is s t ls ms a b = ap (λ (u : History Carried). let r : WorldView = record { history = u; libraries = ls } in r) a ∙ ap (λ (ns : List NodeLibrary). let r : WorldView = record { history = t; libraries = ns } in r) b
 
 -- One entry applied at node k.
 
 -- with the library of node k set to one of its log, each library is still that of its log
-pub applied_are_replicas : (old : WorldView) (k : ℕ) (next : NodeLibrary) → AreLibrariesOfLogs old → IsOfLog (log_entries old.history k) next → AreLibrariesOfLogs (record { history = old.history; libraries = set old.libraries k next })
-applied_are_replicas old k next h here = record {
+pub applied_are_libraries : (old : WorldView) (k : ℕ) (next : NodeLibrary) → AreLibrariesOfLogs old → IsOfLog (log_entries old.history k) next → AreLibrariesOfLogs (record { history = old.history; libraries = set old.libraries k next })
+applied_are_libraries old k next h here = record {
   one_each = length-set old.libraries k next ∙ h.one_each;
   of_logs = λ j node got. at_node j node got (k == j) refl;
 } where

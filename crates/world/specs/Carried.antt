@@ -19,7 +19,7 @@ abbrev pub value_events : List (Event Entry) → List (Event Carried)
 value_events [] = []
 value_events (e ∷ es) = value_event e ∷ value_events es
 
--- an entry of a log, and a log, without the wrapping
+-- an entry of a log, and all entries of a log, taken out of their `Carried`
 abbrev pub entry_of : Option Carried → Option Entry
 entry_of None = None
 entry_of (Some c) = Some c.0

@@ -1,7 +1,7 @@
--- The headline theorem: of any two replicas' libraries, at any two moments, one is a prefix of the other; each has exactly the
--- statements that its learned entries validly add, in order; and each of its provable assertions has a derivation.
+-- The headline theorem: of any two nodes' libraries, at any two moments, one is a prefix of the other; each has exactly the
+-- statements that the entries applied to it validly add, in order; and each of its provable assertions has a derivation.
 -- Source: Lamport, Paxos Made Simple, section 3; Megill and Wheeler, Metamath, 2nd ed. 2019, 4.2.
--- The code has none of this; it follows from agreement and from the library of a log.
+-- No code computes this; it follows from agreement and from the definition of the library of a log.
 use Rattle.std.specs.Prelude.{◌≡◌, ℕ, Some, IsOk, take}
 use Rattle.world.specs.Words.{Stmt, Database, bares, stmt_at, expr_of, Derivation, Concludes, IsProvable, Replica, IsLibraryOf, Good, World, log, Agree, History, world_of, IsMoment, Agreement}
 use Rattle.world.specs.declared.carried.Carried.{Carried}
@@ -15,8 +15,8 @@ pub record IsLibraryIn (history : History Carried) (library : Replica) : Type 0 
   pub applied : ℕ
   pub of_log : IsLibraryOf (take applied (entries_of (log world node))) library
 
--- the assertion at that position has a derivation of its expression, from the hypotheses active there, by substitution instances
--- that respect its `$d`, of assertions before it
+-- the expression of the assertion at that position has a derivation from the hypotheses active there; each of its steps is an
+-- instance of an earlier assertion, by a substitution that meets the disjoint variable conditions
 pub record HasDerivation (S : Database) (at : ℕ) : Type 0 where
   pub stmt : Stmt
   pub derivation : Derivation

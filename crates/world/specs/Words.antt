@@ -1,4 +1,4 @@
--- The definitions of the layers below that this crate's definitions use, re-exported from one place.
+-- The definitions of the layers below that this crate's definitions use, re-exported.
 pub use Rattle.library.specs.Good.{Good}
 pub use Rattle.library.specs.LibraryOf.{Applies, IsLibraryOf, Replica, empty, size_of}
 pub use Rattle.library.specs.declared.entry.Entry.{Entry}

@@ -1,6 +1,7 @@
 -- A world as contracts see it: its weights, the events taken, and each node's library with the count of entries applied.
 -- Source: Lamport, Paxos Made Simple, section 3: a server executes the commands in order, each when it knows all earlier ones.
--- The code has the nodes and packets too; by its type, each library is that of the first entries of its node's log.
+-- The code has the nodes and packets too; by an invariant of its type (`AreLibrariesOfLogs`), each library is that of the
+-- first entries of its node's log.
 use Rattle.std.specs.Prelude.{◌≡◌, ◌+◌, ◌≤◌, ℕ, List, [], Option, Some, None, Result, Ok, Err, length, take, replicate, slice_get, slice_set}
 use Rattle.world.specs.Words.{Entry, Verdict, Replica, empty, Applies, IsLibraryOf, Event, StepFault, Memory, Offer, Begin, Deliver, Restart, log_after, History, world_of, with_event}
 use Rattle.world.specs.declared.carried.Carried.{Carried}
@@ -11,13 +12,16 @@ pub record NodeLibrary : Type 0 where
   pub applied : ℕ
   pub library : Replica
 
+-- what contracts see of a world
 pub record WorldView : Type 0 where
   pub history : History Carried
   pub libraries : List NodeLibrary  -- one for each node
 
+-- the library of a new node: empty, and no entry applied
 abbrev pub new_node_library : NodeLibrary
 new_node_library = record { applied = 0; library = empty }
 
+-- the libraries of new nodes, one for each weight
 abbrev pub new_node_libraries : List ℕ → List NodeLibrary
 new_node_libraries weights = replicate (length weights) new_node_library
 
@@ -32,14 +36,14 @@ node_restarted (Begin k) = None
 node_restarted (Deliver number) = None
 node_restarted (Restart k) = Some k
 
--- the libraries, with that of this node, if there is one, emptied
+-- the libraries, with that of this node, if a node is given, replaced by that of a new node
 abbrev pub with_library_reset : List NodeLibrary → Option ℕ → List NodeLibrary
 with_library_reset libraries None = libraries
 with_library_reset libraries (Some k) = slice_set libraries k new_node_library
 
 -- a world after one more event: the library of a node that restarts is emptied
 abbrev pub after_event : WorldView → Event Carried → WorldView
-after_event r e = record { history = with_event r.history e; libraries = with_library_reset r.libraries (node_restarted e) }
+after_event w e = record { history = with_event w.history e; libraries = with_library_reset w.libraries (node_restarted e) }
 
 -- the log of node k after the events
 abbrev pub log_entries : History Carried → ℕ → List (Option Entry)
@@ -51,11 +55,11 @@ pub record IsOfLog (log : List (Option Entry)) (node : NodeLibrary) : Type 0 whe
   pub library : IsLibraryOf (take node.applied log) node.library
 
 -- there is one library for each node, each of its node's log
-pub record AreLibrariesOfLogs (r : WorldView) : Type 0 where
-  pub one_each : length r.libraries ≡ length r.history.weights
-  pub of_logs : (k : ℕ) (node : NodeLibrary) → slice_get r.libraries k ≡ Some node → IsOfLog (log_entries r.history k) node
+pub record AreLibrariesOfLogs (w : WorldView) : Type 0 where
+  pub one_each : length w.libraries ≡ length w.history.weights
+  pub of_logs : (k : ℕ) (node : NodeLibrary) → slice_get w.libraries k ≡ Some node → IsOfLog (log_entries w.history k) node
 
--- The next entry of a log.
+-- The entry of a log to be applied next to a node's library, if there is such a node and such an entry.
 
 abbrev pub next_of : List (Option Entry) → Option NodeLibrary → Option (Option Entry)
 next_of log None = None
@@ -63,7 +67,7 @@ next_of log (Some node) = slice_get log node.applied
 
 -- the entry of node k's log to be applied next, if there is one
 abbrev pub next_entry : WorldView → ℕ → Option (Option Entry)
-next_entry r k = next_of (log_entries r.history k) (slice_get r.libraries k)
+next_entry w k = next_of (log_entries w.history k) (slice_get w.libraries k)
 
 -- the entry is applied to the library of node k, with this verdict, and nothing else changes
 pub record IsApplied (old : WorldView) (k : ℕ) (entry : Option Entry) (verdict : Verdict) (new : WorldView) : Type 0 where

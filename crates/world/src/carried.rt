@@ -1,4 +1,4 @@
-//! An entry of the library as a value that nodes agree on, and events on entries as events on values.
+//! Entries as the values that nodes agree on (`Carried`), and events on entries as events on values.
 ghost use Rattle.std.specs.Prelude.{◌≡◌, IfOk};
 ghost use Rattle.world.specs.Carried.{value_event, entry_of, entries_of};
 ghost use Rattle.world.specs.WorldView.{node_restarted};
@@ -8,7 +8,7 @@ use net::Event;
 use std::alloc::{AllocError, Global};
 use synod::Value;
 
-/// An entry as a value that the nodes agree on.
+/// An entry as a value that the nodes agree on: packets carry it.
 #[derive(Drop)]
 pub struct Carried(pub Entry);
 
@@ -26,7 +26,7 @@ impl Value for Carried {
     }
 }
 
-/// Returns the entries of a log of values.
+/// Returns the entries of a log of values, each taken out of its `Carried`.
 pub(crate) fn entries(
     alloc: Global,
     values: Vec<Option<Carried>>,
@@ -50,7 +50,7 @@ fn entry(value: Option<Carried>) -> Option<Entry>
     }
 }
 
-/// Returns the event with its entry as a value.
+/// Returns the event on values: an offer has its entry as a `Carried`.
 pub(crate) fn to_value_event(event: Event<Entry>) -> Event<Carried>
     ensures { result ≡ value_event event }
 {

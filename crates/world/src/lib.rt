@@ -1,20 +1,20 @@
-//! The libraries of all nodes of one agreement, driven by a list of events.
+//! All nodes that agree on one log, each with its library, driven by a list of events.
 //!
 //! The main theorem is `headline`: whatever packets are lost, repeated or delayed and whichever nodes restart, of any two
 //! nodes' libraries, at any two moments, one is a prefix of the other. `program` and `run_pictures` use `World`, `cluster` uses
-//! `Replica`; `run` serves tests.
+//! `NodeLibrary`; `run` serves tests.
 //!
-//! Read the definitions, specs/Carried, WorldView and Headline; then `carried`, `replica`, `world`, `replay` and `laws`.
+//! Read the definitions, specs/Carried, WorldView and Headline; then `carried`, `node_library`, `world`, `replay` and `laws`.
 #![tactic(auto)]
 
 mod carried;
 mod laws;
+mod node_library;
 mod replay;
-mod replica;
 mod world;
 
 pub use carried::Carried;
 pub use laws::headline;
+pub use node_library::NodeLibrary;
 pub use replay::run;
-pub use replica::Replica;
 pub use world::World;

@@ -8,7 +8,7 @@ ghost use Rattle.world.specs.WorldView.{log_entries, AppliesNext};
 ghost use Rattle.net.specs.declared.fault.StepFault.TheVariants.{NoNode, NoPacket, Memory};
 
 use crate::carried::{Carried, entries, restarted, to_value_event};
-use crate::replica::{Replica, new_replicas, reset_library};
+use crate::node_library::{NodeLibrary, new_libraries, reset_library};
 use library::{Entry, Library, Verdict};
 use net::{Event, MOST_EVENTS, Net, StepFault};
 use std::alloc::Global;
@@ -24,7 +24,7 @@ use synod::{NodeState, Packet, Weights};
 pub struct World {
     alloc: Global,
     net: Net<Carried>,
-    replicas: Vec<Replica>,
+    libraries: Vec<NodeLibrary>,
 }
 
 impl Model for World {
@@ -32,9 +32,9 @@ impl Model for World {
 
     ghost Value = { WorldView };
 
-    ghost view = { λ w. record { history = w.net.history; libraries = w.replicas.items } };
+    ghost view = { λ w. record { history = w.net.history; libraries = w.libraries.items } };
 
-    ghost invariant = { λ w. AreLibrariesOfLogs (record { history = w.net.history; libraries = w.replicas.items }) };
+    ghost invariant = { λ w. AreLibrariesOfLogs (record { history = w.net.history; libraries = w.libraries.items }) };
 }
 
 impl World {
@@ -51,7 +51,7 @@ impl World {
         Ok(World {
             alloc,
             net: Net::new(alloc, weights)?,
-            replicas: new_replicas(alloc, weights.count())?,
+            libraries: new_libraries(alloc, weights.count())?,
         })
     }
 
@@ -70,7 +70,7 @@ impl World {
         let event = to_value_event(event);
         let restarted = restarted(&event);
         let posted = self.net.step(event)?;
-        reset_library(self.alloc, &mut self.replicas, restarted);
+        reset_library(self.alloc, &mut self.libraries, restarted);
         Ok(posted)
     }
 
@@ -86,10 +86,10 @@ impl World {
         ensures same { next_entry self.old k ≡ None → self.new ≡ self.old }
         ensures err { OnErr result (self.new ≡ self.old) }
     {
-        let Some(replica) = self.replicas.get_mut(k as usize) else {
+        let Some(node_library) = self.libraries.get_mut(k as usize) else {
             return Err(StepFault::NoNode);
         };
-        apply_from(replica, &self.net, k)
+        apply_from(node_library, &self.net, k)
     }
 
     /// Returns the library of node `k`: that of the first entries of its log, as many as were applied. Does not allocate.
@@ -99,8 +99,8 @@ impl World {
         ensures node { k < length self.now.history.weights → IsOk result }
         ensures of_logs { AreLibrariesOfLogs self.now }
     {
-        match self.replicas.get(k as usize) {
-            Some(replica) => Ok(replica.library()),
+        match self.libraries.get(k as usize) {
+            Some(node_library) => Ok(node_library.library()),
             None => Err(StepFault::NoNode),
         }
     }
@@ -138,8 +138,8 @@ impl World {
         ensures no_node { length self.now.history.weights ≤ k → result ≡ Err NoNode }
         ensures node { k < length self.now.history.weights → IsOk result }
     {
-        match self.replicas.get(k as usize) {
-            Some(replica) => Ok(replica.applied()),
+        match self.libraries.get(k as usize) {
+            Some(node_library) => Ok(node_library.applied()),
             None => Err(StepFault::NoNode),
         }
     }
@@ -154,15 +154,15 @@ impl World {
     }
 }
 
-/// Applies the next entry of node `k`'s log to its replica.
+/// Applies the next entry of node `k`'s log to its library.
 fn apply_from(
-    replica: &mut Replica,
+    node_library: &mut NodeLibrary,
     net: &Net<Carried>,
     k: u8,
 ) -> Result<Option<Verdict>, StepFault>
     requires { k < length net.now.history.weights }
-    ensures { AppliesNext replica.old replica.new (slice_get (log_entries net.now.history k) replica.old.applied) result }
+    ensures { AppliesNext node_library.old node_library.new (slice_get (log_entries net.now.history k) node_library.old.applied) result }
 {
-    let next = net.entry(k, replica.applied())?;
-    replica.apply_next(next)
+    let next = net.entry(k, node_library.applied())?;
+    node_library.apply_next(next)
 }

@@ -4,10 +4,10 @@ use Rattle.cluster.proofs.cell.apply_on.Goals as goal
 
 pub invariant_of-cell : goal.invariant_of-cell
 invariant_of-cell c =
-    applied_cell c.cell.inside.node c.cell.inside.entries.items c.cell.inside.replica c.apply_next.new.self c.cell.invariant
-    (option_map (λ (e : Bor (Option Carried)). entry_of e.now) c.entry_at-next.result) (entry_is c.cell.inside.entries.items c.cell.inside.replica.applied c.entry_at-next.result (c.entry_at-next.ensures ∙ ap (λ (es : List (Option Carried)). slice_get es c.applied.result) c.deref.ensures.value ∙ ap (λ (i : ℕ). slice_get c.cell.inside.entries.items i) c.applied.ensures)) c.apply_next.result c.apply_next.ensures
+    applied_cell c.cell.inside.node c.cell.inside.entries.items c.cell.inside.node_library c.apply_next.new.self c.cell.invariant
+    (option_map (λ (e : Bor (Option Carried)). entry_of e.now) c.entry_at-next.result) (entry_is c.cell.inside.entries.items c.cell.inside.node_library.applied c.entry_at-next.result (c.entry_at-next.ensures ∙ ap (λ (es : List (Option Carried)). slice_get es c.applied.result) c.deref.ensures.value ∙ ap (λ (i : ℕ). slice_get c.cell.inside.entries.items i) c.applied.ensures)) c.apply_next.result c.apply_next.ensures
 
 pub returns-clause-applies : goal.returns-clause-applies
 returns-clause-applies c =
-    applied_seen c.cell.inside.node c.cell.inside.entries.items c.cell.inside.replica c.apply_next.new.self c.args.cell.now c.cell.view_is
-    (option_map (λ (e : Bor (Option Carried)). entry_of e.now) c.entry_at-next.result) (entry_is c.cell.inside.entries.items c.cell.inside.replica.applied c.entry_at-next.result (c.entry_at-next.ensures ∙ ap (λ (es : List (Option Carried)). slice_get es c.applied.result) c.deref.ensures.value ∙ ap (λ (i : ℕ). slice_get c.cell.inside.entries.items i) c.applied.ensures)) c.apply_next.result c.apply_next.ensures
+    applied_seen c.cell.inside.node c.cell.inside.entries.items c.cell.inside.node_library c.apply_next.new.self c.args.cell.now c.cell.view_is
+    (option_map (λ (e : Bor (Option Carried)). entry_of e.now) c.entry_at-next.result) (entry_is c.cell.inside.entries.items c.cell.inside.node_library.applied c.entry_at-next.result (c.entry_at-next.ensures ∙ ap (λ (es : List (Option Carried)). slice_get es c.applied.result) c.deref.ensures.value ∙ ap (λ (i : ℕ). slice_get c.cell.inside.entries.items i) c.applied.ensures)) c.apply_next.result c.apply_next.ensures

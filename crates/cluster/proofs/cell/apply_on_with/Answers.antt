@@ -4,10 +4,10 @@ use Rattle.cluster.proofs.cell.apply_on_with.Goals as goal
 
 pub invariant_of-cell : goal.invariant_of-cell
 invariant_of-cell g c =
-    applied_cell c.cell.inside.node c.cell.inside.entries.items c.cell.inside.replica c.apply_next_with.new.self c.cell.invariant
-    (option_map (λ (e : Bor (Option Carried)). entry_of e.now) c.entry_at-next.result) (entry_is c.cell.inside.entries.items c.cell.inside.replica.applied c.entry_at-next.result (c.entry_at-next.ensures ∙ ap (λ (es : List (Option Carried)). slice_get es c.applied.result) c.deref.ensures.value ∙ ap (λ (i : ℕ). slice_get c.cell.inside.entries.items i) c.applied.ensures)) c.apply_next_with.result c.apply_next_with.ensures
+    applied_cell c.cell.inside.node c.cell.inside.entries.items c.cell.inside.node_library c.apply_next_with.new.self c.cell.invariant
+    (option_map (λ (e : Bor (Option Carried)). entry_of e.now) c.entry_at-next.result) (entry_is c.cell.inside.entries.items c.cell.inside.node_library.applied c.entry_at-next.result (c.entry_at-next.ensures ∙ ap (λ (es : List (Option Carried)). slice_get es c.applied.result) c.deref.ensures.value ∙ ap (λ (i : ℕ). slice_get c.cell.inside.entries.items i) c.applied.ensures)) c.apply_next_with.result c.apply_next_with.ensures
 
 pub returns-clause-applies : goal.returns-clause-applies
 returns-clause-applies g c =
-    applied_seen c.cell.inside.node c.cell.inside.entries.items c.cell.inside.replica c.apply_next_with.new.self c.args.cell.now c.cell.view_is
-    (option_map (λ (e : Bor (Option Carried)). entry_of e.now) c.entry_at-next.result) (entry_is c.cell.inside.entries.items c.cell.inside.replica.applied c.entry_at-next.result (c.entry_at-next.ensures ∙ ap (λ (es : List (Option Carried)). slice_get es c.applied.result) c.deref.ensures.value ∙ ap (λ (i : ℕ). slice_get c.cell.inside.entries.items i) c.applied.ensures)) c.apply_next_with.result c.apply_next_with.ensures
+    applied_seen c.cell.inside.node c.cell.inside.entries.items c.cell.inside.node_library c.apply_next_with.new.self c.args.cell.now c.cell.view_is
+    (option_map (λ (e : Bor (Option Carried)). entry_of e.now) c.entry_at-next.result) (entry_is c.cell.inside.entries.items c.cell.inside.node_library.applied c.entry_at-next.result (c.entry_at-next.ensures ∙ ap (λ (es : List (Option Carried)). slice_get es c.applied.result) c.deref.ensures.value ∙ ap (λ (i : ℕ). slice_get c.cell.inside.entries.items i) c.applied.ensures)) c.apply_next_with.result c.apply_next_with.ensures

@@ -18,7 +18,7 @@ returns-in-Err-clause-takes g c = λ low.
 
 pub invariant_of-cell : goal.invariant_of-cell
 invariant_of-cell g c =
-    stays_cell c.cell.inside.node c.cell.inside.replica c.cell.inside.entries.items c.add_entry.new.entries.items c.cell.invariant
+    stays_cell c.cell.inside.node c.cell.inside.node_library c.cell.inside.entries.items c.add_entry.new.entries.items c.cell.invariant
     (option_map (λ (e : Bor (Option Carried)). e.now) c.in-Ok.next) c.add_entry.result
     (below_some c.in-Ok.next c.len-slot.result (length c.cell.inside.entries.items) c.in-Ok.ensures.below (omega (arith, c.len-slot.ensures, c.cell.inside.entries.ok.0))) c.add_entry.ensures
 
@@ -30,7 +30,7 @@ returns-clause-no_node g c = λ past.
 
 pub returns-clause-takes : goal.returns-clause-takes
 returns-clause-takes g c = λ low.
-    takes_over c.args.switch.now c.cell.inside.node c.cell.inside.replica c.cell.inside.entries.items c.args.cell.now c.cell.view_is c.add_entry.new.entries.items c.in-Ok.next c.len-slot.result (omega (arith, c.len-slot.ensures, c.cell.inside.entries.ok.0)) c.in-Ok.ensures.entry c.add_entry.result c.add_entry.ensures
+    takes_over c.args.switch.now c.cell.inside.node c.cell.inside.node_library c.cell.inside.entries.items c.args.cell.now c.cell.view_is c.add_entry.new.entries.items c.in-Ok.next c.len-slot.result (omega (arith, c.len-slot.ensures, c.cell.inside.entries.ok.0)) c.in-Ok.ensures.entry c.add_entry.result c.add_entry.ensures
 
 pub returns-clause-belongs : goal.returns-clause-belongs
 returns-clause-belongs g c = λ b.

@@ -1,5 +1,5 @@
 use Rattle.nodes.proofs.Words.{◌≡◌}
-use Rattle.nodes.proofs.node_threads.Cluster.add_all.Given as goal
+use Rattle.nodes.proofs.node_threads.Cluster.start_threads.Given as goal
 
 abbrev pub invariant-loop-k : goal.invariant-loop-k
 invariant-loop-k g l = l.self ≡ l.initial.self

@@ -1,4 +1,4 @@
-//! One node's replica: its library, and the number of log entries applied to it.
+//! One node's library, and the number of log entries applied to it.
 ghost use Rattle.std.specs.Prelude.{◌≡◌, ◌<◌, replicate, option_map, IsSome, IfOk};
 ghost use Rattle.slots.specs.declared.slots.TheConstants.{SLOTS};
 ghost use Rattle.world.specs.Carried.{entry_of};
@@ -15,12 +15,12 @@ use verify_pool::{Gate, Workers};
 
 /// A library, and the number of log entries applied to it, in order from the first.
 #[derive(Drop)]
-pub struct Replica {
+pub struct NodeLibrary {
     library: Library,
     applied: u32,
 }
 
-impl Model for Replica {
+impl Model for NodeLibrary {
     ghost use Rattle.world.specs.WorldView.{NodeLibrary};
 
     ghost Value = { NodeLibrary };
@@ -28,22 +28,22 @@ impl Model for Replica {
     ghost view = { λ r. record { applied = r.applied; library = r.library.replica } };
 }
 
-impl Replica {
-    /// Creates the replica of a new node. Does not allocate.
+impl NodeLibrary {
+    /// Creates the empty library of a new node. Does not allocate.
     pub fn new(alloc: Global) -> Self
         ensures { result ≡ new_node_library }
     {
-        Replica {
+        NodeLibrary {
             library: Library::new(alloc),
             applied: 0,
         }
     }
 
-    /// Resets this replica to that of a new node, and discards its library. Does not allocate.
+    /// Discards the library, and starts again with that of a new node. Does not allocate.
     pub fn reset(&mut self, alloc: Global)
         ensures { self.new ≡ new_node_library }
     {
-        let _old = mem::replace(self, Replica::new(alloc));
+        let _old = mem::replace(self, NodeLibrary::new(alloc));
     }
 
     /// Returns the number of entries applied, which is the slot of the next one.
@@ -63,7 +63,7 @@ impl Replica {
     /// Applies `next`, the next entry of the log, and returns its verdict; `Some(None)` is a no-operation. Returns
     /// `None` if the log ends here.
     ///
-    /// Errors: `Memory`; the replica is then unchanged. Cost: that of `Library::apply` on the entry.
+    /// Errors: `Memory`; `self` is then unchanged. Cost: that of `Library::apply` on the entry.
     pub fn apply_next(
         &mut self,
         next: Option<&Option<Carried>>,
@@ -116,24 +116,24 @@ fn library_entry(entry: &Option<Carried>) -> Option<&Entry>
     }
 }
 
-/// Creates a new replica for each of `nodes` nodes.
-pub(crate) fn new_replicas(alloc: Global, nodes: u8) -> Result<Vec<Replica>, AllocError>
-    ensures { IfOk result (λ replicas. replicas.items ≡ replicate nodes new_node_library) }
+/// Creates an empty library for each of `nodes` nodes.
+pub(crate) fn new_libraries(alloc: Global, nodes: u8) -> Result<Vec<NodeLibrary>, AllocError>
+    ensures { IfOk result (λ libraries. libraries.items ≡ replicate nodes new_node_library) }
 {
-    let mut replicas = Vec::with_capacity(alloc, nodes as usize)?;
+    let mut libraries = Vec::with_capacity(alloc, nodes as usize)?;
     for _node in 0..nodes {
-        replicas.push(Replica::new(alloc))?;
+        libraries.push(NodeLibrary::new(alloc))?;
     }
-    Ok(replicas)
+    Ok(libraries)
 }
 
 /// Discards the library of the node that restarts, if one does.
-pub(crate) fn reset_library(alloc: Global, replicas: &mut Vec<Replica>, restarted: Option<u8>)
-    ensures { replicas.new.items ≡ with_library_reset replicas.old.items restarted }
+pub(crate) fn reset_library(alloc: Global, libraries: &mut Vec<NodeLibrary>, restarted: Option<u8>)
+    ensures { libraries.new.items ≡ with_library_reset libraries.old.items restarted }
 {
     if let Some(k) = restarted {
-        if let Some(replica) = replicas.get_mut(k as usize) {
-            replica.reset(alloc);
+        if let Some(node_library) = libraries.get_mut(k as usize) {
+            node_library.reset(alloc);
         }
     }
 }

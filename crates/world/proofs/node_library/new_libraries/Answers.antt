@@ -1,5 +1,5 @@
 use Rattle.world.proofs.Words.{◌≡◌, ◌∙◌, ap, arith, replicate, new_node_library}
-use Rattle.world.proofs.replica.new_replicas.Goals as goal
+use Rattle.world.proofs.node_library.new_libraries.Goals as goal
 
 pub returns : goal.returns
 returns c =

@@ -1,5 +1,0 @@
-use Rattle.world.proofs.Words.{◌≡◌, replicate, new_node_library}
-use Rattle.world.proofs.replica.new_replicas.Given as goal
-
-abbrev pub invariant-loop-node : goal.invariant-loop-node
-invariant-loop-node l = l.replicas.items ≡ replicate l._node new_node_library
