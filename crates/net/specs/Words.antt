@@ -1,4 +1,5 @@
--- The names that the specifications of this crate use, re-exported from one module.
+-- Names that the specifications of this crate use, re-exported from one module. The specifications import all others
+-- directly.
 pub use Rattle.net.specs.declared.event.Event.{Event}
 pub use Rattle.net.specs.declared.event.Event.TheVariants.{Begin, Deliver, Offer, Restart}
 pub use Rattle.net.specs.declared.event.TheConstants.{MOST_EVENTS}

@@ -1,4 +1,4 @@
--- The definitions of the layers below that this crate's definitions use, re-exported from one place.
+-- The names of `net` and `synod` that the specifications of this crate use, re-exported from one module.
 pub use Rattle.net.specs.Agree.{IsAfter, IsPrefixOf}
 pub use Rattle.net.specs.Staged.{StagedEvent, HasRoom, IsStaged, IsTaken, NetView, change_in, posts_of}
 pub use Rattle.net.specs.KeptPart.{change_of, kept_part, node_of}

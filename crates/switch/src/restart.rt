@@ -48,7 +48,7 @@ impl<V: Value, K: Keep<V>> Switch<V, K> {
     }
 }
 
-/// Commits the event that was owed, if there is one. Does not allocate.
+/// Commits the event that was owed, if there is one. It does not allocate.
 fn commit_owed<V: Value>(net: &mut Net<V>, owed: Option<StagedEvent<V>>)
     requires { CanCommitOwed V.bytes net.old owed }
     ensures { CommitsOwed net.old net.new owed }
