@@ -2,7 +2,7 @@
 ghost use Rattle.std.specs.Prelude.{◌≡◌, ◌<◌, Ok, Err, Some, None, OnOk, IfOk};
 ghost use Rattle.slots.specs.FiniteMap.{entry_at, trimmed};
 ghost use Rattle.slots.specs.declared.slots.TheConstants.{SLOTS};
-ghost use Rattle.synod.specs.Record.{new_kept, HasRoomFor};
+ghost use Rattle.synod.specs.Record.{new_kept, HasCapacityFor};
 ghost use Rattle.cluster.specs.CopiedSlots.{with_copied_slot};
 
 use scope::Steps;
@@ -65,7 +65,7 @@ impl<V: Value> Keep<V> for MemoryKeep<V> {
 /// Errors: an allocation fails, or the slot is not below `SLOTS`.
 fn ready_change<V: Value>(kept: &mut Record<V>, change: &Change<V>) -> Result<Change<V>, AllocError>
     ensures change { IfOk result (λ copy. copy ≡ change.now) }
-    ensures room { OnOk result (HasRoomFor kept.new.room (Some change.now)) }
+    ensures room { OnOk result (HasCapacityFor kept.new.capacity (Some change.now)) }
     ensures kept { kept.new.kept ≡ kept.old.kept }
 {
     match change {
@@ -75,7 +75,7 @@ fn ready_change<V: Value>(kept: &mut Record<V>, change: &Change<V>) -> Result<Ch
             if *slot >= SLOTS {
                 return Err(AllocError);
             }
-            kept.room(*slot)?;
+            kept.reserve(*slot)?;
             Ok(Change::Entry {
                 slot: *slot,
                 entry: copy_entry(entry)?,
@@ -113,7 +113,7 @@ fn copy_slot<V: Value>(
         return Ok(());
     };
     let entry = copy_entry(entry)?;
-    copy.room(slot)?;
+    copy.reserve(slot)?;
     copy.apply_change(Some(Change::Entry { slot, entry }));
     Ok(())
 }

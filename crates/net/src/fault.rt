@@ -30,7 +30,7 @@ pub enum StepFault {
     /// No packet has this number.
     #[error("no such packet")]
     NoPacket,
-    /// The world has taken `MOST_EVENTS` events.
+    /// The world has taken `MAX_EVENTS` events.
     #[error("no event is left")]
     EventsSpent,
     /// A store or a load of the node's record failed. Only a switch or a cluster returns it.

@@ -1,5 +1,5 @@
 -- A prefix of a node's log remains one after any event other than a restart of that node.
-use Rattle.switch.proofs.Words.{◌≡◌, ◌≢◌, ℕ, ◌<◌, ◌==◌, Bool, true, false, List, [], ◌∷◌, ◌++◌, length, slice_get, inl, inr, Option, Some, None, Result, Ok, Err, refl, ap, sym, ◌∙◌, subst, arith, nat_lt, ◌+◌, IsSome, OnErr, option_map, nat_tests, length-set, Packet, Change, Refusal, Node, StepResult, offered, begun, on_packet, restarted, MOST_EVENTS, Event, Offer, Begin, Deliver, Restart, StepFault, World, at_node, delivered, event_result_without_limit, event_result, log, log_after, events_result, start, IsAfter, IsPrefixOf, node_of, change_of, IfTaken, if_taken, spent_or, events_result-append, after-push, log_grows, then_begins, Status, up, down, StoreView, SwitchView, world_of, with_store, IsViewOf, AreStores, is_down, is_down_view, is_down_at, owed_on_failure, change_of_owed, owed_events, FailsAt, TakesAt, IsEffectAtUpNode, RecoversAt, Recovers, IsEffectAtDownNode, IsEffect, IsLogPrefix, KeepsPrefixes, EventKeepsPrefixes, append-nil}
+use Rattle.switch.proofs.Words.{◌≡◌, ◌≢◌, ℕ, ◌<◌, ◌==◌, Bool, true, false, List, [], ◌∷◌, ◌++◌, length, slice_get, inl, inr, Option, Some, None, Result, Ok, Err, refl, ap, sym, ◌∙◌, subst, arith, nat_lt, ◌+◌, IsSome, OnErr, option_map, nat_tests, length-set, Packet, Change, Refusal, Node, StepResult, offer_result, begin_result, on_packet, restarted, MAX_EVENTS, Event, Offer, Begin, Deliver, Restart, StepFault, World, at_node, delivered, event_result_without_limit, event_result, log, log_after, events_result, start, IsAfter, IsPrefixOf, node_of, change_of, IfTaken, if_taken, spent_or, events_result-append, after-push, log_grows, then_begins, Status, up, down, StoreView, SwitchView, world_of, with_store, IsViewOf, AreStores, is_down, is_down_view, is_down_at, owed_on_failure, change_of_owed, owed_events, FailsAt, TakesAt, IsEffectAtUpNode, RecoversAt, Recovers, IsEffectAtDownNode, IsEffect, IsLogPrefix, KeepsPrefixes, EventKeepsPrefixes, append-nil}
 use Rattle.switch.specs.Switch.{with_event}
 
 -- The node of an event that is taken exists.
@@ -25,14 +25,14 @@ module _ {V : Type 0} (size : V → ℕ) (w : World V) where
 
   -- if an event is taken, its node exists, the limit of events aside
   there_happens_at : (e : Event V) → IfTaken (event_result_without_limit size w e) (λ x. IsOfNode w e)
-  there_happens_at (Offer k v) = there_at (Offer k v) k refl (λ n. offered size n v) (slice_get w.nodes k) refl
-  there_happens_at (Begin k) = there_at (Begin k) k refl begun (slice_get w.nodes k) refl
+  there_happens_at (Offer k v) = there_at (Offer k v) k refl (λ n. offer_result size n v) (slice_get w.nodes k) refl
+  there_happens_at (Begin k) = there_at (Begin k) k refl begin_result (slice_get w.nodes k) refl
   there_happens_at (Deliver number) = there_delivered number (slice_get w.packets number) refl
   there_happens_at (Restart k) = there_at (Restart k) k refl (λ n. Ok (restarted n)) (slice_get w.nodes k) refl
 
   -- the node of an event that happens exists
   pub node_there : (e : Event V) (x : World V) → event_result size w e ≡ Ok x → IsOfNode w e
-  node_there e x happened = if_taken (λ (y : World V). IsOfNode w e) (event_result size w e) x happened (spent_or (λ (y : World V). IsOfNode w e) (event_result_without_limit size w e) (w.event_count == MOST_EVENTS) (there_happens_at e))
+  node_there e x happened = if_taken (λ (y : World V). IsOfNode w e) (event_result size w e) x happened (spent_or (λ (y : World V). IsOfNode w e) (event_result_without_limit size w e) (w.event_count == MAX_EVENTS) (there_happens_at e))
 
 -- the log of node j before an event other than its restart is a prefix of the log after it
 log_goes_on : {V : Type 0} (size : V → ℕ) (w : World V) (e : Event V) (x : World V) → event_result size w e ≡ Ok x → (j : ℕ) → e ≢ Restart j → IsPrefixOf (log w j) (log x j)
@@ -178,14 +178,14 @@ module _ {V : Type 0} (size : V → ℕ) (old : SwitchView V) (w : World V) (was
     down_logs (Begin k) result test effect = logs_same size old (Begin k) new result effect.1
     down_logs (Deliver number) result test effect = logs_same size old (Deliver number) new result effect.1
     down_logs (Restart j) result test effect = by_view (slice_get old.stores j) refl where
-      by_room : (view : StoreView V) (e : Option (Event V)) → ((ev : Event V) → e ≡ Some ev → node_of w ev ≡ Some j) → Recovers size w old new j view e result → (t : Bool) → nat_lt MOST_EVENTS (length old.history + 2) ≡ t → EventKeepsPrefixes size (Restart j) old new result
+      by_room : (view : StoreView V) (e : Option (Event V)) → ((ev : Event V) → e ≡ Some ev → node_of w ev ≡ Some j) → Recovers size w old new j view e result → (t : Bool) → nat_lt MAX_EVENTS (length old.history + 2) ≡ t → EventKeepsPrefixes size (Restart j) old new result
       by_room view e own recovers true test = logs_same size old (Restart j) new result (recovers.spent (grind (arith, nat_tests))).1
       by_room view e own recovers false test = recovered_logs j view e own result (recovers.recovered (grind (arith, nat_tests)))
 
       by_standing : (view : StoreView V) → slice_get old.stores j ≡ Some view → (s : Status (Event V)) → view.status ≡ s → EventKeepsPrefixes size (Restart j) old new result
       by_standing view at up stands =
           let no : false ≡ true = sym (ap (λ (o : Option (StoreView V)). is_down_view o) at ∙ ap (λ (s : Status (Event V)). is_down s) stands) ∙ test in cc
-      by_standing view at (down e) stands = by_room view e (λ ev is. owed j view at ev (stands ∙ ap (λ (o : Option (Event V)). let s : Status (Event V) = down o in s) is)) (effect view at e stands) (nat_lt MOST_EVENTS (length old.history + 2)) refl
+      by_standing view at (down e) stands = by_room view e (λ ev is. owed j view at ev (stands ∙ ap (λ (o : Option (Event V)). let s : Status (Event V) = down o in s) is)) (effect view at e stands) (nat_lt MAX_EVENTS (length old.history + 2)) refl
 
       by_view : (o : Option (StoreView V)) → slice_get old.stores j ≡ o → EventKeepsPrefixes size (Restart j) old new result
       by_view None none = let no : false ≡ true = sym (ap (λ (o : Option (StoreView V)). is_down_view o) none) ∙ test in cc

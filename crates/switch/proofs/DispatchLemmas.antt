@@ -1,5 +1,5 @@
 -- The count of nodes, the dispatch of an event by its node, and a call in terms of the variables of its function.
-use Rattle.switch.proofs.Words.{◌≡◌, ℕ, ◌<◌, Bool, true, false, List, length, get_or, set, slice_get, Option, Some, Result, Ok, Err, refl, ap, sym, ◌∙◌, subst, arith, ForOk, slice_get_within, slice_get_read, Change, changed_by, kept_of, MOST_EVENTS, Event, Offer, Begin, Deliver, Restart, StepFault, Device, Down, World, packets_after, History, world_of_taken, node_of, StagedEvent, NetView, IsStaged, ChangesOnlyRoom, IsTaken, change_in, count_shown, up, down, StoreState, Fails, change_owed, SwitchView, event_owed, IsOwing, IsSwitch, world_of, is_down_at, owed_on_failure, IsEffectAtUpNode, IsEffectAtDownNode, IsEffect}
+use Rattle.switch.proofs.Words.{◌≡◌, ℕ, ◌<◌, Bool, true, false, List, length, get_or, set, slice_get, Option, Some, Result, Ok, Err, refl, ap, sym, ◌∙◌, subst, arith, ForOk, slice_get_within, slice_get_read, Change, changed_by, kept_of, MAX_EVENTS, Event, Offer, Begin, Deliver, Restart, StepFault, Device, Down, World, packets_after, History, world_of_taken, node_of, StagedEvent, NetView, IsStaged, ChangesOnlyCapacity, IsTaken, change_in, count_shown, up, down, StoreState, Fails, change_owed, SwitchView, event_owed, IsOwing, IsSwitch, world_of, is_down_at, owed_on_failure, IsEffectAtUpNode, IsEffectAtDownNode, IsEffect}
 use Rattle.switch.proofs.StoresLemmas.{count_views}
 use Rattle.switch.proofs.SwitchLemmas.{switch_view, still_switch}
 use Rattle.switch.proofs.CallLemmas.{still_view, after_is, is_up_at, kept_up, failed, failed_acts, played, played_acts}
@@ -40,27 +40,27 @@ refused_down size now (Restart k) is = cc
 
 -- A call in terms of the variables of its function: the event was readied, and the store is found by its number.
 
-module _ {V : Type 0} (size : V → ℕ) (a b : NetView V) (only_room : ChangesOnlyRoom a b) (stores : List (StoreState V)) (h : IsSwitch size a stores) (now : SwitchView V) (seen : switch_view a stores ≡ now) (d1 : StagedEvent V) (d : IsStaged size b d1) (k : ℕ) (is_at : k ≡ d1.at) where
+module _ {V : Type 0} (size : V → ℕ) (a b : NetView V) (only_capacity : ChangesOnlyCapacity a b) (stores : List (StoreState V)) (h : IsSwitch size a stores) (now : SwitchView V) (seen : switch_view a stores ≡ now) (d1 : StagedEvent V) (d : IsStaged size b d1) (k : ℕ) (is_at : k ≡ d1.at) where
   -- the readied net and the stores are a switch
   hb : IsSwitch size b stores
-  hb = still_switch size a stores h b only_room
+  hb = still_switch size a stores h b only_capacity
 
   -- the view is the one before the event was readied
   seen_b : switch_view b stores ≡ now
-  seen_b = still_view a b stores only_room ∙ seen
+  seen_b = still_view a b stores only_capacity ∙ seen
 
   -- there is a store at this number
   pub in_stores : k < length stores
   in_stores = let low = slice_get_within b.cores d1.at d.core d.at in let count = hb.count in omega (arith, low, count, is_at)
 
-  module _ (e : Event V) (is_e : d1.event ≡ e) (few : length a.history.events < MOST_EVENTS) (store : StoreState V) (is : store ≡ get_or stores k store) (up_now : ForOk (world_of size now) (λ x. is_down_at now.stores (node_of x e) ≡ false)) where
+  module _ (e : Event V) (is_e : d1.event ≡ e) (few : length a.history.events < MAX_EVENTS) (store : StoreState V) (is : store ≡ get_or stores k store) (up_now : ForOk (world_of size now) (λ x. is_down_at now.stores (node_of x e) ≡ false)) where
     -- the store that was read is the one of the node at which the event is staged
     found : slice_get stores d1.at ≡ Some store
     found = ap (λ (i : ℕ). slice_get stores i) (sym is_at) ∙ slice_get_read stores (length stores) k store refl in_stores is
 
     -- the history is below the limit of events
-    low : length b.history.events < MOST_EVENTS
-    low = let same = ap (λ (t : History V). length t.events) only_room.history in omega (arith, same, few)
+    low : length b.history.events < MAX_EVENTS
+    low = let same = ap (λ (t : History V). length t.events) only_capacity.history in omega (arith, same, few)
 
     -- if the node of the event is not down in the view, this store is up
     pub is_up : store.status ≡ up

@@ -1,5 +1,5 @@
 -- The restart of a node that is down: the event that it owes is taken first.
-use Rattle.switch.proofs.Words.{◌≡◌, ℕ, ◌+◌, ◌<◌, ◌≤◌, true, List, [], ◌∷◌, ◌++◌, length, get_or, set, slice_get, inl, inr, Option, Some, None, Result, Ok, Err, refl, ap, sym, ◌∙◌, subst, arith, length-append, AllByRecursion, option_map, ForOk, length-set, slice_get_read, Packet, Ask, Change, IsPost, to_others, KeptPart, changed_by, Node, StepResult, kept_of, Core, reloaded, restarted, MOST_EVENTS, Event, Restart, StepFault, Memory, Device, World, packets_after, IsAfter, History, world_of_taken, kept_part, StagedWork, steps, restarts, StagedEvent, NetView, HasRoom, IsStaged, IsReadyAt, IsOfEvent, IsEventAt, HasResult, IsTaken, posts_of, step_of, with_loaded, with_record, at_set, set_twice, comes_restart, set_same, Status, up, down, StoreState, owed_in, change_owed, posts_owed, IsRecordOf, IsWithOrWithout, Fails, StoreView, SwitchView, event_owed, status_seen, view_of, views_of, IsOwing, IsStore, IsSwitch, CanCommitOwed, CommitsOwed, world_of, is_down_at, owed_events, with_store, RecoversAt, Recovers}
+use Rattle.switch.proofs.Words.{◌≡◌, ℕ, ◌+◌, ◌<◌, ◌≤◌, true, List, [], ◌∷◌, ◌++◌, length, get_or, set, slice_get, inl, inr, Option, Some, None, Result, Ok, Err, refl, ap, sym, ◌∙◌, subst, arith, length-append, AllByRecursion, option_map, ForOk, length-set, slice_get_read, Packet, Ask, Change, IsPost, to_others, KeptPart, changed_by, Node, StepResult, kept_of, Core, reloaded, restarted, MAX_EVENTS, Event, Restart, StepFault, Memory, Device, World, packets_after, IsAfter, History, world_of_taken, kept_part, StagedWork, steps, restarts, StagedEvent, NetView, HasSpareCapacity, IsStaged, IsReadyAt, IsOfEvent, IsEventAt, HasResult, IsTaken, posts_of, step_of, with_loaded, with_record, at_set, set_twice, comes_restart, set_same, Status, up, down, StoreState, owed_in, change_owed, posts_owed, IsRecordOf, IsWithOrWithout, Fails, StoreView, SwitchView, event_owed, status_seen, view_of, views_of, IsOwing, IsStore, IsSwitch, CanCommitOwed, CommitsOwed, world_of, is_down_at, owed_events, with_store, RecoversAt, Recovers}
 use Rattle.switch.proofs.KeepLemmas.{either_twice}
 use Rattle.switch.proofs.StoresLemmas.{views_of-set, view_at, item_at, down_at, few_staged}
 use Rattle.switch.proofs.SwitchLemmas.{switch_view, core_node, own_number, own_weights, other_store, at, node_is, committed}
@@ -10,7 +10,7 @@ use Rattle.switch.proofs.OwedLemmas.{owed_change, can_take, owed_taken}
 -- The switch before, with stores and net as they are when the keep is called.
 module _ {V : Type 0} (size : V → ℕ) (net : NetView V) (stores : List (StoreState V)) (h : IsSwitch size net stores) (now : SwitchView V) (seen : switch_view net stores ≡ now)
     (d1 : StagedEvent V) (d : IsStaged size net d1) (j : ℕ) (is_e : d1.event ≡ Restart j) (kind : IsOfEvent (Restart j) d1.work) (k : ℕ) (is_at : k ≡ d1.at) (store : StoreState V) (is : store ≡ get_or stores k store) (low_k : k < length stores)
-    (test : is_down_at now.stores (Some j) ≡ true) (room : length net.history.events + 2 ≤ MOST_EVENTS) where
+    (test : is_down_at now.stores (Some j) ≡ true) (room : length net.history.events + 2 ≤ MAX_EVENTS) where
   abbrev w : World V
   w = h.world.world
 
@@ -113,10 +113,10 @@ module _ {V : Type 0} (size : V → ℕ) (net : NetView V) (stores : List (Store
     ))
 
   -- the owed event can be taken, if there is room for its posts and two events
-  pub can_commit_owed : (owed : Option (StagedEvent V)) → owed ≡ owed_in store.status → (posts more : ℕ) → posts ≡ length (posts_owed (owed_in store.status)) → HasRoom net (posts + more) 2 → CanCommitOwed size net owed
+  pub can_commit_owed : (owed : Option (StagedEvent V)) → owed ≡ owed_in store.status → (posts more : ℕ) → posts ≡ length (posts_owed (owed_in store.status)) → HasSpareCapacity net (posts + more) 2 → CanCommitOwed size net owed
   can_commit_owed owed is_owed posts more count r =
       subst (λ (p : Option (StagedEvent V)). CanCommitOwed size net p) (sym (is_owed ∙ owed_is))
-      (can_take size net stores h k room o owing more (subst (λ (i : ℕ). HasRoom net (i + more) 2) (count ∙ ap (λ (p : Option (StagedEvent V)). length (posts_owed p)) owed_is) r))
+      (can_take size net stores h k room o owing more (subst (λ (i : ℕ). HasSpareCapacity net (i + more) 2) (count ∙ ap (λ (p : Option (StagedEvent V)). length (posts_owed p)) owed_is) r))
 
   -- The keep has made the change of the owed event, and the event is taken.
   module _ (new : StoreState V) (repaired : new ≡ record { kept = changed_by store.kept (change_owed (owed_in store.status)); failures = store.failures; status = up }) (m : NetView V) (owed : Option (StagedEvent V)) (is_owed : owed ≡ owed_in store.status)
@@ -134,7 +134,7 @@ module _ {V : Type 0} (size : V → ℕ) (net : NetView V) (stores : List (Store
     takes_o = subst (λ (p : Option (StagedEvent V)). CommitsOwed net m p) (is_owed ∙ owed_is) takes
 
     abbrev mid : (switch : IsSwitch size m (set stores k new)) × (m.history.weights ≡ net.history.weights) × (m.history.events ≡ net.history.events ++ owed_events (event_owed o)) × (m.packets ≡ net.packets ++ posts_owed o)
-        × (net.packet_room ≤ m.packet_room) × (net.event_room ≤ m.event_room)
+        × (net.packet_capacity ≤ m.packet_capacity) × (net.event_capacity ≤ m.event_capacity)
     mid = owed_taken size net stores h k d.core.node store new node_k found new_up room m o owing fits new_kept_is takes_o
 
     abbrev hm : IsSwitch size m (set stores k new)
@@ -157,7 +157,7 @@ module _ {V : Type 0} (size : V → ℕ) (net : NetView V) (stores : List (Store
     kept_m = subst (λ (s : Status (StagedEvent V)). IsRecordOf core_m.0.node s new.kept) new_up (hm.each k core_m.0.node new node_m new_at).fits
 
     -- the history has room for the restart after the owed event
-    pub low_m : length m.history.events < MOST_EVENTS
+    pub low_m : length m.history.events < MAX_EVENTS
     low_m =
         let count = ap (λ (es : List (Event V)). length es) mid.2 in
         let more = length-append net.history.events (owed_events (event_owed o)) in
@@ -207,7 +207,7 @@ module _ {V : Type 0} (size : V → ℕ) (net : NetView V) (stores : List (Store
       }
 
       -- there is room for the posts of the restart and one event
-      pub room_m : (posts more : ℕ) → posts ≡ length (posts_owed (owed_in store.status)) → more ≡ length (posts_of d1.work) → HasRoom net (posts + more) 2 → HasRoom m (length (posts_of d2.work)) 1
+      pub room_m : (posts more : ℕ) → posts ≡ length (posts_owed (owed_in store.status)) → more ≡ length (posts_of d1.work) → HasSpareCapacity net (posts + more) 2 → HasSpareCapacity m (length (posts_of d2.work)) 1
       room_m posts more count all r =
           let p = ap (λ (x : Option (StagedEvent V)). length (posts_owed x)) owed_is in
           let l = ap (λ (ps : List (Packet V)). length ps) mid.3 in

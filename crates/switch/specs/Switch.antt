@@ -2,7 +2,7 @@
 -- Source: Lamport, Paxos Made Simple, section 3; that a node with a failed store is down is this project's choice.
 -- The code has a net and the keeps; by the invariant of the type, the state of the net is that of the world after the history.
 use Rattle.std.specs.Prelude.{◌≡◌, ◌⊎◌, ◌+◌, ◌≤◌, ◌<◌, ℕ, Bool, true, false, List, [], ◌∷◌, ◌++◌, Option, Some, None, Result, Ok, Err, length, slice_get, slice_set}
-use Rattle.switch.specs.Words.{Change, KeptPart, changed_by, new_kept, Node, kept_of, MOST_EVENTS, Event, Offer, Begin, Deliver, Restart, StepFault, Memory, Device, Down, EventsSpent, World, event_result, after, IsAfter, AreOfWorld, node_of, change_of, kept_part, StagedEvent, NetView, IsStaged, HasRoom, IsTaken, posts_of}
+use Rattle.switch.specs.Words.{Change, KeptPart, changed_by, new_kept, Node, kept_of, MAX_EVENTS, Event, Offer, Begin, Deliver, Restart, StepFault, Memory, Device, Down, EventsSpent, World, event_result, after, IsAfter, AreOfWorld, node_of, change_of, kept_part, StagedEvent, NetView, IsStaged, HasSpareCapacity, IsTaken, posts_of}
 use Rattle.switch.specs.NodeStore.{Status, up, down, StoreState, IsRecordOf, IsWithOrWithout}
 
 -- The switch as contracts see it.
@@ -167,8 +167,8 @@ RecoversAt size w old new k view e (Err fault) =
 
 -- the effect of a restart at a node that is down and owes e
 pub record Recovers {V : Type 0} (size : V → ℕ) (w : World V) (old new : SwitchView V) (k : ℕ) (view : StoreView V) (e : Option (Event V)) (result : Result ℕ StepFault) : Type 0 where
-  pub spent : MOST_EVENTS < length old.history + 2 → Refuses old new result EventsSpent
-  pub recovered : length old.history + 2 ≤ MOST_EVENTS → RecoversAt size w old new k view e result
+  pub spent : MAX_EVENTS < length old.history + 2 → Refuses old new result EventsSpent
+  pub recovered : length old.history + 2 ≤ MAX_EVENTS → RecoversAt size w old new k view e result
 
 -- Events in general.
 
@@ -195,7 +195,7 @@ pub record Plays {V : Type 0} (size : V → ℕ) (old new : SwitchView V) (e : E
 
 abbrev pub CanCommitOwed : {V : Type 0} → (V → ℕ) → NetView V → Option (StagedEvent V) → Type 0
 CanCommitOwed size net None = Unit {0}
-CanCommitOwed size net (Some staged) = IsStaged size net staged × HasRoom net (length (posts_of staged.work)) 1 × (length net.history.events < MOST_EVENTS)
+CanCommitOwed size net (Some staged) = IsStaged size net staged × HasSpareCapacity net (length (posts_of staged.work)) 1 × (length net.history.events < MAX_EVENTS)
 
 abbrev pub CommitsOwed : {V : Type 0} → NetView V → NetView V → Option (StagedEvent V) → Type 0
 CommitsOwed old new None = new ≡ old

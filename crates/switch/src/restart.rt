@@ -7,7 +7,7 @@ ghost use Rattle.switch.specs.NodeStore.{down};
 ghost use Rattle.switch.specs.Switch.{StoreView, is_down_at, world_of, IsEffectAtUpNode, Recovers, CanCommitOwed, CommitsOwed};
 
 use crate::switch::Switch;
-use net::{Event, MOST_EVENTS, Net, StagedEvent, StepFault};
+use net::{Event, MAX_EVENTS, Net, StagedEvent, StepFault};
 use synod::{Keep, Value};
 
 impl<V: Value, K: Keep<V>> Switch<V, K> {
@@ -28,19 +28,19 @@ impl<V: Value, K: Keep<V>> Switch<V, K> {
         requires { is_down_at self.old.stores (Some k) ≡ true }
         ensures { ForOk (world_of V.bytes self.old) (λ world. (view : StoreView V) → slice_get self.old.stores k ≡ Some view → (e : Option (Event V)) → view.status ≡ down e → Recovers V.bytes world self.old self.new k view e result) }
     {
-        if self.net.history().len() as u64 + 2 > MOST_EVENTS {
+        if self.net.history().len() as u64 + 2 > MAX_EVENTS {
             return Err(StepFault::EventsSpent);
         }
         let mut staged = self.net.stage(Event::Restart(k))?;
         let at = staged.at() as usize;
-        // No memory has room for so many packets.
-        let Some(room) = self.stores[at]
+        // No memory holds so many packets.
+        let Some(packets) = self.stores[at]
             .count_owed()
             .checked_add(staged.posts().len())
         else {
             return Err(StepFault::Memory);
         };
-        self.net.room(room, 2)?;
+        self.net.reserve(packets, 2)?;
         let (owed, record) = self.stores[at].bring_up()?;
         commit_owed(&mut self.net, owed);
         staged.load(record);

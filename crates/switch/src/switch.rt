@@ -4,14 +4,14 @@ ghost use Rattle.std.specs.List.{AllByRecursion};
 ghost use Rattle.std.specs.Result.{ForOk};
 ghost use Rattle.slots.specs.declared.slots.TheConstants.{SLOTS};
 ghost use Rattle.synod.specs.Record.{new_kept};
-ghost use Rattle.net.specs.declared.event.TheConstants.{MOST_EVENTS};
+ghost use Rattle.net.specs.declared.event.TheConstants.{MAX_EVENTS};
 ghost use Rattle.net.specs.declared.fault.StepFault.TheVariants.{NoNode, NoPacket, Memory};
 ghost use Rattle.net.specs.World.{log_after};
 ghost use Rattle.net.specs.KeptPart.{node_of};
 ghost use Rattle.switch.specs.Switch.{AreStores, is_down_at, new_views, new_stores, world_of};
 
 use crate::node_store::NodeStore;
-use net::{Event, MOST_EVENTS, Net, StepFault};
+use net::{Event, MAX_EVENTS, Net, StepFault};
 use std::alloc::{AllocError, Global};
 use std::marker::Model;
 use synod::{Keep, Packet, Value, Weights};
@@ -80,7 +80,7 @@ impl<V: Value, K: Keep<V>> Switch<V, K> {
     /// node; while the node is down, the record may also have the change whose store failed.
     pub fn history(&self) -> &[Event<V>]
         ensures history { result.now ≡ self.now.history }
-        ensures few { length result.now ≤ MOST_EVENTS }
+        ensures few { length result.now ≤ MAX_EVENTS }
         ensures taken { IsOk (world_of V.bytes self.now) }
         ensures stores { ForOk (world_of V.bytes self.now) (λ world. AreStores V.bytes world self.now.stores) }
     {
