@@ -43,7 +43,7 @@ impl<K: Keep<Carried>> SharedSwitch<K> {
     }
 
     /// Restarts the cell's node. Returns the hints of the `other_count` packets by which it asks the other nodes.
-    /// If the node was down, the packets of the event that it owed have no hint: they are lost.
+    /// If the node was down, the packets of its pending event have no hint: they are lost.
     ///
     /// Errors and cost: those of `cluster::restart_on`.
     pub fn restart(

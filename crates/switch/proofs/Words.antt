@@ -31,8 +31,8 @@ pub use Rattle.std.specs.Prelude.{IfErr, IsErrAnd, IsOkUnless, IsSome, OnErr, On
 pub use Rattle.std.specs.Result.{ForOk}
 pub use Rattle.std.specs.Vec.Iter.{into_iter_items}
 pub use Rattle.switch.specs.LogPrefixes.{IsLogPrefix, EventKeepsPrefixes, KeepsPrefixes}
-pub use Rattle.switch.specs.NodeStore.{Fails, IsRecordOf, IsWithOrWithout, Status, StoreState, change_owed, down, owed_in, posts_owed, up}
-pub use Rattle.switch.specs.Switch.{IsEffect, IsEffectAtDownNode, IsEffectAtUpNode, AreStores, CanCommitOwed, FailsAt, IsOwing, IsRecordIn, IsStore, IsSwitch, IsViewOf, Plays, Recovers, RecoversAt, StoreView, SwitchView, TakesAt, CommitsOwed, change_of_owed, owed_on_failure, event_owed, owed_events, is_down, is_down_at, is_down_view, new_stores, new_views, status_seen, view_of, views_of, with_store, world_of}
+pub use Rattle.switch.specs.NodeStore.{Fails, IsRecordOf, IsWithOrWithout, Status, StoreState, pending_change, down, pending_of, pending_posts, up}
+pub use Rattle.switch.specs.Switch.{IsEffect, IsEffectAtDownNode, IsEffectAtUpNode, AreStores, CanCommitPending, FailsAt, IsPendingStaged, IsRecordIn, IsStore, IsSwitch, IsViewOf, Plays, Recovers, RecoversAt, StoreView, SwitchView, TakesAt, CommitsPending, change_of_pending, pending_on_failure, pending_event, pending_events, is_down, is_down_at, is_down_view, new_stores, new_views, status_seen, view_of, views_of, with_store, world_of}
 pub use Rattle.synod.proofs.NodeInvariant.{all_append}
 pub use Rattle.synod.specs.Core.{Core}
 pub use Rattle.synod.specs.Node.{Node, StepResult, kept_of, new_node}

@@ -1,4 +1,4 @@
-use Rattle.switch.proofs.Words.{◌≡◌, ◌+◌, ℕ, List, length, ap, refl, sym, subst, ◌∙◌, arith, Event, History, Packet, StagedEvent, HasSpareCapacity, IsStaged, IsTaken, posts_of, StoreState, owed_in, posts_owed, staged_still, still_more}
+use Rattle.switch.proofs.Words.{◌≡◌, ◌+◌, ℕ, List, length, ap, refl, sym, subst, ◌∙◌, arith, Event, History, Packet, StagedEvent, HasSpareCapacity, IsStaged, IsTaken, posts_of, StoreState, pending_of, pending_posts, staged_still, still_more}
 use Rattle.switch.proofs.StoresLemmas.{same_at}
 use Rattle.switch.proofs.SwitchLemmas.{still_switch}
 use Rattle.switch.proofs.CallLemmas.{still_view}
@@ -44,47 +44,47 @@ index_mut-requires g c =
     let low = (in_stores g.V.Value.bytes _ _ c.stage.ensures.only_capacity c.self.inside.stores.items c.self.invariant _ c.self.view_is c.in_ok-staged.staged c.in_ok-staged.ensures.staged c.at-at.result c.at-at.ensures) in
     omega (arith, low, c.self.inside.stores.ok.0)
 
-pub invariant_of-self-in_err-owed : goal.invariant_of-self-in_err-owed
-invariant_of-self-in_err-owed g c =
-    stays_down g.V.Value.bytes c.reserve.new.self c.self.inside.stores.items (still_switch g.V.Value.bytes _ _ c.self.invariant c.reserve.new.self (still_more _ _ _ c.stage.ensures.only_capacity c.reserve.ensures.only_capacity)) _ (still_view _ _ c.self.inside.stores.items (still_more _ _ _ c.stage.ensures.only_capacity c.reserve.ensures.only_capacity) ∙ c.self.view_is) c.in_ok-staged.staged (staged_still g.V.Value.bytes _ _ c.in_ok-staged.staged c.reserve.ensures.only_capacity c.in_ok-staged.ensures.staged) c.args.k c.in_ok-staged.ensures.event c.in_ok-staged.ensures.kind c.at-at.result c.at-at.ensures c.index_mut.result.now c.index_mut.ensures.value (in_stores g.V.Value.bytes _ _ c.stage.ensures.only_capacity c.self.inside.stores.items c.self.invariant _ c.self.view_is c.in_ok-staged.staged c.in_ok-staged.ensures.staged c.at-at.result c.at-at.ensures) c.requires (let same = ap (λ (t : History g.row.V.Denot). length t.events) c.stage.ensures.only_capacity.history in let more = ap (λ (t : History g.row.V.Denot). length t.events) c.reserve.ensures.only_capacity.history in let few = ap (λ (es : List (Event g.row.V.Denot)). length es) c.history.ensures.events in omega (arith, same, more, few, c.if-history-gt-MAX_EVENTS.false)) c.bring_up.new.self c.in_err-owed.ensures.failed
+pub invariant_of-self-in_err-pending : goal.invariant_of-self-in_err-pending
+invariant_of-self-in_err-pending g c =
+    stays_down g.V.Value.bytes c.reserve.new.self c.self.inside.stores.items (still_switch g.V.Value.bytes _ _ c.self.invariant c.reserve.new.self (still_more _ _ _ c.stage.ensures.only_capacity c.reserve.ensures.only_capacity)) _ (still_view _ _ c.self.inside.stores.items (still_more _ _ _ c.stage.ensures.only_capacity c.reserve.ensures.only_capacity) ∙ c.self.view_is) c.in_ok-staged.staged (staged_still g.V.Value.bytes _ _ c.in_ok-staged.staged c.reserve.ensures.only_capacity c.in_ok-staged.ensures.staged) c.args.k c.in_ok-staged.ensures.event c.in_ok-staged.ensures.kind c.at-at.result c.at-at.ensures c.index_mut.result.now c.index_mut.ensures.value (in_stores g.V.Value.bytes _ _ c.stage.ensures.only_capacity c.self.inside.stores.items c.self.invariant _ c.self.view_is c.in_ok-staged.staged c.in_ok-staged.ensures.staged c.at-at.result c.at-at.ensures) c.requires (let same = ap (λ (t : History g.row.V.Denot). length t.events) c.stage.ensures.only_capacity.history in let more = ap (λ (t : History g.row.V.Denot). length t.events) c.reserve.ensures.only_capacity.history in let few = ap (λ (es : List (Event g.row.V.Denot)). length es) c.history.ensures.events in omega (arith, same, more, few, c.if-history-gt-MAX_EVENTS.false)) c.bring_up.new.self c.in_err-pending.ensures.failed
 
-pub returns-in_err-owed : goal.returns-in_err-owed
-returns-in_err-owed g c =
-    down_err g.V.Value.bytes _ _ _ _ (answers c.from_residual-in_err-owed.result _ c.from_residual-in_err-owed.ensures.1) c.args.k
-    (stays_acts g.V.Value.bytes c.reserve.new.self c.self.inside.stores.items (still_switch g.V.Value.bytes _ _ c.self.invariant c.reserve.new.self (still_more _ _ _ c.stage.ensures.only_capacity c.reserve.ensures.only_capacity)) _ (still_view _ _ c.self.inside.stores.items (still_more _ _ _ c.stage.ensures.only_capacity c.reserve.ensures.only_capacity) ∙ c.self.view_is) c.in_ok-staged.staged (staged_still g.V.Value.bytes _ _ c.in_ok-staged.staged c.reserve.ensures.only_capacity c.in_ok-staged.ensures.staged) c.args.k c.in_ok-staged.ensures.event c.in_ok-staged.ensures.kind c.at-at.result c.at-at.ensures c.index_mut.result.now c.index_mut.ensures.value (in_stores g.V.Value.bytes _ _ c.stage.ensures.only_capacity c.self.inside.stores.items c.self.invariant _ c.self.view_is c.in_ok-staged.staged c.in_ok-staged.ensures.staged c.at-at.result c.at-at.ensures) c.requires (let same = ap (λ (t : History g.row.V.Denot). length t.events) c.stage.ensures.only_capacity.history in let more = ap (λ (t : History g.row.V.Denot). length t.events) c.reserve.ensures.only_capacity.history in let few = ap (λ (es : List (Event g.row.V.Denot)). length es) c.history.ensures.events in omega (arith, same, more, few, c.if-history-gt-MAX_EVENTS.false)) c.bring_up.new.self c.in_err-owed.ensures.failed)
+pub returns-in_err-pending : goal.returns-in_err-pending
+returns-in_err-pending g c =
+    down_err g.V.Value.bytes _ _ _ _ (answers c.from_residual-in_err-pending.result _ c.from_residual-in_err-pending.ensures.1) c.args.k
+    (stays_acts g.V.Value.bytes c.reserve.new.self c.self.inside.stores.items (still_switch g.V.Value.bytes _ _ c.self.invariant c.reserve.new.self (still_more _ _ _ c.stage.ensures.only_capacity c.reserve.ensures.only_capacity)) _ (still_view _ _ c.self.inside.stores.items (still_more _ _ _ c.stage.ensures.only_capacity c.reserve.ensures.only_capacity) ∙ c.self.view_is) c.in_ok-staged.staged (staged_still g.V.Value.bytes _ _ c.in_ok-staged.staged c.reserve.ensures.only_capacity c.in_ok-staged.ensures.staged) c.args.k c.in_ok-staged.ensures.event c.in_ok-staged.ensures.kind c.at-at.result c.at-at.ensures c.index_mut.result.now c.index_mut.ensures.value (in_stores g.V.Value.bytes _ _ c.stage.ensures.only_capacity c.self.inside.stores.items c.self.invariant _ c.self.view_is c.in_ok-staged.staged c.in_ok-staged.ensures.staged c.at-at.result c.at-at.ensures) c.requires (let same = ap (λ (t : History g.row.V.Denot). length t.events) c.stage.ensures.only_capacity.history in let more = ap (λ (t : History g.row.V.Denot). length t.events) c.reserve.ensures.only_capacity.history in let few = ap (λ (es : List (Event g.row.V.Denot)). length es) c.history.ensures.events in omega (arith, same, more, few, c.if-history-gt-MAX_EVENTS.false)) c.bring_up.new.self c.in_err-pending.ensures.failed)
 
-pub commit_owed-requires : goal.commit_owed-requires
-commit_owed-requires g c =
+pub commit_pending-requires : goal.commit_pending-requires
+commit_pending-requires g c =
     let low = (in_stores g.V.Value.bytes _ _ c.stage.ensures.only_capacity c.self.inside.stores.items c.self.invariant _ c.self.view_is c.in_ok-staged.staged c.in_ok-staged.ensures.staged c.at-at.result c.at-at.ensures) in
     let same : c.index.result.now ≡ c.index_mut.result.now = same_at c.self.inside.stores.items c.at-at.result c.index.result.now c.index_mut.result.now low c.index.ensures c.index_mut.ensures.value in
-    let count : c.count_owed.result ≡ length (posts_owed (owed_in c.index_mut.result.now.status)) = c.count_owed.ensures ∙ ap (λ (s : StoreState g.row.V.Denot). length (posts_owed (owed_in s.status))) same in
+    let count : c.count_pending_posts.result ≡ length (pending_posts (pending_of c.index_mut.result.now.status)) = c.count_pending_posts.ensures ∙ ap (λ (s : StoreState g.row.V.Denot). length (pending_posts (pending_of s.status))) same in
     let all : length c.posts.result.now ≡ length (posts_of c.in_ok-staged.staged.work) = ap (λ (ps : List (Packet g.row.V.Denot)). length ps) c.posts.ensures in
-    let sum : c.in-Some.packets ≡ c.count_owed.result + length c.posts.result.now = c.in-Some.ensures.1 in
+    let sum : c.in-Some.packets ≡ c.count_pending_posts.result + length c.posts.result.now = c.in-Some.ensures.1 in
     let room = subst (λ (i : ℕ). HasSpareCapacity c.reserve.new.self i 2) sum c.in_ok-reserve.ensures.capacity in
-    can_commit_owed g.V.Value.bytes c.reserve.new.self c.self.inside.stores.items (still_switch g.V.Value.bytes _ _ c.self.invariant c.reserve.new.self (still_more _ _ _ c.stage.ensures.only_capacity c.reserve.ensures.only_capacity)) _ (still_view _ _ c.self.inside.stores.items (still_more _ _ _ c.stage.ensures.only_capacity c.reserve.ensures.only_capacity) ∙ c.self.view_is) c.in_ok-staged.staged (staged_still g.V.Value.bytes _ _ c.in_ok-staged.staged c.reserve.ensures.only_capacity c.in_ok-staged.ensures.staged) c.args.k c.in_ok-staged.ensures.event c.in_ok-staged.ensures.kind c.at-at.result c.at-at.ensures c.index_mut.result.now c.index_mut.ensures.value (in_stores g.V.Value.bytes _ _ c.stage.ensures.only_capacity c.self.inside.stores.items c.self.invariant _ c.self.view_is c.in_ok-staged.staged c.in_ok-staged.ensures.staged c.at-at.result c.at-at.ensures) c.requires (let same = ap (λ (t : History g.row.V.Denot). length t.events) c.stage.ensures.only_capacity.history in let more = ap (λ (t : History g.row.V.Denot). length t.events) c.reserve.ensures.only_capacity.history in let few = ap (λ (es : List (Event g.row.V.Denot)). length es) c.history.ensures.events in omega (arith, same, more, few, c.if-history-gt-MAX_EVENTS.false)) c.in_ok-owed.owed c.in_ok-owed.ensures.owed _ _ count room
+    can_commit_owed g.V.Value.bytes c.reserve.new.self c.self.inside.stores.items (still_switch g.V.Value.bytes _ _ c.self.invariant c.reserve.new.self (still_more _ _ _ c.stage.ensures.only_capacity c.reserve.ensures.only_capacity)) _ (still_view _ _ c.self.inside.stores.items (still_more _ _ _ c.stage.ensures.only_capacity c.reserve.ensures.only_capacity) ∙ c.self.view_is) c.in_ok-staged.staged (staged_still g.V.Value.bytes _ _ c.in_ok-staged.staged c.reserve.ensures.only_capacity c.in_ok-staged.ensures.staged) c.args.k c.in_ok-staged.ensures.event c.in_ok-staged.ensures.kind c.at-at.result c.at-at.ensures c.index_mut.result.now c.index_mut.ensures.value (in_stores g.V.Value.bytes _ _ c.stage.ensures.only_capacity c.self.inside.stores.items c.self.invariant _ c.self.view_is c.in_ok-staged.staged c.in_ok-staged.ensures.staged c.at-at.result c.at-at.ensures) c.requires (let same = ap (λ (t : History g.row.V.Denot). length t.events) c.stage.ensures.only_capacity.history in let more = ap (λ (t : History g.row.V.Denot). length t.events) c.reserve.ensures.only_capacity.history in let few = ap (λ (es : List (Event g.row.V.Denot)). length es) c.history.ensures.events in omega (arith, same, more, few, c.if-history-gt-MAX_EVENTS.false)) c.in_ok-pending.pending c.in_ok-pending.ensures.pending _ _ count room
 
 pub commit-requires-clause-staged : goal.commit-requires-clause-staged
 commit-requires-clause-staged g c =
-    subst (λ (x : StagedEvent g.row.V.Denot). IsStaged g.V.Value.bytes c.commit_owed.new.net x) (sym c.load.ensures) (staged_m g.V.Value.bytes c.reserve.new.self c.self.inside.stores.items (still_switch g.V.Value.bytes _ _ c.self.invariant c.reserve.new.self (still_more _ _ _ c.stage.ensures.only_capacity c.reserve.ensures.only_capacity)) _ (still_view _ _ c.self.inside.stores.items (still_more _ _ _ c.stage.ensures.only_capacity c.reserve.ensures.only_capacity) ∙ c.self.view_is) c.in_ok-staged.staged (staged_still g.V.Value.bytes _ _ c.in_ok-staged.staged c.reserve.ensures.only_capacity c.in_ok-staged.ensures.staged) c.args.k c.in_ok-staged.ensures.event c.in_ok-staged.ensures.kind c.at-at.result c.at-at.ensures c.index_mut.result.now c.index_mut.ensures.value (in_stores g.V.Value.bytes _ _ c.stage.ensures.only_capacity c.self.inside.stores.items c.self.invariant _ c.self.view_is c.in_ok-staged.staged c.in_ok-staged.ensures.staged c.at-at.result c.at-at.ensures) c.requires (let same = ap (λ (t : History g.row.V.Denot). length t.events) c.stage.ensures.only_capacity.history in let more = ap (λ (t : History g.row.V.Denot). length t.events) c.reserve.ensures.only_capacity.history in let few = ap (λ (es : List (Event g.row.V.Denot)). length es) c.history.ensures.events in omega (arith, same, more, few, c.if-history-gt-MAX_EVENTS.false)) c.bring_up.new.self c.in_ok-owed.ensures.up c.commit_owed.new.net c.in_ok-owed.owed c.in_ok-owed.ensures.owed c.commit_owed.ensures c.in_ok-owed.record.kept c.in_ok-owed.ensures.loaded)
+    subst (λ (x : StagedEvent g.row.V.Denot). IsStaged g.V.Value.bytes c.commit_pending.new.net x) (sym c.load.ensures) (staged_m g.V.Value.bytes c.reserve.new.self c.self.inside.stores.items (still_switch g.V.Value.bytes _ _ c.self.invariant c.reserve.new.self (still_more _ _ _ c.stage.ensures.only_capacity c.reserve.ensures.only_capacity)) _ (still_view _ _ c.self.inside.stores.items (still_more _ _ _ c.stage.ensures.only_capacity c.reserve.ensures.only_capacity) ∙ c.self.view_is) c.in_ok-staged.staged (staged_still g.V.Value.bytes _ _ c.in_ok-staged.staged c.reserve.ensures.only_capacity c.in_ok-staged.ensures.staged) c.args.k c.in_ok-staged.ensures.event c.in_ok-staged.ensures.kind c.at-at.result c.at-at.ensures c.index_mut.result.now c.index_mut.ensures.value (in_stores g.V.Value.bytes _ _ c.stage.ensures.only_capacity c.self.inside.stores.items c.self.invariant _ c.self.view_is c.in_ok-staged.staged c.in_ok-staged.ensures.staged c.at-at.result c.at-at.ensures) c.requires (let same = ap (λ (t : History g.row.V.Denot). length t.events) c.stage.ensures.only_capacity.history in let more = ap (λ (t : History g.row.V.Denot). length t.events) c.reserve.ensures.only_capacity.history in let few = ap (λ (es : List (Event g.row.V.Denot)). length es) c.history.ensures.events in omega (arith, same, more, few, c.if-history-gt-MAX_EVENTS.false)) c.bring_up.new.self c.in_ok-pending.ensures.up c.commit_pending.new.net c.in_ok-pending.pending c.in_ok-pending.ensures.pending c.commit_pending.ensures c.in_ok-pending.record.kept c.in_ok-pending.ensures.loaded)
 
 pub commit-requires-clause-capacity : goal.commit-requires-clause-capacity
 commit-requires-clause-capacity g c =
     let low = (in_stores g.V.Value.bytes _ _ c.stage.ensures.only_capacity c.self.inside.stores.items c.self.invariant _ c.self.view_is c.in_ok-staged.staged c.in_ok-staged.ensures.staged c.at-at.result c.at-at.ensures) in
     let same : c.index.result.now ≡ c.index_mut.result.now = same_at c.self.inside.stores.items c.at-at.result c.index.result.now c.index_mut.result.now low c.index.ensures c.index_mut.ensures.value in
-    let count : c.count_owed.result ≡ length (posts_owed (owed_in c.index_mut.result.now.status)) = c.count_owed.ensures ∙ ap (λ (s : StoreState g.row.V.Denot). length (posts_owed (owed_in s.status))) same in
+    let count : c.count_pending_posts.result ≡ length (pending_posts (pending_of c.index_mut.result.now.status)) = c.count_pending_posts.ensures ∙ ap (λ (s : StoreState g.row.V.Denot). length (pending_posts (pending_of s.status))) same in
     let all : length c.posts.result.now ≡ length (posts_of c.in_ok-staged.staged.work) = ap (λ (ps : List (Packet g.row.V.Denot)). length ps) c.posts.ensures in
-    let sum : c.in-Some.packets ≡ c.count_owed.result + length c.posts.result.now = c.in-Some.ensures.1 in
+    let sum : c.in-Some.packets ≡ c.count_pending_posts.result + length c.posts.result.now = c.in-Some.ensures.1 in
     let room = subst (λ (i : ℕ). HasSpareCapacity c.reserve.new.self i 2) sum c.in_ok-reserve.ensures.capacity in
-    subst (λ (x : StagedEvent g.row.V.Denot). HasSpareCapacity c.commit_owed.new.net (length (posts_of x.work)) 1) (sym c.load.ensures) (room_m g.V.Value.bytes c.reserve.new.self c.self.inside.stores.items (still_switch g.V.Value.bytes _ _ c.self.invariant c.reserve.new.self (still_more _ _ _ c.stage.ensures.only_capacity c.reserve.ensures.only_capacity)) _ (still_view _ _ c.self.inside.stores.items (still_more _ _ _ c.stage.ensures.only_capacity c.reserve.ensures.only_capacity) ∙ c.self.view_is) c.in_ok-staged.staged (staged_still g.V.Value.bytes _ _ c.in_ok-staged.staged c.reserve.ensures.only_capacity c.in_ok-staged.ensures.staged) c.args.k c.in_ok-staged.ensures.event c.in_ok-staged.ensures.kind c.at-at.result c.at-at.ensures c.index_mut.result.now c.index_mut.ensures.value (in_stores g.V.Value.bytes _ _ c.stage.ensures.only_capacity c.self.inside.stores.items c.self.invariant _ c.self.view_is c.in_ok-staged.staged c.in_ok-staged.ensures.staged c.at-at.result c.at-at.ensures) c.requires (let same = ap (λ (t : History g.row.V.Denot). length t.events) c.stage.ensures.only_capacity.history in let more = ap (λ (t : History g.row.V.Denot). length t.events) c.reserve.ensures.only_capacity.history in let few = ap (λ (es : List (Event g.row.V.Denot)). length es) c.history.ensures.events in omega (arith, same, more, few, c.if-history-gt-MAX_EVENTS.false)) c.bring_up.new.self c.in_ok-owed.ensures.up c.commit_owed.new.net c.in_ok-owed.owed c.in_ok-owed.ensures.owed c.commit_owed.ensures c.in_ok-owed.record.kept c.in_ok-owed.ensures.loaded _ _ count all room)
+    subst (λ (x : StagedEvent g.row.V.Denot). HasSpareCapacity c.commit_pending.new.net (length (posts_of x.work)) 1) (sym c.load.ensures) (room_m g.V.Value.bytes c.reserve.new.self c.self.inside.stores.items (still_switch g.V.Value.bytes _ _ c.self.invariant c.reserve.new.self (still_more _ _ _ c.stage.ensures.only_capacity c.reserve.ensures.only_capacity)) _ (still_view _ _ c.self.inside.stores.items (still_more _ _ _ c.stage.ensures.only_capacity c.reserve.ensures.only_capacity) ∙ c.self.view_is) c.in_ok-staged.staged (staged_still g.V.Value.bytes _ _ c.in_ok-staged.staged c.reserve.ensures.only_capacity c.in_ok-staged.ensures.staged) c.args.k c.in_ok-staged.ensures.event c.in_ok-staged.ensures.kind c.at-at.result c.at-at.ensures c.index_mut.result.now c.index_mut.ensures.value (in_stores g.V.Value.bytes _ _ c.stage.ensures.only_capacity c.self.inside.stores.items c.self.invariant _ c.self.view_is c.in_ok-staged.staged c.in_ok-staged.ensures.staged c.at-at.result c.at-at.ensures) c.requires (let same = ap (λ (t : History g.row.V.Denot). length t.events) c.stage.ensures.only_capacity.history in let more = ap (λ (t : History g.row.V.Denot). length t.events) c.reserve.ensures.only_capacity.history in let few = ap (λ (es : List (Event g.row.V.Denot)). length es) c.history.ensures.events in omega (arith, same, more, few, c.if-history-gt-MAX_EVENTS.false)) c.bring_up.new.self c.in_ok-pending.ensures.up c.commit_pending.new.net c.in_ok-pending.pending c.in_ok-pending.ensures.pending c.commit_pending.ensures c.in_ok-pending.record.kept c.in_ok-pending.ensures.loaded _ _ count all room)
 
 pub commit-requires-clause-few : goal.commit-requires-clause-few
 commit-requires-clause-few g c =
-    low_m g.V.Value.bytes c.reserve.new.self c.self.inside.stores.items (still_switch g.V.Value.bytes _ _ c.self.invariant c.reserve.new.self (still_more _ _ _ c.stage.ensures.only_capacity c.reserve.ensures.only_capacity)) _ (still_view _ _ c.self.inside.stores.items (still_more _ _ _ c.stage.ensures.only_capacity c.reserve.ensures.only_capacity) ∙ c.self.view_is) c.in_ok-staged.staged (staged_still g.V.Value.bytes _ _ c.in_ok-staged.staged c.reserve.ensures.only_capacity c.in_ok-staged.ensures.staged) c.args.k c.in_ok-staged.ensures.event c.in_ok-staged.ensures.kind c.at-at.result c.at-at.ensures c.index_mut.result.now c.index_mut.ensures.value (in_stores g.V.Value.bytes _ _ c.stage.ensures.only_capacity c.self.inside.stores.items c.self.invariant _ c.self.view_is c.in_ok-staged.staged c.in_ok-staged.ensures.staged c.at-at.result c.at-at.ensures) c.requires (let same = ap (λ (t : History g.row.V.Denot). length t.events) c.stage.ensures.only_capacity.history in let more = ap (λ (t : History g.row.V.Denot). length t.events) c.reserve.ensures.only_capacity.history in let few = ap (λ (es : List (Event g.row.V.Denot)). length es) c.history.ensures.events in omega (arith, same, more, few, c.if-history-gt-MAX_EVENTS.false)) c.bring_up.new.self c.in_ok-owed.ensures.up c.commit_owed.new.net c.in_ok-owed.owed c.in_ok-owed.ensures.owed c.commit_owed.ensures
+    low_m g.V.Value.bytes c.reserve.new.self c.self.inside.stores.items (still_switch g.V.Value.bytes _ _ c.self.invariant c.reserve.new.self (still_more _ _ _ c.stage.ensures.only_capacity c.reserve.ensures.only_capacity)) _ (still_view _ _ c.self.inside.stores.items (still_more _ _ _ c.stage.ensures.only_capacity c.reserve.ensures.only_capacity) ∙ c.self.view_is) c.in_ok-staged.staged (staged_still g.V.Value.bytes _ _ c.in_ok-staged.staged c.reserve.ensures.only_capacity c.in_ok-staged.ensures.staged) c.args.k c.in_ok-staged.ensures.event c.in_ok-staged.ensures.kind c.at-at.result c.at-at.ensures c.index_mut.result.now c.index_mut.ensures.value (in_stores g.V.Value.bytes _ _ c.stage.ensures.only_capacity c.self.inside.stores.items c.self.invariant _ c.self.view_is c.in_ok-staged.staged c.in_ok-staged.ensures.staged c.at-at.result c.at-at.ensures) c.requires (let same = ap (λ (t : History g.row.V.Denot). length t.events) c.stage.ensures.only_capacity.history in let more = ap (λ (t : History g.row.V.Denot). length t.events) c.reserve.ensures.only_capacity.history in let few = ap (λ (es : List (Event g.row.V.Denot)). length es) c.history.ensures.events in omega (arith, same, more, few, c.if-history-gt-MAX_EVENTS.false)) c.bring_up.new.self c.in_ok-pending.ensures.up c.commit_pending.new.net c.in_ok-pending.pending c.in_ok-pending.ensures.pending c.commit_pending.ensures
 
 pub invariant_of-self-2 : goal.invariant_of-self-2
 invariant_of-self-2 g c =
-    recovered g.V.Value.bytes c.reserve.new.self c.self.inside.stores.items (still_switch g.V.Value.bytes _ _ c.self.invariant c.reserve.new.self (still_more _ _ _ c.stage.ensures.only_capacity c.reserve.ensures.only_capacity)) _ (still_view _ _ c.self.inside.stores.items (still_more _ _ _ c.stage.ensures.only_capacity c.reserve.ensures.only_capacity) ∙ c.self.view_is) c.in_ok-staged.staged (staged_still g.V.Value.bytes _ _ c.in_ok-staged.staged c.reserve.ensures.only_capacity c.in_ok-staged.ensures.staged) c.args.k c.in_ok-staged.ensures.event c.in_ok-staged.ensures.kind c.at-at.result c.at-at.ensures c.index_mut.result.now c.index_mut.ensures.value (in_stores g.V.Value.bytes _ _ c.stage.ensures.only_capacity c.self.inside.stores.items c.self.invariant _ c.self.view_is c.in_ok-staged.staged c.in_ok-staged.ensures.staged c.at-at.result c.at-at.ensures) c.requires (let same = ap (λ (t : History g.row.V.Denot). length t.events) c.stage.ensures.only_capacity.history in let more = ap (λ (t : History g.row.V.Denot). length t.events) c.reserve.ensures.only_capacity.history in let few = ap (λ (es : List (Event g.row.V.Denot)). length es) c.history.ensures.events in omega (arith, same, more, few, c.if-history-gt-MAX_EVENTS.false)) c.bring_up.new.self c.in_ok-owed.ensures.up c.commit_owed.new.net c.in_ok-owed.owed c.in_ok-owed.ensures.owed c.commit_owed.ensures c.in_ok-owed.record.kept c.in_ok-owed.ensures.loaded c.commit.new.self (subst (λ (x : StagedEvent g.row.V.Denot). IsTaken c.commit_owed.new.net c.commit.new.self x) c.load.ensures c.commit.ensures.taken)
+    recovered g.V.Value.bytes c.reserve.new.self c.self.inside.stores.items (still_switch g.V.Value.bytes _ _ c.self.invariant c.reserve.new.self (still_more _ _ _ c.stage.ensures.only_capacity c.reserve.ensures.only_capacity)) _ (still_view _ _ c.self.inside.stores.items (still_more _ _ _ c.stage.ensures.only_capacity c.reserve.ensures.only_capacity) ∙ c.self.view_is) c.in_ok-staged.staged (staged_still g.V.Value.bytes _ _ c.in_ok-staged.staged c.reserve.ensures.only_capacity c.in_ok-staged.ensures.staged) c.args.k c.in_ok-staged.ensures.event c.in_ok-staged.ensures.kind c.at-at.result c.at-at.ensures c.index_mut.result.now c.index_mut.ensures.value (in_stores g.V.Value.bytes _ _ c.stage.ensures.only_capacity c.self.inside.stores.items c.self.invariant _ c.self.view_is c.in_ok-staged.staged c.in_ok-staged.ensures.staged c.at-at.result c.at-at.ensures) c.requires (let same = ap (λ (t : History g.row.V.Denot). length t.events) c.stage.ensures.only_capacity.history in let more = ap (λ (t : History g.row.V.Denot). length t.events) c.reserve.ensures.only_capacity.history in let few = ap (λ (es : List (Event g.row.V.Denot)). length es) c.history.ensures.events in omega (arith, same, more, few, c.if-history-gt-MAX_EVENTS.false)) c.bring_up.new.self c.in_ok-pending.ensures.up c.commit_pending.new.net c.in_ok-pending.pending c.in_ok-pending.ensures.pending c.commit_pending.ensures c.in_ok-pending.record.kept c.in_ok-pending.ensures.loaded c.commit.new.self (subst (λ (x : StagedEvent g.row.V.Denot). IsTaken c.commit_pending.new.net c.commit.new.self x) c.load.ensures c.commit.ensures.taken)
 
 pub returns : goal.returns
 returns g c =
-    recovered_acts g.V.Value.bytes c.reserve.new.self c.self.inside.stores.items (still_switch g.V.Value.bytes _ _ c.self.invariant c.reserve.new.self (still_more _ _ _ c.stage.ensures.only_capacity c.reserve.ensures.only_capacity)) _ (still_view _ _ c.self.inside.stores.items (still_more _ _ _ c.stage.ensures.only_capacity c.reserve.ensures.only_capacity) ∙ c.self.view_is) c.in_ok-staged.staged (staged_still g.V.Value.bytes _ _ c.in_ok-staged.staged c.reserve.ensures.only_capacity c.in_ok-staged.ensures.staged) c.args.k c.in_ok-staged.ensures.event c.in_ok-staged.ensures.kind c.at-at.result c.at-at.ensures c.index_mut.result.now c.index_mut.ensures.value (in_stores g.V.Value.bytes _ _ c.stage.ensures.only_capacity c.self.inside.stores.items c.self.invariant _ c.self.view_is c.in_ok-staged.staged c.in_ok-staged.ensures.staged c.at-at.result c.at-at.ensures) c.requires (let same = ap (λ (t : History g.row.V.Denot). length t.events) c.stage.ensures.only_capacity.history in let more = ap (λ (t : History g.row.V.Denot). length t.events) c.reserve.ensures.only_capacity.history in let few = ap (λ (es : List (Event g.row.V.Denot)). length es) c.history.ensures.events in omega (arith, same, more, few, c.if-history-gt-MAX_EVENTS.false)) c.bring_up.new.self c.in_ok-owed.ensures.up c.commit_owed.new.net c.in_ok-owed.owed c.in_ok-owed.ensures.owed c.commit_owed.ensures c.in_ok-owed.record.kept c.in_ok-owed.ensures.loaded c.commit.new.self (subst (λ (x : StagedEvent g.row.V.Denot). IsTaken c.commit_owed.new.net c.commit.new.self x) c.load.ensures c.commit.ensures.taken) c.commit.result c.commit.ensures.posted
+    recovered_acts g.V.Value.bytes c.reserve.new.self c.self.inside.stores.items (still_switch g.V.Value.bytes _ _ c.self.invariant c.reserve.new.self (still_more _ _ _ c.stage.ensures.only_capacity c.reserve.ensures.only_capacity)) _ (still_view _ _ c.self.inside.stores.items (still_more _ _ _ c.stage.ensures.only_capacity c.reserve.ensures.only_capacity) ∙ c.self.view_is) c.in_ok-staged.staged (staged_still g.V.Value.bytes _ _ c.in_ok-staged.staged c.reserve.ensures.only_capacity c.in_ok-staged.ensures.staged) c.args.k c.in_ok-staged.ensures.event c.in_ok-staged.ensures.kind c.at-at.result c.at-at.ensures c.index_mut.result.now c.index_mut.ensures.value (in_stores g.V.Value.bytes _ _ c.stage.ensures.only_capacity c.self.inside.stores.items c.self.invariant _ c.self.view_is c.in_ok-staged.staged c.in_ok-staged.ensures.staged c.at-at.result c.at-at.ensures) c.requires (let same = ap (λ (t : History g.row.V.Denot). length t.events) c.stage.ensures.only_capacity.history in let more = ap (λ (t : History g.row.V.Denot). length t.events) c.reserve.ensures.only_capacity.history in let few = ap (λ (es : List (Event g.row.V.Denot)). length es) c.history.ensures.events in omega (arith, same, more, few, c.if-history-gt-MAX_EVENTS.false)) c.bring_up.new.self c.in_ok-pending.ensures.up c.commit_pending.new.net c.in_ok-pending.pending c.in_ok-pending.ensures.pending c.commit_pending.ensures c.in_ok-pending.record.kept c.in_ok-pending.ensures.loaded c.commit.new.self (subst (λ (x : StagedEvent g.row.V.Denot). IsTaken c.commit_pending.new.net c.commit.new.self x) c.load.ensures c.commit.ensures.taken) c.commit.result c.commit.ensures.posted

@@ -19,12 +19,12 @@ index_mut-requires g c =
 
 pub invariant_of-self-in_err-staged-2 : goal.invariant_of-self-in_err-staged-2
 invariant_of-self-in_err-staged-2 g c = (call_failed g.V.Value.bytes _ _ c.stage.ensures.only_capacity c.self.inside.stores.items c.self.invariant _ c.self.view_is c.in_ok-staged.staged c.in_ok-staged.ensures.staged c.at-at.result c.at-at.ensures c.args.event c.in_ok-staged.ensures.event c.in_ok-staged.ensures.few c.index_mut.result.now c.index_mut.ensures.value c.requires.up
-    (Some c.in_ok-staged.staged) _ refl refl (ap (λ (e : Event g.row.V.Denot). let o : Option (Event g.row.V.Denot) = Some e in o) c.in_ok-staged.ensures.event ∙ sym c.requires.owed) (refl, c.in_ok-staged.ensures.staged) c.store.new.self c.in_err-staged-2.ensures.failed).0
+    (Some c.in_ok-staged.staged) _ refl refl (ap (λ (e : Event g.row.V.Denot). let o : Option (Event g.row.V.Denot) = Some e in o) c.in_ok-staged.ensures.event ∙ sym c.requires.pending) (refl, c.in_ok-staged.ensures.staged) c.store.new.self c.in_err-staged-2.ensures.failed).0
 
 pub returns-in_err-staged-2 : goal.returns-in_err-staged-2
 returns-in_err-staged-2 g c = up_err g.V.Value.bytes _ _ _ _ (answers c.from_residual-in_err-staged-2.result _ c.from_residual-in_err-staged-2.ensures.1) c.args.event
     ((call_failed g.V.Value.bytes _ _ c.stage.ensures.only_capacity c.self.inside.stores.items c.self.invariant _ c.self.view_is c.in_ok-staged.staged c.in_ok-staged.ensures.staged c.at-at.result c.at-at.ensures c.args.event c.in_ok-staged.ensures.event c.in_ok-staged.ensures.few c.index_mut.result.now c.index_mut.ensures.value c.requires.up
-    (Some c.in_ok-staged.staged) _ refl refl (ap (λ (e : Event g.row.V.Denot). let o : Option (Event g.row.V.Denot) = Some e in o) c.in_ok-staged.ensures.event ∙ sym c.requires.owed) (refl, c.in_ok-staged.ensures.staged) c.store.new.self c.in_err-staged-2.ensures.failed).1)
+    (Some c.in_ok-staged.staged) _ refl refl (ap (λ (e : Event g.row.V.Denot). let o : Option (Event g.row.V.Denot) = Some e in o) c.in_ok-staged.ensures.event ∙ sym c.requires.pending) (refl, c.in_ok-staged.ensures.staged) c.store.new.self c.in_err-staged-2.ensures.failed).1)
 
 pub invariant_of-self-2 : goal.invariant_of-self-2
 invariant_of-self-2 g c = (call_played g.V.Value.bytes _ _ c.stage.ensures.only_capacity c.self.inside.stores.items c.self.invariant _ c.self.view_is c.in_ok-staged.staged c.in_ok-staged.ensures.staged c.at-at.result c.at-at.ensures c.args.event c.in_ok-staged.ensures.event c.in_ok-staged.ensures.few c.index_mut.result.now c.index_mut.ensures.value c.requires.up
