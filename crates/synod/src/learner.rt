@@ -38,7 +38,7 @@ pub enum LearnerUpdate<V> {
 /// values.
 #[derive(Drop)]
 pub struct Learner<V> {
-    first: Slots<Tally>,
+    first_tallies: Slots<Tally>,
     other_tallies: OtherTallies,
     learned: Slots<Option<V>>,
 }
@@ -50,13 +50,13 @@ impl<V> Model for Learner<V> {
     ghost Value = { LearnerView V };
 
     ghost view = { λ l. record {
-      state = record { tallies = tallies_from 0 l.first.entries (other_tallies_at l.other_tallies.votes); learned = l.learned.entries };
-      tallies_capacity = l.first.capacity;
+      state = record { tallies = tallies_from 0 l.first_tallies.entries (other_tallies_at l.other_tallies.votes); learned = l.learned.entries };
+      tallies_capacity = l.first_tallies.capacity;
       other_tallies_capacity = l.other_tallies.capacity;
       learned_capacity = l.learned.capacity;
     } };
 
-    ghost invariant = { λ l. IsLearner l.first.entries (other_tallies_at l.other_tallies.votes) l.learned.entries };
+    ghost invariant = { λ l. IsLearner l.first_tallies.entries (other_tallies_at l.other_tallies.votes) l.learned.entries };
 }
 
 impl<V: Drop> Learner<V> {
@@ -70,7 +70,7 @@ impl<V: Drop> Learner<V> {
         ensures learned { result.state.learned ≡ [] }
     {
         Learner {
-            first: Slots::new(alloc),
+            first_tallies: Slots::new(alloc),
             other_tallies: OtherTallies::new(alloc),
             learned: Slots::new(alloc),
         }
@@ -105,7 +105,7 @@ impl<V: Drop> Learner<V> {
         requires { node < MAX_NODES }
         ensures { (k : ℕ) → slice_index_or result k false ≡ has_voter (counted self.now.state.tallies slot ballot node) slot ballot k }
     {
-        match self.first.get(slot) {
+        match self.first_tallies.get(slot) {
             Some(first) => {
                 if first.ballot.is_same(ballot) {
                     first.with(node).voters
@@ -128,7 +128,7 @@ impl<V: Drop> Learner<V> {
         ensures other_tallies_capacity { self.old.other_tallies_capacity ≤ self.new.other_tallies_capacity }
         ensures learned_capacity { self.old.learned_capacity ≤ self.new.learned_capacity }
     {
-        self.first.room(slot)?;
+        self.first_tallies.room(slot)?;
         self.other_tallies.reserve()?;
         self.learned.room(slot)
     }
@@ -143,13 +143,13 @@ impl<V: Drop> Learner<V> {
         ensures learned { self.new.state.learned ≡ self.old.state.learned }
         ensures capacity { self.new.learned_capacity ≡ self.old.learned_capacity }
     {
-        let Some(first) = self.first.get(slot) else {
-            self.first.put(slot, Tally::one(ballot, node));
+        let Some(first) = self.first_tallies.get(slot) else {
+            self.first_tallies.put(slot, Tally::one(ballot, node));
             return;
         };
         if first.ballot.is_same(ballot) {
             let first = first.with(node);
-            self.first.put(slot, first);
+            self.first_tallies.put(slot, first);
         } else {
             self.other_tallies.count(slot, ballot, node);
         }
