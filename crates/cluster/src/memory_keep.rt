@@ -2,7 +2,7 @@
 ghost use Rattle.std.specs.Prelude.{◌≡◌, ◌<◌, Ok, Err, Some, None, OnOk, IfOk};
 ghost use Rattle.slots.specs.FiniteMap.{entry_at, trimmed};
 ghost use Rattle.slots.specs.declared.slots.TheConstants.{SLOTS};
-ghost use Rattle.synod.specs.Record.{new_kept, HasRoomFor};
+ghost use Rattle.synod.specs.Record.{new_kept, HasCapacityFor};
 ghost use Rattle.cluster.specs.CopiedSlots.{with_copied_slot};
 
 use scope::Steps;
@@ -68,7 +68,7 @@ fn ready_change<V: Value>(
     change: &Change<V>,
 ) -> Result<Change<V>, AllocError>
     ensures change { IfOk result (λ copy. copy ≡ change.now) }
-    ensures room { OnOk result (HasRoomFor stored.new.room (Some change.now)) }
+    ensures room { OnOk result (HasCapacityFor stored.new.capacity (Some change.now)) }
     ensures kept { stored.new.kept ≡ stored.old.kept }
 {
     match change {
@@ -78,7 +78,7 @@ fn ready_change<V: Value>(
             if *slot >= SLOTS {
                 return Err(AllocError);
             }
-            stored.room(*slot)?;
+            stored.reserve(*slot)?;
             Ok(Change::Entry {
                 slot: *slot,
                 entry: copy_entry(entry)?,
@@ -116,7 +116,7 @@ fn copy_slot<V: Value>(
         return Ok(());
     };
     let entry = copy_entry(entry)?;
-    copy.room(slot)?;
+    copy.reserve(slot)?;
     copy.apply_change(Some(Change::Entry { slot, entry }));
     Ok(())
 }

@@ -15,7 +15,7 @@ use finding::SearchQuery;
 use numbers::parse_number;
 use patterns::{BadPattern, Pattern, SearchWords};
 use std::alloc::{AllocError, Global};
-use synod::{MOST_NODES, Weights};
+use synod::{MAX_NODES, Weights};
 
 /// Parses the words of a command line, without the program's own name.
 ///
@@ -168,11 +168,11 @@ fn proof_form(options: &ArgMatches) -> ProofForm {
 
 /// Returns the count of nodes, which is 1 to 9.
 fn node_count(alloc: Global, options: &ArgMatches) -> Result<u8, CommandLineFault>
-    ensures { IfOk result (λ nodes. (1 ≤ nodes) × (nodes ≤ MOST_NODES)) }
+    ensures { IfOk result (λ nodes. (1 ≤ nodes) × (nodes ≤ MAX_NODES)) }
 {
     if let Some(number) = number(options, "nodes")
         && 1 <= number
-        && number <= MOST_NODES as u64
+        && number <= MAX_NODES as u64
     {
         return Ok(number as u8);
     }
@@ -205,7 +205,7 @@ pub(crate) fn number(options: &ArgMatches, name: &str) -> Option<u64> {
 
 /// Returns the weights of `nodes` nodes. Without the option each node has weight 1.
 fn weights(alloc: Global, options: &ArgMatches, nodes: u8) -> Result<Weights, CommandLineFault>
-    requires { (1 ≤ nodes) × (nodes ≤ MOST_NODES) }
+    requires { (1 ≤ nodes) × (nodes ≤ MAX_NODES) }
 {
     let parsed = match options.get_str("weights") {
         Some(text) => parse_weights(text.as_bytes(), nodes),

@@ -4,7 +4,7 @@ ghost use Rattle.commands.specs.declared.weights.TheConstants.{MOST_WORKERS};
 
 use crate::pieces::split_first_piece;
 use numbers::parse_number;
-use synod::{MOST_NODES, Weights};
+use synod::{MAX_NODES, Weights};
 
 /// The greatest count of workers.
 pub const MOST_WORKERS: usize = 16;
@@ -36,9 +36,9 @@ impl WorkerCount {
 /// Parses decimal numbers that are joined by commas. Returns `None` if they are not the weights of
 /// `nodes` nodes.
 pub(crate) fn parse_weights(text: &[u8], nodes: u8) -> Option<Weights>
-    requires { nodes ≤ MOST_NODES }
+    requires { nodes ≤ MAX_NODES }
 {
-    let mut weights = [0u8; MOST_NODES];
+    let mut weights = [0u8; MAX_NODES];
     let mut rest = Some(text);
     for index in 0..nodes as usize {
         let (word, left) = split_first_piece(rest?, b',');

@@ -1,5 +1,5 @@
 -- A Prepare and an Accept preserve the invariant: a promise reports the acceptor's votes truthfully, and a vote respects the acceptor's promises.
-use Rattle.net.proofs.Words.{◌≡◌, ℕ, suc, ◌+◌, ◌≤◌, Bool, true, false, List, [], ◌∷◌, length, Option, Some, inl, inr, refl, ap, sym, ◌∙◌, subst, arith, if◌then◌else◌, slice_get, AllByRecursion, entry_at, put_at, In, put_either, put_same, Ballot, SlotReport, Accepted, AcceptedEntry, is_below, pages_of, Node, reports_from, promise_pages, promises, refuses, on_prepare, accepted_entry, accepts_value, on_accept, Under, Upto, upto_self, upto_upto, upto_under, under_is_upto, not_both, under_true, under_false, reports-held, held-reported, Vote, vote}
+use Rattle.net.proofs.Words.{◌≡◌, ℕ, suc, ◌+◌, ◌≤◌, Bool, true, false, List, [], ◌∷◌, length, Option, Some, inl, inr, refl, ap, sym, ◌∙◌, subst, arith, if◌then◌else◌, slice_get, AllByRecursion, entry_at, put_at, In, put_either, put_same, Ballot, SlotReport, Accepted, AcceptedEntry, is_below, pages_of, Node, reports_from, promise_pages, promises, sends_nack, on_prepare, accepted_entry, accepts_value, on_accept, Under, Upto, upto_self, upto_upto, upto_under, under_is_upto, not_both, under_true, under_false, reports-held, held-reported, Vote, vote}
 use Rattle.net.proofs.Ledger.{begun_as, Promised, proposal, Ledger, HasHigher, IsBacked, OnePromise, IsSound}
 use Rattle.net.proofs.LedgerGrows.{AllPromisedUpto, Grows, with_promise, with_vote, grows-with_promise, grows-with_vote}
 use Rattle.net.proofs.LedgerSteps.{promised_sound, voted_sound}
@@ -91,7 +91,7 @@ module _ {V : Type 0} {offers : List V} {l : Ledger V} (n : Node V) (sound : IsS
 
   -- a Prepare is answered by a promise or a refusal, depending on the test, and both preserve the invariant
   prepare_either : (to : ℕ) (b : Ballot) (first : ℕ) → In (begun_as b first) l.begun → (t : Bool) → is_below n.promise b ≡ t
-      → Continues n.weights offers n.me l (if t then promises n to b first else refuses n to b)
+      → Continues n.weights offers n.me l (if t then promises n to b first else sends_nack n to b)
   prepare_either to b first begun true test = promises_continue b first (under_true _ _ test) to begun
   prepare_either to b first begun false test = same_ledger sound holds (tt, tt) refl
 
@@ -146,7 +146,7 @@ module _ {V : Type 0} {offers : List V} {l : Ledger V} (n : Node V) (sound : IsS
 
   -- an Accept is refused or accepted, depending on the test, and both preserve the invariant
   accept_either : (to : ℕ) (b : Ballot) (s : ℕ) (v : Option V) → In (proposal b s v) l.proposals → (t : Bool) → is_below b n.promise ≡ t
-      → Continues n.weights offers n.me l (if t then refuses n to b else accepts_value n b s v)
+      → Continues n.weights offers n.me l (if t then sends_nack n to b else accepts_value n b s v)
   accept_either to b s v proposed true test = same_ledger sound holds (tt, tt) refl
   accept_either to b s v proposed false test = accepts_continue b s v (under_false _ _ test) proposed
 

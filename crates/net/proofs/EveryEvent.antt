@@ -1,5 +1,5 @@
 -- The invariant holds at the start, and each event that is taken preserves it, so it holds of the world after any events.
-use Rattle.net.proofs.Words.{◌≡◌, ℕ, zero, suc, ◌+◌, ◌<◌, Bool, true, false, ◌==◌, List, [], ◌∷◌, Option, Some, None, Result, Ok, Err, inl, inr, refl, ap, sym, ◌∙◌, subst, arith, if◌then◌else◌, slice_get, set, AllByRecursion, In, Packet, Body, Prepare, Promise, Accept, Accepted, Nack, Ask, Told, Refusal, Node, StepResult, offered, begun, on_body, on_packet, restarted, MOST_EVENTS, Event, Offer, Begin, Deliver, Restart, StepFault, EventsSpent, Vote, World, start, nodes_from, after_step, after_step_or_fault, votes_after, at_node, delivered, event_result_without_limit, event_result, events_result, after, offers_of, IsAfter, all_append}
+use Rattle.net.proofs.Words.{◌≡◌, ℕ, zero, suc, ◌+◌, ◌<◌, Bool, true, false, ◌==◌, List, [], ◌∷◌, Option, Some, None, Result, Ok, Err, inl, inr, refl, ap, sym, ◌∙◌, subst, arith, if◌then◌else◌, slice_get, set, AllByRecursion, In, Packet, Body, Prepare, Promise, Accept, Accepted, Nack, Ask, Told, Refusal, Node, StepResult, offer_result, begin_result, on_body, on_packet, restarted, MAX_EVENTS, Event, Offer, Begin, Deliver, Restart, StepFault, EventsSpent, Vote, World, start, nodes_from, after_step, after_step_or_fault, votes_after, at_node, delivered, event_result_without_limit, event_result, events_result, after, offers_of, IsAfter, all_append}
 use Rattle.net.proofs.GrowingLists.{all_more, all_in, in_slice_get}
 use Rattle.net.proofs.Ledger.{Ledger, IsSound}
 use Rattle.net.proofs.LedgerGrows.{Grows}
@@ -114,8 +114,8 @@ module _ {V : Type 0} (offers : List V) (w : World V) (h : WorldHolds offers w) 
 
   -- the invariant holds after an event that is taken, if the value that it offers is among the offers
   happens_at_holds : (size : V → ℕ) (e : Event V) → ((v : V) → In v (offers_of (e ∷ [])) → In v offers) → IfTaken (event_result_without_limit size w e) (WorldHolds offers)
-  happens_at_holds size (Offer k v) brought = at_node_holds k (λ n. offered size n v) (λ n at sound holds. offer_continues n sound holds size v (brought v (inl refl))) (slice_get w.nodes k) refl
-  happens_at_holds size (Begin k) brought = at_node_holds k begun (λ n at sound holds. begin_continues n sound holds) (slice_get w.nodes k) refl
+  happens_at_holds size (Offer k v) brought = at_node_holds k (λ n. offer_result size n v) (λ n at sound holds. offer_continues n sound holds size v (brought v (inl refl))) (slice_get w.nodes k) refl
+  happens_at_holds size (Begin k) brought = at_node_holds k begin_result (λ n at sound holds. begin_continues n sound holds) (slice_get w.nodes k) refl
   happens_at_holds size (Deliver number) brought = delivered_holds number (slice_get w.packets number) refl
   happens_at_holds size (Restart k) brought = at_node_holds k (λ n. Ok (restarted n)) (λ n at sound holds. restart_continues n sound holds) (slice_get w.nodes k) refl
 
@@ -130,7 +130,7 @@ pub all_keep : {V : Type 0} (size : V → ℕ) (P : World V → Type 0) (each : 
 all_keep size P each keeps [] all r h = h
 all_keep size P each keeps (e ∷ es) all (Err fault) h = tt
 all_keep size P each keeps (e ∷ es) all (Ok w) h =
-    all_keep size P each keeps es all.1 (event_result size w e) (spent_or P (event_result_without_limit size w e) (w.event_count == MOST_EVENTS) (keeps w e all.0 h))
+    all_keep size P each keeps es all.1 (event_result size w e) (spent_or P (event_result_without_limit size w e) (w.event_count == MAX_EVENTS) (keeps w e all.0 h))
 
 -- The start.
 

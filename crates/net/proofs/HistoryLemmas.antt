@@ -1,5 +1,5 @@
 -- The world after a history, and after one more event.
-use Rattle.net.proofs.Words.{◌≡◌, ℕ, zero, suc, ◌+◌, ◌<◌, ◌≤◌, Bool, true, false, ◌==◌, if◌then◌else◌, List, [], ◌∷◌, ◌++◌, length, take, get_or, set, slice_get, Option, Some, None, Result, Ok, Err, refl, ap, sym, ◌∙◌, subst, arith, le_of_suc-le-suc, add-one, AllByRecursion, Packet, IsWeights, IsPost, nat_tests, Refusal, Node, StepResult, new_node, offered, begun, on_packet, restarted, log_of, Core, Event, Offer, Begin, Deliver, Restart, MOST_EVENTS, StepFault, EventsSpent, World, nodes_from, start, after_step, after_step_or_fault, at_node, delivered, event_result_without_limit, event_result, events_result, after, log_at, log_after, packets_after, offers_of, IsAfter, History, nodes_of, AreOfWorld, world_of, with_event}
+use Rattle.net.proofs.Words.{◌≡◌, ℕ, zero, suc, ◌+◌, ◌<◌, ◌≤◌, Bool, true, false, ◌==◌, if◌then◌else◌, List, [], ◌∷◌, ◌++◌, length, take, get_or, set, slice_get, Option, Some, None, Result, Ok, Err, refl, ap, sym, ◌∙◌, subst, arith, le_of_suc-le-suc, add-one, AllByRecursion, Packet, IsWeights, IsPost, nat_tests, Refusal, Node, StepResult, new_node, offer_result, begin_result, on_packet, restarted, log_of, Core, Event, Offer, Begin, Deliver, Restart, MAX_EVENTS, StepFault, EventsSpent, World, nodes_from, start, after_step, after_step_or_fault, at_node, delivered, event_result_without_limit, event_result, events_result, after, log_at, log_after, packets_after, offers_of, IsAfter, History, nodes_of, AreOfWorld, world_of, with_event}
 use Rattle.net.proofs.EveryEvent.{IfTaken, if_taken, spent_or, node_at, holds_after}
 use Rattle.net.proofs.TwoMoments.{events_result-append, world_lasts}
 
@@ -87,14 +87,14 @@ module _ {V : Type 0} (count : ℕ) (w : World V) (counted : w.event_count ≡ c
 
   -- each event raises the count of events by one
   counts_happens_at : (size : V → ℕ) (e : Event V) → Counts (event_result_without_limit size w e)
-  counts_happens_at size (Offer k v) = counts_at k (λ n. offered size n v) (slice_get w.nodes k)
-  counts_happens_at size (Begin k) = counts_at k begun (slice_get w.nodes k)
+  counts_happens_at size (Offer k v) = counts_at k (λ n. offer_result size n v) (slice_get w.nodes k)
+  counts_happens_at size (Begin k) = counts_at k begin_result (slice_get w.nodes k)
   counts_happens_at size (Deliver number) = counts_delivered (slice_get w.packets number)
   counts_happens_at size (Restart k) = counts_at k (λ n. Ok (restarted n)) (slice_get w.nodes k)
 
   -- each event raises the count of events by one, with the limit tested first
   counts_happens : (size : V → ℕ) (e : Event V) → Counts (event_result size w e)
-  counts_happens size e = spent_or (λ x. x.event_count ≡ count + 1) (event_result_without_limit size w e) (w.event_count == MOST_EVENTS) (counts_happens_at size e)
+  counts_happens size e = spent_or (λ x. x.event_count ≡ count + 1) (event_result_without_limit size w e) (w.event_count == MAX_EVENTS) (counts_happens_at size e)
 
 -- a list of events raises the count by its length
 counts_all : {V : Type 0} (size : V → ℕ) (count : ℕ) (es : List (Event V)) (r : Result (World V) StepFault) → IfTaken r (λ x. x.event_count ≡ count) → IfTaken (events_result size es r) (λ x. x.event_count ≡ count + length es)
@@ -119,11 +119,11 @@ not_spent : {V : Type 0} (r : Result (World V) StepFault) (t : Bool) → t ≡ f
 not_spent r true e = cc
 not_spent r false e = refl
 
-pub event_result-not_spent : {V : Type 0} (size : V → ℕ) (w : World V) (e : Event V) → w.event_count < MOST_EVENTS → event_result size w e ≡ event_result_without_limit size w e
-event_result-not_spent size w e low = not_spent (event_result_without_limit size w e) (w.event_count == MOST_EVENTS) (grind (arith, nat_tests))
+pub event_result-not_spent : {V : Type 0} (size : V → ℕ) (w : World V) (e : Event V) → w.event_count < MAX_EVENTS → event_result size w e ≡ event_result_without_limit size w e
+event_result-not_spent size w e low = not_spent (event_result_without_limit size w e) (w.event_count == MAX_EVENTS) (grind (arith, nat_tests))
 
-pub event_result-spent : {V : Type 0} (size : V → ℕ) (w : World V) (e : Event V) → w.event_count ≡ MOST_EVENTS → event_result size w e ≡ Err EventsSpent
-event_result-spent {V} size w e spent = all (w.event_count == MOST_EVENTS) (grind (arith, nat_tests)) where
+pub event_result-spent : {V : Type 0} (size : V → ℕ) (w : World V) (e : Event V) → w.event_count ≡ MAX_EVENTS → event_result size w e ≡ Err EventsSpent
+event_result-spent {V} size w e spent = all (w.event_count == MAX_EVENTS) (grind (arith, nat_tests)) where
   all : (t : Bool) → t ≡ true → (if t then Err EventsSpent else event_result_without_limit size w e) ≡ Err EventsSpent
   all true d = refl
   all false d = cc
@@ -150,7 +150,7 @@ module _ {V : Type 0} (size : V → ℕ) (old : History V) (cores : List (Core V
   pub no_node_shown : (k : ℕ) → length cores ≤ k → slice_get h.world.nodes k ≡ None
   no_node_shown k past = ap (λ (ns : List (Node V)). slice_get ns k) h.nodes ∙ nodes_past cores k past
 
-  module _ (low : length old.events < MOST_EVENTS) where
+  module _ (low : length old.events < MAX_EVENTS) where
     -- below the limit of events, the history with one more event leads to the result of the event in the world
     pub next_is : (e : Event V) → world_of size (with_event old e) ≡ event_result_without_limit size h.world e
     next_is e = after-push size old.weights old.events h.world e h.is_after ∙ event_result-not_spent size h.world e (let count = taken_count size old.weights old.events h.world h.is_after in omega (arith, count, low))
@@ -178,7 +178,7 @@ own_weights {V} size old cores packets h k core low is =
     ∙ (world_lasts size old.weights [] old.events (start old.weights) h.world refl h.is_after).weights
 
 -- if the limit of events is reached, each event meets EventsSpent
-pub spent_met : {V : Type 0} (size : V → ℕ) (old now : History V) (cores : List (Core V)) (packets : List (Packet V)) → AreOfWorld size old cores packets → old ≡ now → (e : Event V) → length old.events ≡ MOST_EVENTS → world_of size (with_event now e) ≡ Err EventsSpent
+pub spent_met : {V : Type 0} (size : V → ℕ) (old now : History V) (cores : List (Core V)) (packets : List (Packet V)) → AreOfWorld size old cores packets → old ≡ now → (e : Event V) → length old.events ≡ MAX_EVENTS → world_of size (with_event now e) ≡ Err EventsSpent
 spent_met {V} size old now cores packets h seen e spent =
     let count = taken_count size old.weights old.events h.world h.is_after in
     subst (λ (t : History V). world_of size (with_event t e) ≡ Err EventsSpent) seen (after-push size old.weights old.events h.world e h.is_after ∙ event_result-spent size h.world e (count ∙ spent))
@@ -191,24 +191,24 @@ if_more P Q (Ok x) more h = more x h
 if_more P Q (Err fault) more h = tt
 
 -- an event leaves the count of events within the limit
-within_if : {V : Type 0} (size : V → ℕ) (w : World V) (e : Event V) (t : Bool) → (w.event_count == MOST_EVENTS) ≡ t → w.event_count ≤ MOST_EVENTS → IfTaken (if t then Err EventsSpent else event_result_without_limit size w e) (λ x. x.event_count ≤ MOST_EVENTS)
+within_if : {V : Type 0} (size : V → ℕ) (w : World V) (e : Event V) (t : Bool) → (w.event_count == MAX_EVENTS) ≡ t → w.event_count ≤ MAX_EVENTS → IfTaken (if t then Err EventsSpent else event_result_without_limit size w e) (λ x. x.event_count ≤ MAX_EVENTS)
 within_if size w e true test low = tt
 within_if {V} size w e false test low =
-    let other : w.event_count < MOST_EVENTS = grind (arith, nat_tests) in
-    if_more (λ (x : World V). x.event_count ≡ w.event_count + 1) (λ (x : World V). x.event_count ≤ MOST_EVENTS) (event_result_without_limit size w e) (λ x count. omega (arith, count, other)) (counts_happens_at w.event_count w refl size e)
+    let other : w.event_count < MAX_EVENTS = grind (arith, nat_tests) in
+    if_more (λ (x : World V). x.event_count ≡ w.event_count + 1) (λ (x : World V). x.event_count ≤ MAX_EVENTS) (event_result_without_limit size w e) (λ x count. omega (arith, count, other)) (counts_happens_at w.event_count w refl size e)
 
 -- a list of events leaves the count of events within the limit
-within_all : {V : Type 0} (size : V → ℕ) (es : List (Event V)) (r : Result (World V) StepFault) → IfTaken r (λ x. x.event_count ≤ MOST_EVENTS) → IfTaken (events_result size es r) (λ x. x.event_count ≤ MOST_EVENTS)
+within_all : {V : Type 0} (size : V → ℕ) (es : List (Event V)) (r : Result (World V) StepFault) → IfTaken r (λ x. x.event_count ≤ MAX_EVENTS) → IfTaken (events_result size es r) (λ x. x.event_count ≤ MAX_EVENTS)
 within_all size [] r h = h
 within_all size (e ∷ es) (Err fault) h = tt
-within_all size (e ∷ es) (Ok w) h = within_all size es (event_result size w e) (within_if size w e (w.event_count == MOST_EVENTS) refl h)
+within_all size (e ∷ es) (Ok w) h = within_all size es (event_result size w e) (within_if size w e (w.event_count == MAX_EVENTS) refl h)
 
 -- the events of a history that is taken are within the limit
-pub events_within : {V : Type 0} (size : V → ℕ) (old now : History V) (cores : List (Core V)) (packets : List (Packet V)) → AreOfWorld size old cores packets → old ≡ now → length now.events ≤ MOST_EVENTS
+pub events_within : {V : Type 0} (size : V → ℕ) (old now : History V) (cores : List (Core V)) (packets : List (Packet V)) → AreOfWorld size old cores packets → old ≡ now → length now.events ≤ MAX_EVENTS
 events_within {V} size old now cores packets h seen =
-    let most = if_taken (λ (x : World V). x.event_count ≤ MOST_EVENTS) (after size old.weights old.events) h.world h.is_after (within_all size old.events (Ok (start old.weights)) (omega arith)) in
+    let most = if_taken (λ (x : World V). x.event_count ≤ MAX_EVENTS) (after size old.weights old.events) h.world h.is_after (within_all size old.events (Ok (start old.weights)) (omega arith)) in
     let count = taken_count size old.weights old.events h.world h.is_after in
-    subst (λ (t : History V). length t.events ≤ MOST_EVENTS) seen (omega (arith, most, count))
+    subst (λ (t : History V). length t.events ≤ MAX_EVENTS) seen (omega (arith, most, count))
 
 -- The world after the events, as the fields show it.
 

@@ -1,5 +1,5 @@
 -- The law of the kept part: each step makes its one change to the kept part of its own node only, and a restart makes none.
-use Rattle.net.proofs.Words.{◌≡◌, ◌≢◌, ℕ, ◌==◌, List, [], ◌∷◌, ◌++◌, Option, Some, None, Result, Ok, Err, refl, ap, sym, ◌∙◌, subst, slice_get, option_map, Packet, Change, Refusal, KeptPart, changed_by, Node, StepResult, kept_of, offered, begun, on_packet, restarted, ChangesKeptOnOk, offered_kept, begun_kept, body_kept, restarted_kept, MOST_EVENTS, Event, Offer, Begin, Deliver, Restart, StepFault, World, after_step, after_step_or_fault, at_node, delivered, event_result_without_limit, event_result, events_result, kept_part, node_of, change_of_result, change_at, change_delivered, change_of, AreOfOthers, KeptPartSurvives}
+use Rattle.net.proofs.Words.{◌≡◌, ◌≢◌, ℕ, ◌==◌, List, [], ◌∷◌, ◌++◌, Option, Some, None, Result, Ok, Err, refl, ap, sym, ◌∙◌, subst, slice_get, option_map, Packet, Change, Refusal, KeptPart, changed_by, Node, StepResult, kept_of, offer_result, begin_result, on_packet, restarted, ChangesKeptOnOk, offered_kept, begun_kept, body_kept, restarted_kept, MAX_EVENTS, Event, Offer, Begin, Deliver, Restart, StepFault, World, after_step, after_step_or_fault, at_node, delivered, event_result_without_limit, event_result, events_result, kept_part, node_of, change_of_result, change_at, change_delivered, change_of, AreOfOthers, KeptPartSurvives}
 use Rattle.net.proofs.EveryEvent.{IfTaken, if_taken, spent_or}
 use Rattle.net.proofs.TwoMoments.{events_result-append, later_events}
 use Rattle.net.proofs.GrowingLists.{at_set, at_set_other}
@@ -57,14 +57,14 @@ module _ {V : Type 0} (size : V → ℕ) (w : World V) (k : ℕ) where
 
   -- each event makes its change to the kept part of its node and of no other
   happens_moves : (e : Event V) → IfTaken (event_result_without_limit size w e) (Happens size w k e)
-  happens_moves (Offer j v) = as_happens (Offer j v) j refl (event_result_without_limit size w (Offer j v)) (moves_at w j k (λ n. offered size n v) (λ n. offered_kept n size v) (slice_get w.nodes j) refl)
-  happens_moves (Begin j) = as_happens (Begin j) j refl (event_result_without_limit size w (Begin j)) (moves_at w j k begun (λ n. begun_kept n) (slice_get w.nodes j) refl)
+  happens_moves (Offer j v) = as_happens (Offer j v) j refl (event_result_without_limit size w (Offer j v)) (moves_at w j k (λ n. offer_result size n v) (λ n. offered_kept n size v) (slice_get w.nodes j) refl)
+  happens_moves (Begin j) = as_happens (Begin j) j refl (event_result_without_limit size w (Begin j)) (moves_at w j k begin_result (λ n. begun_kept n) (slice_get w.nodes j) refl)
   happens_moves (Deliver number) = happens_delivered number (slice_get w.packets number) refl
   happens_moves (Restart j) = as_happens (Restart j) j refl (event_result_without_limit size w (Restart j)) (moves_at w j k (λ n. Ok (restarted n)) (λ n. restarted_kept n) (slice_get w.nodes j) refl)
 
   -- each event makes its change to the kept part of its node and of no other, with the limit of events tested first
   pub event_moves : (e : Event V) → IfTaken (event_result size w e) (Happens size w k e)
-  event_moves e = spent_or (Happens size w k e) (event_result_without_limit size w e) (w.event_count == MOST_EVENTS) (happens_moves e)
+  event_moves e = spent_or (Happens size w k e) (event_result_without_limit size w e) (w.event_count == MAX_EVENTS) (happens_moves e)
 
 -- Events of other nodes, and then the restart.
 

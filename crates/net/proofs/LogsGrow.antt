@@ -1,5 +1,5 @@
 -- A log only grows: a step of a node learns only at an empty slot, and nothing is forgotten except at a restart.
-use Rattle.net.proofs.Words.{◌≡◌, ◌≢◌, ℕ, zero, suc, ◌-◌, ◌^◌, ◌==◌, ◌&&◌, not, nat_lt, Bool, true, false, List, [], ◌∷◌, ◌++◌, length, Option, Some, None, Result, Ok, Err, refl, ap, sym, ◌∙◌, subst, slice_get, if◌then◌else◌, append-nil, arith, nat_tests, SLOTS, entry_at, put_at, entries_to_gap, Ballot, Packet, SlotReport, Body, Prepare, Promise, Accept, Accepted, Nack, Ask, Told, MOST_WAITING, Heard, Role, Idle, Preparing, Leading, Refusal, Busy, LogFull, RoundsSpent, TooLong, MOST_BYTES, is_below, is_same, is_quorum, are_received, Node, StepResult, unchanged, pages_from, with_page, is_heard, log_of, log_length, promises, refuses, accepts_value, waits, proposes_value, offer_waits, offer_as, offered, next_round, begins, begun, top_or_first, all_reports, leads, adds_page, completes_promise, on_complete_promise, on_promise_page, on_promise_as, is_at, idles, has_voter, counted, chooses, on_accepted_at, on_ask_at, on_told_at, on_body, on_packet, restarted, MOST_EVENTS, Event, Offer, Begin, Deliver, Restart, World, after_step, after_step_or_fault, at_node, delivered, event_result_without_limit, event_result, log_at, log, IsPrefixOf, LogsOnlyGrow, RestartEmptiesLog}
+use Rattle.net.proofs.Words.{◌≡◌, ◌≢◌, ℕ, zero, suc, ◌-◌, ◌^◌, ◌==◌, ◌&&◌, not, nat_lt, Bool, true, false, List, [], ◌∷◌, ◌++◌, length, Option, Some, None, Result, Ok, Err, refl, ap, sym, ◌∙◌, subst, slice_get, if◌then◌else◌, append-nil, arith, nat_tests, SLOTS, entry_at, put_at, entries_to_gap, Ballot, Packet, SlotReport, Body, Prepare, Promise, Accept, Accepted, Nack, Ask, Told, MAX_WAITING, Heard, Role, Idle, Preparing, Leading, Refusal, Busy, LogFull, RoundsSpent, TooLong, MAX_VALUE_BYTES, is_below, is_same, is_quorum, are_received, Node, StepResult, unchanged, pages_from, with_page, is_heard, log_of, log_length, promises, sends_nack, accepts_value, waits, proposes_value, offer_waits, offer_as, offer_result, next_round, begins, begin_result, top_or_first, all_reports, leads, adds_page, completes_promise, on_complete_promise, on_promise_page, on_promise_as, is_at, idles, has_voter, counted, learns_chosen, on_accepted_at, on_ask_at, on_told_at, on_body, on_packet, restarted, MAX_EVENTS, Event, Offer, Begin, Deliver, Restart, World, after_step, after_step_or_fault, at_node, delivered, event_result_without_limit, event_result, log_at, log, IsPrefixOf, LogsOnlyGrow, RestartEmptiesLog}
 use Rattle.net.proofs.EveryEvent.{IfTaken, if_taken, spent_or}
 use Rattle.net.proofs.GrowingLists.{at_set, at_set_other}
 
@@ -36,8 +36,8 @@ module _ {V : Type 0} (n : Node V) where
 
   -- an offer to a node that does not lead leaves the log
   offer_waits_grows : (v : V) → LogGrowsOnOk n (offer_waits n v)
-  offer_waits_grows v = either_ok n (Err LogFull) (if nat_lt (length n.waiting) MOST_WAITING then Ok (waits n v) else Err Busy) (log_length n == SLOTS) tt
-      (either_ok n (Ok (waits n v)) (Err Busy) (nat_lt (length n.waiting) MOST_WAITING) same tt)
+  offer_waits_grows v = either_ok n (Err LogFull) (if nat_lt (length n.waiting) MAX_WAITING then Ok (waits n v) else Err Busy) (log_length n == SLOTS) tt
+      (either_ok n (Ok (waits n v)) (Err Busy) (nat_lt (length n.waiting) MAX_WAITING) same tt)
 
   -- an offer leaves the log, in each role
   offer_as_grows : (role : Role) (v : V) → LogGrowsOnOk n (offer_as role n v)
@@ -46,11 +46,11 @@ module _ {V : Type 0} (n : Node V) where
   offer_as_grows (Leading b next) v = either_ok n (Err LogFull) (Ok (proposes_value n b next v)) (next == SLOTS) tt same
 
   -- an offer leaves the log, whether or not it is refused for its length
-  offered_grows : (size : V → ℕ) (v : V) → LogGrowsOnOk n (offered size n v)
-  offered_grows size v = either_ok n (Err TooLong) (offer_as n.role n v) (nat_lt MOST_BYTES (size v)) tt (offer_as_grows n.role v)
+  offered_grows : (size : V → ℕ) (v : V) → LogGrowsOnOk n (offer_result size n v)
+  offered_grows size v = either_ok n (Err TooLong) (offer_as n.role n v) (nat_lt MAX_VALUE_BYTES (size v)) tt (offer_as_grows n.role v)
 
   -- a begin leaves the log
-  begun_grows : LogGrowsOnOk n (begun n)
+  begun_grows : LogGrowsOnOk n (begin_result n)
   begun_grows = either_ok n (Ok (begins n)) (Err RoundsSpent) (nat_lt (next_round n) (2 ^ 64)) same tt
 
   abbrev heard_with : ℕ → ℕ → List Heard
@@ -76,7 +76,7 @@ module _ {V : Type 0} (n : Node V) where
   accepted_grows : (o : Option (Option V)) (p : ℕ) (b : Ballot) (s : ℕ) (v : Option V) → entry_at n.learned s ≡ o → LogGrows n (on_accepted_at o n p b s v)
   accepted_grows (Some u) p b s v is = same
   accepted_grows None p b s v is = let counting : Node V = record n { tallies = counted n.tallies s b p } in
-      either n (chooses counting s v) (unchanged counting) (is_quorum n.weights (has_voter counting.tallies s b)) (log-put n.learned s v is) same
+      either n (learns_chosen counting s v) (unchanged counting) (is_quorum n.weights (has_voter counting.tallies s b)) (log-put n.learned s v is) same
 
   -- an Ask leaves the log
   ask_grows : (o : Option (Option V)) (p s : ℕ) → LogGrows n (on_ask_at o n p s)
@@ -90,9 +90,9 @@ module _ {V : Type 0} (n : Node V) where
 
   -- each body of a packet extends the log or leaves it
   body_grows : (p : ℕ) (body : Body V) → LogGrows n (on_body n p body)
-  body_grows p (Prepare b first) = either n (promises n p b first) (refuses n p b) (is_below n.promise b) same same
+  body_grows p (Prepare b first) = either n (promises n p b first) (sends_nack n p b) (is_below n.promise b) same same
   body_grows p (Promise b page count reports) = promise_grows n.role p b page count reports
-  body_grows p (Accept b s v) = either n (refuses n p b) (accepts_value n b s v) (is_below b n.promise) same same
+  body_grows p (Accept b s v) = either n (sends_nack n p b) (accepts_value n b s v) (is_below b n.promise) same same
   body_grows p (Accepted b s v) = accepted_grows (entry_at n.learned s) p b s v refl
   body_grows p (Nack b c) = either n (idles n) (unchanged n) (is_at n.role b && is_below b c) same same
   body_grows p (Ask s) = ask_grows (entry_at n.learned s) p s
@@ -142,14 +142,14 @@ module _ {V : Type 0} (size : V → ℕ) (w : World V) (k : ℕ) where
 
   -- an event other than a restart of node k extends its log or leaves it, if the limit of events is not tested
   grows_happens_at : (e : Event V) → e ≢ Restart k → IfTaken (event_result_without_limit size w e) (λ x. IsPrefixOf (log w k) (log x k))
-  grows_happens_at (Offer j v) other = grows_at w j k (λ n. offered size n v) (λ n. offered_grows n size v) (slice_get w.nodes j) refl
-  grows_happens_at (Begin j) other = grows_at w j k begun (λ n. begun_grows n) (slice_get w.nodes j) refl
+  grows_happens_at (Offer j v) other = grows_at w j k (λ n. offer_result size n v) (λ n. offered_grows n size v) (slice_get w.nodes j) refl
+  grows_happens_at (Begin j) other = grows_at w j k begin_result (λ n. begun_grows n) (slice_get w.nodes j) refl
   grows_happens_at (Deliver number) other = grows_delivered (slice_get w.packets number)
   grows_happens_at (Restart j) other = others_restart j (λ same. other (ap (λ (i : ℕ). let e : Event V = Restart i in e) same)) (slice_get w.nodes j)
 
   -- the log of node k before an event other than its restart is a prefix of the log after it
   pub log_grows : (e : Event V) → e ≢ Restart k → IfTaken (event_result size w e) (λ x. IsPrefixOf (log w k) (log x k))
-  log_grows e other = spent_or (λ x. IsPrefixOf (log w k) (log x k)) (event_result_without_limit size w e) (w.event_count == MOST_EVENTS) (grows_happens_at e other)
+  log_grows e other = spent_or (λ x. IsPrefixOf (log w k) (log x k)) (event_result_without_limit size w e) (w.event_count == MAX_EVENTS) (grows_happens_at e other)
 
   -- a restart of node k, if it exists, empties its log
   emptied : (o : Option (Node V)) → slice_get w.nodes k ≡ o → IfTaken (at_node w k (λ n. Ok (restarted n)) o) (λ x. log x k ≡ [])
@@ -163,4 +163,4 @@ logs_only_grow size weights events e k w x is_after happened other = if_taken (�
 -- a restart of a node empties its log
 pub restart_empties_log : {V : Type 0} → RestartEmptiesLog V
 restart_empties_log size weights events k w x is_after happened =
-    if_taken (λ x. log x k ≡ []) (event_result size w (Restart k)) x happened (spent_or (λ x. log x k ≡ []) (event_result_without_limit size w (Restart k)) (w.event_count == MOST_EVENTS) (emptied size w k (slice_get w.nodes k) refl))
+    if_taken (λ x. log x k ≡ []) (event_result size w (Restart k)) x happened (spent_or (λ x. log x k ≡ []) (event_result_without_limit size w (Restart k)) (w.event_count == MAX_EVENTS) (emptied size w k (slice_get w.nodes k) refl))

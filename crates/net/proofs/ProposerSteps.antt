@@ -1,5 +1,5 @@
 -- A begin, an offer and a Nack preserve the invariant: a proposer begins each of its ballots once, and proposes only grounded values.
-use Rattle.net.proofs.Words.{◌≡◌, ℕ, zero, suc, ◌+◌, ◌≤◌, ◌^◌, Bool, true, false, ◌&&◌, ◌==◌, nat_lt, List, [], ◌∷◌, length, Option, Some, Result, Ok, Err, inl, inr, refl, ap, sym, subst, arith, if◌then◌else◌, AllByRecursion, SLOTS, In, Ballot, SlotReport, Prepare, Accept, Heard, Role, Idle, Preparing, Leading, MOST_BYTES, MOST_WAITING, Refusal, Busy, LogFull, RoundsSpent, TooLong, is_below, Node, StepResult, unchanged, page_of, no_pages, log_length, waits, proposes_value, offer_as, offered, next_round, next_ballot, begins, begun, is_at, idles, on_nack, all_append}
+use Rattle.net.proofs.Words.{◌≡◌, ℕ, zero, suc, ◌+◌, ◌≤◌, ◌^◌, Bool, true, false, ◌&&◌, ◌==◌, nat_lt, List, [], ◌∷◌, length, Option, Some, Result, Ok, Err, inl, inr, refl, ap, sym, subst, arith, if◌then◌else◌, AllByRecursion, SLOTS, In, Ballot, SlotReport, Prepare, Accept, Heard, Role, Idle, Preparing, Leading, MAX_VALUE_BYTES, MAX_WAITING, Refusal, Busy, LogFull, RoundsSpent, TooLong, is_below, Node, StepResult, unchanged, page_of, no_pages, log_length, waits, proposes_value, offer_as, offer_result, next_round, next_ballot, begins, begin_result, is_at, idles, on_nack, all_append}
 use Rattle.net.proofs.Ledger.{Begun, begun_as, Ledger, IsSound}
 use Rattle.net.proofs.LedgerGrows.{Grows, with_begun, grows-with_begun, begun_lasts, free_lasts}
 use Rattle.net.proofs.LedgerSteps.{begun_sound, with_proposals, each_free, batch}
@@ -82,7 +82,7 @@ module _ {V : Type 0} {offers : List V} {l : Ledger V} (n : Node V) (sound : IsS
   begin_either false refusal = tt
 
   -- a begin preserves the invariant, unless it is refused
-  pub begin_continues : IfStep (begun n) Goes
+  pub begin_continues : IfStep (begin_result n) Goes
   begin_continues = begin_either (nat_lt (next_round n) (2 ^ 64)) RoundsSpent
 
   -- An offer: a leader may propose any value from its next slot on.
@@ -148,8 +148,8 @@ module _ {V : Type 0} {offers : List V} {l : Ledger V} (n : Node V) (sound : IsS
 
   -- an offer to a node in any role preserves the invariant, unless it is refused
   offer_as_continues : (v : V) → In v offers → (role : Role) → RoleHolds n.weights l n.me role n.pages n.heard → IfStep (offer_as role n v) Goes
-  offer_as_continues v brought Idle h = waits_either v brought (log_length n == SLOTS) (nat_lt (length n.waiting) MOST_WAITING)
-  offer_as_continues v brought (Preparing b first) h = waits_either v brought (log_length n == SLOTS) (nat_lt (length n.waiting) MOST_WAITING)
+  offer_as_continues v brought Idle h = waits_either v brought (log_length n == SLOTS) (nat_lt (length n.waiting) MAX_WAITING)
+  offer_as_continues v brought (Preparing b first) h = waits_either v brought (log_length n == SLOTS) (nat_lt (length n.waiting) MAX_WAITING)
   offer_as_continues v brought (Leading b next) h = slot_either v b next brought h (next == SLOTS)
 
   -- if an answer preserves the invariant, unless it is a refusal, so it does with the length tested first
@@ -158,8 +158,8 @@ module _ {V : Type 0} {offers : List V} {l : Ledger V} (n : Node V) (sound : IsS
   long_either r h false = h
 
   -- an offer preserves the invariant, unless it is refused
-  pub offer_continues : (size : V → ℕ) (v : V) → In v offers → IfStep (offered size n v) Goes
-  offer_continues size v brought = long_either (offer_as n.role n v) (offer_as_continues v brought n.role holds.proposer.as_role) (nat_lt MOST_BYTES (size v))
+  pub offer_continues : (size : V → ℕ) (v : V) → In v offers → IfStep (offer_result size n v) Goes
+  offer_continues size v brought = long_either (offer_as n.role n v) (offer_as_continues v brought n.role holds.proposer.as_role) (nat_lt MAX_VALUE_BYTES (size v))
 
   -- A Nack.
 

@@ -1,5 +1,5 @@
 -- A step that a node has readied, in the view of the whole net.
-use Rattle.net.proofs.Words.{◌≡◌, ℕ, ◌<◌, ◌≤◌, List, [], ◌∷◌, length, get_or, set, slice_get, Option, Some, None, Result, Ok, Err, refl, ap, sym, ◌∙◌, subst, arith, append-nil, slice_get_within, slice_get_read, AllByRecursion, Packet, Refusal, IsPost, Node, StepResult, Core, HasNoLessRoom, ReadyView, offered, begun, on_packet, restarted, same_room, MOST_EVENTS, Event, Offer, Begin, Deliver, Restart, StepFault, NoNode, NoPacket, World, after_step_or_fault, at_node, delivered, event_result_without_limit, node_of_event, History, AreOfWorld, world_of, with_event, steps, StagedEvent, posts_of, step_of, IsOfEvent, HasResult, IsStagedAt, IsStagingResultAt, IsStagingResultOfEvent, NetView, EachChangesOnlyRoom, ChangesOnlyRoom, IsStaged, IsStagingResultInNet}
+use Rattle.net.proofs.Words.{◌≡◌, ℕ, ◌<◌, ◌≤◌, List, [], ◌∷◌, length, get_or, set, slice_get, Option, Some, None, Result, Ok, Err, refl, ap, sym, ◌∙◌, subst, arith, append-nil, slice_get_within, slice_get_read, AllByRecursion, Packet, Refusal, IsPost, Node, StepResult, Core, KeepsCapacity, ReadyView, offer_result, begin_result, on_packet, restarted, same_room, MAX_EVENTS, Event, Offer, Begin, Deliver, Restart, StepFault, NoNode, NoPacket, World, after_step_or_fault, at_node, delivered, event_result_without_limit, node_of_event, History, AreOfWorld, world_of, with_event, steps, StagedEvent, posts_of, step_of, IsOfEvent, HasResult, IsStagedAt, IsStagingResultAt, IsStagingResultOfEvent, NetView, EachChangesOnlyCapacity, ChangesOnlyCapacity, IsStaged, IsStagingResultInNet}
 use Rattle.synod.specs.Ready.{IsStagingResult as ReadiesStep}
 use Rattle.net.proofs.GrowingLists.{at_set}
 use Rattle.net.proofs.HistoryLemmas.{next_is, node_shown, no_node_shown, own_weights, rooms_stay}
@@ -13,7 +13,7 @@ pub made_staged : {V : Type 0} (old new : Core V) (k : ℕ) (e f : Event V) (r :
 made_staged {V} old new k e f (Ok step) made h same kind posts = record {
   at = refl;
   event = same;
-  ready = (ap (λ (c : Core V). c.node) (sym h.0), subst (λ (c : Core V). HasNoLessRoom c new) (sym h.0) (same_room new));
+  ready = (ap (λ (c : Core V). c.node) (sym h.0), subst (λ (c : Core V). KeepsCapacity c new) (sym h.0) (same_room new));
   is_step = h.1;
   kind = kind;
   posts = posts;
@@ -26,10 +26,10 @@ packet_is ps number p q is at = let both : Some p ≡ Some q = sym (slice_get_re
 
 -- From the answer of a node to that of the net, `view` being the fields.
 
-module _ {V : Type 0} (size : V → ℕ) (view now : NetView V) (seen : view ≡ now) (h : AreOfWorld size view.history view.cores view.packets) (low : length now.history.events < MOST_EVENTS) where
+module _ {V : Type 0} (size : V → ℕ) (view now : NetView V) (seen : view ≡ now) (h : AreOfWorld size view.history view.cores view.packets) (low : length now.history.events < MAX_EVENTS) where
   -- the history of the fields is below the limit of events
-  still_low : length view.history.events < MOST_EVENTS
-  still_low = subst (λ (n : NetView V). length n.history.events < MOST_EVENTS) (sym seen) low
+  still_low : length view.history.events < MAX_EVENTS
+  still_low = subst (λ (n : NetView V). length n.history.events < MAX_EVENTS) (sym seen) low
 
   -- the history with the event leads to the result of the event in the world
   met_is : (e : Event V) (r : Result (World V) StepFault) → event_result_without_limit size h.world e ≡ r → world_of size (with_event now.history e) ≡ r
@@ -58,8 +58,8 @@ module _ {V : Type 0} (size : V → ℕ) (view now : NetView V) (seen : view ≡
 
   -- if the number of an event's node is past the end of the cores, NoNode is a right answer
   pub gives_no_node : (k : ℕ) (e : Event V) → node_of_event view.packets e ≡ Some k → length view.cores ≤ k → (net : NetView V) → IsStagingResultInNet size net e (world_of size (with_event now.history e)) (Err NoNode)
-  gives_no_node k (Offer j v) at past = gives_nowhere j (Offer j v) (λ n. offered size n v) refl (let same : j ≡ k = cc in omega (arith, past, same))
-  gives_no_node k (Begin j) at past = gives_nowhere j (Begin j) begun refl (let same : j ≡ k = cc in omega (arith, past, same))
+  gives_no_node k (Offer j v) at past = gives_nowhere j (Offer j v) (λ n. offer_result size n v) refl (let same : j ≡ k = cc in omega (arith, past, same))
+  gives_no_node k (Begin j) at past = gives_nowhere j (Begin j) begin_result refl (let same : j ≡ k = cc in omega (arith, past, same))
   gives_no_node k (Deliver number) at past =
       let p = mapped (slice_get view.packets number) k at in
       gives_nowhere p.0.to (Deliver number) (λ n. Ok (on_packet n p.0)) (delivered_at number p.0 p.1) (let to = p.2 in omega (arith, past, to))
@@ -106,10 +106,10 @@ module _ {V : Type 0} (size : V → ℕ) (view now : NetView V) (seen : view ≡
     pub gives_event_here : (e : Event V) → node_of_event view.packets e ≡ Some k → (result : Result (StagedEvent V) StepFault) → IsStagingResultOfEvent size view.packets core new k e result → IsStagingResultInNet size left e (world_of size (with_event now.history e)) result
     gives_event_here (Offer j v) at result readies =
         let same : j ≡ k = cc in
-        gives_node (Offer j v) (offered size core.node v) (subst (λ (i : ℕ). HasResult size view.packets k core.node (Offer i v) (offered size core.node v)) (sym same) (comes_offer size view.packets k core.node v)) result readies
+        gives_node (Offer j v) (offer_result size core.node v) (subst (λ (i : ℕ). HasResult size view.packets k core.node (Offer i v) (offer_result size core.node v)) (sym same) (comes_offer size view.packets k core.node v)) result readies
     gives_event_here (Begin j) at result readies =
         let same : j ≡ k = cc in
-        gives_node (Begin j) (begun core.node) (subst (λ (i : ℕ). HasResult size view.packets k core.node (Begin i) (begun core.node)) (sym same) (comes_begin size view.packets k core.node)) result readies
+        gives_node (Begin j) (begin_result core.node) (subst (λ (i : ℕ). HasResult size view.packets k core.node (Begin i) (begin_result core.node)) (sym same) (comes_begin size view.packets k core.node)) result readies
     gives_event_here (Deliver number) at result readies =
         let p = mapped (slice_get view.packets number) k at in
         gives_node (Deliver number) (Ok (on_packet core.node p.0)) (comes_packet size view.packets k core.node number p.0 p.1 p.2) result (readies p.0 p.1)
@@ -118,47 +118,47 @@ module _ {V : Type 0} (size : V → ℕ) (view now : NetView V) (seen : view ≡
         gives_node (Restart j) (Ok (restarted core.node)) (subst (λ (i : ℕ). HasResult size view.packets k core.node (Restart i) (Ok (restarted core.node))) (sym same) (comes_restart size view.packets k core.node)) result readies
 
     -- only rooms change, if node k has no less room
-    pub still_here : HasNoLessRoom core new → ChangesOnlyRoom now left
-    still_here room = subst (λ (n : NetView V). ChangesOnlyRoom n left) seen record {
+    pub still_here : KeepsCapacity core new → ChangesOnlyCapacity now left
+    still_here room = subst (λ (n : NetView V). ChangesOnlyCapacity n left) seen record {
       history = refl;
       cores = still_set view.cores k core new is same room;
       packets = refl;
-      packet_room = omega arith;
-      event_room = omega arith;
+      packet_capacity = omega arith;
+      event_capacity = omega arith;
     }
 
     -- if node k has no less room, the cores and packets are still of the world
-    pub of_world_here : HasNoLessRoom core new → AreOfWorld size view.history (set view.cores k new) view.packets
+    pub of_world_here : KeepsCapacity core new → AreOfWorld size view.history (set view.cores k new) view.packets
     of_world_here room = rooms_stay size view.history view.cores view.packets h (set view.cores k new) (nodes_still view.cores (set view.cores k new) (still_set view.cores k core new is same room))
 
 -- if packets and events get more room, only rooms change
-pub still_room : {V : Type 0} (view now : NetView V) (packets : List (Packet V)) (events : List (Event V)) (packet_room event_room : ℕ) → view ≡ now → packets ≡ view.packets → events ≡ view.history.events
-    → view.packet_room ≤ packet_room → view.event_room ≤ event_room
-    → ChangesOnlyRoom now (record { history = record { weights = view.history.weights; events = events }; cores = view.cores; packets = packets; packet_room = packet_room; event_room = event_room })
-still_room {V} view now packets events packet_room event_room seen same_packets same_events p e =
-    let new : NetView V = record { history = record { weights = view.history.weights; events = events }; cores = view.cores; packets = packets; packet_room = packet_room; event_room = event_room } in
-    subst (λ (n : NetView V). ChangesOnlyRoom n new) seen record {
+pub still_room : {V : Type 0} (view now : NetView V) (packets : List (Packet V)) (events : List (Event V)) (packet_capacity event_capacity : ℕ) → view ≡ now → packets ≡ view.packets → events ≡ view.history.events
+    → view.packet_capacity ≤ packet_capacity → view.event_capacity ≤ event_capacity
+    → ChangesOnlyCapacity now (record { history = record { weights = view.history.weights; events = events }; cores = view.cores; packets = packets; packet_capacity = packet_capacity; event_capacity = event_capacity })
+still_room {V} view now packets events packet_capacity event_capacity seen same_packets same_events p e =
+    let new : NetView V = record { history = record { weights = view.history.weights; events = events }; cores = view.cores; packets = packets; packet_capacity = packet_capacity; event_capacity = event_capacity } in
+    subst (λ (n : NetView V). ChangesOnlyCapacity n new) seen record {
       history = ap (λ (es : List (Event V)). let t : History V = record { weights = view.history.weights; events = es } in t) same_events;
       cores = still_same view.cores;
       packets = same_packets;
-      packet_room = p;
-      event_room = e;
+      packet_capacity = p;
+      event_capacity = e;
     }
 
 -- if two views are equal, only rooms differ
-pub not_moved : {V : Type 0} (view now : NetView V) → view ≡ now → ChangesOnlyRoom now view
-not_moved view now seen = still_room view now view.packets view.history.events view.packet_room view.event_room seen refl refl (omega arith) (omega arith)
+pub not_moved : {V : Type 0} (view now : NetView V) → view ≡ now → ChangesOnlyCapacity now view
+not_moved view now seen = still_room view now view.packets view.history.events view.packet_capacity view.event_capacity seen refl refl (omega arith) (omega arith)
 
 -- changing only rooms is transitive
-pub still_more : {V : Type 0} (a b c : NetView V) → ChangesOnlyRoom a b → ChangesOnlyRoom b c → ChangesOnlyRoom a c
+pub still_more : {V : Type 0} (a b c : NetView V) → ChangesOnlyCapacity a b → ChangesOnlyCapacity b c → ChangesOnlyCapacity a c
 still_more a b c one two = record {
   history = two.history ∙ one.history;
   cores = cores_more a.cores b.cores c.cores one.cores two.cores;
   packets = two.packets ∙ one.packets;
-  packet_room = let x = one.packet_room in let y = two.packet_room in omega (arith, x, y);
-  event_room = let x = one.event_room in let y = two.event_room in omega (arith, x, y);
+  packet_capacity = let x = one.packet_capacity in let y = two.packet_capacity in omega (arith, x, y);
+  event_capacity = let x = one.event_capacity in let y = two.event_capacity in omega (arith, x, y);
 } where
-  cores_more : {V : Type 0} (xs ys zs : List (Core V)) → EachChangesOnlyRoom xs ys → EachChangesOnlyRoom ys zs → EachChangesOnlyRoom xs zs
+  cores_more : {V : Type 0} (xs ys zs : List (Core V)) → EachChangesOnlyCapacity xs ys → EachChangesOnlyCapacity ys zs → EachChangesOnlyCapacity xs zs
   cores_more [] [] [] h k = tt
   cores_more (x ∷ xs) (y ∷ ys) (z ∷ zs) h k = (k.0 ∙ h.0, more_room x y z h.1 k.1, cores_more xs ys zs h.2 k.2)
   cores_more [] (y ∷ ys) zs h k = elim h [ ]

@@ -1,5 +1,5 @@
 -- From one moment of a run to a later one the weights stay, and votes that were cast remain cast; so a chosen value remains chosen.
-use Rattle.net.proofs.Words.{◌≡◌, ℕ, List, [], ◌∷◌, ◌++◌, Option, Some, None, Result, Ok, Err, inr, refl, ap, sym, ◌∙◌, subst, length, slice_get, length-set, AllByRecursion, In, Change, Round, Entry, Packet, Refusal, Node, StepResult, offered, begun, on_packet, restarted, Event, Offer, Begin, Deliver, Restart, StepFault, Vote, IsChosen, World, start, votes_after, after_step_or_fault, at_node, delivered, event_result_without_limit, event_result, events_result, after, IsAfter}
+use Rattle.net.proofs.Words.{◌≡◌, ℕ, List, [], ◌∷◌, ◌++◌, Option, Some, None, Result, Ok, Err, inr, refl, ap, sym, ◌∙◌, subst, length, slice_get, length-set, AllByRecursion, In, Change, Round, Entry, Packet, Refusal, Node, StepResult, offer_result, begin_result, on_packet, restarted, Event, Offer, Begin, Deliver, Restart, StepFault, Vote, IsChosen, World, start, votes_after, after_step_or_fault, at_node, delivered, event_result_without_limit, event_result, events_result, after, IsAfter}
 use Rattle.synod.specs.declared.change.Change.TheVariants.{Promise}
 use Rattle.net.proofs.LedgerGrows.{chosen_with_more}
 use Rattle.net.proofs.EveryEvent.{IfTaken, if_taken, all_keep}
@@ -34,8 +34,8 @@ module _ {V : Type 0} (first w : World V) (h : Lasts first w) where
 
   -- weights, the count of nodes and votes are preserved by each event
   lasts_happens : (size : V → ℕ) (e : Event V) → IfTaken (event_result_without_limit size w e) (Lasts first)
-  lasts_happens size (Offer k v) = lasts_at k (λ n. offered size n v) (slice_get w.nodes k)
-  lasts_happens size (Begin k) = lasts_at k begun (slice_get w.nodes k)
+  lasts_happens size (Offer k v) = lasts_at k (λ n. offer_result size n v) (slice_get w.nodes k)
+  lasts_happens size (Begin k) = lasts_at k begin_result (slice_get w.nodes k)
   lasts_happens size (Deliver number) = lasts_delivered (slice_get w.packets number)
   lasts_happens size (Restart k) = lasts_at k (λ n. Ok (restarted n)) (slice_get w.nodes k)
 

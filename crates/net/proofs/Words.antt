@@ -4,12 +4,12 @@ pub use Rattle.net.specs.Chosen.{IsChosen, IsChosenAt, Vote, vote}
 pub use Rattle.net.specs.Agreement.{Agreement, IsMetOrMemory, IsMoment, RunStopsAt}
 pub use Rattle.net.specs.KeptPart.{AreOfOthers, node_of_event, change_of_result, change_at, change_delivered, change_of, kept_part, node_of}
 pub use Rattle.net.specs.Laws.{BallotsHaveOneValue, ChosenValuesAgree, KeptPartSurvives, ChosenValuesPersist, LogEntriesAreChosen, LogEntriesWereOffered, LogsOfNodesAgree, LogsOnlyGrow, RestartEmptiesLog}
-pub use Rattle.net.specs.Staged.{EachChangesOnlyRoom, HasResult, IsStagingResultInNet, IsOfEvent, IsReadyAt, IsStaged, IsStagedAt, ChangesOnlyRoom, IsTaken, NetView, IsStagingResultAt, IsStagingResultOfEvent, StagedEvent, StagedWork, posts_of, restarts, step_of, steps, work_of}
+pub use Rattle.net.specs.Staged.{EachChangesOnlyCapacity, HasResult, IsStagingResultInNet, IsOfEvent, IsReadyAt, IsStaged, IsStagedAt, ChangesOnlyCapacity, IsTaken, NetView, IsStagingResultAt, IsStagingResultOfEvent, StagedEvent, StagedWork, posts_of, restarts, step_of, steps, work_of}
 pub use Rattle.net.specs.History.{AreOfWorld, History, nodes_of, with_event, world_of}
 pub use Rattle.net.specs.World.{World, after, events_result, after_step_or_fault, at_node, delivered, event_result, event_result_without_limit, log, log_after, log_at, nodes_from, offers_of, packets_after, start, after_step, votes_after}
 pub use Rattle.net.specs.declared.event.Event.{Event}
 pub use Rattle.net.specs.declared.event.Event.TheVariants.{Begin, Deliver, Offer, Restart}
-pub use Rattle.net.specs.declared.event.TheConstants.{MOST_EVENTS}
+pub use Rattle.net.specs.declared.event.TheConstants.{MAX_EVENTS}
 pub use Rattle.net.specs.declared.fault.StepFault.{StepFault}
 pub use Rattle.net.specs.declared.fault.StepFault.TheVariants.{EventsSpent, Memory, NoNode, NoPacket}
 pub use Rattle.slots.proofs.Lists.{Contains-in, In, In-append, In-append_left, In-append_right, In-contains}
@@ -39,18 +39,18 @@ pub use Rattle.synod.proofs.PromisePages.{are_received-front, joined-all, pages-
 pub use Rattle.synod.proofs.QuorumLemmas.{quorums_meet}
 pub use Rattle.synod.proofs.ReportsLemmas.{HighestHolds, IsHighest, below_top, first_to_top, held-reported, highest_holds, reports-held}
 pub use Rattle.synod.proofs.RoomLemmas.{same_room}
-pub use Rattle.synod.specs.Acceptor.{accepted_entry, on_accept, on_prepare, promise_pages, promises, refuses, reports_from, accepts_value}
+pub use Rattle.synod.specs.Acceptor.{accepted_entry, on_accept, on_prepare, promise_pages, promises, sends_nack, reports_from, accepts_value}
 pub use Rattle.synod.specs.Ballots.{is_same, is_below}
 pub use Rattle.synod.specs.Core.{Core}
-pub use Rattle.synod.specs.Learner.{chooses, counted, has_voter, learns, on_accepted, on_accepted_at, on_ask, on_ask_at, on_told, on_told_at}
+pub use Rattle.synod.specs.Learner.{learns_chosen, counted, has_voter, learns, on_accepted, on_accepted_at, on_ask, on_ask_at, on_told, on_told_at}
 pub use Rattle.synod.specs.Log.{log_length, log_of}
 pub use Rattle.synod.specs.Node.{Node, StepResult, is_heard, kept_of, new_node, no_pages, page_of, pages_from, unchanged, with_page}
 pub use Rattle.synod.specs.Packets.{IsPost, accept_posts, packet, to_all, to_all_from, to_others, to_others_from}
 pub use Rattle.synod.specs.PromisePages.{are_received, joined_pages, pages_of}
-pub use Rattle.synod.specs.Proposer.{all_reports, begins, begun, proposed_values, on_promise_page, on_complete_promise, highest_at, idles, is_at, adds_page, completes_promise, leads, next_ballot, next_round, offer_as, offer_waits, offered, on_nack, on_promise, on_promise_as, reported_value, proposes_value, top_or_first, waits}
+pub use Rattle.synod.specs.Proposer.{all_reports, begins, begin_result, proposed_values, on_promise_page, on_complete_promise, highest_at, idles, is_at, adds_page, completes_promise, leads, next_ballot, next_round, offer_as, offer_waits, offer_result, on_nack, on_promise, on_promise_as, reported_value, proposes_value, top_or_first, waits}
 pub use Rattle.synod.specs.Ready.{ReadyView}
 pub use Rattle.synod.specs.Record.{KeptPart, changed_by}
-pub use Rattle.synod.specs.Rooms.{HasNoLessRoom}
+pub use Rattle.synod.specs.Capacity.{KeepsCapacity}
 pub use Rattle.synod.specs.Step.{on_body, on_packet, restarted}
 pub use Rattle.synod.specs.Weights.{IsWeights, is_quorum}
 pub use Rattle.synod.specs.declared.ballot.Ballot.{Ballot}
@@ -64,8 +64,8 @@ pub use Rattle.synod.specs.declared.packet.SlotReport.{SlotReport}
 pub use Rattle.synod.specs.declared.proposer.Heard.{Heard}
 pub use Rattle.synod.specs.declared.proposer.Role.{Role}
 pub use Rattle.synod.specs.declared.proposer.Role.TheVariants.{Idle, Leading, Preparing}
-pub use Rattle.synod.specs.declared.proposer.TheConstants.{MOST_WAITING}
+pub use Rattle.synod.specs.declared.proposer.TheConstants.{MAX_WAITING}
 pub use Rattle.synod.specs.declared.refusal.Refusal.{Refusal}
 pub use Rattle.synod.specs.declared.refusal.Refusal.TheVariants.{Busy, LogFull, RoundsSpent, TooLong}
 pub use Rattle.synod.specs.declared.tally.Tally.{Tally}
-pub use Rattle.synod.specs.declared.value.TheConstants.{MOST_BYTES}
+pub use Rattle.synod.specs.declared.value.TheConstants.{MAX_VALUE_BYTES}

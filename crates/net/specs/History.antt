@@ -10,7 +10,7 @@ pub record History (V : Type 0) : Type 0 where
   pub weights : List ℕ
   pub events : List (Event V)
 
--- the nodes, without their reserved room
+-- the nodes, without their reserved capacity
 abbrev pub nodes_of : {V : Type 0} → List (Core V) → List (Node V)
 nodes_of [] = []
 nodes_of (core ∷ cores) = core.node ∷ nodes_of cores

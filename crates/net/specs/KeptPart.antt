@@ -2,7 +2,7 @@
 -- Source: Lamport, Paxos Made Simple, section 2.5: an acceptor must remember in stable storage what it promised and accepted.
 -- The code stores the change before it posts anything; here both are in one step.
 use Rattle.std.specs.Prelude.{◌≢◌, ℕ, List, [], ◌∷◌, Option, Some, None, Result, Ok, Err, slice_get}
-use Rattle.net.specs.Words.{option_map, Packet, Change, Refusal, KeptPart, Node, StepResult, kept_of, offered, begun, on_packet, restarted, Event, Offer, Begin, Deliver, Restart, StepFault}
+use Rattle.net.specs.Words.{option_map, Packet, Change, Refusal, KeptPart, Node, StepResult, kept_of, offer_result, begin_result, on_packet, restarted, Event, Offer, Begin, Deliver, Restart, StepFault}
 use Rattle.net.specs.World.{World, event_result}
 
 -- promise, round and accepted entries of node k
@@ -34,8 +34,8 @@ change_delivered w (Some p) = change_at (λ n. Ok (on_packet n p)) (slice_get w.
 
 -- the change that the step of the event makes to the kept part of its node
 abbrev pub change_of : {V : Type 0} → (V → ℕ) → World V → Event V → Option (Change V)
-change_of size w (Offer k v) = change_at (λ n. offered size n v) (slice_get w.nodes k)
-change_of size w (Begin k) = change_at begun (slice_get w.nodes k)
+change_of size w (Offer k v) = change_at (λ n. offer_result size n v) (slice_get w.nodes k)
+change_of size w (Begin k) = change_at begin_result (slice_get w.nodes k)
 change_of size w (Deliver number) = change_delivered w (slice_get w.packets number)
 change_of size w (Restart k) = change_at (λ n. Ok (restarted n)) (slice_get w.nodes k)
 

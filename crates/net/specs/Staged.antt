@@ -2,7 +2,7 @@
 -- Source: this project's choice, so that a change can be stored before its effects are visible.
 -- The code holds the step that the node staged; for a restart, its posts and, once it is loaded, the record.
 use Rattle.std.specs.Prelude.{◌≡◌, ◌≤◌, ◌+◌, ℕ, List, [], ◌∷◌, ◌++◌, Option, Some, None, Result, Ok, Err, length, slice_get, slice_set}
-use Rattle.net.specs.Words.{AllByRecursion, Packet, Ask, Change, Refusal, IsPost, to_others, KeptPart, RecordView, Node, StepResult, kept_of, Core, HasNoLessRoom, ReadyView, offered, begun, on_packet, reloaded, restarted, Event, Offer, Begin, Deliver, Restart, StepFault, Memory}
+use Rattle.net.specs.Words.{AllByRecursion, Packet, Ask, Change, Refusal, IsPost, to_others, KeptPart, RecordView, Node, StepResult, kept_of, Core, KeepsCapacity, ReadyView, offer_result, begin_result, on_packet, reloaded, restarted, Event, Offer, Begin, Deliver, Restart, StepFault, Memory}
 use Rattle.net.specs.declared.staged.StagedWork.{StagedWork as RustWork}
 use Rattle.net.specs.declared.staged.StagedWork.TheVariants.{Step, Restart as RestartWork}
 use Rattle.net.specs.World.{World, fault_of, after_step_or_fault, event_result_without_limit}
@@ -49,10 +49,10 @@ step_of (steps ready) n = ready.step
 step_of (restarts posts None) n = restarted n
 step_of (restarts posts (Some kept)) n = reloaded n kept
 
--- the work can be committed: for a step, the node is as it was when it staged the step, with at least that room; for a restart,
--- the posts ask all other nodes, and a loaded record is the kept part of the node
+-- the work can be committed: for a step, the node is as it was when it staged the step, with at least that
+-- capacity; for a restart, the posts ask all other nodes, and a loaded record is the kept part of the node
 abbrev pub IsReadyAt : {V : Type 0} → Core V → StagedWork V → Type 0
-IsReadyAt c (steps ready) = (c.node ≡ ready.before.node) × HasNoLessRoom ready.before c
+IsReadyAt c (steps ready) = (c.node ≡ ready.before.node) × KeepsCapacity ready.before c
 IsReadyAt c (restarts posts None) = posts ≡ to_others c.node.me c.node.weights (Ask 0)
 IsReadyAt c (restarts posts (Some kept)) = (posts ≡ to_others c.node.me c.node.weights (Ask 0)) × (kept ≡ kept_of c.node)
 
@@ -99,35 +99,36 @@ IsStagingResultAt old new k e (Err met) (Err fault) = fault ≡ fault_of met
 
 -- an event of any kind is staged, according to the result that its step has at the node
 abbrev pub IsStagingResultOfEvent : {V : Type 0} → (V → ℕ) → List (Packet V) → Core V → Core V → ℕ → Event V → Result (StagedEvent V) StepFault → Type 0
-IsStagingResultOfEvent size packets old new k (Offer j v) result = IsStagingResultAt old new k (Offer j v) (offered size old.node v) result
-IsStagingResultOfEvent size packets old new k (Begin j) result = IsStagingResultAt old new k (Begin j) (begun old.node) result
+IsStagingResultOfEvent size packets old new k (Offer j v) result = IsStagingResultAt old new k (Offer j v) (offer_result size old.node v) result
+IsStagingResultOfEvent size packets old new k (Begin j) result = IsStagingResultAt old new k (Begin j) (begin_result old.node) result
 IsStagingResultOfEvent {V} size packets old new k (Deliver number) result = (p : Packet V) → slice_get packets number ≡ Some p → IsStagingResultAt old new k (Deliver number) (Ok (on_packet old.node p)) result
 IsStagingResultOfEvent size packets old new k (Restart j) result = IsStagingResultAt old new k (Restart j) (Ok (restarted old.node)) result
 
 -- The net.
 
--- a net as contracts see it: the events taken, the nodes with their room, the packets, and the room for packets and events
+-- a net as contracts see it: the events taken, the nodes with their capacity, the packets, and the capacity for
+-- packets and events
 pub record NetView (V : Type 0) : Type 0 where
   pub history : History V
   pub cores : List (Core V)
   pub packets : List (Packet V)
-  pub packet_room : ℕ
-  pub event_room : ℕ
+  pub packet_capacity : ℕ
+  pub event_capacity : ℕ
 
--- each node is unchanged, with at least the room that it had
-abbrev pub EachChangesOnlyRoom : {V : Type 0} → List (Core V) → List (Core V) → Type 0
-EachChangesOnlyRoom [] [] = Unit {0}
-EachChangesOnlyRoom (c ∷ cs) (d ∷ ds) = (d.node ≡ c.node) × HasNoLessRoom c d × EachChangesOnlyRoom cs ds
-EachChangesOnlyRoom [] (d ∷ ds) = ⊥
-EachChangesOnlyRoom (c ∷ cs) [] = ⊥
+-- each node is unchanged, with at least the capacity that it had
+abbrev pub EachChangesOnlyCapacity : {V : Type 0} → List (Core V) → List (Core V) → Type 0
+EachChangesOnlyCapacity [] [] = Unit {0}
+EachChangesOnlyCapacity (c ∷ cs) (d ∷ ds) = (d.node ≡ c.node) × KeepsCapacity c d × EachChangesOnlyCapacity cs ds
+EachChangesOnlyCapacity [] (d ∷ ds) = ⊥
+EachChangesOnlyCapacity (c ∷ cs) [] = ⊥
 
--- nothing but the reserved room has changed
-pub record ChangesOnlyRoom {V : Type 0} (old new : NetView V) : Type 0 where
+-- nothing but the reserved capacity has changed
+pub record ChangesOnlyCapacity {V : Type 0} (old new : NetView V) : Type 0 where
   pub history : new.history ≡ old.history
-  pub cores : EachChangesOnlyRoom old.cores new.cores
+  pub cores : EachChangesOnlyCapacity old.cores new.cores
   pub packets : new.packets ≡ old.packets
-  pub packet_room : old.packet_room ≤ new.packet_room
-  pub event_room : old.event_room ≤ new.event_room
+  pub packet_capacity : old.packet_capacity ≤ new.packet_capacity
+  pub event_capacity : old.event_capacity ≤ new.event_capacity
 
 -- the event is staged at its node
 pub record IsStaged {V : Type 0} (size : V → ℕ) (net : NetView V) (staged : StagedEvent V) : Type 0 where
@@ -144,10 +145,10 @@ IsStagingResultInNet size net e (Ok w) (Err fault) = fault ≡ Memory
 IsStagingResultInNet size net e (Err met) (Ok staged) = ⊥
 IsStagingResultInNet size net e (Err met) (Err fault) = fault ≡ met
 
--- there is room for these numbers of further packets and events
-pub record HasRoom {V : Type 0} (net : NetView V) (packets events : ℕ) : Type 0 where
-  pub for_packets : length net.packets + packets ≤ net.packet_room
-  pub for_events : length net.history.events + events ≤ net.event_room
+-- there is capacity for these numbers of further packets and events
+pub record HasSpareCapacity {V : Type 0} (net : NetView V) (packets events : ℕ) : Type 0 where
+  pub for_packets : length net.packets + packets ≤ net.packet_capacity
+  pub for_events : length net.history.events + events ≤ net.event_capacity
 
 -- the staged event was taken
 pub record IsTaken {V : Type 0} (old new : NetView V) (staged : StagedEvent V) : Type 0 where
@@ -158,5 +159,5 @@ pub record IsTaken {V : Type 0} (old new : NetView V) (staged : StagedEvent V) :
   pub cores : new.cores ≡ slice_set old.cores staged.at core
   pub history : new.history ≡ with_event old.history staged.event
   pub packets : new.packets ≡ old.packets ++ posts_of staged.work
-  pub packet_room : old.packet_room ≤ new.packet_room
-  pub event_room : old.event_room ≤ new.event_room
+  pub packet_capacity : old.packet_capacity ≤ new.packet_capacity
+  pub event_capacity : old.event_capacity ≤ new.event_capacity

@@ -1,7 +1,8 @@
--- The names that the specifications of this crate use, re-exported from one module.
+-- Names that the specifications of this crate use, re-exported from one module. The specifications import all others
+-- directly.
 pub use Rattle.net.specs.declared.event.Event.{Event}
 pub use Rattle.net.specs.declared.event.Event.TheVariants.{Begin, Deliver, Offer, Restart}
-pub use Rattle.net.specs.declared.event.TheConstants.{MOST_EVENTS}
+pub use Rattle.net.specs.declared.event.TheConstants.{MAX_EVENTS}
 pub use Rattle.net.specs.declared.fault.StepFault.{StepFault}
 pub use Rattle.net.specs.declared.fault.StepFault.TheVariants.{Busy, EventsSpent, LogFull, Memory, NoNode, NoPacket, RoundsSpent, TooLong}
 pub use Rattle.std.specs.List.{AllByRecursion}
@@ -11,10 +12,10 @@ pub use Rattle.synod.specs.Core.{Core}
 pub use Rattle.synod.specs.Log.{log_of}
 pub use Rattle.synod.specs.Node.{Node, StepResult, kept_of, new_node}
 pub use Rattle.synod.specs.Packets.{IsPost, to_others}
-pub use Rattle.synod.specs.Proposer.{begun, offered}
+pub use Rattle.synod.specs.Proposer.{begin_result, offer_result}
 pub use Rattle.synod.specs.Ready.{ReadyView}
 pub use Rattle.synod.specs.Record.{KeptPart, RecordView, changed_by}
-pub use Rattle.synod.specs.Rooms.{HasNoLessRoom}
+pub use Rattle.synod.specs.Capacity.{KeepsCapacity}
 pub use Rattle.synod.specs.Step.{on_packet, reloaded, restarted}
 pub use Rattle.synod.specs.Weights.{IsWeights, is_quorum}
 pub use Rattle.synod.specs.declared.ballot.Ballot.{Ballot}

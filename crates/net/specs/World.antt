@@ -2,7 +2,7 @@
 -- Source: Lamport, Paxos Made Simple, sections 2.1 and 3 (messages may be lost, repeated and delayed, agents restart).
 -- The code stores the present nodes, the packets and the events that led there; the world here also has every vote.
 use Rattle.std.specs.Prelude.{ℕ, suc, ◌+◌, ◌==◌, List, [], ◌∷◌, ◌++◌, Option, Some, None, Result, Ok, Err, slice_get, slice_set, if◌then◌else◌}
-use Rattle.net.specs.Words.{Packet, Change, Round, Promise, Entry, Refusal, Node, StepResult, new_node, log_of, offered, begun, on_packet, restarted, MOST_EVENTS, Event, Offer, Begin, Deliver, Restart, StepFault, Busy, LogFull, RoundsSpent, TooLong, Memory, NoNode, NoPacket, EventsSpent}
+use Rattle.net.specs.Words.{Packet, Change, Round, Promise, Entry, Refusal, Node, StepResult, new_node, log_of, offer_result, begin_result, on_packet, restarted, MAX_EVENTS, Event, Offer, Begin, Deliver, Restart, StepFault, Busy, LogFull, RoundsSpent, TooLong, Memory, NoNode, NoPacket, EventsSpent}
 use Rattle.synod.specs.declared.refusal.Refusal.TheVariants.{Busy as NodeBusy, LogFull as NodeLogFull, RoundsSpent as NodeRoundsSpent, TooLong as NodeTooLong, Memory as NodeMemory}
 use Rattle.net.specs.Chosen.{Vote, vote}
 
@@ -64,14 +64,14 @@ delivered w (Some p) = at_node w p.to (λ n. Ok (on_packet n p)) (slice_get w.no
 
 -- the world after the event, or the fault that it meets, whatever the number of events taken
 abbrev pub event_result_without_limit : {V : Type 0} → (V → ℕ) → World V → Event V → Result (World V) StepFault
-event_result_without_limit size w (Offer k v) = at_node w k (λ n. offered size n v) (slice_get w.nodes k)
-event_result_without_limit size w (Begin k) = at_node w k begun (slice_get w.nodes k)
+event_result_without_limit size w (Offer k v) = at_node w k (λ n. offer_result size n v) (slice_get w.nodes k)
+event_result_without_limit size w (Begin k) = at_node w k begin_result (slice_get w.nodes k)
 event_result_without_limit size w (Deliver number) = delivered w (slice_get w.packets number)
 event_result_without_limit size w (Restart k) = at_node w k (λ n. Ok (restarted n)) (slice_get w.nodes k)
 
 -- the world after the event, or the fault that the event meets
 abbrev pub event_result : {V : Type 0} → (V → ℕ) → World V → Event V → Result (World V) StepFault
-event_result size w e = if w.event_count == MOST_EVENTS then Err EventsSpent else event_result_without_limit size w e
+event_result size w e = if w.event_count == MAX_EVENTS then Err EventsSpent else event_result_without_limit size w e
 
 -- the world after these events in turn, or the first fault
 abbrev pub events_result : {V : Type 0} → (V → ℕ) → List (Event V) → Result (World V) StepFault → Result (World V) StepFault

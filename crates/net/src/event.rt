@@ -1,7 +1,7 @@
 //! The events of a world.
 
 /// The maximum number of events that a world takes.
-pub const MOST_EVENTS: u64 = 1_000_000;
+pub const MAX_EVENTS: u64 = 1_000_000;
 
 /// An event: a step of one node.
 #[derive(Drop)]

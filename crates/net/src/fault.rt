@@ -12,7 +12,7 @@ pub enum StepFault {
     /// 64 values are waiting at the node.
     #[error("too many values wait at the node")]
     Busy,
-    /// Every slot of the log is taken.
+    /// No slot is left for the offered value.
     #[error("each slot of the log is taken")]
     LogFull,
     /// No higher round exists.
@@ -30,19 +30,19 @@ pub enum StepFault {
     /// No packet has this number.
     #[error("no such packet")]
     NoPacket,
-    /// The world has taken `MOST_EVENTS` events.
+    /// The world has taken `MAX_EVENTS` events.
     #[error("no event is left")]
     EventsSpent,
-    /// A store or a load failed. Only in a cluster.
+    /// A store or a load of the node's record failed. Only a switch or a cluster returns it.
     #[error("the store failed")]
     Device,
-    /// The node is down. Only in a cluster.
+    /// The node is down. Only a switch or a cluster returns it.
     #[error("the node is down")]
     Down,
-    /// The cluster was stopped. Only in a cluster.
+    /// The cluster was stopped. Only a cluster returns it.
     #[error("the cluster is stopped")]
     Stopped,
-    /// The given cell belongs to another node or another switch. Only in a cluster.
+    /// The given cell belongs to another node or another switch. Only a cluster returns it.
     #[error("the libraries are apart")]
     Apart,
 }

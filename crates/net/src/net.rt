@@ -4,7 +4,7 @@ ghost use Rattle.net.specs.History.{nodes_of};
 ghost use Rattle.net.specs.World.{nodes_from};
 ghost use Rattle.std.specs.Prelude.{◌≡◌, ◌↔◌, ◌≤◌, ◌<◌, ◌++◌, [], Ok, Err, Some, None, length, vec_len, vec_capacity, IfOk, IsOk, OnOk, OnErr, IsOkUnless, MatchResult};
 
-use crate::event::{Event, MOST_EVENTS};
+use crate::event::{Event, MAX_EVENTS};
 use crate::fault::StepFault;
 use crate::staged::{StagedEvent, commit_at, stage_event};
 use std::alloc::{AllocError, Global};
@@ -12,7 +12,7 @@ use std::marker::Model;
 use synod::{NodeCore, Packet, Value, Weights};
 
 /// The nodes of a world and their packets. Contracts see the weights, the events taken, the nodes and packets of the world
-/// after them, and the reserved room.
+/// after them, and the reserved capacity.
 ///
 /// Source: Lamport, Paxos Made Simple, sections 2 and 3; `specs/World.antt` defines the world after a list of events.
 #[derive(Drop)]
@@ -34,8 +34,8 @@ impl<V: Value> Model for Net<V> {
       history = record { weights = w.weights; events = w.events.items };
       cores = w.nodes.items;
       packets = w.packets.items;
-      packet_room = vec_capacity w.packets;
-      event_room = vec_capacity w.events;
+      packet_capacity = vec_capacity w.packets;
+      event_capacity = vec_capacity w.events;
     } };
 
     ghost invariant = { λ w. AreOfWorld V.bytes (record { weights = w.weights; events = w.events.items }) w.nodes.items w.packets.items };
@@ -47,7 +47,7 @@ impl<V: Value> Net<V> {
     ghost use Rattle.net.specs.World.{log_after, packets_after};
     ghost use Rattle.net.specs.History.{AreOfWorld, world_of, with_event};
     ghost use Rattle.net.specs.KeptPart.{node_of_event};
-    ghost use Rattle.net.specs.Staged.{IsStagingResultInNet, HasRoom, IsStaged, IsOfEvent, ChangesOnlyRoom, IsTaken, posts_of};
+    ghost use Rattle.net.specs.Staged.{IsStagingResultInNet, HasSpareCapacity, IsStaged, IsOfEvent, ChangesOnlyCapacity, IsTaken, posts_of};
     ghost use Rattle.net.specs.Agreement.{Agreement};
     ghost use Rattle.net.specs.declared.fault.StepFault.TheVariants.{NoNode, NoPacket, Memory};
 
@@ -67,26 +67,26 @@ impl<V: Value> Net<V> {
         })
     }
 
-    /// Stages an event: allocates all that its step needs, and changes nothing but reserved room.
+    /// Stages an event: allocates all that its step needs, and changes nothing but capacity.
     ///
     /// Errors: the first fault that the event meets, or `Memory` if it meets none. Cost: that of the step at its node.
     pub fn stage(&mut self, event: Event<V>) -> Result<StagedEvent<V>, StepFault>
         ensures staged { IfOk result (IsStaged V.bytes self.new) }
         ensures event { IfOk result (λ staged. staged.event ≡ event) }
         ensures kind { IfOk result (λ staged. IsOfEvent event staged.work) }
-        ensures room { IfOk result (λ staged. HasRoom self.new (length (posts_of staged.work)) 1) }
+        ensures capacity { IfOk result (λ staged. HasSpareCapacity self.new (length (posts_of staged.work)) 1) }
 
         // A fault is returned even if every allocation fails.
         ensures refused { IfErr (world_of V.bytes (with_event self.old.history event)) (λ fault. result ≡ Err fault) }
         ensures only_memory { OnOk (world_of V.bytes (with_event self.old.history event)) (IsOkUnless result Memory) }
-        ensures only_room { ChangesOnlyRoom self.old self.new }
-        ensures few { IfOk result (λ _. length self.old.history.events < MOST_EVENTS) }
+        ensures only_capacity { ChangesOnlyCapacity self.old self.new }
+        ensures few { IfOk result (λ _. length self.old.history.events < MAX_EVENTS) }
     {
-        if self.events.len() as u64 == MOST_EVENTS {
+        if self.events.len() as u64 == MAX_EVENTS {
             return Err(StepFault::EventsSpent);
         }
         let staged = self.stage_at_node(event)?;
-        self.room(staged.posts().len(), 1)?;
+        self.reserve(staged.posts().len(), 1)?;
         Ok(staged)
     }
 
@@ -106,11 +106,11 @@ impl<V: Value> Net<V> {
         }
     }
 
-    /// Stages an event at its node, without room for its posts in the world.
+    /// Stages an event at its node, without capacity for its posts in the world.
     fn stage_at_node(&mut self, event: Event<V>) -> Result<StagedEvent<V>, StepFault>
-        requires { length self.old.history.events < MOST_EVENTS }
+        requires { length self.old.history.events < MAX_EVENTS }
         ensures staged { IsStagingResultInNet V.bytes self.new event (world_of V.bytes (with_event self.old.history event)) result }
-        ensures only_room { ChangesOnlyRoom self.old self.new }
+        ensures only_capacity { ChangesOnlyCapacity self.old self.new }
     {
         let Some(k) = self.node_of(&event) else {
             return Err(StepFault::NoPacket);
@@ -121,13 +121,13 @@ impl<V: Value> Net<V> {
         stage_event(node, k, event, &self.packets)
     }
 
-    /// Reserves room for `packets` more packets and `events` more events.
+    /// Reserves capacity for `packets` more packets and `events` more events.
     ///
     /// Errors: `Memory`.
-    pub fn room(&mut self, packets: usize, events: usize) -> Result<(), StepFault>
-        ensures room { OnOk result (HasRoom self.new packets events) }
+    pub fn reserve(&mut self, packets: usize, events: usize) -> Result<(), StepFault>
+        ensures capacity { OnOk result (HasSpareCapacity self.new packets events) }
         ensures only_memory { IsOkUnless result Memory }
-        ensures only_room { ChangesOnlyRoom self.old self.new }
+        ensures only_capacity { ChangesOnlyCapacity self.old self.new }
     {
         self.packets.reserve(packets)?;
         self.events.reserve(events)?;
@@ -137,14 +137,14 @@ impl<V: Value> Net<V> {
     /// Commits a staged event, and returns the number of packets posted so far. It does not allocate.
     pub fn commit(&mut self, staged: StagedEvent<V>) -> u64
         requires staged { IsStaged V.bytes self.old staged }
-        requires room { HasRoom self.old (length (posts_of staged.work)) 1 }
-        requires few { length self.old.history.events < MOST_EVENTS }
+        requires capacity { HasSpareCapacity self.old (length (posts_of staged.work)) 1 }
+        requires few { length self.old.history.events < MAX_EVENTS }
         ensures taken { IsTaken self.old self.new staged }
         ensures posted { result ≡ length (packets_after (world_of V.bytes self.new.history)) }
     {
         let (at, event, work) = staged.into_parts();
         let mut posts = commit_at(&mut self.nodes[at as usize], work);
-        // This cannot fail: there is room for the posts.
+        // This cannot fail: there is capacity for the posts.
         let _added = self.packets.append(&mut posts);
         self.events.push_reserved(event);
         self.packets.len() as u64
@@ -169,7 +169,7 @@ impl<V: Value> Net<V> {
     /// Returns the events taken, oldest first. None of them meets a fault, and agreement holds after every prefix of them.
     pub fn history(&self) -> &[Event<V>]
         ensures events { result.now ≡ self.now.history.events }
-        ensures few { length self.now.history.events ≤ MOST_EVENTS }
+        ensures few { length self.now.history.events ≤ MAX_EVENTS }
         ensures agreement { Agreement V.bytes self.now.history }
         ensures world { AreOfWorld V.bytes self.now.history self.now.cores self.now.packets }
     {

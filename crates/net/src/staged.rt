@@ -2,7 +2,7 @@
 ghost use Rattle.std.specs.Prelude.{◌≡◌, Some, None, MatchOption, length};
 ghost use Rattle.std.specs.List.{AllByRecursion};
 ghost use Rattle.synod.specs.Packets.{IsPost};
-ghost use Rattle.synod.specs.Rooms.{HasNoLessRoom};
+ghost use Rattle.synod.specs.Capacity.{KeepsCapacity};
 ghost use Rattle.net.specs.KeptPart.{node_of_event};
 ghost use Rattle.net.specs.Staged.{IsReadyAt, IsStagingResultOfEvent, posts_of, step_of, work_of};
 
@@ -97,7 +97,7 @@ pub(crate) fn stage_event<V: Value>(
     requires at { node_of_event packets.now event ≡ Some k }
     ensures ready { IsStagingResultOfEvent V.bytes packets.now node.old node.new k event result }
     ensures node { node.new.node ≡ node.old.node }
-    ensures room { HasNoLessRoom node.old node.new }
+    ensures capacity { KeepsCapacity node.old node.new }
 {
     let (event, work) = match event {
         Event::Offer(at, value) => {
@@ -112,7 +112,7 @@ pub(crate) fn stage_event<V: Value>(
         }
         Event::Restart(at) => (
             Event::Restart(at),
-            StagedWork::Restart(node.ready_restart()?, None),
+            StagedWork::Restart(node.restart_posts()?, None),
         ),
     };
     Ok(StagedEvent { at: k, event, work })

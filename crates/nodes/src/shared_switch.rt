@@ -5,7 +5,7 @@ ghost use Rattle.net.specs.declared.fault.StepFault.TheVariants.{EventsSpent, No
 ghost use Rattle.nodes.specs.Desk.{IsResultOf, DeliversAll};
 
 use cluster::{NodeCell, Switch, deliver_on, restart_on};
-use net::{Event, MOST_EVENTS, StepFault};
+use net::{Event, MAX_EVENTS, StepFault};
 use std::alloc::Global;
 use std::mem;
 use synod::Keep;
@@ -43,7 +43,7 @@ impl<K: Keep<Carried>> SharedSwitch<K> {
     }
 
     /// Restarts the cell's node. Returns the hints of the `other_count` packets by which it asks the other nodes.
-    /// If the node was down because a store failed, the packets of the event of that store get no hint: they are lost.
+    /// If the node was down because a store failed, the packets of its pending event get no hint: they are lost.
     ///
     /// Errors and cost: those of `cluster::restart_on`.
     pub fn restart(
@@ -90,7 +90,7 @@ impl<K: Keep<Carried>> SharedSwitch<K> {
     pub fn missing_node_fault(&self) -> StepFault
         ensures { (result ≡ EventsSpent) ⊎ (result ≡ NoNode) }
     {
-        if self.switch.history().len() as u64 >= MOST_EVENTS {
+        if self.switch.history().len() as u64 >= MAX_EVENTS {
             StepFault::EventsSpent
         } else {
             StepFault::NoNode

@@ -23,7 +23,7 @@ role_and_promise state = role_text state.role ++ codes " promise " ++ ballot_tex
 
 -- how many entries the log has, how many were applied, and how many values wait
 abbrev pub counts_text : NodeState → ℕ → List ℕ
-counts_text state applied = count_text (codes " learned ") state.learned ++ count_text (codes " applied ") applied ++ count_text (codes " waiting ") state.waiting
+counts_text state applied = count_text (codes " learned ") state.log_len ++ count_text (codes " applied ") applied ++ count_text (codes " waiting ") state.waiting
 
 -- the end of the line
 abbrev pub down_text : Bool → List ℕ

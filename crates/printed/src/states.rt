@@ -35,7 +35,7 @@ fn push_role_and_promise(text: &mut Vec<u8>, state: &NodeState) -> Result<(), Al
 fn push_counts(text: &mut Vec<u8>, state: &NodeState, applied: u32) -> Result<(), AllocError>
     ensures { OnOk result (text.new.items ≡ text.old.items ++ counts_text state.now applied) }
 {
-    push_count(text, b" learned ", u64::from(state.learned))?;
+    push_count(text, b" learned ", u64::from(state.log_len))?;
     push_count(text, b" applied ", u64::from(applied))?;
     push_count(text, b" waiting ", state.waiting as u64)
 }

@@ -42,7 +42,7 @@ node_of_event r (Restart k) = k
 -- the number of entries of the log of a node in a state, or 0 if there is no node
 abbrev pub learned_of : Option NodeState → ℕ
 learned_of None = 0
-learned_of (Some state) = state.learned
+learned_of (Some state) = state.log_len
 
 -- the number of entries of the log of node k
 abbrev pub learned_by : WorldOrFault → ℕ → ℕ

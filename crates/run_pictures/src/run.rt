@@ -90,7 +90,7 @@ impl Run {
     {
         self.steps.reserve(1)?;
         let slot = self.world.applied(k)?;
-        let learned = self.world.state(k)?.learned;
+        let learned = self.world.state(k)?.log_len;
         if let Some(verdict) = apply_on(&mut self.world, k)? {
             self.steps
                 .push_reserved(application_step(k, learned, slot, verdict));
@@ -137,7 +137,7 @@ fn step_start(world: &World, posted: u64, event: &Event<Entry>) -> Result<StepSt
     ensures node { IfOk result (λ start. start.node < length world.now.history.weights) }
 {
     let node = node_of(world, event);
-    let learned_before = world.state(node)?.learned;
+    let learned_before = world.state(node)?.log_len;
     Ok(StepStart {
         node,
         act: act(event, world.history().len() as u64),
@@ -186,7 +186,7 @@ fn learned_at(world: &World, k: u8) -> u32
     ensures { result ≡ learned_by (world_of carried_size world.now.history) k }
 {
     match world.state(k) {
-        Ok(state) => state.learned,
+        Ok(state) => state.log_len,
         Err(_) => unreachable!(),
     }
 }

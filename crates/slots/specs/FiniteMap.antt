@@ -44,4 +44,4 @@ trimmed (x ∷ xs) = trim_head x (trimmed xs)
 -- `Slots` as contracts see it: the map, and the number of slots, from 0 on, for which memory is reserved
 pub record SlotsView (T : Type 0) : Type 0 where
   pub entries : List (Option T)
-  pub room : ℕ
+  pub capacity : ℕ

@@ -25,7 +25,7 @@ impl<T> Model for Slots<T> {
 
     ghost Value = { SlotsView T };
 
-    ghost view = { λ s. record { entries = trimmed s.pages; room = length s.pages } };
+    ghost view = { λ s. record { entries = trimmed s.pages; capacity = length s.pages } };
 
     ghost invariant = { λ s. AreSlots s.pages s.front s.top };
 }
@@ -34,7 +34,7 @@ impl<T: Drop> Slots<T> {
     /// Creates an empty map. It does not allocate.
     pub fn new(alloc: Global) -> Self
         ensures entries { result.entries ≡ [] }
-        ensures room { result.room ≡ 0 }
+        ensures capacity { result.capacity ≡ 0 }
     {
         Slots {
             pages: Pages::new(alloc),
@@ -43,15 +43,15 @@ impl<T: Drop> Slots<T> {
         }
     }
 
-    /// Reserves room at a slot and at all slots below it. The entries do not change.
+    /// Reserves capacity for a slot and for all slots below it. The entries do not change.
     ///
-    /// Errors: an allocation fails; the room is then unchanged too. Cost: the pages that it adds.
+    /// Errors: an allocation fails; the capacity is then unchanged too. Cost: the pages that it adds.
     pub fn room(&mut self, slot: u32) -> Result<(), AllocError>
         requires { slot < SLOTS }
-        ensures ok { OnOk result (slot < self.new.room) }
-        ensures reserved { slot < self.old.room → IsOk result }
+        ensures ok { OnOk result (slot < self.new.capacity) }
+        ensures reserved { slot < self.old.capacity → IsOk result }
         ensures entries { self.new.entries ≡ self.old.entries }
-        ensures room { self.old.room ≤ self.new.room }
+        ensures capacity { self.old.capacity ≤ self.new.capacity }
         ensures same { OnErr result (self.new ≡ self.old) }
     {
         let pages = slot as usize / PAGE_SLOTS + 1;
@@ -63,9 +63,9 @@ impl<T: Drop> Slots<T> {
         Ok(())
     }
 
-    /// Returns whether there is room at a slot.
+    /// Returns whether there is capacity for a slot, so that `put` can be called with it.
     pub fn has_room(&self, slot: u32) -> bool
-        ensures { IsTrue result ↔ (slot < self.now.room) }
+        ensures { IsTrue result ↔ (slot < self.now.capacity) }
     {
         (slot as usize) < self.pages.count() * PAGE_SLOTS
     }
@@ -74,9 +74,9 @@ impl<T: Drop> Slots<T> {
     ///
     /// Cost: amortized constant. Filling the first gap scans on to the next gap; each entry is scanned once until `clear`.
     pub fn put(&mut self, slot: u32, entry: T) -> Option<T>
-        requires { slot < self.old.room }
+        requires { slot < self.old.capacity }
         ensures entries { self.new.entries ≡ put_at self.old.entries slot entry }
-        ensures room { self.new.room ≡ self.old.room }
+        ensures capacity { self.new.capacity ≡ self.old.capacity }
         ensures within { top_of self.new.entries ≤ SLOTS }
         ensures before { result ≡ entry_at self.old.entries slot }
     {

@@ -1,5 +1,5 @@
 -- A prefix of a node's log remains one after any event other than a restart of that node.
-use Rattle.switch.proofs.Words.{◌≡◌, ◌≢◌, ℕ, ◌<◌, ◌==◌, Bool, true, false, List, [], ◌∷◌, ◌++◌, length, slice_get, inl, inr, Option, Some, None, Result, Ok, Err, refl, ap, sym, ◌∙◌, subst, arith, nat_lt, ◌+◌, IsSome, OnErr, option_map, nat_tests, length-set, Packet, Change, Refusal, Node, StepResult, offered, begun, on_packet, restarted, MOST_EVENTS, Event, Offer, Begin, Deliver, Restart, StepFault, World, at_node, delivered, event_result_without_limit, event_result, log, log_after, events_result, start, IsAfter, IsPrefixOf, node_of, change_of, IfTaken, if_taken, spent_or, events_result-append, after-push, log_grows, then_begins, Status, up, down, StoreView, SwitchView, world_of, with_store, IsViewOf, AreStores, is_down, is_down_view, is_down_at, owed_on_failure, change_of_owed, owed_events, FailsAt, TakesAt, IsEffectAtUpNode, RecoversAt, Recovers, IsEffectAtDownNode, IsEffect, IsLogPrefix, KeepsPrefixes, EventKeepsPrefixes, append-nil}
+use Rattle.switch.proofs.Words.{◌≡◌, ◌≢◌, ℕ, ◌<◌, ◌==◌, Bool, true, false, List, [], ◌∷◌, ◌++◌, length, slice_get, inl, inr, Option, Some, None, Result, Ok, Err, refl, ap, sym, ◌∙◌, subst, arith, nat_lt, ◌+◌, IsSome, OnErr, option_map, nat_tests, length-set, Packet, Change, Refusal, Node, StepResult, offer_result, begin_result, on_packet, restarted, MAX_EVENTS, Event, Offer, Begin, Deliver, Restart, StepFault, World, at_node, delivered, event_result_without_limit, event_result, log, log_after, events_result, start, IsAfter, IsPrefixOf, node_of, change_of, IfTaken, if_taken, spent_or, events_result-append, after-push, log_grows, then_begins, Status, up, down, StoreView, SwitchView, world_of, with_store, IsViewOf, AreStores, is_down, is_down_view, is_down_at, pending_on_failure, change_of_pending, pending_events, FailsAt, TakesAt, IsEffectAtUpNode, RecoversAt, Recovers, IsEffectAtDownNode, IsEffect, IsLogPrefix, KeepsPrefixes, EventKeepsPrefixes, append-nil}
 use Rattle.switch.specs.Switch.{with_event}
 
 -- The node of an event that is taken exists.
@@ -25,14 +25,14 @@ module _ {V : Type 0} (size : V → ℕ) (w : World V) where
 
   -- if an event is taken, its node exists, the limit of events aside
   there_happens_at : (e : Event V) → IfTaken (event_result_without_limit size w e) (λ x. IsOfNode w e)
-  there_happens_at (Offer k v) = there_at (Offer k v) k refl (λ n. offered size n v) (slice_get w.nodes k) refl
-  there_happens_at (Begin k) = there_at (Begin k) k refl begun (slice_get w.nodes k) refl
+  there_happens_at (Offer k v) = there_at (Offer k v) k refl (λ n. offer_result size n v) (slice_get w.nodes k) refl
+  there_happens_at (Begin k) = there_at (Begin k) k refl begin_result (slice_get w.nodes k) refl
   there_happens_at (Deliver number) = there_delivered number (slice_get w.packets number) refl
   there_happens_at (Restart k) = there_at (Restart k) k refl (λ n. Ok (restarted n)) (slice_get w.nodes k) refl
 
   -- the node of an event that happens exists
   pub node_there : (e : Event V) (x : World V) → event_result size w e ≡ Ok x → IsOfNode w e
-  node_there e x happened = if_taken (λ (y : World V). IsOfNode w e) (event_result size w e) x happened (spent_or (λ (y : World V). IsOfNode w e) (event_result_without_limit size w e) (w.event_count == MOST_EVENTS) (there_happens_at e))
+  node_there e x happened = if_taken (λ (y : World V). IsOfNode w e) (event_result size w e) x happened (spent_or (λ (y : World V). IsOfNode w e) (event_result_without_limit size w e) (w.event_count == MAX_EVENTS) (there_happens_at e))
 
 -- the log of node j before an event other than its restart is a prefix of the log after it
 log_goes_on : {V : Type 0} (size : V → ℕ) (w : World V) (e : Event V) (x : World V) → event_result size w e ≡ Ok x → (j : ℕ) → e ≢ Restart j → IsPrefixOf (log w j) (log x j)
@@ -131,7 +131,7 @@ module _ {V : Type 0} (size : V → ℕ) (old : SwitchView V) (w : World V) (was
     nodes = ap (λ (s : SwitchView V). length s.stores) h.0 ∙ length-set old.stores k _;
   }
   takes_logs e x happened k view (Err fault) (inl h) = logs_same size old e new (Err fault) h.1
-  takes_logs e x happened k view (Err fault) (inr h) = logs_fail size old e new (Err fault) k view (change_of size w e) (down (owed_on_failure e)) h.1
+  takes_logs e x happened k view (Err fault) (inr h) = logs_fail size old e new (Err fault) k view (change_of size w e) (down (pending_on_failure e)) h.1
 
   -- an event whose node is up keeps the logs, whether it happens or meets a fault
   up_logs : (e : Event V) (result : Result ℕ StepFault) → IsEffectAtUpNode size w old new e result → EventKeepsPrefixes size e old new result
@@ -144,48 +144,48 @@ module _ {V : Type 0} (size : V → ℕ) (old : SwitchView V) (w : World V) (was
         takes_logs e x happened of.k view.0 result (effect.taken x happened of.k of.node view.0 view.1)
 
   -- if the event that node j owes is taken, the log of each other node is a prefix of the one after it
-  owed_goes_on : (j : ℕ) (e : Option (Event V)) → ((ev : Event V) → e ≡ Some ev → node_of w ev ≡ Some j) → (m : World V) → IsAfter size old.weights (old.history ++ owed_events e) m → (k : ℕ) → k ≢ j → IsPrefixOf (log w k) (log m k)
-  owed_goes_on j None owed m is k other =
+  owed_goes_on : (j : ℕ) (e : Option (Event V)) → ((ev : Event V) → e ≡ Some ev → node_of w ev ≡ Some j) → (m : World V) → IsAfter size old.weights (old.history ++ pending_events e) m → (k : ℕ) → k ≢ j → IsPrefixOf (log w k) (log m k)
+  owed_goes_on j None pending m is k other =
       let both : Ok w ≡ Ok m = sym was ∙ ap (λ (es : List (Event V)). world_of size (record { weights = old.weights; history = es; stores = old.stores })) (sym (append-nil old.history)) ∙ is in
       let same : w ≡ m = cc in
       ([], append-nil (log w k) ∙ ap (λ (x : World V). log x k) same)
-  owed_goes_on j (Some ev) owed m is k other =
+  owed_goes_on j (Some ev) pending m is k other =
       let happened : event_result size w ev ≡ Ok m = sym (after-push size old.weights old.history w ev was) ∙ is in
-      let not : ev ≢ Restart k = λ same. (let both : Some j ≡ Some k = sym (owed ev refl) ∙ ap (λ (e : Event V). node_of w e) same in let number : j ≡ k = cc in other (sym number)) in
+      let not : ev ≢ Restart k = λ same. (let both : Some j ≡ Some k = sym (pending ev refl) ∙ ap (λ (e : Event V). node_of w e) same in let number : j ≡ k = cc in other (sym number)) in
       log_goes_on size w ev m happened k not
 
-  -- a restart of a node that is down keeps the logs, whether it takes the owed event first or finds no memory or a failing keep
+  -- a restart of a node that is down keeps the logs, whether it takes the pending event first or finds no memory or a failing keep
   recovered_logs : (j : ℕ) (view : StoreView V) (e : Option (Event V)) → ((ev : Event V) → e ≡ Some ev → node_of w ev ≡ Some j) → (r : Result ℕ StepFault) → RecoversAt size w old new j view e r → EventKeepsPrefixes size (Restart j) old new r
-  recovered_logs j view e owed (Ok count) h = record {
+  recovered_logs j view e pending (Ok count) h = record {
     others = λ k entries other b.
         (let apart : k ≢ j = λ same. other (ap (λ (i : ℕ). let r : Event V = Restart i in r) (sym same)) in
-        let mid = before size old.weights (old.history ++ owed_events e) (Restart j) h.world h.is_after in
+        let mid = before size old.weights (old.history ++ pending_events e) (Restart j) h.world h.is_after in
         longer_stays size old w was new h.world (ap (λ (s : SwitchView V). world_of size s) h.rest ∙ h.is_after) counted k entries
-        (then_begins (log w k) (log mid.mid k) (log h.world k) (owed_goes_on j e owed mid.mid mid.is_after k apart) (log_goes_on size mid.mid (Restart j) h.world mid.happened k other)) b);
+        (then_begins (log w k) (log mid.mid k) (log h.world k) (owed_goes_on j e pending mid.mid mid.is_after k apart) (log_goes_on size mid.mid (Restart j) h.world mid.happened k other)) b);
     refused = tt;
     nodes = counted;
   } where
     counted : length new.stores ≡ length old.stores
     counted = ap (λ (s : SwitchView V). length s.stores) h.rest ∙ length-set old.stores j _
-  recovered_logs j view e owed (Err fault) (inl h) = logs_store size old (Restart j) new (Err fault) j (record { kept = h.1.kept; failures = view.failures; status = view.status }) h.1.rest
-  recovered_logs j view e owed (Err fault) (inr h) = logs_fail size old (Restart j) new (Err fault) j view (change_of_owed size w e) view.status h.1
+  recovered_logs j view e pending (Err fault) (inl h) = logs_store size old (Restart j) new (Err fault) j (record { kept = h.1.kept; failures = view.failures; status = view.status }) h.1.rest
+  recovered_logs j view e pending (Err fault) (inr h) = logs_fail size old (Restart j) new (Err fault) j view (change_of_pending size w e) view.status h.1
 
   -- An event that a node owes is one of its own events.
-  module _ (owed : (j : ℕ) (view : StoreView V) → slice_get old.stores j ≡ Some view → (ev : Event V) → view.status ≡ down (Some ev) → node_of w ev ≡ Some j) where
+  module _ (pending : (j : ℕ) (view : StoreView V) → slice_get old.stores j ≡ Some view → (ev : Event V) → view.status ≡ down (Some ev) → node_of w ev ≡ Some j) where
     -- an event whose node is down keeps the logs
     down_logs : (e : Event V) (result : Result ℕ StepFault) → is_down_at old.stores (node_of w e) ≡ true → IsEffectAtDownNode size w old new e result → EventKeepsPrefixes size e old new result
     down_logs (Offer k v) result test effect = logs_same size old (Offer k v) new result effect.1
     down_logs (Begin k) result test effect = logs_same size old (Begin k) new result effect.1
     down_logs (Deliver number) result test effect = logs_same size old (Deliver number) new result effect.1
     down_logs (Restart j) result test effect = by_view (slice_get old.stores j) refl where
-      by_room : (view : StoreView V) (e : Option (Event V)) → ((ev : Event V) → e ≡ Some ev → node_of w ev ≡ Some j) → Recovers size w old new j view e result → (t : Bool) → nat_lt MOST_EVENTS (length old.history + 2) ≡ t → EventKeepsPrefixes size (Restart j) old new result
+      by_room : (view : StoreView V) (e : Option (Event V)) → ((ev : Event V) → e ≡ Some ev → node_of w ev ≡ Some j) → Recovers size w old new j view e result → (t : Bool) → nat_lt MAX_EVENTS (length old.history + 2) ≡ t → EventKeepsPrefixes size (Restart j) old new result
       by_room view e own recovers true test = logs_same size old (Restart j) new result (recovers.spent (grind (arith, nat_tests))).1
       by_room view e own recovers false test = recovered_logs j view e own result (recovers.recovered (grind (arith, nat_tests)))
 
       by_standing : (view : StoreView V) → slice_get old.stores j ≡ Some view → (s : Status (Event V)) → view.status ≡ s → EventKeepsPrefixes size (Restart j) old new result
       by_standing view at up stands =
           let no : false ≡ true = sym (ap (λ (o : Option (StoreView V)). is_down_view o) at ∙ ap (λ (s : Status (Event V)). is_down s) stands) ∙ test in cc
-      by_standing view at (down e) stands = by_room view e (λ ev is. owed j view at ev (stands ∙ ap (λ (o : Option (Event V)). let s : Status (Event V) = down o in s) is)) (effect view at e stands) (nat_lt MOST_EVENTS (length old.history + 2)) refl
+      by_standing view at (down e) stands = by_room view e (λ ev is. pending j view at ev (stands ∙ ap (λ (o : Option (Event V)). let s : Status (Event V) = down o in s) is)) (effect view at e stands) (nat_lt MAX_EVENTS (length old.history + 2)) refl
 
       by_view : (o : Option (StoreView V)) → slice_get old.stores j ≡ o → EventKeepsPrefixes size (Restart j) old new result
       by_view None none = let no : false ≡ true = sym (ap (λ (o : Option (StoreView V)). is_down_view o) none) ∙ test in cc

@@ -1,5 +1,5 @@
 -- The answer of a call on one node, in the world after the history; contracts see only the fields.
-use Rattle.switch.proofs.Words.{◌≡◌, ℕ, ◌+◌, ◌<◌, false, List, [], ◌∷◌, ◌++◌, length, set, slice_get, inl, inr, Option, Some, None, Result, Ok, Err, refl, ap, sym, ◌∙◌, subst, arith, IfErr, OnOk, IsOkUnless, ForOk, slice_get_within, Packet, Change, KeptPart, changed_by, Node, StepResult, kept_of, MOST_EVENTS, Event, StepFault, Memory, Device, World, after_step, event_result, packets_after, History, world_of_taken, node_of_event, node_of, change_of, StagedEvent, NetView, IsStaged, IsEventAt, ChangesOnlyRoom, IsTaken, change_in, step_of, after-push, length-nodes_of, Status, up, down, StoreState, IsRecordOf, IsWithOrWithout, Fails, change_owed, StoreView, SwitchView, event_owed, status_seen, view_of, views_of, IsOwing, IsSwitch, world_of, IsRecordIn, IsViewOf, AreStores, is_down_at, with_store, owed_on_failure, TakesAt, IsEffectAtUpNode, with_event}
+use Rattle.switch.proofs.Words.{◌≡◌, ℕ, ◌+◌, ◌<◌, false, List, [], ◌∷◌, ◌++◌, length, set, slice_get, inl, inr, Option, Some, None, Result, Ok, Err, refl, ap, sym, ◌∙◌, subst, arith, IfErr, OnOk, IsOkUnless, ForOk, slice_get_within, Packet, Change, KeptPart, changed_by, Node, StepResult, kept_of, MAX_EVENTS, Event, StepFault, Memory, Device, World, after_step, event_result, packets_after, History, world_of_taken, node_of_event, node_of, change_of, StagedEvent, NetView, IsStaged, IsEventAt, ChangesOnlyCapacity, IsTaken, change_in, step_of, after-push, length-nodes_of, Status, up, down, StoreState, IsRecordOf, IsWithOrWithout, Fails, pending_change, StoreView, SwitchView, pending_event, status_seen, view_of, views_of, IsPendingStaged, IsSwitch, world_of, IsRecordIn, IsViewOf, AreStores, is_down_at, with_store, pending_on_failure, TakesAt, IsEffectAtUpNode, with_event}
 use Rattle.switch.proofs.StoresLemmas.{views_of-set, view_at, view_past, item_at, up_at}
 use Rattle.switch.proofs.SwitchLemmas.{switch_view, other_store, committed, node_is, at, happens_is, change_is, change_told, changes}
 
@@ -9,8 +9,8 @@ pub view_is_same : {V : Type 0} (ws us : List ℕ) (hs gs : List (Event V)) (som
 view_is_same ws us hs gs some others weights history stores = cc
 
 -- if only rooms change, the view of the switch stays the same
-pub still_view : {V : Type 0} (a b : NetView V) (stores : List (StoreState V)) → ChangesOnlyRoom a b → switch_view b stores ≡ switch_view a stores
-still_view {V} a b stores only_room = ap (λ (t : History V). let s : SwitchView V = record { weights = t.weights; history = t.events; stores = views_of stores } in s) only_room.history
+pub still_view : {V : Type 0} (a b : NetView V) (stores : List (StoreState V)) → ChangesOnlyCapacity a b → switch_view b stores ≡ switch_view a stores
+still_view {V} a b stores only_capacity = ap (λ (t : History V). let s : SwitchView V = record { weights = t.weights; history = t.events; stores = views_of stores } in s) only_capacity.history
 
 module _ {V : Type 0} (size : V → ℕ) (net : NetView V) (stores : List (StoreState V)) (h : IsSwitch size net stores) (now : SwitchView V) (seen : switch_view net stores ≡ now) where
   abbrev w : World V
@@ -58,18 +58,18 @@ module _ {V : Type 0} (size : V → ℕ) (net : NetView V) (stores : List (Store
       let cores = length-nodes_of net.cores in
       omega (arith, low, count, nodes, cores))
 
-  -- if the record of a keep fits its node, it also fits by the change that the world gives for the owed event
-  record_in : (n : Node V) (k : ℕ) (s : Status (StagedEvent V)) (kept : KeptPart V) → IsRecordOf n s kept → IsOwing size net k s → IsRecordIn size w n (status_seen s) kept
-  record_in n k up kept fits owing = fits
-  record_in n k (down None) kept fits owing = fits
-  record_in n k (down (Some o)) kept fits owing = subst (λ (c : Option (Change V)). IsWithOrWithout (kept_of n) c kept) (change_told size net stores h o owing.1) fits
+  -- if the record of a keep fits its node, it also fits by the change that the world gives for the pending event
+  record_in : (n : Node V) (k : ℕ) (s : Status (StagedEvent V)) (kept : KeptPart V) → IsRecordOf n s kept → IsPendingStaged size net k s → IsRecordIn size w n (status_seen s) kept
+  record_in n k up kept fits pending_staged = fits
+  record_in n k (down None) kept fits pending_staged = fits
+  record_in n k (down (Some o)) kept fits pending_staged = subst (λ (c : Option (Change V)). IsWithOrWithout (kept_of n) c kept) (change_told size net stores h o pending_staged.1) fits
 
   -- at each number there are a node and its view, or neither
   store_seen : (k : ℕ) (o : Option (Node V)) → slice_get w.nodes k ≡ o → (p : Option (StoreState V)) → slice_get stores k ≡ p → IsViewOf size w (slice_get w.nodes k) (slice_get (views_of stores) k)
   store_seen k (Some n) node (Some store) is =
       subst (λ (o : Option (Node V)). IsViewOf size w o (slice_get (views_of stores) k)) (sym node)
       (subst (λ (o : Option (StoreView V)). IsViewOf size w (Some n) o) (sym (view_at stores k store is))
-      (let mine = h.each k n store node is in record_in n k store.status store.kept mine.fits mine.owing))
+      (let mine = h.each k n store node is in record_in n k store.status store.kept mine.fits mine.pending_staged))
   store_seen k None none (Some store) is = let n = node_there k store is in let no : None ≡ Some n.0 = sym none ∙ n.1 in cc
   store_seen k (Some n) node None none = let store = store_there k n node in let no : None ≡ Some store.0 = sym none ∙ store.1 in cc
   store_seen k None nowhere None none =
@@ -106,7 +106,7 @@ module _ {V : Type 0} (size : V → ℕ) (net : NetView V) (stores : List (Store
 
   -- An event that is staged at a node that is up.
 
-  module _ (d1 : StagedEvent V) (d : IsStaged size net d1) (low : length net.history.events < MOST_EVENTS) (e : Event V) (is_e : d1.event ≡ e) (store : StoreState V) (is : slice_get stores d1.at ≡ Some store) where
+  module _ (d1 : StagedEvent V) (d : IsStaged size net d1) (low : length net.history.events < MAX_EVENTS) (e : Event V) (is_e : d1.event ≡ e) (store : StoreState V) (is : slice_get stores d1.at ≡ Some store) where
     abbrev step : StepResult V
     step = step_of d1.work d.core.node
 
@@ -144,14 +144,14 @@ module _ {V : Type 0} (size : V → ℕ) (net : NetView V) (stores : List (Store
             (subst (λ (i : ℕ). TakesAt old new e i (view_of store) (change_in d1.work) (after_step w d1.at step) result) is_j takes)));
       }
 
-      -- A call of the keep failed, and o is owed.
-      module _ (o : Option (StagedEvent V)) (change : Option (Change V)) (is_change : change ≡ change_in d1.work) (owes : change_owed o ≡ change) (is_staged : event_owed o ≡ owed_on_failure e) (owing : IsOwing size net d1.at (down o)) (new : StoreState V) (fails : Fails store change (down o) new) where
+      -- A call of the keep failed, and o is pending.
+      module _ (o : Option (StagedEvent V)) (change : Option (Change V)) (is_change : change ≡ change_in d1.work) (owes : pending_change o ≡ change) (is_staged : pending_event o ≡ pending_on_failure e) (pending_staged : IsPendingStaged size net d1.at (down o)) (new : StoreState V) (fails : Fails store change (down o) new) where
         -- the net and the stores are still a switch
         pub failed : IsSwitch size net (set stores d1.at new)
         failed = other_store size net stores h d1.at d.core.node store new (node_is size net stores h d1 d) is record {
           fits = subst (λ (s : Status (StagedEvent V)). IsRecordOf d.core.node s new.kept) (sym (ap (λ (s : StoreState V). s.status) fails.rest))
               (subst (λ (c : Option (Change V)). IsWithOrWithout (kept_of d.core.node) c new.kept) (sym owes) (subst (λ (k : KeptPart V). IsWithOrWithout k change new.kept) kept_up fails.kept));
-          owing = subst (λ (s : Status (StagedEvent V)). IsOwing size net d1.at s) (sym (ap (λ (s : StoreState V). s.status) fails.rest)) owing;
+          pending_staged = subst (λ (s : Status (StagedEvent V)). IsPendingStaged size net d1.at s) (sym (ap (λ (s : StoreState V). s.status) fails.rest)) pending_staged;
         }
 
         -- Device is the right answer to the event, and its node is down with the event that it owes

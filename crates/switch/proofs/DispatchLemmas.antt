@@ -1,5 +1,5 @@
 -- The count of nodes, the dispatch of an event by its node, and a call in terms of the variables of its function.
-use Rattle.switch.proofs.Words.{◌≡◌, ℕ, ◌<◌, Bool, true, false, List, length, get_or, set, slice_get, Option, Some, Result, Ok, Err, refl, ap, sym, ◌∙◌, subst, arith, ForOk, slice_get_within, slice_get_read, Change, changed_by, kept_of, MOST_EVENTS, Event, Offer, Begin, Deliver, Restart, StepFault, Device, Down, World, packets_after, History, world_of_taken, node_of, StagedEvent, NetView, IsStaged, ChangesOnlyRoom, IsTaken, change_in, count_shown, up, down, StoreState, Fails, change_owed, SwitchView, event_owed, IsOwing, IsSwitch, world_of, is_down_at, owed_on_failure, IsEffectAtUpNode, IsEffectAtDownNode, IsEffect}
+use Rattle.switch.proofs.Words.{◌≡◌, ℕ, ◌<◌, Bool, true, false, List, length, get_or, set, slice_get, Option, Some, Result, Ok, Err, refl, ap, sym, ◌∙◌, subst, arith, ForOk, slice_get_within, slice_get_read, Change, changed_by, kept_of, MAX_EVENTS, Event, Offer, Begin, Deliver, Restart, StepFault, Device, Down, World, packets_after, History, world_of_taken, node_of, StagedEvent, NetView, IsStaged, ChangesOnlyCapacity, IsTaken, change_in, count_shown, up, down, StoreState, Fails, pending_change, SwitchView, pending_event, IsPendingStaged, IsSwitch, world_of, is_down_at, pending_on_failure, IsEffectAtUpNode, IsEffectAtDownNode, IsEffect}
 use Rattle.switch.proofs.StoresLemmas.{count_views}
 use Rattle.switch.proofs.SwitchLemmas.{switch_view, still_switch}
 use Rattle.switch.proofs.CallLemmas.{still_view, after_is, is_up_at, kept_up, failed, failed_acts, played, played_acts}
@@ -24,15 +24,15 @@ module _ {V : Type 0} (size : V → ℕ) (now : SwitchView V) (e : Event V) (o :
     pub up_acts : is_down_at now.stores o ≡ false → ForOk (world_of size now) (λ x. IsEffectAtUpNode size x now new e result) → ForOk (world_of size now) (λ x. IsEffect size x now new e result)
     up_acts test effect = λ x d. record { is_down = λ yes. (let never : false ≡ true = sym (test_at false test x d) ∙ yes in cc); is_up = λ no. effect x d }
 
--- if its store fails, an event other than a restart is itself the one that is owed
-pub no_restart : {V : Type 0} (e : Event V) → ((k : ℕ) → e ≡ Restart k → ⊥) → owed_on_failure e ≡ Some e
+-- if its store fails, an event other than a restart is itself the pending one
+pub no_restart : {V : Type 0} (e : Event V) → ((k : ℕ) → e ≡ Restart k → ⊥) → pending_on_failure e ≡ Some e
 no_restart (Offer k v) other = refl
 no_restart (Begin k) other = refl
 no_restart (Deliver number) other = refl
 no_restart (Restart k) other = absurd (other k refl)
 
 -- an event other than a restart is refused at a node that is down
-pub refused_down : {V : Type 0} (size : V → ℕ) (now : SwitchView V) (e : Event V) → owed_on_failure e ≡ Some e → ForOk (world_of size now) (λ x. IsEffectAtDownNode size x now now e (Err Down))
+pub refused_down : {V : Type 0} (size : V → ℕ) (now : SwitchView V) (e : Event V) → pending_on_failure e ≡ Some e → ForOk (world_of size now) (λ x. IsEffectAtDownNode size x now now e (Err Down))
 refused_down size now (Offer k v) is = λ x d. (refl, refl)
 refused_down size now (Begin k) is = λ x d. (refl, refl)
 refused_down size now (Deliver number) is = λ x d. (refl, refl)
@@ -40,27 +40,27 @@ refused_down size now (Restart k) is = cc
 
 -- A call in terms of the variables of its function: the event was readied, and the store is found by its number.
 
-module _ {V : Type 0} (size : V → ℕ) (a b : NetView V) (only_room : ChangesOnlyRoom a b) (stores : List (StoreState V)) (h : IsSwitch size a stores) (now : SwitchView V) (seen : switch_view a stores ≡ now) (d1 : StagedEvent V) (d : IsStaged size b d1) (k : ℕ) (is_at : k ≡ d1.at) where
+module _ {V : Type 0} (size : V → ℕ) (a b : NetView V) (only_capacity : ChangesOnlyCapacity a b) (stores : List (StoreState V)) (h : IsSwitch size a stores) (now : SwitchView V) (seen : switch_view a stores ≡ now) (d1 : StagedEvent V) (d : IsStaged size b d1) (k : ℕ) (is_at : k ≡ d1.at) where
   -- the readied net and the stores are a switch
   hb : IsSwitch size b stores
-  hb = still_switch size a stores h b only_room
+  hb = still_switch size a stores h b only_capacity
 
   -- the view is the one before the event was readied
   seen_b : switch_view b stores ≡ now
-  seen_b = still_view a b stores only_room ∙ seen
+  seen_b = still_view a b stores only_capacity ∙ seen
 
   -- there is a store at this number
   pub in_stores : k < length stores
   in_stores = let low = slice_get_within b.cores d1.at d.core d.at in let count = hb.count in omega (arith, low, count, is_at)
 
-  module _ (e : Event V) (is_e : d1.event ≡ e) (few : length a.history.events < MOST_EVENTS) (store : StoreState V) (is : store ≡ get_or stores k store) (up_now : ForOk (world_of size now) (λ x. is_down_at now.stores (node_of x e) ≡ false)) where
+  module _ (e : Event V) (is_e : d1.event ≡ e) (few : length a.history.events < MAX_EVENTS) (store : StoreState V) (is : store ≡ get_or stores k store) (up_now : ForOk (world_of size now) (λ x. is_down_at now.stores (node_of x e) ≡ false)) where
     -- the store that was read is the one of the node at which the event is staged
     found : slice_get stores d1.at ≡ Some store
     found = ap (λ (i : ℕ). slice_get stores i) (sym is_at) ∙ slice_get_read stores (length stores) k store refl in_stores is
 
     -- the history is below the limit of events
-    low : length b.history.events < MOST_EVENTS
-    low = let same = ap (λ (t : History V). length t.events) only_room.history in omega (arith, same, few)
+    low : length b.history.events < MAX_EVENTS
+    low = let same = ap (λ (t : History V). length t.events) only_capacity.history in omega (arith, same, few)
 
     -- if the node of the event is not down in the view, this store is up
     pub is_up : store.status ≡ up
@@ -71,12 +71,12 @@ module _ {V : Type 0} (size : V → ℕ) (a b : NetView V) (only_room : ChangesO
     kept_is = kept_up size b stores hb now seen_b d1 d low e is_e store found is_up
 
     -- if a call of the keep failed, the net and the stores are still a switch, and Device is the right answer
-    pub call_failed : (o : Option (StagedEvent V)) (change : Option (Change V)) → change ≡ change_in d1.work → change_owed o ≡ change → event_owed o ≡ owed_on_failure e → IsOwing size b d1.at (down o) → (new : StoreState V) → Fails store change (down o) new
+    pub call_failed : (o : Option (StagedEvent V)) (change : Option (Change V)) → change ≡ change_in d1.work → pending_change o ≡ change → pending_event o ≡ pending_on_failure e → IsPendingStaged size b d1.at (down o) → (new : StoreState V) → Fails store change (down o) new
         → IsSwitch size b (set stores k new) × ForOk (world_of size now) (λ x. IsEffectAtUpNode size x now (switch_view b (set stores k new)) e (Err Device))
-    call_failed o change is_change owes is_staged owing new fails =
+    call_failed o change is_change owes is_staged pending_staged new fails =
         subst (λ (i : ℕ). IsSwitch size b (set stores i new) × ForOk (world_of size now) (λ x. IsEffectAtUpNode size x now (switch_view b (set stores i new)) e (Err Device))) (sym is_at) (
-          failed size b stores hb now seen_b d1 d low e is_e store found is_up o change is_change owes is_staged owing new fails,
-          failed_acts size b stores hb now seen_b d1 d low e is_e store found is_up o change is_change owes is_staged owing new fails,
+          failed size b stores hb now seen_b d1 d low e is_e store found is_up o change is_change owes is_staged pending_staged new fails,
+          failed_acts size b stores hb now seen_b d1 d low e is_e store found is_up o change is_change owes is_staged pending_staged new fails,
         )
 
     -- if the keep made the change and the event was taken, the net and the stores are a switch, and the count of packets is the right answer

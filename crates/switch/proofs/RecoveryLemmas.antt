@@ -1,5 +1,5 @@
 -- The restart of a node that is down: the event that it owes is taken first.
-use Rattle.switch.proofs.Words.{◌≡◌, ℕ, ◌+◌, ◌<◌, ◌≤◌, true, List, [], ◌∷◌, ◌++◌, length, get_or, set, slice_get, inl, inr, Option, Some, None, Result, Ok, Err, refl, ap, sym, ◌∙◌, subst, arith, length-append, AllByRecursion, option_map, ForOk, length-set, slice_get_read, Packet, Ask, Change, IsPost, to_others, KeptPart, changed_by, Node, StepResult, kept_of, Core, reloaded, restarted, MOST_EVENTS, Event, Restart, StepFault, Memory, Device, World, packets_after, IsAfter, History, world_of_taken, kept_part, StagedWork, steps, restarts, StagedEvent, NetView, HasRoom, IsStaged, IsReadyAt, IsOfEvent, IsEventAt, HasResult, IsTaken, posts_of, step_of, with_loaded, with_record, at_set, set_twice, comes_restart, set_same, Status, up, down, StoreState, owed_in, change_owed, posts_owed, IsRecordOf, IsWithOrWithout, Fails, StoreView, SwitchView, event_owed, status_seen, view_of, views_of, IsOwing, IsStore, IsSwitch, CanCommitOwed, CommitsOwed, world_of, is_down_at, owed_events, with_store, RecoversAt, Recovers}
+use Rattle.switch.proofs.Words.{◌≡◌, ℕ, ◌+◌, ◌<◌, ◌≤◌, true, List, [], ◌∷◌, ◌++◌, length, get_or, set, slice_get, inl, inr, Option, Some, None, Result, Ok, Err, refl, ap, sym, ◌∙◌, subst, arith, length-append, AllByRecursion, option_map, ForOk, length-set, slice_get_read, Packet, Ask, Change, IsPost, to_others, KeptPart, changed_by, Node, StepResult, kept_of, Core, reloaded, restarted, MAX_EVENTS, Event, Restart, StepFault, Memory, Device, World, packets_after, IsAfter, History, world_of_taken, kept_part, StagedWork, steps, restarts, StagedEvent, NetView, HasSpareCapacity, IsStaged, IsReadyAt, IsOfEvent, IsEventAt, HasResult, IsTaken, posts_of, step_of, with_loaded, with_record, at_set, set_twice, comes_restart, set_same, Status, up, down, StoreState, pending_of, pending_change, pending_posts, IsRecordOf, IsWithOrWithout, Fails, StoreView, SwitchView, pending_event, status_seen, view_of, views_of, IsPendingStaged, IsStore, IsSwitch, CanCommitPending, CommitsPending, world_of, is_down_at, pending_events, with_store, RecoversAt, Recovers}
 use Rattle.switch.proofs.KeepLemmas.{either_twice}
 use Rattle.switch.proofs.StoresLemmas.{views_of-set, view_at, item_at, down_at, few_staged}
 use Rattle.switch.proofs.SwitchLemmas.{switch_view, core_node, own_number, own_weights, other_store, at, node_is, committed}
@@ -10,7 +10,7 @@ use Rattle.switch.proofs.OwedLemmas.{owed_change, can_take, owed_taken}
 -- The switch before, with stores and net as they are when the keep is called.
 module _ {V : Type 0} (size : V → ℕ) (net : NetView V) (stores : List (StoreState V)) (h : IsSwitch size net stores) (now : SwitchView V) (seen : switch_view net stores ≡ now)
     (d1 : StagedEvent V) (d : IsStaged size net d1) (j : ℕ) (is_e : d1.event ≡ Restart j) (kind : IsOfEvent (Restart j) d1.work) (k : ℕ) (is_at : k ≡ d1.at) (store : StoreState V) (is : store ≡ get_or stores k store) (low_k : k < length stores)
-    (test : is_down_at now.stores (Some j) ≡ true) (room : length net.history.events + 2 ≤ MOST_EVENTS) where
+    (test : is_down_at now.stores (Some j) ≡ true) (room : length net.history.events + 2 ≤ MAX_EVENTS) where
   abbrev w : World V
   w = h.world.world
 
@@ -33,7 +33,7 @@ module _ {V : Type 0} (size : V → ℕ) (net : NetView V) (stores : List (Store
   node_k : slice_get w.nodes k ≡ Some d.core.node
   node_k = ap (λ (i : ℕ). slice_get w.nodes i) is_at ∙ node_is size net stores h d1 d
 
-  -- the record of the keep and the owed event fit this node
+  -- the record of the keep and the pending event fit this node
   own : IsStore size net k d.core.node store
   own = h.each k d.core.node store node_k found
 
@@ -45,29 +45,29 @@ module _ {V : Type 0} (size : V → ℕ) (net : NetView V) (stores : List (Store
   o = is_down.0
 
   -- o is the event that the store owes
-  owed_is : owed_in store.status ≡ o
-  owed_is = ap (λ (s : Status (StagedEvent V)). owed_in s) is_down.1
+  owed_is : pending_of store.status ≡ o
+  owed_is = ap (λ (s : Status (StagedEvent V)). pending_of s) is_down.1
 
-  -- the record of the keep is that of the node, with or without the change of the owed event
+  -- the record of the keep is that of the node, with or without the change of the pending event
   fits : IsRecordOf d.core.node (down o) store.kept
   fits = subst (λ (s : Status (StagedEvent V)). IsRecordOf d.core.node s store.kept) is_down.1 own.fits
 
-  -- the owed event is staged at the node
-  owing : IsOwing size net k (down o)
-  owing = subst (λ (s : Status (StagedEvent V)). IsOwing size net k s) is_down.1 own.owing
+  -- the pending event is staged at the node
+  pending_staged : IsPendingStaged size net k (down o)
+  pending_staged = subst (λ (s : Status (StagedEvent V)). IsPendingStaged size net k s) is_down.1 own.pending_staged
 
   -- if the restart recovers the node in the view of this store, it does so in the view of the switch
-  of_view : (new : SwitchView V) (result : Result ℕ StepFault) → RecoversAt size w old new j (view_of store) (event_owed o) result
+  of_view : (new : SwitchView V) (result : Result ℕ StepFault) → RecoversAt size w old new j (view_of store) (pending_event o) result
       → ForOk (world_of size now) (λ x. (view : StoreView V) → slice_get now.stores j ≡ Some view → (e : Option (Event V)) → view.status ≡ down e → Recovers size x now new j view e result)
   of_view new result recovers = of_world size net stores h now seen (λ s x. (view : StoreView V) → slice_get s.stores j ≡ Some view → (e : Option (Event V)) → view.status ≡ down e → Recovers size x s new j view e result)
       (λ view at_j e stands.
       let views : Some (view_of store) ≡ Some view = sym (view_at stores k store found) ∙ ap (λ (i : ℕ). slice_get (views_of stores) i) (sym is_j) ∙ at_j in
       let is_view : view_of store ≡ view = cc in
-      let stand : down (event_owed o) ≡ down e = sym (ap (λ (s : Status (StagedEvent V)). status_seen s) is_down.1) ∙ ap (λ (p : StoreView V). p.status) is_view ∙ stands in
-      let is_f : event_owed o ≡ e = cc in
+      let stand : down (pending_event o) ≡ down e = sym (ap (λ (s : Status (StagedEvent V)). status_seen s) is_down.1) ∙ ap (λ (p : StoreView V). p.status) is_view ∙ stands in
+      let is_f : pending_event o ≡ e = cc in
       record {
         spent = λ spent. absurd (omega (arith, spent, room));
-        recovered = λ le. subst (λ (f : Option (Event V)). RecoversAt size w old new j view f result) is_f (subst (λ (p : StoreView V). RecoversAt size w old new j p (event_owed o) result) is_view recovers);
+        recovered = λ le. subst (λ (f : Option (Event V)). RecoversAt size w old new j view f result) is_f (subst (λ (p : StoreView V). RecoversAt size w old new j p (pending_event o) result) is_view recovers);
       })
 
   -- if there is no memory, Memory is the right answer
@@ -83,10 +83,10 @@ module _ {V : Type 0} (size : V → ℕ) (net : NetView V) (stores : List (Store
   ))
 
   -- A call of the keep failed.
-  module _ (new : StoreState V) (fails : Fails store (change_owed (owed_in store.status)) store.status new) where
-    -- the record of the keep is the one before, with or without the change of the owed event
-    either : IsWithOrWithout store.kept (change_owed o) new.kept
-    either = subst (λ (p : Option (StagedEvent V)). IsWithOrWithout store.kept (change_owed p) new.kept) owed_is fails.kept
+  module _ (new : StoreState V) (fails : Fails store (pending_change (pending_of store.status)) store.status new) where
+    -- the record of the keep is the one before, with or without the change of the pending event
+    either : IsWithOrWithout store.kept (pending_change o) new.kept
+    either = subst (λ (p : Option (StagedEvent V)). IsWithOrWithout store.kept (pending_change p) new.kept) owed_is fails.kept
 
     -- the store is down as before
     stands : new.status ≡ down o
@@ -95,8 +95,8 @@ module _ {V : Type 0} (size : V → ℕ) (net : NetView V) (stores : List (Store
     -- the net and the stores are still a switch
     pub stays_down : IsSwitch size net (set stores k new)
     stays_down = other_store size net stores h k d.core.node store new node_k found record {
-      fits = subst (λ (s : Status (StagedEvent V)). IsRecordOf d.core.node s new.kept) (sym stands) (either_twice (kept_of d.core.node) store.kept new.kept (change_owed o) fits either);
-      owing = subst (λ (s : Status (StagedEvent V)). IsOwing size net k s) (sym stands) owing;
+      fits = subst (λ (s : Status (StagedEvent V)). IsRecordOf d.core.node s new.kept) (sym stands) (either_twice (kept_of d.core.node) store.kept new.kept (pending_change o) fits either);
+      pending_staged = subst (λ (s : Status (StagedEvent V)). IsPendingStaged size net k s) (sym stands) pending_staged;
     }
 
     -- Device is the right answer to the restart, and the node stays down
@@ -105,37 +105,37 @@ module _ {V : Type 0} (size : V → ℕ) (net : NetView V) (stores : List (Store
       refl,
       record {
         kept = new.kept;
-        either = subst (λ (c : Option (Change V)). IsWithOrWithout store.kept c new.kept) (owed_change size net stores h k o owing) either;
+        either = subst (λ (c : Option (Change V)). IsWithOrWithout store.kept c new.kept) (owed_change size net stores h k o pending_staged) either;
         rest = ap (λ (ps : List (StoreView V)). let s : SwitchView V = record { weights = net.history.weights; history = net.history.events; stores = ps } in s) (views_of-set stores k new)
             ∙ ap (λ (s : StoreState V). with_store old k (view_of s)) fails.rest
             ∙ ap (λ (i : ℕ). with_store old i record { kept = new.kept; failures = store.failures + 1; status = status_seen store.status }) (sym is_j);
       },
     ))
 
-  -- the owed event can be taken, if there is room for its posts and two events
-  pub can_commit_owed : (owed : Option (StagedEvent V)) → owed ≡ owed_in store.status → (posts more : ℕ) → posts ≡ length (posts_owed (owed_in store.status)) → HasRoom net (posts + more) 2 → CanCommitOwed size net owed
-  can_commit_owed owed is_owed posts more count r =
-      subst (λ (p : Option (StagedEvent V)). CanCommitOwed size net p) (sym (is_owed ∙ owed_is))
-      (can_take size net stores h k room o owing more (subst (λ (i : ℕ). HasRoom net (i + more) 2) (count ∙ ap (λ (p : Option (StagedEvent V)). length (posts_owed p)) owed_is) r))
+  -- the pending event can be taken, if there is room for its posts and two events
+  pub can_commit_owed : (pending : Option (StagedEvent V)) → pending ≡ pending_of store.status → (posts more : ℕ) → posts ≡ length (pending_posts (pending_of store.status)) → HasSpareCapacity net (posts + more) 2 → CanCommitPending size net pending
+  can_commit_owed pending is_owed posts more count r =
+      subst (λ (p : Option (StagedEvent V)). CanCommitPending size net p) (sym (is_owed ∙ owed_is))
+      (can_take size net stores h k room o pending_staged more (subst (λ (i : ℕ). HasSpareCapacity net (i + more) 2) (count ∙ ap (λ (p : Option (StagedEvent V)). length (pending_posts p)) owed_is) r))
 
-  -- The keep has made the change of the owed event, and the event is taken.
-  module _ (new : StoreState V) (repaired : new ≡ record { kept = changed_by store.kept (change_owed (owed_in store.status)); failures = store.failures; status = up }) (m : NetView V) (owed : Option (StagedEvent V)) (is_owed : owed ≡ owed_in store.status)
-      (takes : CommitsOwed net m owed) where
-    -- the record of the keep is the one before with the change of the owed event
-    new_kept_is : new.kept ≡ changed_by store.kept (change_owed o)
-    new_kept_is = ap (λ (s : StoreState V). s.kept) repaired ∙ ap (λ (p : Option (StagedEvent V)). changed_by store.kept (change_owed p)) owed_is
+  -- The keep has made the change of the pending event, and the event is taken.
+  module _ (new : StoreState V) (repaired : new ≡ record { kept = changed_by store.kept (pending_change (pending_of store.status)); failures = store.failures; status = up }) (m : NetView V) (pending : Option (StagedEvent V)) (is_owed : pending ≡ pending_of store.status)
+      (takes : CommitsPending net m pending) where
+    -- the record of the keep is the one before with the change of the pending event
+    new_kept_is : new.kept ≡ changed_by store.kept (pending_change o)
+    new_kept_is = ap (λ (s : StoreState V). s.kept) repaired ∙ ap (λ (p : Option (StagedEvent V)). changed_by store.kept (pending_change p)) owed_is
 
     -- the store is up
     new_up : new.status ≡ up
     new_up = ap (λ (s : StoreState V). s.status) repaired
 
-    -- the event that was taken is the one that the store owed
-    takes_o : CommitsOwed net m o
-    takes_o = subst (λ (p : Option (StagedEvent V)). CommitsOwed net m p) (is_owed ∙ owed_is) takes
+    -- the event that was taken is the pending one
+    takes_o : CommitsPending net m o
+    takes_o = subst (λ (p : Option (StagedEvent V)). CommitsPending net m p) (is_owed ∙ owed_is) takes
 
-    abbrev mid : (switch : IsSwitch size m (set stores k new)) × (m.history.weights ≡ net.history.weights) × (m.history.events ≡ net.history.events ++ owed_events (event_owed o)) × (m.packets ≡ net.packets ++ posts_owed o)
-        × (net.packet_room ≤ m.packet_room) × (net.event_room ≤ m.event_room)
-    mid = owed_taken size net stores h k d.core.node store new node_k found new_up room m o owing fits new_kept_is takes_o
+    abbrev mid : (switch : IsSwitch size m (set stores k new)) × (m.history.weights ≡ net.history.weights) × (m.history.events ≡ net.history.events ++ pending_events (pending_event o)) × (m.packets ≡ net.packets ++ pending_posts o)
+        × (net.packet_capacity ≤ m.packet_capacity) × (net.event_capacity ≤ m.event_capacity)
+    mid = owed_taken size net stores h k d.core.node store new node_k found new_up room m o pending_staged fits new_kept_is takes_o
 
     abbrev hm : IsSwitch size m (set stores k new)
     hm = mid.0
@@ -144,7 +144,7 @@ module _ {V : Type 0} (size : V → ℕ) (net : NetView V) (stores : List (Store
     core_m : (c : Core V) × (slice_get m.cores k ≡ Some c)
     core_m = item_at m.cores k (let count = hm.count in let l = length-set stores k new in let low = low_k in omega (arith, count, l, low))
 
-    -- the world after the owed event has the node of this core
+    -- the world after the pending event has the node of this core
     node_m : slice_get hm.world.world.nodes k ≡ Some core_m.0.node
     node_m = core_node size m (set stores k new) hm k core_m.0 core_m.1
 
@@ -156,12 +156,12 @@ module _ {V : Type 0} (size : V → ℕ) (net : NetView V) (stores : List (Store
     kept_m : new.kept ≡ kept_of core_m.0.node
     kept_m = subst (λ (s : Status (StagedEvent V)). IsRecordOf core_m.0.node s new.kept) new_up (hm.each k core_m.0.node new node_m new_at).fits
 
-    -- the history has room for the restart after the owed event
-    pub low_m : length m.history.events < MOST_EVENTS
+    -- the history has room for the restart after the pending event
+    pub low_m : length m.history.events < MAX_EVENTS
     low_m =
         let count = ap (λ (es : List (Event V)). length es) mid.2 in
-        let more = length-append net.history.events (owed_events (event_owed o)) in
-        let one = few_staged (event_owed o) in
+        let more = length-append net.history.events (pending_events (pending_event o)) in
+        let one = few_staged (pending_event o) in
         omega (arith, count, more, one, room)
 
     -- the posts of the restart ask all other nodes for the first entry
@@ -186,7 +186,7 @@ module _ {V : Type 0} (size : V → ℕ) (net : NetView V) (stores : List (Store
     step_then (steps made) kept q same = elim q [ ]
     step_then (restarts posts loaded) kept q same = ap (λ (x : KeptPart V). reloaded core_m.0.node x) (sym (same ∙ kept_m))
 
-    module _ (kept : KeptPart V) (same_kept : kept ≡ changed_by store.kept (change_owed (owed_in store.status))) where
+    module _ (kept : KeptPart V) (same_kept : kept ≡ changed_by store.kept (pending_change (pending_of store.status))) where
       -- the loaded record is the one of the keep
       is_new_kept : kept ≡ new.kept
       is_new_kept = same_kept ∙ sym (ap (λ (s : StoreState V). s.kept) repaired)
@@ -207,14 +207,14 @@ module _ {V : Type 0} (size : V → ℕ) (net : NetView V) (stores : List (Store
       }
 
       -- there is room for the posts of the restart and one event
-      pub room_m : (posts more : ℕ) → posts ≡ length (posts_owed (owed_in store.status)) → more ≡ length (posts_of d1.work) → HasRoom net (posts + more) 2 → HasRoom m (length (posts_of d2.work)) 1
+      pub room_m : (posts more : ℕ) → posts ≡ length (pending_posts (pending_of store.status)) → more ≡ length (posts_of d1.work) → HasSpareCapacity net (posts + more) 2 → HasSpareCapacity m (length (posts_of d2.work)) 1
       room_m posts more count all r =
-          let p = ap (λ (x : Option (StagedEvent V)). length (posts_owed x)) owed_is in
+          let p = ap (λ (x : Option (StagedEvent V)). length (pending_posts x)) owed_is in
           let l = ap (λ (ps : List (Packet V)). length ps) mid.3 in
-          let q = length-append net.packets (posts_owed o) in
+          let q = length-append net.packets (pending_posts o) in
           let e = ap (λ (es : List (Event V)). length es) mid.2 in
-          let g = length-append net.history.events (owed_events (event_owed o)) in
-          let one = few_staged (event_owed o) in
+          let g = length-append net.history.events (pending_events (pending_event o)) in
+          let one = few_staged (pending_event o) in
           let then = ap (λ (ps : List (Packet V)). length ps) (load_posts d1.work kept) in
           let a = mid.4 in
           let b = mid.5 in
@@ -243,15 +243,15 @@ module _ {V : Type 0} (size : V → ℕ) (net : NetView V) (stores : List (Store
         recovered_acts count counted =
             let x = recovered.world.world in
             let weights : z.history.weights ≡ net.history.weights = ap (λ (y : History V). y.weights) t.history ∙ mid.1 in
-            let history : z.history.events ≡ net.history.events ++ owed_events (event_owed o) ++ Restart j ∷ [] =
-            ap (λ (y : History V). y.events) t.history ∙ ap (λ (es : List (Event V)). es ++ d1.event ∷ []) mid.2 ∙ ap (λ (f : Event V). net.history.events ++ owed_events (event_owed o) ++ f ∷ []) is_e in
+            let history : z.history.events ≡ net.history.events ++ pending_events (pending_event o) ++ Restart j ∷ [] =
+            ap (λ (y : History V). y.events) t.history ∙ ap (λ (es : List (Event V)). es ++ d1.event ∷ []) mid.2 ∙ ap (λ (f : Event V). net.history.events ++ pending_events (pending_event o) ++ f ∷ []) is_e in
             let low_z : k < length z.cores = (let c = recovered.count in let l = length-set stores k new in let low = low_k in omega (arith, c, l, low)) in
             let c = item_at z.cores k low_z in
             let node_z = core_node size z (set stores k new) recovered k c.0 c.1 in
             let fits_z : new.kept ≡ kept_of c.0.node = subst (λ (s : Status (StagedEvent V)). IsRecordOf c.0.node s new.kept) new_up (recovered.each k c.0.node new node_z new_at).fits in
             of_view (switch_view z (set stores k new)) (Ok count) record {
               world = x;
-              is_after = subst (λ (us : List ℕ). IsAfter size us (net.history.events ++ owed_events (event_owed o) ++ Restart j ∷ []) x) weights (subst (λ (es : List (Event V)). IsAfter size z.history.weights es x) history recovered.world.is_after);
+              is_after = subst (λ (us : List ℕ). IsAfter size us (net.history.events ++ pending_events (pending_event o) ++ Restart j ∷ []) x) weights (subst (λ (es : List (Event V)). IsAfter size z.history.weights es x) history recovered.world.is_after);
               counted = counted ∙ ap (λ (r : Result (World V) StepFault). length (packets_after r)) recovered.world.is_after;
               kept = new.kept;
               is_kept = ap (λ (i : ℕ). kept_part x i) is_j ∙ ap (λ (n : Option (Node V)). option_map kept_of n) node_z ∙ ap (λ (y : KeptPart V). let p : Option (KeptPart V) = Some y in p) (sym fits_z);

@@ -1,5 +1,5 @@
 -- Stores and their views, as lists and one by one.
-use Rattle.switch.proofs.Words.{◌≡◌, ◌≢◌, ℕ, zero, suc, ◌+◌, ◌<◌, ◌≤◌, ◌==◌, Bool, true, false, List, [], ◌∷◌, ◌++◌, length, get_or, set, slice_get, Option, Some, None, refl, ap, sym, ◌∙◌, subst, arith, le_of_suc-le-suc, AllByRecursion, nat_tests, KeptPart, new_kept, Node, Event, StagedEvent, at_set, at_set_other, Status, up, down, StoreState, StoreView, status_seen, view_of, views_of, new_views, new_stores, is_down, is_down_view, is_down_at, owed_events}
+use Rattle.switch.proofs.Words.{◌≡◌, ◌≢◌, ℕ, zero, suc, ◌+◌, ◌<◌, ◌≤◌, ◌==◌, Bool, true, false, List, [], ◌∷◌, ◌++◌, length, get_or, set, slice_get, Option, Some, None, refl, ap, sym, ◌∙◌, subst, arith, le_of_suc-le-suc, AllByRecursion, nat_tests, KeptPart, new_kept, Node, Event, StagedEvent, at_set, at_set_other, Status, up, down, StoreState, StoreView, status_seen, view_of, views_of, new_views, new_stores, is_down, is_down_view, is_down_at, pending_events}
 
 pub views_of-set : {V : Type 0} (stores : List (StoreState V)) (k : ℕ) (store : StoreState V) → views_of (set stores k store) ≡ set (views_of stores) k (view_of store)
 views_of-set [] k store = refl
@@ -98,7 +98,7 @@ new_at {V} kept failures (keep ∷ keeps) h zero store at =
     (ap (λ (s : StoreState V). s.kept) (sym same) ∙ h.0, ap (λ (s : StoreState V). s.status) (sym same))
 new_at kept failures (keep ∷ keeps) h (suc k) store at = new_at kept failures keeps h.1 k store at
 
--- at most one event is owed
-pub few_staged : {V : Type 0} (x : Option (Event V)) → length (owed_events x) ≤ 1
+-- at most one event is pending
+pub few_staged : {V : Type 0} (x : Option (Event V)) → length (pending_events x) ≤ 1
 few_staged None = omega arith
 few_staged (Some x) = omega arith

@@ -1,18 +1,18 @@
 -- A switch after its net or one of its stores has changed.
-use Rattle.switch.proofs.Words.{◌≡◌, ◌≢◌, ℕ, zero, suc, ◌<◌, List, [], ◌∷◌, ◌++◌, length, set, slice_get, Option, Some, None, Ok, refl, ap, sym, ◌∙◌, subst, arith, append_assoc, AllByRecursion, option_map, length-set, Packet, Change, IsPost, KeptPart, changed_by, new_kept, Node, StepResult, kept_of, new_node, Core, MOST_EVENTS, Event, World, start, nodes_from, after_step, event_result, event_result_without_limit, after, offers_of, IsAfter, History, nodes_of, AreOfWorld, change_of, kept_part, StagedWork, steps, restarts, StagedEvent, change_in, posts_of, step_of, IsEventAt, NetView, EachChangesOnlyRoom, ChangesOnlyRoom, IsStaged, IsTaken, at_set, at_set_other, if_taken, node_at, holds_after, world_lasts, Happens, event_moves, taken_count, event_result-not_spent, rooms_stay, makes, nodes_of-set, nodes_found, nodes_still, staged_still, posts_same, Status, up, down, StoreState, IsRecordOf, SwitchView, views_of, new_stores, IsOwing, IsStore, IsSwitch, all_append, append-nil, with_event}
+use Rattle.switch.proofs.Words.{◌≡◌, ◌≢◌, ℕ, zero, suc, ◌<◌, List, [], ◌∷◌, ◌++◌, length, set, slice_get, Option, Some, None, Ok, refl, ap, sym, ◌∙◌, subst, arith, append_assoc, AllByRecursion, option_map, length-set, Packet, Change, IsPost, KeptPart, changed_by, new_kept, Node, StepResult, kept_of, new_node, Core, MAX_EVENTS, Event, World, start, nodes_from, after_step, event_result, event_result_without_limit, after, offers_of, IsAfter, History, nodes_of, AreOfWorld, change_of, kept_part, StagedWork, steps, restarts, StagedEvent, change_in, posts_of, step_of, IsEventAt, NetView, EachChangesOnlyCapacity, ChangesOnlyCapacity, IsStaged, IsTaken, at_set, at_set_other, if_taken, node_at, holds_after, world_lasts, Happens, event_moves, taken_count, event_result-not_spent, rooms_stay, makes, nodes_of-set, nodes_found, nodes_still, staged_still, posts_same, Status, up, down, StoreState, IsRecordOf, SwitchView, views_of, new_stores, IsPendingStaged, IsStore, IsSwitch, all_append, append-nil, with_event}
 use Rattle.switch.proofs.StoresLemmas.{each_after, new_at, count_stores}
 
 abbrev pub switch_view : {V : Type 0} → NetView V → List (StoreState V) → SwitchView V
 switch_view net stores = record { weights = net.history.weights; history = net.history.events; stores = views_of stores }
 
 -- if only rooms change, the net is of the same world
-still_world : {V : Type 0} (size : V → ℕ) (a b : NetView V) → ChangesOnlyRoom a b → AreOfWorld size a.history a.cores a.packets → AreOfWorld size b.history b.cores b.packets
-still_world {V} size a b only_room h =
-    subst (λ (t : History V). AreOfWorld size t b.cores b.packets) (sym only_room.history)
-    (subst (λ (ps : List (Packet V)). AreOfWorld size a.history b.cores ps) (sym only_room.packets) (rooms_stay size a.history a.cores a.packets h b.cores (nodes_still a.cores b.cores only_room.cores)))
+still_world : {V : Type 0} (size : V → ℕ) (a b : NetView V) → ChangesOnlyCapacity a b → AreOfWorld size a.history a.cores a.packets → AreOfWorld size b.history b.cores b.packets
+still_world {V} size a b only_capacity h =
+    subst (λ (t : History V). AreOfWorld size t b.cores b.packets) (sym only_capacity.history)
+    (subst (λ (ps : List (Packet V)). AreOfWorld size a.history b.cores ps) (sym only_capacity.packets) (rooms_stay size a.history a.cores a.packets h b.cores (nodes_still a.cores b.cores only_capacity.cores)))
 
 -- if only rooms change, there are as many cores as before
-still_count : {V : Type 0} (cs ds : List (Core V)) → EachChangesOnlyRoom cs ds → length ds ≡ length cs
+still_count : {V : Type 0} (cs ds : List (Core V)) → EachChangesOnlyCapacity cs ds → length ds ≡ length cs
 still_count [] [] h = refl
 still_count (c ∷ cs) (d ∷ ds) h = ap suc (still_count cs ds h.2)
 still_count [] (d ∷ ds) h = elim h [ ]
@@ -40,7 +40,7 @@ starts {V} size kept failures net weights keeps stores h is cores count new are 
   store_is : {V : Type 0} {size : V → ℕ} {net : NetView V} {k : ℕ} {n : Node V} {store : StoreState V} → store.kept ≡ new_kept → store.status ≡ up → kept_of n ≡ new_kept → IsStore size net k n store
   store_is {V} {size} {net} {k} {n} {store} is_new is_up fits = record {
     fits = subst (λ (s : Status (StagedEvent V)). IsRecordOf n s store.kept) (sym is_up) (is_new ∙ sym fits);
-    owing = subst (λ (s : Status (StagedEvent V)). IsOwing size net k s) (sym is_up) tt;
+    pending_staged = subst (λ (s : Status (StagedEvent V)). IsPendingStaged size net k s) (sym is_up) tt;
   }
 
 module _ {V : Type 0} (size : V → ℕ) (net : NetView V) (stores : List (StoreState V)) (h : IsSwitch size net stores) where
@@ -52,7 +52,7 @@ module _ {V : Type 0} (size : V → ℕ) (net : NetView V) (stores : List (Store
   taken_is = taken_count size net.history.weights net.history.events w h.world.is_after
 
   -- below the limit of events, the test of the limit leaves the result of an event as it is
-  pub has_room : (e : Event V) → length net.history.events < MOST_EVENTS → event_result size w e ≡ event_result_without_limit size w e
+  pub has_room : (e : Event V) → length net.history.events < MAX_EVENTS → event_result size w e ≡ event_result_without_limit size w e
   has_room e low = event_result-not_spent size w e (let c = taken_is in omega (arith, c, low))
 
   -- the node of the core at a number is the node of the world at this number
@@ -78,23 +78,23 @@ module _ {V : Type 0} (size : V → ℕ) (net : NetView V) (stores : List (Store
 
   -- Only rooms change.
 
-  -- the owed event is still staged
-  still_owing : (b : NetView V) → ChangesOnlyRoom net b → (k : ℕ) (s : Status (StagedEvent V)) → IsOwing size net k s → IsOwing size b k s
-  still_owing b only_room k up o = tt
-  still_owing b only_room k (down None) o = tt
-  still_owing b only_room k (down (Some staged)) o = (o.0, staged_still size net b staged only_room o.1)
+  -- the pending event is still staged
+  still_owing : (b : NetView V) → ChangesOnlyCapacity net b → (k : ℕ) (s : Status (StagedEvent V)) → IsPendingStaged size net k s → IsPendingStaged size b k s
+  still_owing b only_capacity k up o = tt
+  still_owing b only_capacity k (down None) o = tt
+  still_owing b only_capacity k (down (Some staged)) o = (o.0, staged_still size net b staged only_capacity o.1)
 
   -- the net and the stores are still a switch
-  pub still_switch : (b : NetView V) → ChangesOnlyRoom net b → IsSwitch size b stores
-  still_switch b only_room =
-      let there = still_world size net b only_room h.world in
-      let same : w ≡ there.world = same_world there.world (ap (λ (t : History V). after size t.weights t.events) (sym only_room.history) ∙ there.is_after) in
+  pub still_switch : (b : NetView V) → ChangesOnlyCapacity net b → IsSwitch size b stores
+  still_switch b only_capacity =
+      let there = still_world size net b only_capacity h.world in
+      let same : w ≡ there.world = same_world there.world (ap (λ (t : History V). after size t.weights t.events) (sym only_capacity.history) ∙ there.is_after) in
       record {
         world = there;
-        count = h.count ∙ sym (still_count net.cores b.cores only_room.cores);
+        count = h.count ∙ sym (still_count net.cores b.cores only_capacity.cores);
         each = λ k n store at is.
             (let own = h.each k n store (ap (λ (x : World V). slice_get x.nodes k) same ∙ at) is in
-            record { fits = own.fits; owing = still_owing b only_room k store.status own.owing });
+            record { fits = own.fits; pending_staged = still_owing b only_capacity k store.status own.pending_staged });
       }
 
   -- One store changes.
@@ -136,7 +136,7 @@ module _ {V : Type 0} (size : V → ℕ) (net : NetView V) (stores : List (Store
     pub change_told : change_in staged.work ≡ change_of size w staged.event
     change_told = change_is ∙ sym at.change
 
-    module _ (low : length net.history.events < MOST_EVENTS) where
+    module _ (low : length net.history.events < MAX_EVENTS) where
       -- below the limit of events, the result of the event is the world with the step made
       pub happens_is : event_result size w staged.event ≡ Ok (after_step w staged.at step)
       happens_is = has_room staged.event low ∙ at.event_result
@@ -190,7 +190,7 @@ module _ {V : Type 0} (size : V → ℕ) (net : NetView V) (stores : List (Store
         }
 
         -- an event that another node owes is still staged
-        other_owing : (j : ℕ) → staged.at ≢ j → (s : Status (StagedEvent V)) → IsOwing size net j s → IsOwing size b j s
+        other_owing : (j : ℕ) → staged.at ≢ j → (s : Status (StagedEvent V)) → IsPendingStaged size net j s → IsPendingStaged size b j s
         other_owing j apart up o = tt
         other_owing j apart (down None) o = tt
         other_owing j apart (down (Some other)) o = (o.0, other_staged other (λ e. apart (e ∙ o.0)) o.1)
@@ -206,9 +206,9 @@ module _ {V : Type 0} (size : V → ℕ) (net : NetView V) (stores : List (Store
               let same : step.node ≡ m = cc in
               record {
                 fits = subst (λ (s : Status (StagedEvent V)). IsRecordOf m s new.kept) (sym is_up) (kept ∙ ap (λ (n : Node V). kept_of n) same);
-                owing = subst (λ (s : Status (StagedEvent V)). IsOwing size b staged.at s) (sym is_up) tt;
+                pending_staged = subst (λ (s : Status (StagedEvent V)). IsPendingStaged size b staged.at s) (sym is_up) tt;
               }))
               (λ j m s other there is_s.
               (let own = h.each j m s (sym (ap (λ (ns : List (Node V)). slice_get ns j) nodes_then ∙ at_set_other w.nodes staged.at j step.node other) ∙ there) is_s in
-              record { fits = own.fits; owing = other_owing j other s.status own.owing }));
+              record { fits = own.fits; pending_staged = other_owing j other s.status own.pending_staged }));
         }

@@ -1,5 +1,5 @@
 -- A call as a whole: its answer in the world after the history, and the logs after it.
-use Rattle.switch.proofs.Words.{◌≡◌, ℕ, true, false, List, Option, Some, None, Result, Ok, Err, refl, ap, sym, ◌∙◌, subst, slice_get, IsErrAnd, ForOk, Event, StepFault, Memory, World, node_of_event, node_of, StagedEvent, NetView, Status, up, down, StoreState, StoreView, SwitchView, status_seen, view_of, views_of, IsOwing, IsSwitch, is_down_at, world_of, IsEffectAtUpNode, IsEffectAtDownNode, Recovers, IsEffect, Plays, EventKeepsPrefixes}
+use Rattle.switch.proofs.Words.{◌≡◌, ℕ, true, false, List, Option, Some, None, Result, Ok, Err, refl, ap, sym, ◌∙◌, subst, slice_get, IsErrAnd, ForOk, Event, StepFault, Memory, World, node_of_event, node_of, StagedEvent, NetView, Status, up, down, StoreState, StoreView, SwitchView, status_seen, view_of, views_of, IsPendingStaged, IsSwitch, is_down_at, world_of, IsEffectAtUpNode, IsEffectAtDownNode, Recovers, IsEffect, Plays, EventKeepsPrefixes}
 use Rattle.switch.proofs.StoresLemmas.{view_at, view_past}
 use Rattle.switch.proofs.SwitchLemmas.{switch_view, at}
 use Rattle.switch.proofs.CallLemmas.{stores_are, after_is, node_there, node_seen}
@@ -29,13 +29,13 @@ module _ {V : Type 0} (size : V → ℕ) (now new : SwitchView V) (fault : StepF
 
 module _ {V : Type 0} (size : V → ℕ) (net : NetView V) (stores : List (StoreState V)) (h : IsSwitch size net stores) (now : SwitchView V) (seen : switch_view net stores ≡ now) where
   -- an event that a node owes is an event of that node
-  owed_own : (k : ℕ) (s : Status (StagedEvent V)) → IsOwing size net k s → (e : Event V) → status_seen s ≡ down (Some e) → node_of h.world.world e ≡ Some k
-  owed_own k up owing e is = cc
-  owed_own k (down None) owing e is = cc
-  owed_own k (down (Some o)) owing e is =
+  owed_own : (k : ℕ) (s : Status (StagedEvent V)) → IsPendingStaged size net k s → (e : Event V) → status_seen s ≡ down (Some e) → node_of h.world.world e ≡ Some k
+  owed_own k up pending_staged e is = cc
+  owed_own k (down None) pending_staged e is = cc
+  owed_own k (down (Some o)) pending_staged e is =
       let both : down (Some o.event) ≡ down (Some e) = is in
       let same : o.event ≡ e = cc in
-      ap (λ (v : Event V). node_of h.world.world v) (sym same) ∙ (at size net stores h o owing.1).node ∙ ap (λ (i : ℕ). let p : Option ℕ = Some i in p) owing.0
+      ap (λ (v : Event V). node_of h.world.world v) (sym same) ∙ (at size net stores h o pending_staged.1).node ∙ ap (λ (i : ℕ). let p : Option ℕ = Some i in p) pending_staged.0
 
   -- an event that a store owes in its view is an event of the store's node
   owed_at : (k : ℕ) (o : Option (StoreState V)) → slice_get stores k ≡ o → (view : StoreView V) → slice_get (views_of stores) k ≡ Some view → (e : Event V) → view.status ≡ down (Some e) → node_of h.world.world e ≡ Some k
@@ -44,7 +44,7 @@ module _ {V : Type 0} (size : V → ℕ) (net : NetView V) (stores : List (Store
       let both : Some (view_of store) ≡ Some view = sym (view_at stores k store some) ∙ is in
       let same : view_of store ≡ view = cc in
       let n = node_there size net stores h now seen k store some in
-      owed_own k store.status (h.each k n.0 store n.1 some).owing e (ap (λ (p : StoreView V). p.status) same ∙ stands)
+      owed_own k store.status (h.each k n.0 store n.1 some).pending_staged e (ap (λ (p : StoreView V). p.status) same ∙ stands)
 
   -- if an answer is right in the world after the history, the call plays the event and keeps the logs
   call_plays : (e : Event V) (new : SwitchView V) (result : Result ℕ StepFault) → ForOk (world_of size now) (λ x. IsEffect size x now new e result) → Plays size now new e result × EventKeepsPrefixes size e now new result

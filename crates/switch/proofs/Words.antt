@@ -12,12 +12,12 @@ pub use Rattle.net.proofs.HistoryLemmas.{after-push, count_shown, event_result-n
 pub use Rattle.net.proofs.TwoMoments.{events_result-append, world_lasts}
 pub use Rattle.net.specs.Agree.{IsAfter, IsPrefixOf}
 pub use Rattle.net.specs.KeptPart.{node_of_event, change_of, kept_part, node_of}
-pub use Rattle.net.specs.Staged.{EachChangesOnlyRoom, HasResult, HasRoom, IsEventAt, IsOfEvent, IsReadyAt, IsStaged, ChangesOnlyRoom, IsTaken, NetView, StagedEvent, StagedWork, change_in, with_loaded, posts_of, restarts, step_of, steps, with_record}
+pub use Rattle.net.specs.Staged.{EachChangesOnlyCapacity, HasResult, HasSpareCapacity, IsEventAt, IsOfEvent, IsReadyAt, IsStaged, ChangesOnlyCapacity, IsTaken, NetView, StagedEvent, StagedWork, change_in, with_loaded, posts_of, restarts, step_of, steps, with_record}
 pub use Rattle.net.specs.History.{AreOfWorld, History, nodes_of, with_event, world_of as world_of_taken}
 pub use Rattle.net.specs.World.{World, after, events_result, at_node, delivered, event_result, event_result_without_limit, log, log_after, nodes_from, offers_of, packets_after, start, after_step}
 pub use Rattle.net.specs.declared.event.Event.{Event}
 pub use Rattle.net.specs.declared.event.Event.TheVariants.{Begin, Deliver, Offer, Restart}
-pub use Rattle.net.specs.declared.event.TheConstants.{MOST_EVENTS}
+pub use Rattle.net.specs.declared.event.TheConstants.{MAX_EVENTS}
 pub use Rattle.net.specs.declared.fault.StepFault.{StepFault}
 pub use Rattle.net.specs.declared.fault.StepFault.TheVariants.{Device, Down, EventsSpent, Memory}
 pub use Rattle.slots.specs.FiniteMap.{put_at}
@@ -31,13 +31,13 @@ pub use Rattle.std.specs.Prelude.{IfErr, IsErrAnd, IsOkUnless, IsSome, OnErr, On
 pub use Rattle.std.specs.Result.{ForOk}
 pub use Rattle.std.specs.Vec.Iter.{into_iter_items}
 pub use Rattle.switch.specs.LogPrefixes.{IsLogPrefix, EventKeepsPrefixes, KeepsPrefixes}
-pub use Rattle.switch.specs.NodeStore.{Fails, IsRecordOf, IsWithOrWithout, Status, StoreState, change_owed, down, owed_in, posts_owed, up}
-pub use Rattle.switch.specs.Switch.{IsEffect, IsEffectAtDownNode, IsEffectAtUpNode, AreStores, CanCommitOwed, FailsAt, IsOwing, IsRecordIn, IsStore, IsSwitch, IsViewOf, Plays, Recovers, RecoversAt, StoreView, SwitchView, TakesAt, CommitsOwed, change_of_owed, owed_on_failure, event_owed, owed_events, is_down, is_down_at, is_down_view, new_stores, new_views, status_seen, view_of, views_of, with_store, world_of}
+pub use Rattle.switch.specs.NodeStore.{Fails, IsRecordOf, IsWithOrWithout, Status, StoreState, pending_change, down, pending_of, pending_posts, up}
+pub use Rattle.switch.specs.Switch.{IsEffect, IsEffectAtDownNode, IsEffectAtUpNode, AreStores, CanCommitPending, FailsAt, IsPendingStaged, IsRecordIn, IsStore, IsSwitch, IsViewOf, Plays, Recovers, RecoversAt, StoreView, SwitchView, TakesAt, CommitsPending, change_of_pending, pending_on_failure, pending_event, pending_events, is_down, is_down_at, is_down_view, new_stores, new_views, status_seen, view_of, views_of, with_store, world_of}
 pub use Rattle.synod.proofs.NodeInvariant.{all_append}
 pub use Rattle.synod.specs.Core.{Core}
 pub use Rattle.synod.specs.Node.{Node, StepResult, kept_of, new_node}
 pub use Rattle.synod.specs.Packets.{IsPost, to_others}
-pub use Rattle.synod.specs.Proposer.{begun, offered}
+pub use Rattle.synod.specs.Proposer.{begin_result, offer_result}
 pub use Rattle.synod.specs.Record.{KeptPart, changed_by, new_kept}
 pub use Rattle.synod.specs.Step.{on_packet, reloaded, restarted}
 pub use Rattle.synod.specs.declared.change.Change.{Change}

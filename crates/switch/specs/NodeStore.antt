@@ -1,12 +1,13 @@
 -- The store of a node: the record of its keep, and whether the node is up, or down since a call of its keep failed.
 -- Source: Lamport, Paxos Made Simple, section 2.5: an acceptor records its response in stable storage before sending it.
--- The code has the keep itself. Contracts see the record that it would load, how often it failed, and the event that the node owes, whose store failed.
+-- The code has the keep itself. Contracts see the record that it would load, how often it failed, and the pending event:
+-- the one whose store failed.
 use Rattle.std.specs.Prelude.{◌≡◌, ◌⊎◌, ◌+◌, ℕ, List, [], Option, Some, None}
 use Rattle.switch.specs.Words.{Packet, Change, KeptPart, changed_by, Node, kept_of, StagedEvent, change_in, posts_of}
 use Rattle.switch.specs.declared.node_store.Status.{Status as RustStatus}
 use Rattle.switch.specs.declared.node_store.Status.TheVariants.{Up, Down}
 
--- up; or down, with the event that the node owes, if there is one
+-- up; or down, with the pending event, if there is one
 pub data Status (A : Type 0) : Type 0 where
   up : Status A
   down : Option A → Status A
@@ -20,21 +21,22 @@ pub record StoreState (V : Type 0) : Type 0 where
   pub failures : ℕ  -- how many calls of the keep failed
   pub status : Status (StagedEvent V)
 
--- The event that is owed, its change, and the packets that it posts.
+-- The pending event, its change, and the packets that it posts.
 
-abbrev pub owed_in : {V : Type 0} → Status (StagedEvent V) → Option (StagedEvent V)
-owed_in up = None
-owed_in (down o) = o
+abbrev pub pending_of : {V : Type 0} → Status (StagedEvent V) → Option (StagedEvent V)
+pending_of up = None
+pending_of (down o) = o
 
-abbrev pub change_owed : {V : Type 0} → Option (StagedEvent V) → Option (Change V)
-change_owed None = None
-change_owed (Some staged) = change_in staged.work
+abbrev pub pending_change : {V : Type 0} → Option (StagedEvent V) → Option (Change V)
+pending_change None = None
+pending_change (Some staged) = change_in staged.work
 
-abbrev pub posts_owed : {V : Type 0} → Option (StagedEvent V) → List (Packet V)
-posts_owed None = []
-posts_owed (Some staged) = posts_of staged.work
+abbrev pub pending_posts : {V : Type 0} → Option (StagedEvent V) → List (Packet V)
+pending_posts None = []
+pending_posts (Some staged) = posts_of staged.work
 
--- The record of the keep is the kept part of the node; while the node is down, it may also have the change that is owed.
+-- The record of the keep is the kept part of the node; while the node is down, it may also have the change
+-- of the pending event.
 
 -- the old record, or the old record with the change
 abbrev pub IsWithOrWithout : {V : Type 0} → KeptPart V → Option (Change V) → KeptPart V → Type 0
@@ -42,7 +44,7 @@ IsWithOrWithout old change new = (new ≡ old) ⊎ (new ≡ changed_by old chang
 
 abbrev pub IsRecordOf : {V : Type 0} → Node V → Status (StagedEvent V) → KeptPart V → Type 0
 IsRecordOf n up kept = kept ≡ kept_of n
-IsRecordOf n (down o) kept = IsWithOrWithout (kept_of n) (change_owed o) kept
+IsRecordOf n (down o) kept = IsWithOrWithout (kept_of n) (pending_change o) kept
 
 -- the effect of a failed call of the keep
 pub record Fails {V : Type 0} (old : StoreState V) (change : Option (Change V)) (status_after : Status (StagedEvent V)) (new : StoreState V) : Type 0 where

@@ -2,7 +2,7 @@
 -- Source: Lamport, Paxos Made Simple, section 3; that a node with a failed store is down is this project's choice.
 -- The code has a net and the keeps; by the invariant of the type, the state of the net is that of the world after the history.
 use Rattle.std.specs.Prelude.{◌≡◌, ◌⊎◌, ◌+◌, ◌≤◌, ◌<◌, ℕ, Bool, true, false, List, [], ◌∷◌, ◌++◌, Option, Some, None, Result, Ok, Err, length, slice_get, slice_set}
-use Rattle.switch.specs.Words.{Change, KeptPart, changed_by, new_kept, Node, kept_of, MOST_EVENTS, Event, Offer, Begin, Deliver, Restart, StepFault, Memory, Device, Down, EventsSpent, World, event_result, after, IsAfter, AreOfWorld, node_of, change_of, kept_part, StagedEvent, NetView, IsStaged, HasRoom, IsTaken, posts_of}
+use Rattle.switch.specs.Words.{Change, KeptPart, changed_by, new_kept, Node, kept_of, MAX_EVENTS, Event, Offer, Begin, Deliver, Restart, StepFault, Memory, Device, Down, EventsSpent, World, event_result, after, IsAfter, AreOfWorld, node_of, change_of, kept_part, StagedEvent, NetView, IsStaged, HasSpareCapacity, IsTaken, posts_of}
 use Rattle.switch.specs.NodeStore.{Status, up, down, StoreState, IsRecordOf, IsWithOrWithout}
 
 -- The switch as contracts see it.
@@ -19,13 +19,13 @@ pub record SwitchView (V : Type 0) : Type 0 where
   pub history : List (Event V)
   pub stores : List (StoreView V)
 
-abbrev pub event_owed : {V : Type 0} → Option (StagedEvent V) → Option (Event V)
-event_owed None = None
-event_owed (Some staged) = Some staged.event
+abbrev pub pending_event : {V : Type 0} → Option (StagedEvent V) → Option (Event V)
+pending_event None = None
+pending_event (Some staged) = Some staged.event
 
 abbrev pub status_seen : {V : Type 0} → Status (StagedEvent V) → Status (Event V)
 status_seen up = up
-status_seen (down o) = down (event_owed o)
+status_seen (down o) = down (pending_event o)
 
 abbrev pub view_of : {V : Type 0} → StoreState V → StoreView V
 view_of store = record { kept = store.kept; failures = store.failures; status = status_seen store.status }
@@ -46,16 +46,16 @@ new_stores kept failures (keep ∷ keeps) = record { kept = kept keep; failures 
 
 -- The invariant of the type.
 
--- the event that is owed is staged at the node
-abbrev pub IsOwing : {V : Type 0} → (V → ℕ) → NetView V → ℕ → Status (StagedEvent V) → Type 0
-IsOwing size net k up = Unit {0}
-IsOwing size net k (down None) = Unit {0}
-IsOwing size net k (down (Some staged)) = (staged.at ≡ k) × IsStaged size net staged
+-- the pending event, if there is one, is staged at the node
+abbrev pub IsPendingStaged : {V : Type 0} → (V → ℕ) → NetView V → ℕ → Status (StagedEvent V) → Type 0
+IsPendingStaged size net k up = Unit {0}
+IsPendingStaged size net k (down None) = Unit {0}
+IsPendingStaged size net k (down (Some staged)) = (staged.at ≡ k) × IsStaged size net staged
 
--- the record of the keep and the event that is owed fit the node
+-- the record of the keep and the pending event fit the node
 pub record IsStore {V : Type 0} (size : V → ℕ) (net : NetView V) (k : ℕ) (n : Node V) (store : StoreState V) : Type 0 where
   pub fits : IsRecordOf n store.status store.kept
-  pub owing : IsOwing size net k store.status
+  pub pending_staged : IsPendingStaged size net k store.status
 
 -- the net is that of a world, and each node has a store that fits it
 pub record IsSwitch {V : Type 0} (size : V → ℕ) (net : NetView V) (stores : List (StoreState V)) : Type 0 where
@@ -69,15 +69,15 @@ pub record IsSwitch {V : Type 0} (size : V → ℕ) (net : NetView V) (stores : 
 abbrev pub world_of : {V : Type 0} → (V → ℕ) → SwitchView V → Result (World V) StepFault
 world_of size switch = after size switch.weights switch.history
 
--- the change of the event that is owed, in a world
-abbrev pub change_of_owed : {V : Type 0} → (V → ℕ) → World V → Option (Event V) → Option (Change V)
-change_of_owed size w None = None
-change_of_owed size w (Some e) = change_of size w e
+-- the change that the pending event makes in a world
+abbrev pub change_of_pending : {V : Type 0} → (V → ℕ) → World V → Option (Event V) → Option (Change V)
+change_of_pending size w None = None
+change_of_pending size w (Some e) = change_of size w e
 
 -- the record of the keep is the kept part of its node; while the node is down, it may also have the change whose store failed
 abbrev pub IsRecordIn : {V : Type 0} → (V → ℕ) → World V → Node V → Status (Event V) → KeptPart V → Type 0
 IsRecordIn size w n up kept = kept ≡ kept_of n
-IsRecordIn size w n (down e) kept = IsWithOrWithout (kept_of n) (change_of_owed size w e) kept
+IsRecordIn size w n (down e) kept = IsWithOrWithout (kept_of n) (change_of_pending size w e) kept
 
 abbrev pub IsViewOf : {V : Type 0} → (V → ℕ) → World V → Option (Node V) → Option (StoreView V) → Type 0
 IsViewOf size w None None = Unit {0}
@@ -116,12 +116,12 @@ abbrev pub with_event : {V : Type 0} → SwitchView V → ℕ → StoreView V �
 with_event old k view change e =
     record (with_store old k record { kept = changed_by view.kept change; failures = view.failures; status = view.status }) { history = old.history ++ e ∷ [] }
 
--- the event that a node owes if its keep fails at this event; none for a restart, which stores nothing
-abbrev pub owed_on_failure : {V : Type 0} → Event V → Option (Event V)
-owed_on_failure (Offer k v) = Some (Offer k v)
-owed_on_failure (Begin k) = Some (Begin k)
-owed_on_failure (Deliver number) = Some (Deliver number)
-owed_on_failure (Restart k) = None
+-- the event that is pending if the keep fails at this event; none for a restart, which stores nothing
+abbrev pub pending_on_failure : {V : Type 0} → Event V → Option (Event V)
+pending_on_failure (Offer k v) = Some (Offer k v)
+pending_on_failure (Begin k) = Some (Begin k)
+pending_on_failure (Deliver number) = Some (Deliver number)
+pending_on_failure (Restart k) = None
 
 -- a call of the keep of node k failed: it counts one failure more, its record is the old or the new one, and the rest is as before
 pub record FailsAt {V : Type 0} (old new : SwitchView V) (k : ℕ) (view : StoreView V) (change : Option (Change V)) (status_after : Status (Event V)) : Type 0 where
@@ -132,7 +132,7 @@ pub record FailsAt {V : Type 0} (old new : SwitchView V) (k : ℕ) (view : Store
 -- an event that meets no fault is taken, and x is the world after it; or an allocation failed, or the keep failed
 abbrev pub TakesAt : {V : Type 0} → SwitchView V → SwitchView V → Event V → ℕ → StoreView V → Option (Change V) → World V → Result ℕ StepFault → Type 0
 TakesAt old new e k view change x (Ok count) = (new ≡ with_event old k view change e) × (count ≡ length x.packets)
-TakesAt old new e k view change x (Err fault) = ((fault ≡ Memory) × (new ≡ old)) ⊎ ((fault ≡ Device) × FailsAt old new k view change (down (owed_on_failure e)))
+TakesAt old new e k view change x (Err fault) = ((fault ≡ Memory) × (new ≡ old)) ⊎ ((fault ≡ Device) × FailsAt old new k view change (down (pending_on_failure e)))
 
 -- the effect of an event whose node is not down; w is the world after the old history
 pub record IsEffectAtUpNode {V : Type 0} (size : V → ℕ) (w : World V) (old new : SwitchView V) (e : Event V) (result : Result ℕ StepFault) : Type 0 where
@@ -141,18 +141,18 @@ pub record IsEffectAtUpNode {V : Type 0} (size : V → ℕ) (w : World V) (old n
 
 -- Restarts of a node that is down.
 
-abbrev pub owed_events : {V : Type 0} → Option (Event V) → List (Event V)
-owed_events None = []
-owed_events (Some e) = e ∷ []
+abbrev pub pending_events : {V : Type 0} → Option (Event V) → List (Event V)
+pending_events None = []
+pending_events (Some e) = e ∷ []
 
 -- node k is up again with the record that its keep loaded: the event whose store failed, if there is one, and then the restart are taken
 pub record IsRecovered {V : Type 0} (size : V → ℕ) (old new : SwitchView V) (k : ℕ) (view : StoreView V) (e : Option (Event V)) (count : ℕ) : Type 0 where
   pub world : World V
-  pub is_after : IsAfter size old.weights (old.history ++ owed_events e ++ Restart k ∷ []) world
+  pub is_after : IsAfter size old.weights (old.history ++ pending_events e ++ Restart k ∷ []) world
   pub counted : count ≡ length world.packets
   pub kept : KeptPart V
   pub is_kept : kept_part world k ≡ Some kept
-  pub rest : new ≡ record { weights = old.weights; history = old.history ++ owed_events e ++ Restart k ∷ []; stores = slice_set old.stores k record { kept = kept; failures = view.failures; status = up } }
+  pub rest : new ≡ record { weights = old.weights; history = old.history ++ pending_events e ++ Restart k ∷ []; stores = slice_set old.stores k record { kept = kept; failures = view.failures; status = up } }
 
 -- an allocation failed: everything but the record is as before
 pub record StaysDownAt {V : Type 0} (old new : SwitchView V) (k : ℕ) (view : StoreView V) (change : Option (Change V)) : Type 0 where
@@ -163,12 +163,12 @@ pub record StaysDownAt {V : Type 0} (old new : SwitchView V) (k : ℕ) (view : S
 abbrev pub RecoversAt : {V : Type 0} → (V → ℕ) → World V → SwitchView V → SwitchView V → ℕ → StoreView V → Option (Event V) → Result ℕ StepFault → Type 0
 RecoversAt size w old new k view e (Ok count) = IsRecovered size old new k view e count
 RecoversAt size w old new k view e (Err fault) =
-    ((fault ≡ Memory) × StaysDownAt old new k view (change_of_owed size w e)) ⊎ ((fault ≡ Device) × FailsAt old new k view (change_of_owed size w e) view.status)
+    ((fault ≡ Memory) × StaysDownAt old new k view (change_of_pending size w e)) ⊎ ((fault ≡ Device) × FailsAt old new k view (change_of_pending size w e) view.status)
 
--- the effect of a restart at a node that is down and owes e
+-- the effect of a restart at a node that is down; e is its pending event
 pub record Recovers {V : Type 0} (size : V → ℕ) (w : World V) (old new : SwitchView V) (k : ℕ) (view : StoreView V) (e : Option (Event V)) (result : Result ℕ StepFault) : Type 0 where
-  pub spent : MOST_EVENTS < length old.history + 2 → Refuses old new result EventsSpent
-  pub recovered : length old.history + 2 ≤ MOST_EVENTS → RecoversAt size w old new k view e result
+  pub spent : MAX_EVENTS < length old.history + 2 → Refuses old new result EventsSpent
+  pub recovered : length old.history + 2 ≤ MAX_EVENTS → RecoversAt size w old new k view e result
 
 -- Events in general.
 
@@ -191,12 +191,12 @@ pub record Plays {V : Type 0} (size : V → ℕ) (old new : SwitchView V) (e : E
   pub stores : AreStores size world old.stores
   pub effect : IsEffect size world old new e result
 
--- At the restart of a node that is down, the event that it owes is taken first.
+-- At the restart of a node that is down, its pending event is taken first.
 
-abbrev pub CanCommitOwed : {V : Type 0} → (V → ℕ) → NetView V → Option (StagedEvent V) → Type 0
-CanCommitOwed size net None = Unit {0}
-CanCommitOwed size net (Some staged) = IsStaged size net staged × HasRoom net (length (posts_of staged.work)) 1 × (length net.history.events < MOST_EVENTS)
+abbrev pub CanCommitPending : {V : Type 0} → (V → ℕ) → NetView V → Option (StagedEvent V) → Type 0
+CanCommitPending size net None = Unit {0}
+CanCommitPending size net (Some staged) = IsStaged size net staged × HasSpareCapacity net (length (posts_of staged.work)) 1 × (length net.history.events < MAX_EVENTS)
 
-abbrev pub CommitsOwed : {V : Type 0} → NetView V → NetView V → Option (StagedEvent V) → Type 0
-CommitsOwed old new None = new ≡ old
-CommitsOwed old new (Some staged) = IsTaken old new staged
+abbrev pub CommitsPending : {V : Type 0} → NetView V → NetView V → Option (StagedEvent V) → Type 0
+CommitsPending old new None = new ≡ old
+CommitsPending old new (Some staged) = IsTaken old new staged

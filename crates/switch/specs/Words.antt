@@ -1,12 +1,12 @@
--- The definitions of the layers below that this crate's definitions use, re-exported from one place.
+-- The names of `net` and `synod` that the specifications of this crate use, re-exported from one module.
 pub use Rattle.net.specs.Agree.{IsAfter, IsPrefixOf}
-pub use Rattle.net.specs.Staged.{StagedEvent, HasRoom, IsStaged, IsTaken, NetView, change_in, posts_of}
+pub use Rattle.net.specs.Staged.{StagedEvent, HasSpareCapacity, IsStaged, IsTaken, NetView, change_in, posts_of}
 pub use Rattle.net.specs.KeptPart.{change_of, kept_part, node_of}
 pub use Rattle.net.specs.History.{AreOfWorld}
 pub use Rattle.net.specs.World.{World, after, event_result, log_after}
 pub use Rattle.net.specs.declared.event.Event.{Event}
 pub use Rattle.net.specs.declared.event.Event.TheVariants.{Begin, Deliver, Offer, Restart}
-pub use Rattle.net.specs.declared.event.TheConstants.{MOST_EVENTS}
+pub use Rattle.net.specs.declared.event.TheConstants.{MAX_EVENTS}
 pub use Rattle.net.specs.declared.fault.StepFault.{StepFault}
 pub use Rattle.net.specs.declared.fault.StepFault.TheVariants.{Device, Down, EventsSpent, Memory}
 pub use Rattle.synod.specs.Node.{Node, kept_of}

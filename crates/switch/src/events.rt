@@ -2,7 +2,7 @@
 ghost use Rattle.std.specs.Prelude.{◌≡◌, Some, false};
 ghost use Rattle.std.specs.Result.{ForOk};
 ghost use Rattle.net.specs.KeptPart.{node_of};
-ghost use Rattle.switch.specs.Switch.{IsEffectAtUpNode, Plays, owed_on_failure, is_down_at, world_of};
+ghost use Rattle.switch.specs.Switch.{IsEffectAtUpNode, Plays, pending_on_failure, is_down_at, world_of};
 ghost use Rattle.switch.specs.LogPrefixes.{EventKeepsPrefixes};
 
 use crate::switch::Switch;
@@ -35,7 +35,7 @@ impl<V: Value, K: Keep<V>> Switch<V, K> {
 
     /// Plays an event that is not a restart and whose node is up or does not exist.
     fn step(&mut self, event: Event<V>) -> Result<u64, StepFault>
-        requires owed { owed_on_failure event ≡ Some event }
+        requires pending { pending_on_failure event ≡ Some event }
         requires up { ForOk (world_of V.bytes self.old) (λ world. is_down_at self.old.stores (node_of world event) ≡ false) }
         ensures { ForOk (world_of V.bytes self.old) (λ world. IsEffectAtUpNode V.bytes world self.old self.new event result) }
     {

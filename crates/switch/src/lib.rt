@@ -1,4 +1,4 @@
-//! The nodes of one agreement on any values, each with a keep (its stable storage) that may fail.
+//! The nodes of one replicated log of any values, each with a keep (its stable storage) that may fail.
 //!
 //! The contract that the crates above use is that of `Switch::play`: an event that is played without an error extends a
 //! history none of whose events meets a refusal (`Plays` of `specs/Switch.antt`). The clauses of `Switch::history` hold for

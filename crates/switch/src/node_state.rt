@@ -9,7 +9,7 @@ use net::StepFault;
 use synod::{Keep, NodeState, Value};
 
 impl<V: Value, K: Keep<V>> Switch<V, K> {
-    /// Returns the state of node `k`, or `NoNode` if there is no such node. Does not allocate.
+    /// Returns the state of node `k`, or `NoNode` if there is no such node. It does not allocate.
     pub fn state(&self, k: u8) -> Result<NodeState, StepFault>
         ensures state { IfOk result (λ state. state_after (world_of V.bytes self.now) k ≡ Some state) }
         ensures no_node { length self.now.stores ≤ k → result ≡ Err NoNode }

@@ -2,7 +2,7 @@
 ghost use Rattle.std.specs.Prelude.{◌≡◌, ◌+◌, Ok, Some, None, length, IfOk, OnOk, OnErr, is_ok, if◌then◌else◌};
 ghost use Rattle.synod.specs.Record.{changed_by};
 ghost use Rattle.net.specs.Staged.{change_in, posts_of};
-ghost use Rattle.switch.specs.NodeStore.{Fails, IsWithOrWithout, change_owed, owed_in, posts_owed, status_of, up, down};
+ghost use Rattle.switch.specs.NodeStore.{Fails, IsWithOrWithout, pending_change, pending_of, pending_posts, status_of, up, down};
 ghost use Rattle.switch.specs.Switch.{is_down, status_seen};
 
 use net::StagedEvent;
@@ -54,7 +54,8 @@ impl<V: Value, K: Keep<V>> NodeStore<V, K> {
         }
     }
 
-    /// Stores the change of a staged event and returns the event. If the keep fails, the node is down and owes the event.
+    /// Stores the change of a staged event and returns the event. If the keep fails, the node is down and the event is
+    /// pending.
     pub fn store(&mut self, staged: StagedEvent<V>) -> Result<StagedEvent<V>, Failed>
         ensures stored { OnOk result (self.new ≡ record { kept = changed_by self.old.kept (change_in staged.work); failures = self.old.failures; status = self.old.status }) }
         ensures staged { IfOk result (λ same. same ≡ staged) }
@@ -69,7 +70,7 @@ impl<V: Value, K: Keep<V>> NodeStore<V, K> {
         }
     }
 
-    /// Loads the record. If the keep fails, the node is down and owes no event.
+    /// Loads the record. If the keep fails, the node is down and no event is pending.
     pub fn load(&mut self) -> Result<Record<V>, Failed>
         ensures loaded { IfOk result (λ loaded. loaded.kept ≡ self.old.kept) }
         ensures same { OnOk result (self.new ≡ self.old) }
@@ -84,9 +85,9 @@ impl<V: Value, K: Keep<V>> NodeStore<V, K> {
         }
     }
 
-    /// Returns the number of packets that the owed event posts.
-    pub fn count_owed(&self) -> usize
-        ensures { result ≡ length (posts_owed (owed_in self.now.status)) }
+    /// Returns the number of packets that the pending event posts, or 0 if no event is pending.
+    pub fn count_pending_posts(&self) -> usize
+        ensures { result ≡ length (pending_posts (pending_of self.now.status)) }
     {
         match &self.status {
             Status::Down(Some(staged)) => staged.posts().len(),
@@ -95,23 +96,23 @@ impl<V: Value, K: Keep<V>> NodeStore<V, K> {
         }
     }
 
-    /// Stores the owed change, if there is one, loads the record, and marks the node as up. Returns the event that the node
-    /// owed, and the record. If a call of the keep fails, the node stays down.
+    /// Stores the change of the pending event, if there is one, loads the record, and marks the node as up. Returns the event
+    /// that was pending, and the record. If a call of the keep fails, the node stays down.
     pub fn bring_up(&mut self) -> Result<(Option<StagedEvent<V>>, Record<V>), Failed>
-        ensures owed { IfOk result (λ parts. parts.0 ≡ owed_in self.old.status) }
-        ensures loaded { IfOk result (λ parts. parts.1.kept ≡ changed_by self.old.kept (change_owed (owed_in self.old.status))) }
-        ensures up { OnOk result (self.new ≡ record { kept = changed_by self.old.kept (change_owed (owed_in self.old.status)); failures = self.old.failures; status = up }) }
-        ensures failed { OnErr result (Fails self.old (change_owed (owed_in self.old.status)) self.old.status self.new) }
+        ensures pending { IfOk result (λ parts. parts.0 ≡ pending_of self.old.status) }
+        ensures loaded { IfOk result (λ parts. parts.1.kept ≡ changed_by self.old.kept (pending_change (pending_of self.old.status))) }
+        ensures up { OnOk result (self.new ≡ record { kept = changed_by self.old.kept (pending_change (pending_of self.old.status)); failures = self.old.failures; status = up }) }
+        ensures failed { OnErr result (Fails self.old (pending_change (pending_of self.old.status)) self.old.status self.new) }
     {
-        self.store_owed()?;
+        self.store_pending()?;
         let record = self.keep.load()?;
-        Ok((self.take_owed(), record))
+        Ok((self.take_pending(), record))
     }
 
-    /// Stores the owed change, if there is one.
-    fn store_owed(&mut self) -> Result<(), Failed>
-        ensures stored { OnOk result (self.new ≡ record { kept = changed_by self.old.kept (change_owed (owed_in self.old.status)); failures = self.old.failures; status = self.old.status }) }
-        ensures failed { OnErr result (Fails self.old (change_owed (owed_in self.old.status)) self.old.status self.new) }
+    /// Stores the change of the pending event, if there is one.
+    fn store_pending(&mut self) -> Result<(), Failed>
+        ensures stored { OnOk result (self.new ≡ record { kept = changed_by self.old.kept (pending_change (pending_of self.old.status)); failures = self.old.failures; status = self.old.status }) }
+        ensures failed { OnErr result (Fails self.old (pending_change (pending_of self.old.status)) self.old.status self.new) }
     {
         match &self.status {
             Status::Down(Some(staged)) => store_change(&mut self.keep, staged),
@@ -120,13 +121,13 @@ impl<V: Value, K: Keep<V>> NodeStore<V, K> {
         }
     }
 
-    /// Marks the node as up, and returns the event that it owed.
-    fn take_owed(&mut self) -> Option<StagedEvent<V>>
-        ensures owed { result ≡ owed_in self.old.status }
+    /// Marks the node as up, and returns the event that was pending, if there was one.
+    fn take_pending(&mut self) -> Option<StagedEvent<V>>
+        ensures pending { result ≡ pending_of self.old.status }
         ensures up { self.new ≡ record { kept = self.old.kept; failures = self.old.failures; status = up } }
     {
         match mem::replace(&mut self.status, Status::Up) {
-            Status::Down(owed) => owed,
+            Status::Down(pending) => pending,
             Status::Up => None,
         }
     }

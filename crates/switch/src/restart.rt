@@ -4,10 +4,10 @@ ghost use Rattle.std.specs.Result.{ForOk};
 ghost use Rattle.net.specs.declared.event.Event.{Event};
 ghost use Rattle.net.specs.declared.event.Event.TheVariants.{Restart};
 ghost use Rattle.switch.specs.NodeStore.{down};
-ghost use Rattle.switch.specs.Switch.{StoreView, is_down_at, world_of, IsEffectAtUpNode, Recovers, CanCommitOwed, CommitsOwed};
+ghost use Rattle.switch.specs.Switch.{StoreView, is_down_at, world_of, IsEffectAtUpNode, Recovers, CanCommitPending, CommitsPending};
 
 use crate::switch::Switch;
-use net::{Event, MOST_EVENTS, Net, StagedEvent, StepFault};
+use net::{Event, MAX_EVENTS, Net, StagedEvent, StepFault};
 use synod::{Keep, Value};
 
 impl<V: Value, K: Keep<V>> Switch<V, K> {
@@ -23,37 +23,37 @@ impl<V: Value, K: Keep<V>> Switch<V, K> {
         Ok(self.net.commit(staged))
     }
 
-    /// Restarts a node that is down: stores the change of the event that it owes, and commits that event before the restart.
+    /// Restarts a node that is down: stores the change of its pending event, and commits that event before the restart.
     pub(crate) fn recover(&mut self, k: u8) -> Result<u64, StepFault>
         requires { is_down_at self.old.stores (Some k) ≡ true }
         ensures { ForOk (world_of V.bytes self.old) (λ world. (view : StoreView V) → slice_get self.old.stores k ≡ Some view → (e : Option (Event V)) → view.status ≡ down e → Recovers V.bytes world self.old self.new k view e result) }
     {
-        if self.net.history().len() as u64 + 2 > MOST_EVENTS {
+        if self.net.history().len() as u64 + 2 > MAX_EVENTS {
             return Err(StepFault::EventsSpent);
         }
         let mut staged = self.net.stage(Event::Restart(k))?;
         let at = staged.at() as usize;
-        // No memory has room for so many packets.
-        let Some(room) = self.stores[at]
-            .count_owed()
+        // No memory holds so many packets.
+        let Some(packets) = self.stores[at]
+            .count_pending_posts()
             .checked_add(staged.posts().len())
         else {
             return Err(StepFault::Memory);
         };
-        self.net.room(room, 2)?;
-        let (owed, record) = self.stores[at].bring_up()?;
-        commit_owed(&mut self.net, owed);
+        self.net.reserve(packets, 2)?;
+        let (pending, record) = self.stores[at].bring_up()?;
+        commit_pending(&mut self.net, pending);
         staged.load(record);
         Ok(self.net.commit(staged))
     }
 }
 
-/// Commits the event that was owed, if there is one. Does not allocate.
-fn commit_owed<V: Value>(net: &mut Net<V>, owed: Option<StagedEvent<V>>)
-    requires { CanCommitOwed V.bytes net.old owed }
-    ensures { CommitsOwed net.old net.new owed }
+/// Commits the event that was pending, if there is one. It does not allocate.
+fn commit_pending<V: Value>(net: &mut Net<V>, pending: Option<StagedEvent<V>>)
+    requires { CanCommitPending V.bytes net.old pending }
+    ensures { CommitsPending net.old net.new pending }
 {
-    if let Some(staged) = owed {
+    if let Some(staged) = pending {
         net.commit(staged);
     }
 }

@@ -4,20 +4,20 @@ ghost use Rattle.std.specs.List.{AllByRecursion};
 ghost use Rattle.std.specs.Result.{ForOk};
 ghost use Rattle.slots.specs.declared.slots.TheConstants.{SLOTS};
 ghost use Rattle.synod.specs.Record.{new_kept};
-ghost use Rattle.net.specs.declared.event.TheConstants.{MOST_EVENTS};
+ghost use Rattle.net.specs.declared.event.TheConstants.{MAX_EVENTS};
 ghost use Rattle.net.specs.declared.fault.StepFault.TheVariants.{NoNode, NoPacket, Memory};
 ghost use Rattle.net.specs.World.{log_after};
 ghost use Rattle.net.specs.KeptPart.{node_of};
 ghost use Rattle.switch.specs.Switch.{AreStores, is_down_at, new_views, new_stores, world_of};
 
 use crate::node_store::NodeStore;
-use net::{Event, MOST_EVENTS, Net, StepFault};
+use net::{Event, MAX_EVENTS, Net, StepFault};
 use std::alloc::{AllocError, Global};
 use std::marker::Model;
 use synod::{Keep, Packet, Value, Weights};
 
-/// The nodes of one agreement, their packets and their stores. Contracts see the history and, for each node, the record that
-/// its keep would load, the number of failed calls of the keep, and whether the node is up.
+/// The nodes of one replicated log, their packets and their stores. Contracts see the history and, for each node, the
+/// record that its keep would load, the number of failed calls of the keep, and whether the node is up.
 #[derive(Drop)]
 pub struct Switch<V: Value, K: Keep<V>> {
     pub(crate) net: Net<V>,
@@ -62,7 +62,8 @@ impl<V: Value, K: Keep<V>> Switch<V, K> {
         }
     }
 
-    /// Returns entry `slot` of the log of node `k`, if it has one, or `NoNode` if there is no such node. Does not allocate.
+    /// Returns entry `slot` of the log of node `k`, if it has one, or `NoNode` if there is no such node. It does not
+    /// allocate.
     pub fn entry(&self, k: u8, slot: u32) -> Result<Option<&Option<V>>, StepFault>
         ensures entry { IfOk result (λ found. MatchOption found (slice_get (log_after (world_of V.bytes self.now) k) slot ≡ None) (λ entry. slice_get (log_after (world_of V.bytes self.now) k) slot ≡ Some entry.now)) }
         ensures below { IfOk result (λ found. IsSome found → slot < SLOTS) }
@@ -79,7 +80,7 @@ impl<V: Value, K: Keep<V>> Switch<V, K> {
     /// node; while the node is down, the record may also have the change whose store failed.
     pub fn history(&self) -> &[Event<V>]
         ensures history { result.now ≡ self.now.history }
-        ensures few { length result.now ≤ MOST_EVENTS }
+        ensures few { length result.now ≤ MAX_EVENTS }
         ensures taken { IsOk (world_of V.bytes self.now) }
         ensures stores { ForOk (world_of V.bytes self.now) (λ world. AreStores V.bytes world self.now.stores) }
     {
@@ -94,7 +95,7 @@ impl<V: Value, K: Keep<V>> Switch<V, K> {
         self.net.node_of(event)
     }
 
-    /// Returns the packet with a number, from 0 in the order of posting, or `NoPacket`. Does not allocate.
+    /// Returns the packet with a number, from 0 in the order of posting, or `NoPacket`. It does not allocate.
     pub fn packet(&self, number: u64) -> Result<&Packet<V>, StepFault>
         ensures taken { IsOk (world_of V.bytes self.now) }
         ensures found { ForOk (world_of V.bytes self.now) (λ world. MatchResult result (λ packet. slice_get world.packets number ≡ Some packet.now) (λ fault. (slice_get world.packets number ≡ None) × (fault ≡ NoPacket))) }

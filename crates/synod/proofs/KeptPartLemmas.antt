@@ -1,5 +1,5 @@
 -- Each step makes its one change to the kept part, or leaves it.
-use Rattle.synod.proofs.Words.{◌≡◌, ℕ, ◌-◌, ◌^◌, ◌==◌, ◌&&◌, not, nat_lt, Bool, true, false, List, [], ◌∷◌, ◌++◌, length, Option, Some, None, Result, Ok, Err, refl, if◌then◌else◌, entry_at, Ballot, SlotReport, Body, Prepare, Promise, Accept, Accepted, Nack, Ask, Told, Heard, Role, Idle, Preparing, Leading, Refusal, Busy, LogFull, RoundsSpent, TooLong, MOST_BYTES, MOST_WAITING, SLOTS, is_below, is_same, is_quorum, are_received, changed_by, Node, StepResult, kept_of, unchanged, pages_from, with_page, is_heard, promises, refuses, accepts_value, waits, proposes_value, offer_waits, offer_as, offered, next_round, begins, begun, top_or_first, all_reports, leads, adds_page, completes_promise, on_complete_promise, on_promise_page, on_promise_as, is_at, idles, has_voter, counted, chooses, on_accepted_at, on_ask_at, on_told_at, log_length, on_body, restarted}
+use Rattle.synod.proofs.Words.{◌≡◌, ℕ, ◌-◌, ◌^◌, ◌==◌, ◌&&◌, not, nat_lt, Bool, true, false, List, [], ◌∷◌, ◌++◌, length, Option, Some, None, Result, Ok, Err, refl, if◌then◌else◌, entry_at, Ballot, SlotReport, Body, Prepare, Promise, Accept, Accepted, Nack, Ask, Told, Heard, Role, Idle, Preparing, Leading, Refusal, Busy, LogFull, RoundsSpent, TooLong, MAX_VALUE_BYTES, MAX_WAITING, SLOTS, is_below, is_same, is_quorum, are_received, changed_by, Node, StepResult, kept_of, unchanged, pages_from, with_page, is_heard, promises, sends_nack, accepts_value, waits, proposes_value, offer_waits, offer_as, offer_result, next_round, begins, begin_result, top_or_first, all_reports, leads, adds_page, completes_promise, on_complete_promise, on_promise_page, on_promise_as, is_at, idles, has_voter, counted, learns_chosen, on_accepted_at, on_ask_at, on_told_at, log_length, on_body, restarted}
 
 -- the change of the step leads from the kept part before it to that after it
 abbrev pub ChangesKept : {V : Type 0} → Node V → StepResult V → Type 0
@@ -23,8 +23,8 @@ either_ok n one other false h k = k
 module _ {V : Type 0} (n : Node V) where
   -- an offer to a node that does not lead
   offer_waits_kept : (v : V) → ChangesKeptOnOk n (offer_waits n v)
-  offer_waits_kept v = either_ok n (Err LogFull) (if nat_lt (length n.waiting) MOST_WAITING then Ok (waits n v) else Err Busy) (log_length n == SLOTS) tt
-      (either_ok n (Ok (waits n v)) (Err Busy) (nat_lt (length n.waiting) MOST_WAITING) refl tt)
+  offer_waits_kept v = either_ok n (Err LogFull) (if nat_lt (length n.waiting) MAX_WAITING then Ok (waits n v) else Err Busy) (log_length n == SLOTS) tt
+      (either_ok n (Ok (waits n v)) (Err Busy) (nat_lt (length n.waiting) MAX_WAITING) refl tt)
 
   -- an offer, in each role of the node
   offer_as_kept : (role : Role) (v : V) → ChangesKeptOnOk n (offer_as role n v)
@@ -33,11 +33,11 @@ module _ {V : Type 0} (n : Node V) where
   offer_as_kept (Leading b next) v = either_ok n (Err LogFull) (Ok (proposes_value n b next v)) (next == SLOTS) tt refl
 
   -- an offer, whether or not its value is too long
-  pub offered_kept : (size : V → ℕ) (v : V) → ChangesKeptOnOk n (offered size n v)
-  offered_kept size v = either_ok n (Err TooLong) (offer_as n.role n v) (nat_lt MOST_BYTES (size v)) tt (offer_as_kept n.role v)
+  pub offered_kept : (size : V → ℕ) (v : V) → ChangesKeptOnOk n (offer_result size n v)
+  offered_kept size v = either_ok n (Err TooLong) (offer_as n.role n v) (nat_lt MAX_VALUE_BYTES (size v)) tt (offer_as_kept n.role v)
 
   -- a begin, whether or not the rounds are spent
-  pub begun_kept : ChangesKeptOnOk n (begun n)
+  pub begun_kept : ChangesKeptOnOk n (begin_result n)
   begun_kept = either_ok n (Ok (begins n)) (Err RoundsSpent) (nat_lt (next_round n) (2 ^ 64)) refl tt
 
   abbrev heard_with : ℕ → ℕ → List Heard
@@ -63,7 +63,7 @@ module _ {V : Type 0} (n : Node V) where
   accepted_kept : (o : Option (Option V)) (p : ℕ) (b : Ballot) (s : ℕ) (v : Option V) → ChangesKept n (on_accepted_at o n p b s v)
   accepted_kept (Some u) p b s v = refl
   accepted_kept None p b s v = let counting : Node V = record n { tallies = counted n.tallies s b p } in
-      either n (chooses counting s v) (unchanged counting) (is_quorum n.weights (has_voter counting.tallies s b)) refl refl
+      either n (learns_chosen counting s v) (unchanged counting) (is_quorum n.weights (has_voter counting.tallies s b)) refl refl
 
   -- an Ask, whether or not the slot is learned
   ask_kept : (o : Option (Option V)) (p s : ℕ) → ChangesKept n (on_ask_at o n p s)
@@ -77,9 +77,9 @@ module _ {V : Type 0} (n : Node V) where
 
   -- the body of any packet
   pub body_kept : (p : ℕ) (body : Body V) → ChangesKept n (on_body n p body)
-  body_kept p (Prepare b first) = either n (promises n p b first) (refuses n p b) (is_below n.promise b) refl refl
+  body_kept p (Prepare b first) = either n (promises n p b first) (sends_nack n p b) (is_below n.promise b) refl refl
   body_kept p (Promise b page count reports) = promise_kept n.role p b page count reports
-  body_kept p (Accept b s v) = either n (refuses n p b) (accepts_value n b s v) (is_below b n.promise) refl refl
+  body_kept p (Accept b s v) = either n (sends_nack n p b) (accepts_value n b s v) (is_below b n.promise) refl refl
   body_kept p (Accepted b s v) = accepted_kept (entry_at n.learned s) p b s v
   body_kept p (Nack b c) = either n (idles n) (unchanged n) (is_at n.role b && is_below b c) refl refl
   body_kept p (Ask s) = ask_kept (entry_at n.learned s) p s

@@ -1,5 +1,5 @@
 -- The invariant of a node and of its posts, for all steps except those on promises.
-use Rattle.synod.proofs.Words.{◌≡◌, ℕ, zero, suc, ◌+◌, ◌^◌, ◌<◌, ◌≤◌, Bool, true, false, ◌&&◌, ◌==◌, nat_lt, List, [], ◌∷◌, ◌++◌, length, Option, Some, None, Result, Ok, Err, refl, arith, set, if◌then◌else◌, nat_tests, AllByRecursion, SLOTS, entry_at, put_at, top_of-put_at, front_of-le, MOST_BYTES, MOST_WAITING, Ballot, SlotReport, Packet, Body, Prepare, Accept, Accepted, Nack, Ask, Told, AcceptedEntry, Heard, Role, Idle, Preparing, Leading, Refusal, Busy, LogFull, RoundsSpent, TooLong, is_below, packet, to_all_from, to_all, to_others_from, to_others, accept_posts, IsBody, IsPost, KeptPart, Node, StepResult, unchanged, no_pages, log_length, refuses, accepted_entry, accepts_value, on_accept, waits, proposes_value, offer_waits, offer_as, offered, next_round, next_ballot, begins, begun, is_at, idles, on_nack, learns, chooses, on_ask_at, on_ask, on_told_at, on_told, PreservesInvariant, reloaded, IsRole, ArePages, IsNode}
+use Rattle.synod.proofs.Words.{◌≡◌, ℕ, zero, suc, ◌+◌, ◌^◌, ◌<◌, ◌≤◌, Bool, true, false, ◌&&◌, ◌==◌, nat_lt, List, [], ◌∷◌, ◌++◌, length, Option, Some, None, Result, Ok, Err, refl, arith, set, if◌then◌else◌, nat_tests, AllByRecursion, SLOTS, entry_at, put_at, top_of-put_at, front_of-le, MAX_VALUE_BYTES, MAX_WAITING, Ballot, SlotReport, Packet, Body, Prepare, Accept, Accepted, Nack, Ask, Told, AcceptedEntry, Heard, Role, Idle, Preparing, Leading, Refusal, Busy, LogFull, RoundsSpent, TooLong, is_below, packet, to_all_from, to_all, to_others_from, to_others, accept_posts, IsBody, IsPost, KeptPart, Node, StepResult, unchanged, no_pages, log_length, sends_nack, accepted_entry, accepts_value, on_accept, waits, proposes_value, offer_waits, offer_as, offer_result, next_round, next_ballot, begins, begin_result, is_at, idles, on_nack, learns, learns_chosen, on_ask_at, on_ask, on_told_at, on_told, PreservesInvariant, reloaded, IsRole, ArePages, IsNode}
 use Rattle.std.specs.List.{slice_index_or}
 
 -- the step preserves the invariant, unless it is refused
@@ -95,12 +95,12 @@ module _ {V : Type 0} (n : Node V) (is : IsNode n) where
   -- The acceptor.
 
   -- refusing a ballot preserves the invariant
-  pub refuses_keeps : (p : ℕ) (b : Ballot) → p < nodes → PreservesInvariant nodes (refuses n p b)
+  pub refuses_keeps : (p : ℕ) (b : Ballot) → p < nodes → PreservesInvariant nodes (sends_nack n p b)
   refuses_keeps p b for = record { node = is; posts = (post nodes n.me p (Nack b n.promise) is.me for tt, tt) }
 
   -- an Accept for a slot below the limit preserves the invariant
   pub keeps_accept : (p : ℕ) (b : Ballot) (s : ℕ) (v : Option V) → p < nodes → s < SLOTS → PreservesInvariant nodes (on_accept n p b s v)
-  keeps_accept p b s v for low = either nodes (refuses n p b) (accepts_value n b s v) (is_below b n.promise) (λ e. refuses_keeps p b for) (λ e. record {
+  keeps_accept p b s v for low = either nodes (sends_nack n p b) (accepts_value n b s v) (is_below b n.promise) (λ e. refuses_keeps p b for) (λ e. record {
     node = with_parts b n.round (put_at n.accepted s (accepted_entry b v)) n.role n.pages n.heard n.learned n.waiting (put_low n.accepted s (accepted_entry b v) is.accepted low) is.learned is.role is.pages;
     posts = posts_to_all nodes n.me (Accepted b s v) is.me low 0 n.weights (omega arith);
   })
@@ -122,7 +122,7 @@ module _ {V : Type 0} (n : Node V) (is : IsNode n) where
   next_posts p s false for low = tt
 
   -- choosing a value at a slot below the limit preserves the invariant
-  pub chooses_keeps : (s : ℕ) (v : Option V) → s < SLOTS → PreservesInvariant nodes (chooses n s v)
+  pub chooses_keeps : (s : ℕ) (v : Option V) → s < SLOTS → PreservesInvariant nodes (learns_chosen n s v)
   chooses_keeps s v low = record {
     node = learns_low s v low;
     posts = let m : ℕ = log_length (learns n s v) in ask_posts m (nat_lt m s) (λ e. let u : m < s = grind (arith, nat_tests) in omega arith);
@@ -162,7 +162,7 @@ module _ {V : Type 0} (n : Node V) (is : IsNode n) where
   none_had (w ∷ ws) = (tt, none_had ws)
 
   -- a begin preserves the invariant, unless the rounds are spent
-  pub keeps_begun : KeepsOnOk nodes (begun n)
+  pub keeps_begun : KeepsOnOk nodes (begin_result n)
   keeps_begun = either_ok nodes (Ok (begins n)) (Err RoundsSpent) (nat_lt (next_round n) (2 ^ 64)) (λ e. record {
     node = with_parts n.promise (next_round n) n.accepted (Preparing (next_ballot n) (log_length n)) (no_pages n.weights) [] n.learned n.waiting is.accepted is.learned log_low (none_had n.weights);
     posts = posts_to_all nodes n.me (Prepare (next_ballot n) (log_length n)) is.me log_low 0 n.weights (omega arith);
@@ -181,8 +181,8 @@ module _ {V : Type 0} (n : Node V) (is : IsNode n) where
 
   -- an offer to a node that does not lead preserves the invariant, unless it is refused
   waits_keep : (v : V) → KeepsOnOk nodes (offer_waits n v)
-  waits_keep v = either_ok nodes (Err LogFull) (if nat_lt (length n.waiting) MOST_WAITING then Ok (waits n v) else Err Busy) (log_length n == SLOTS) (λ e. tt) (λ e.
-      either_ok nodes (Ok (waits n v)) (Err Busy) (nat_lt (length n.waiting) MOST_WAITING)
+  waits_keep v = either_ok nodes (Err LogFull) (if nat_lt (length n.waiting) MAX_WAITING then Ok (waits n v) else Err Busy) (log_length n == SLOTS) (λ e. tt) (λ e.
+      either_ok nodes (Ok (waits n v)) (Err Busy) (nat_lt (length n.waiting) MAX_WAITING)
       (λ f. value_waits v) (λ f. tt))
 
   -- an offer preserves the invariant in each role, unless it is refused
@@ -193,8 +193,8 @@ module _ {V : Type 0} (n : Node V) (is : IsNode n) where
       let low : next < SLOTS = grind (arith, nat_tests) in slot_is_taken b next v low)
 
   -- an offer preserves the invariant, whether or not its value is too long
-  pub keeps_offered : (size : V → ℕ) (v : V) → KeepsOnOk nodes (offered size n v)
-  keeps_offered size v = either_ok nodes (Err TooLong) (offer_as n.role n v) (nat_lt MOST_BYTES (size v)) (λ e. tt) (λ e. offer_as_keeps n.role v is.role)
+  pub keeps_offered : (size : V → ℕ) (v : V) → KeepsOnOk nodes (offer_result size n v)
+  keeps_offered size v = either_ok nodes (Err TooLong) (offer_as n.role n v) (nat_lt MAX_VALUE_BYTES (size v)) (λ e. tt) (λ e. offer_as_keeps n.role v is.role)
 
   -- A restart.
 

@@ -1,5 +1,5 @@
 -- The facts of NodeInvariant, in terms of a node as contracts see it.
-use Rattle.synod.proofs.Words.{◌≡◌, ℕ, ◌^◌, ◌<◌, Bool, List, length, Result, Ok, Err, refl, subst, sym, ap, if◌then◌else◌, AllByRecursion, IfOk, AllocError, lt-ltb, Refusal, RoundsSpent, Memory, IsPost, to_others, Ask, Node, StepResult, kept_of, RecordView, Core, ProposerView, LearnerView, core_of, assembled, begun, begins, next_round, IsNode, PreservesInvariant, ReadyView, IsReadyFor}
+use Rattle.synod.proofs.Words.{◌≡◌, ℕ, ◌^◌, ◌<◌, Bool, List, length, Result, Ok, Err, refl, subst, sym, ap, if◌then◌else◌, AllByRecursion, IfOk, AllocError, lt-ltb, Refusal, RoundsSpent, Memory, IsPost, to_others, Ask, Node, StepResult, kept_of, RecordView, Core, ProposerView, LearnerView, core_of, assembled, begin_result, begins, next_round, IsNode, PreservesInvariant, ReadyView, IsReadyFor}
 use Rattle.synod.proofs.NodeInvariant.{KeepsOnOk, keeps_begun, keeps_reloaded}
 
 -- if the assembled parts are a node, the core with these parts is one
@@ -10,7 +10,7 @@ node_of_parts {V} me weights r p l core is node = subst (λ (c : Core V). IsNode
 pub begins_keeps : {V : Type 0} (n : Node V) → IsNode n → next_round n < 2 ^ 64 → PreservesInvariant (length n.weights) (begins n)
 begins_keeps {V} n is low =
     let P : Result (StepResult V) Refusal → Type 0 = λ r. KeepsOnOk (length n.weights) r in
-    let e : begun n ≡ Ok (begins n) = ap (λ (b : Bool). if b then Ok (begins n) else Err RoundsSpent) (lt-ltb (next_round n) (2 ^ 64) low) in
+    let e : begin_result n ≡ Ok (begins n) = ap (λ (b : Bool). if b then Ok (begins n) else Err RoundsSpent) (lt-ltb (next_round n) (2 ^ 64) low) in
     subst P e (keeps_begun n is)
 
 -- the posts of a step that preserves the invariant, as the step is made

@@ -1,5 +1,5 @@
 -- The pages of a promise and all proposals stay below the limit.
-use Rattle.synod.proofs.Words.{◌≡◌, ℕ, zero, suc, ◌+◌, ◌*◌, ◌<◌, ◌≤◌, max, Bool, true, false, nat_lt, is_some, List, [], ◌∷◌, length, Option, Some, None, refl, ap, arith, set, if◌then◌else◌, AllByRecursion, SLOTS, put_at, MOST_PAGES, Ballot, SlotReport, Promise, AcceptedEntry, Heard, IsReport, IsPost, onto_first, pages_with_room, joined_pages, pages_from, page_of, with_page, reports_from, promise_pages, top_or_zero, top_or_first, proposed_values, all_reports, ArePages}
+use Rattle.synod.proofs.Words.{◌≡◌, ℕ, zero, suc, ◌+◌, ◌*◌, ◌<◌, ◌≤◌, max, Bool, true, false, nat_lt, is_some, List, [], ◌∷◌, length, Option, Some, None, refl, ap, arith, set, if◌then◌else◌, AllByRecursion, SLOTS, put_at, MAX_PAGES, Ballot, SlotReport, Promise, AcceptedEntry, Heard, IsReport, IsPost, onto_first, cut_after, joined_pages, pages_from, page_of, with_page, reports_from, promise_pages, top_or_zero, top_or_first, proposed_values, all_reports, ArePages}
 use Rattle.synod.proofs.NodeInvariant.{all_append, all_set, all_index, post, nodes}
 
 -- The pages of a promise.
@@ -36,25 +36,25 @@ all_onto_first P x [] p h = ((p, tt), tt)
 all_onto_first P x (page ∷ pages) p h = ((p, h.0), h.1)
 
 -- if P holds of each element of a list, it holds of each on its pages
-pub all_cut : {T : Type 0} (P : T → Type 0) (room : ℕ) (xs : List T) → AllByRecursion P xs → AllByRecursion (AllByRecursion P) (pages_with_room room xs)
+pub all_cut : {T : Type 0} (P : T → Type 0) (room : ℕ) (xs : List T) → AllByRecursion P xs → AllByRecursion (AllByRecursion P) (cut_after room xs)
 all_cut P zero [] h = (tt, tt)
 all_cut P (suc room) [] h = (tt, tt)
-all_cut P (suc room) (x ∷ xs) h = all_onto_first P x (pages_with_room room xs) h.0 (all_cut P room xs h.1)
-all_cut P zero (x ∷ xs) h = (tt, all_onto_first P x (pages_with_room 255 xs) h.0 (all_cut P 255 xs h.1))
+all_cut P (suc room) (x ∷ xs) h = all_onto_first P x (cut_after room xs) h.0 (all_cut P room xs h.1)
+all_cut P zero (x ∷ xs) h = (tt, all_onto_first P x (cut_after 255 xs) h.0 (all_cut P 255 xs h.1))
 
 length-onto_first : {T : Type 0} (x : T) (pages : List (List T)) → 1 ≤ length pages → length (onto_first x pages) ≡ length pages
 length-onto_first x [] h = absurd (omega arith)
 length-onto_first x (page ∷ pages) h = refl
 
 -- the count of pages if the first has this much room: at least one, and no more than needed
-pub pages_few : {T : Type 0} (room : ℕ) (xs : List T) → (256 * length (pages_with_room room xs) + room < max (length xs) room + 512) × (1 ≤ length (pages_with_room room xs))
+pub pages_few : {T : Type 0} (room : ℕ) (xs : List T) → (256 * length (cut_after room xs) + room < max (length xs) room + 512) × (1 ≤ length (cut_after room xs))
 pages_few zero [] = (omega arith, omega arith)
 pages_few (suc room) [] = (omega arith, omega arith)
-pages_few (suc room) (x ∷ xs) = let h = pages_few room xs in let e = length-onto_first x (pages_with_room room xs) h.1 in (omega (arith, h.0, h.1, e), omega (arith, h.1, e))
-pages_few zero (x ∷ xs) = let h = pages_few 255 xs in let e = length-onto_first x (pages_with_room 255 xs) h.1 in (omega (arith, h.0, h.1, e), omega arith)
+pages_few (suc room) (x ∷ xs) = let h = pages_few room xs in let e = length-onto_first x (cut_after room xs) h.1 in (omega (arith, h.0, h.1, e), omega (arith, h.1, e))
+pages_few zero (x ∷ xs) = let h = pages_few 255 xs in let e = length-onto_first x (cut_after 255 xs) h.1 in (omega (arith, h.0, h.1, e), omega arith)
 
 -- the packets of a promise are posts, if its pages are no more than may be sent
-pub posts_pages : {V : Type 0} (nodes me to : ℕ) (b : Ballot) (count i : ℕ) (pages : List (List (SlotReport V))) → me < nodes → to < nodes → 1 ≤ i → i + length pages ≤ suc count → count ≤ MOST_PAGES
+pub posts_pages : {V : Type 0} (nodes me to : ℕ) (b : Ballot) (count i : ℕ) (pages : List (List (SlotReport V))) → me < nodes → to < nodes → 1 ≤ i → i + length pages ≤ suc count → count ≤ MAX_PAGES
     → AllByRecursion (AllByRecursion IsReport) pages → AllByRecursion (IsPost nodes) (promise_pages me to b count i pages)
 posts_pages nodes me to b count i [] from for one all few each = tt
 posts_pages nodes me to b count i (page ∷ pages) from for one all few each = (

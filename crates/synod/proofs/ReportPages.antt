@@ -1,5 +1,5 @@
 -- The reports of a promise, gathered slot by slot and cut into pages on the way.
-use Rattle.synod.proofs.Words.{◌≡◌, ℕ, zero, suc, ◌+◌, ◌-◌, ◌<◌, ◌≤◌, ◌≢◌, Bool, true, false, nat_lt, List, [], ◌∷◌, ◌++◌, length, drop, Option, Some, None, refl, ap, sym, ◌∙◌, subst, arith, if◌then◌else◌, append_assoc, append-nil, add-one, le_of_suc-le-suc, length-append, drop_of_length-le, nat_tests, SLOTS, entry_at, MOST_PAGES, Ballot, SlotReport, Packet, Promise, AcceptedEntry, packet, onto_first, pages_with_room, pages_of, reports_from, promise_pages}
+use Rattle.synod.proofs.Words.{◌≡◌, ℕ, zero, suc, ◌+◌, ◌-◌, ◌<◌, ◌≤◌, ◌≢◌, Bool, true, false, nat_lt, List, [], ◌∷◌, ◌++◌, length, drop, Option, Some, None, refl, ap, sym, ◌∙◌, subst, arith, if◌then◌else◌, append_assoc, append-nil, add-one, le_of_suc-le-suc, length-append, drop_of_length-le, nat_tests, SLOTS, entry_at, MAX_PAGES, Ballot, SlotReport, Packet, Promise, AcceptedEntry, packet, onto_first, cut_after, pages_of, reports_from, promise_pages}
 use Rattle.synod.proofs.PageInvariant.{reports_few, pages_few}
 
 -- the pages after the first one was begun with `page`
@@ -9,7 +9,7 @@ onto_front page (next ∷ pages) = (page ++ next) ∷ pages
 
 -- all pages, given the full ones, the one begun and the reports that are left
 abbrev pub pages_with : {T : Type 0} → List (List T) → List T → List T → List (List T)
-pages_with full page rest = full ++ onto_front page (pages_with_room (256 - length page) rest)
+pages_with full page rest = full ++ onto_front page (cut_after (256 - length page) rest)
 
 onto_front-onto_first : {T : Type 0} (page : List T) (x : T) (pages : List (List T)) → onto_front page (onto_first x pages) ≡ onto_front (page ++ x ∷ []) pages
 onto_front-onto_first page x [] = refl
@@ -26,7 +26,7 @@ onto_front-one x (next ∷ pages) = refl
 -- at the start there are no full pages, and all reports are left
 pub pages_with-none : {T : Type 0} (rest : List T) → pages_with [] [] rest ≡ pages_of rest
 pages_with-none [] = refl
-pages_with-none (x ∷ rest) = onto_front-none x (pages_with_room 255 rest)
+pages_with-none (x ∷ rest) = onto_front-none x (cut_after 255 rest)
 
 -- the next report goes onto the page begun, if that has room
 pub pages_with-add : {T : Type 0} (full : List (List T)) (page : List T) (x : T) (rest : List T) → length page < 256 → pages_with full page (x ∷ rest) ≡ pages_with full (page ++ x ∷ []) rest
@@ -34,24 +34,24 @@ pages_with-add {T} full page x rest low =
     let count : length (page ++ x ∷ []) ≡ length page + 1 = length-append page (x ∷ []) in
     let room : 256 - length page ≡ suc (256 - length (page ++ x ∷ [])) = omega (arith, count) in
     ap (λ (pages : List (List T)). full ++ pages)
-    (ap (λ (r : ℕ). onto_front page (pages_with_room r (x ∷ rest))) room ∙ onto_front-onto_first page x (pages_with_room (256 - length (page ++ x ∷ [])) rest))
+    (ap (λ (r : ℕ). onto_front page (cut_after r (x ∷ rest))) room ∙ onto_front-onto_first page x (cut_after (256 - length (page ++ x ∷ [])) rest))
 
 -- the next report begins a new page, if the page begun is full
 pub pages_with-new : {T : Type 0} (full : List (List T)) (page : List T) (x : T) (rest : List T) → length page ≡ 256 → pages_with full page (x ∷ rest) ≡ pages_with (full ++ page ∷ []) (x ∷ []) rest
 pages_with-new {T} full page x rest whole =
     let room : 256 - length page ≡ 0 = omega (arith, whole) in
     ap (λ (pages : List (List T)). full ++ pages)
-    (ap (λ (r : ℕ). onto_front page (pages_with_room r (x ∷ rest))) room ∙ ap (λ (p : List T). p ∷ onto_first x (pages_with_room 255 rest)) (append-nil page)
-    ∙ ap (λ (pages : List (List T)). page ∷ pages) (sym (onto_front-one x (pages_with_room 255 rest))))
-    ∙ sym (append_assoc full (page ∷ []) (onto_front (x ∷ []) (pages_with_room 255 rest)))
+    (ap (λ (r : ℕ). onto_front page (cut_after r (x ∷ rest))) room ∙ ap (λ (p : List T). p ∷ onto_first x (cut_after 255 rest)) (append-nil page)
+    ∙ ap (λ (pages : List (List T)). page ∷ pages) (sym (onto_front-one x (cut_after 255 rest))))
+    ∙ sym (append_assoc full (page ∷ []) (onto_front (x ∷ []) (cut_after 255 rest)))
 
-pages_with_room-none : {T : Type 0} (room : ℕ) → pages_with_room {T = T} room [] ≡ [] ∷ []
-pages_with_room-none zero = refl
-pages_with_room-none (suc room) = refl
+cut_after-none : {T : Type 0} (room : ℕ) → cut_after {T = T} room [] ≡ [] ∷ []
+cut_after-none zero = refl
+cut_after-none (suc room) = refl
 
 -- without reports left, the pages are the full ones and the one begun
 pub pages_with-last : {T : Type 0} (full : List (List T)) (page : List T) → pages_with full page [] ≡ full ++ page ∷ []
-pages_with-last {T} full page = ap (λ (pages : List (List T)). full ++ pages) (ap (λ (pages : List (List T)). onto_front page pages) (pages_with_room-none (256 - length page)) ∙ ap (λ (p : List T). p ∷ []) (append-nil page))
+pages_with-last {T} full page = ap (λ (pages : List (List T)). full ++ pages) (ap (λ (pages : List (List T)). onto_front page pages) (cut_after-none (256 - length page)) ∙ ap (λ (p : List T). p ∷ []) (append-nil page))
 
 -- The reports, slot by slot.
 
@@ -105,7 +105,7 @@ promise_pages-push {V} me to b count i (next ∷ pages) page =
     (promise_pages-push me to b count (suc i) pages page ∙ ap (λ (j : ℕ). promise_pages me to b count (suc i) pages ++ packet me to (Promise b j count page) ∷ []) e)
 
 -- there are no more pages than may be sent
-pub pages-within : {V : Type 0} (first : ℕ) (accepted : List (Option (AcceptedEntry V))) → length accepted ≤ SLOTS → length (pages_of (reports_from first 0 accepted)) ≤ MOST_PAGES
+pub pages-within : {V : Type 0} (first : ℕ) (accepted : List (Option (AcceptedEntry V))) → length accepted ≤ SLOTS → length (pages_of (reports_from first 0 accepted)) ≤ MAX_PAGES
 pages-within first accepted low =
     let few = reports_few first 0 accepted in
     let count = (pages_few 256 (reports_from first 0 accepted)).0 in

@@ -1,5 +1,5 @@
 -- The definitions of one node, computed on worked examples.
-use Rattle.synod.proofs.Words.{◌≡◌, ℕ, zero, suc, List, [], ◌∷◌, Bool, true, false, Some, None, Err, length, map, replicate, refl, Promise, Nack, Ask, Busy, LogFull, RoundsSpent, TooLong, Idle, Leading, is_quorum, is_below, zero_ballot, packet, new_node, pages_of, on_prepare, on_accept, offered, begun, proposed_values, restarted}
+use Rattle.synod.proofs.Words.{◌≡◌, ℕ, zero, suc, List, [], ◌∷◌, Bool, true, false, Some, None, Err, length, map, replicate, refl, Promise, Nack, Ask, Busy, LogFull, RoundsSpent, TooLong, Idle, Leading, is_quorum, is_below, zero_ballot, packet, new_node, pages_of, on_prepare, on_accept, offer_result, begin_result, proposed_values, restarted}
 
 -- Quorums.
 
@@ -68,21 +68,21 @@ a_page_has_256 = refl
 -- Offers.
 
 -- if 64 values are waiting, an offer is refused
-pub the_65th_offer_is_busy : offered (λ v. 8) (record (new_node {V = ℕ} 0 (1 ∷ [])) { waiting = replicate 64 7 }) 7 ≡ Err Busy
+pub the_65th_offer_is_busy : offer_result (λ v. 8) (record (new_node {V = ℕ} 0 (1 ∷ [])) { waiting = replicate 64 7 }) 7 ≡ Err Busy
 the_65th_offer_is_busy = refl
 
 -- a value that is one byte too long is refused as such, also if no more values may wait
-pub too_long_comes_first : offered (λ v. 67108865) (record (new_node {V = ℕ} 0 (1 ∷ [])) { waiting = replicate 64 7 }) 7 ≡ Err TooLong
+pub too_long_comes_first : offer_result (λ v. 67108865) (record (new_node {V = ℕ} 0 (1 ∷ [])) { waiting = replicate 64 7 }) 7 ≡ Err TooLong
 too_long_comes_first = refl
 
 -- a leader whose next slot is the limit refuses an offer
-pub the_log_is_full : offered (λ v. 8) (record (new_node {V = ℕ} 0 (1 ∷ [])) { role = Leading zero_ballot 1048576 }) 7 ≡ Err LogFull
+pub the_log_is_full : offer_result (λ v. 8) (record (new_node {V = ℕ} 0 (1 ∷ [])) { role = Leading zero_ballot 1048576 }) 7 ≡ Err LogFull
 the_log_is_full = refl
 
 -- Begins.
 
 -- no round is above the greatest 64-bit number
-pub the_rounds_are_spent : begun (record (new_node {V = ℕ} 0 (1 ∷ [])) { promise = record { round = 18446744073709551615; node = 0 } }) ≡ Err RoundsSpent
+pub the_rounds_are_spent : begin_result (record (new_node {V = ℕ} 0 (1 ∷ [])) { promise = record { round = 18446744073709551615; node = 0 } }) ≡ Err RoundsSpent
 the_rounds_are_spent = refl
 
 -- after a restart, node 0 of three posts an Ask to nodes 1 and 2

@@ -1,12 +1,12 @@
 -- Each step preserves the invariant of a node, and posts only packets that every node may rely on.
-use Rattle.synod.proofs.Words.{◌≡◌, ℕ, ◌+◌, ◌-◌, ◌<◌, ◌≤◌, not, ◌&&◌, is_some, List, [], ◌∷◌, ◌++◌, map, take, drop, length, Option, Some, None, refl, arith, length-take, length-map, AllByRecursion, SLOTS, entry_at, Ballot, SlotReport, Packet, Body, Prepare, Promise, Accept, Accepted, Nack, Ask, Told, Heard, Role, Idle, Preparing, Leading, is_quorum, is_below, is_same, accept_posts, IsReport, IsPage, IsBody, IsPacket, IsPost, pages_of, are_received, Node, unchanged, pages_from, page_of, with_page, is_heard, reports_from, promises, refuses, on_prepare, top_or_first, proposed_values, all_reports, leads, adds_page, completes_promise, on_complete_promise, on_promise_page, on_promise_as, on_promise, has_voter, counted, chooses, on_accepted_at, on_accepted, PreservesInvariant, on_packet, on_body, IsRole, ArePages, IsNode}
+use Rattle.synod.proofs.Words.{◌≡◌, ℕ, ◌+◌, ◌-◌, ◌<◌, ◌≤◌, not, ◌&&◌, is_some, List, [], ◌∷◌, ◌++◌, map, take, drop, length, Option, Some, None, refl, arith, length-take, length-map, AllByRecursion, SLOTS, entry_at, Ballot, SlotReport, Packet, Body, Prepare, Promise, Accept, Accepted, Nack, Ask, Told, Heard, Role, Idle, Preparing, Leading, is_quorum, is_below, is_same, accept_posts, IsReport, IsPage, IsBody, IsPacket, IsPost, pages_of, are_received, Node, unchanged, pages_from, page_of, with_page, is_heard, reports_from, promises, sends_nack, on_prepare, top_or_first, proposed_values, all_reports, leads, adds_page, completes_promise, on_complete_promise, on_promise_page, on_promise_as, on_promise, has_voter, counted, learns_chosen, on_accepted_at, on_accepted, PreservesInvariant, on_packet, on_body, IsRole, ArePages, IsNode}
 use Rattle.synod.proofs.NodeInvariant.{either, all_append, posts_accepts, same, with_parts, refuses_keeps, keeps_accept, chooses_keeps, keeps_ask, keeps_told, keeps_nack}
 use Rattle.synod.proofs.PageInvariant.{reports_low, reports_few, all_cut, pages_few, posts_pages, top_low, reports_heard, all_with_page, length-proposed_values}
 
 module _ {V : Type 0} (n : Node V) (is : IsNode n) where
   -- a Prepare preserves the invariant, whether it is promised or refused
   pub keeps_prepare : (p : ℕ) (b : Ballot) (first : ℕ) → p < length n.weights → PreservesInvariant (length n.weights) (on_prepare n p b first)
-  keeps_prepare p b first for = either (length n.weights) (promises n p b first) (refuses n p b) (is_below n.promise b) (λ e.
+  keeps_prepare p b first for = either (length n.weights) (promises n p b first) (sends_nack n p b) (is_below n.promise b) (λ e.
       let reports : List (SlotReport V) = reports_from first 0 n.accepted in
       let pages : List (List (SlotReport V)) = pages_of reports in
       let few = reports_few first 0 n.accepted in
@@ -23,7 +23,7 @@ module _ {V : Type 0} (n : Node V) (is : IsNode n) where
   keeps_accepted_at None p b s v low =
       let counting : Node V = record n { tallies = counted n.tallies s b p } in
       let as_node : IsNode counting = record { weights = is.weights; me = is.me; accepted = is.accepted; learned = is.learned; role = is.role; pages = is.pages } in
-      either (length n.weights) (chooses counting s v) (unchanged counting) (is_quorum n.weights (has_voter counting.tallies s b)) (λ e. chooses_keeps counting as_node s v low) (λ e. same counting as_node)
+      either (length n.weights) (learns_chosen counting s v) (unchanged counting) (is_quorum n.weights (has_voter counting.tallies s b)) (λ e. chooses_keeps counting as_node s v low) (λ e. same counting as_node)
 
   -- an Accepted for a slot below the limit preserves the invariant
   pub keeps_accepted : (p : ℕ) (b : Ballot) (s : ℕ) (v : Option V) → s < SLOTS → PreservesInvariant (length n.weights) (on_accepted n p b s v)

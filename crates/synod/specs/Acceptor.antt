@@ -35,12 +35,12 @@ promises n p b first = record {
 }
 
 -- ballot b of p is refused: p is told which ballot this node has promised
-abbrev pub refuses : {V : Type 0} → Node V → ℕ → Ballot → StepResult V
-refuses n p b = volatile_step n (packet n.me p (Nack b n.promise) ∷ [])
+abbrev pub sends_nack : {V : Type 0} → Node V → ℕ → Ballot → StepResult V
+sends_nack n p b = volatile_step n (packet n.me p (Nack b n.promise) ∷ [])
 
 -- Prepare(b, first) from p: the ballot is promised if it is above the promise, else refused
 abbrev pub on_prepare : {V : Type 0} → Node V → ℕ → Ballot → ℕ → StepResult V
-on_prepare n p b first = if is_below n.promise b then promises n p b first else refuses n p b
+on_prepare n p b first = if is_below n.promise b then promises n p b first else sends_nack n p b
 
 abbrev pub accepted_entry : {V : Type 0} → Ballot → Option V → AcceptedEntry V
 accepted_entry b v = record { ballot = b; value = v }
@@ -55,4 +55,4 @@ accepts_value n b s v = record {
 
 -- Accept(b, s, v) from p: the value is accepted unless the ballot is below the promise
 abbrev pub on_accept : {V : Type 0} → Node V → ℕ → Ballot → ℕ → Option V → StepResult V
-on_accept n p b s v = if is_below b n.promise then refuses n p b else accepts_value n b s v
+on_accept n p b s v = if is_below b n.promise then sends_nack n p b else accepts_value n b s v

@@ -3,7 +3,7 @@
 -- The code has the tally of the first ballot at each slot in a map, and all others in a table. A tally is a ballot and the
 -- nodes whose votes under it were counted.
 use Rattle.std.specs.Prelude.{ℕ, Bool, false, true, nat_lt, List, [], ◌∷◌, Option, Some, None, slice_set, slice_index_or, replicate, if◌then◌else◌}
-use Rattle.synod.specs.Words.{SLOTS, entry_at, put_at, MOST_NODES, Ballot, Packet, Ask, Told, Tally}
+use Rattle.synod.specs.Words.{SLOTS, entry_at, put_at, MAX_NODES, Ballot, Packet, Ask, Told, Tally}
 use Rattle.synod.specs.Weights.{is_quorum}
 use Rattle.synod.specs.Ballots.{is_same}
 use Rattle.synod.specs.Packets.{packet, to_others}
@@ -18,7 +18,7 @@ abbrev pub with_voter : List Bool → ℕ → List Bool
 with_voter voters k = slice_set voters k true
 
 abbrev pub no_voters : List Bool
-no_voters = replicate MOST_NODES false
+no_voters = replicate MAX_NODES false
 
 -- node k is counted under the ballot
 abbrev pub voted_in : List Tally → Ballot → ℕ → Bool
@@ -50,16 +50,16 @@ learns n s v = record n { learned = put_at n.learned s v }
 abbrev pub asks_below : {V : Type 0} → Node V → ℕ → ℕ → List (Packet V)
 asks_below n s gap = if nat_lt gap s then to_others n.me n.weights (Ask gap) else []
 
-abbrev pub asks_for_first_gap : {V : Type 0} → Node V → ℕ → List (Packet V)
-asks_for_first_gap n s = asks_below n s (log_length n)
+abbrev pub asks_others_for_first_gap : {V : Type 0} → Node V → ℕ → List (Packet V)
+asks_others_for_first_gap n s = asks_below n s (log_length n)
 
 -- the value is chosen, since a quorum accepted it under one ballot, and the node learns it
-abbrev pub chooses : {V : Type 0} → Node V → ℕ → Option V → StepResult V
-chooses n s v = volatile_step (learns n s v) (asks_for_first_gap (learns n s v) s)
+abbrev pub learns_chosen : {V : Type 0} → Node V → ℕ → Option V → StepResult V
+learns_chosen n s v = volatile_step (learns n s v) (asks_others_for_first_gap (learns n s v) s)
 
 -- the step of a node n that has counted the vote: if those counted at slot s under ballot b are a quorum, v is learned
 abbrev pub counts : {V : Type 0} → Node V → Ballot → ℕ → Option V → StepResult V
-counts n b s v = if is_quorum n.weights (has_voter n.tallies s b) then chooses n s v else unchanged n
+counts n b s v = if is_quorum n.weights (has_voter n.tallies s b) then learns_chosen n s v else unchanged n
 
 abbrev pub on_accepted_at : {V : Type 0} → Option (Option V) → Node V → ℕ → Ballot → ℕ → Option V → StepResult V
 on_accepted_at (Some u) n p b s v = unchanged n
@@ -81,11 +81,11 @@ on_ask n p s = on_ask_at (entry_at n.learned s) n p s
 abbrev pub asks_for : {V : Type 0} → Node V → ℕ → ℕ → List (Packet V)
 asks_for n p gap = if nat_lt gap SLOTS then (packet n.me p (Ask gap) ∷ []) else []
 
-abbrev pub asks_for_next_gap : {V : Type 0} → Node V → ℕ → List (Packet V)
-asks_for_next_gap n p = asks_for n p (log_length n)
+abbrev pub asks_sender_for_first_gap : {V : Type 0} → Node V → ℕ → List (Packet V)
+asks_sender_for_first_gap n p = asks_for n p (log_length n)
 
 abbrev pub learns_told : {V : Type 0} → Node V → ℕ → ℕ → Option V → StepResult V
-learns_told n p s v = volatile_step (learns n s v) (asks_for_next_gap (learns n s v) p)
+learns_told n p s v = volatile_step (learns n s v) (asks_sender_for_first_gap (learns n s v) p)
 
 abbrev pub on_told_at : {V : Type 0} → Option (Option V) → Node V → ℕ → ℕ → Option V → StepResult V
 on_told_at (Some u) n p s v = unchanged n

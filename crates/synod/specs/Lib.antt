@@ -15,7 +15,7 @@ pub mod Refusals
 pub mod Core
 pub mod Updates
 pub mod Broadcast
-pub mod Rooms
+pub mod Capacity
 pub mod Ready
 pub mod HighestReports
 pub mod Stored

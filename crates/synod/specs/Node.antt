@@ -1,6 +1,6 @@
 -- The state of a node: proposer, acceptor and learner at once.
 -- Source: Lamport, Paxos Made Simple, 2.1 to 2.3 and 3.
--- The code also has reserved room, and stores the maps in pages.
+-- The code also has reserved capacity, and stores the maps in pages.
 use Rattle.std.specs.Prelude.{ℕ, Bool, false, ◌==◌, ◌||◌, List, [], ◌∷◌, Option, None, is_some, map, slice_set, slice_index_or, if◌then◌else◌}
 use Rattle.synod.specs.Words.{entry_at, put_at, Ballot, SlotReport, Packet, AcceptedEntry, Change, Role, Idle, Heard, Tally}
 use Rattle.synod.specs.Record.{KeptPart, new_kept}

@@ -2,7 +2,7 @@
 -- Source: Lamport, Paxos Made Simple, 2.2 (the messages of the two phases) and 2.3 (learning).
 -- The code appends them to one list, one after another, as here.
 use Rattle.std.specs.Prelude.{ℕ, suc, ◌<◌, ◌≤◌, ◌==◌, List, [], ◌∷◌, ◌++◌, Option, if◌then◌else◌}
-use Rattle.synod.specs.Words.{AllByRecursion, SLOTS, MOST_PAGES, Ballot, SlotReport, Packet, Body, Prepare, Promise, Accept, Accepted, Nack, Ask, Told}
+use Rattle.synod.specs.Words.{AllByRecursion, SLOTS, MAX_PAGES, Ballot, SlotReport, Packet, Body, Prepare, Promise, Accept, Accepted, Nack, Ask, Told}
 
 abbrev pub packet : {V : Type 0} → ℕ → ℕ → Body V → Packet V
 packet from to body = record { from = from; to = to; body = body }
@@ -31,7 +31,7 @@ accept_posts me weights ballot s [] = []
 accept_posts me weights ballot s (v ∷ vs) = to_all me weights (Accept ballot s v) ++ accept_posts me weights ballot (suc s) vs
 
 -- The limits of every packet: its sender is one of the nodes, each slot in it is below SLOTS, the first slot of a
--- Prepare is at most SLOTS, the number of a page is from 1 to the count of pages, and this count is at most MOST_PAGES.
+-- Prepare is at most SLOTS, the number of a page is from 1 to the count of pages, and this count is at most MAX_PAGES.
 -- IsReport, IsPage, IsBody and IsPacket say that a report, a page, a body and a packet are within these limits.
 
 abbrev pub IsReport : {V : Type 0} → SlotReport V → Type 0
@@ -40,7 +40,7 @@ IsReport report = report.slot < SLOTS
 pub record IsPage {V : Type 0} (page count : ℕ) (reports : List (SlotReport V)) : Type 0 where
   pub first : 1 ≤ page
   pub last : page ≤ count
-  pub few : count ≤ MOST_PAGES
+  pub few : count ≤ MAX_PAGES
   pub each : AllByRecursion IsReport reports
 
 abbrev pub IsBody : {V : Type 0} → Body V → Type 0

@@ -8,16 +8,15 @@ abbrev pub onto_first : {T : Type 0} → T → List (List T) → List (List T)
 onto_first x [] = (x ∷ []) ∷ []
 onto_first x (page ∷ pages) = (x ∷ page) ∷ pages
 
--- the pages that a list is cut into: at most `room` elements are on the first, and at most 256 on each other one; this
--- room is space on a page, not reserved memory
-abbrev pub pages_with_room : {T : Type 0} → ℕ → List T → List (List T)
-pages_with_room room [] = [] ∷ []
-pages_with_room (suc room) (x ∷ xs) = onto_first x (pages_with_room room xs)
-pages_with_room zero (x ∷ xs) = [] ∷ onto_first x (pages_with_room 255 xs)
+-- the list cut after its first `left` elements, and then after each further 256
+abbrev pub cut_after : {T : Type 0} → ℕ → List T → List (List T)
+cut_after left [] = [] ∷ []
+cut_after (suc left) (x ∷ xs) = onto_first x (cut_after left xs)
+cut_after zero (x ∷ xs) = [] ∷ onto_first x (cut_after 255 xs)
 
 -- the list in pages of 256 elements, of which the last may have fewer; an empty list is one empty page
 abbrev pub pages_of : {T : Type 0} → List T → List (List T)
-pages_of xs = pages_with_room 256 xs
+pages_of xs = cut_after 256 xs
 
 -- whether the first `count` pages are received
 abbrev pub are_received : {T : Type 0} → List (Option (List T)) → ℕ → Bool

@@ -2,7 +2,7 @@
 -- Source: Lamport, Paxos Made Simple, 2.2, phases 1(a) and 2(a), and section 3 for a leader of all instances.
 -- The code has a table of the highest reports by slot. The definition finds each in one list of all reports heard.
 use Rattle.std.specs.Prelude.{ℕ, zero, suc, ◌+◌, ◌-◌, ◌^◌, max, Bool, false, not, ◌==◌, ◌&&◌, nat_lt, List, [], ◌∷◌, ◌++◌, map, take, drop, length, Option, Some, None, Result, Ok, Err, if◌then◌else◌}
-use Rattle.synod.specs.Words.{SLOTS, MOST_BYTES, MOST_WAITING, Ballot, SlotReport, Prepare, Accept, Round, Heard, Role, Idle, Preparing, Leading, Refusal, Busy, LogFull, RoundsSpent, TooLong}
+use Rattle.synod.specs.Words.{SLOTS, MAX_VALUE_BYTES, MAX_WAITING, Ballot, SlotReport, Prepare, Accept, Round, Heard, Role, Idle, Preparing, Leading, Refusal, Busy, LogFull, RoundsSpent, TooLong}
 use Rattle.synod.specs.Weights.{is_quorum}
 use Rattle.synod.specs.Ballots.{is_below, is_same}
 use Rattle.synod.specs.Packets.{to_all, accept_posts}
@@ -19,7 +19,7 @@ waits n v = volatile_step (record n { waiting = n.waiting ++ v ∷ [] }) []
 abbrev pub offer_waits : {V : Type 0} → Node V → V → Result (StepResult V) Refusal
 offer_waits n v =
     if log_length n == SLOTS then Err LogFull
-    else if nat_lt (length n.waiting) MOST_WAITING then Ok (waits n v)
+    else if nat_lt (length n.waiting) MAX_WAITING then Ok (waits n v)
     else Err Busy
 
 -- the value is proposed at the leader's next slot
@@ -36,8 +36,8 @@ offer_as (Preparing b first) n v = offer_waits n v
 offer_as (Leading b next) n v = offer_leads n b next v
 
 -- offer(v): the step, or the refusal that it meets
-abbrev pub offered : {V : Type 0} → (V → ℕ) → Node V → V → Result (StepResult V) Refusal
-offered size n v = if nat_lt MOST_BYTES (size v) then Err TooLong else offer_as n.role n v
+abbrev pub offer_result : {V : Type 0} → (V → ℕ) → Node V → V → Result (StepResult V) Refusal
+offer_result size n v = if nat_lt MAX_VALUE_BYTES (size v) then Err TooLong else offer_as n.role n v
 
 -- A ballot is begun.
 
@@ -62,8 +62,8 @@ begins n = record {
 }
 
 -- begin: the step `begins`, or the refusal that it meets
-abbrev pub begun : {V : Type 0} → Node V → Result (StepResult V) Refusal
-begun n = if nat_lt (next_round n) (2 ^ 64) then Ok (begins n) else Err RoundsSpent
+abbrev pub begin_result : {V : Type 0} → Node V → Result (StepResult V) Refusal
+begin_result n = if nat_lt (next_round n) (2 ^ 64) then Ok (begins n) else Err RoundsSpent
 
 -- The proposals.
 

@@ -6,7 +6,7 @@ use Rattle.synod.specs.Words.{Refusal, Memory}
 use Rattle.synod.specs.declared.ready.StagedStep.{StagedStep}
 use Rattle.synod.specs.declared.proposer.ProposerUpdate.{ProposerUpdate}
 use Rattle.synod.specs.declared.learner.LearnerUpdate.{LearnerUpdate}
-use Rattle.synod.specs.Record.{changed_by, HasRoomFor}
+use Rattle.synod.specs.Record.{changed_by, HasCapacityFor}
 use Rattle.synod.specs.Node.{Node, StepResult, kept_of}
 use Rattle.synod.specs.Step.{IsNode}
 use Rattle.synod.specs.Core.{Core, ProposerView, LearnerView, proposer_state, learner_state, assembled}
@@ -23,14 +23,14 @@ staged_node n staged =
     assembled n.me n.weights (changed_by (kept_of n) staged.change) (proposer_after (proposer_state n) staged.proposer) (learner_after (learner_state n) staged.learner)
 
 abbrev pub proposer_of : {V : Type 0} → Core V → ProposerView V
-proposer_of c = record { state = proposer_state c.node; page_rooms = c.page_rooms; heard_room = c.heard_room; waiting_room = c.waiting_room }
+proposer_of c = record { state = proposer_state c.node; page_capacities = c.page_capacities; heard_capacity = c.heard_capacity; waiting_capacity = c.waiting_capacity }
 
 abbrev pub learner_of : {V : Type 0} → Core V → LearnerView V
-learner_of c = record { state = learner_state c.node; tallies_room = c.tallies_room; other_room = c.other_room; learned_room = c.learned_room }
+learner_of c = record { state = learner_state c.node; tallies_capacity = c.tallies_capacity; other_tallies_capacity = c.other_tallies_capacity; learned_capacity = c.learned_capacity }
 
--- there is room for all updates, and the node after them meets the invariant
+-- there is capacity for all updates, and the node after them meets the invariant
 pub record CanCommit {V : Type 0} (c : Core V) (staged : StagedStep V) : Type 0 where
-  pub change : HasRoomFor c.accepted_room staged.change
+  pub change : HasCapacityFor c.accepted_capacity staged.change
   pub proposer : CanUpdateProposer (proposer_of c) staged.proposer
   pub learner : CanUpdateLearner (learner_of c) staged.learner
   pub node : IsNode (staged_node c.node staged)

@@ -27,14 +27,14 @@ abbrev pub changed_by : {V : Type 0} → KeptPart V → Option (Change V) → Ke
 changed_by kept None = kept
 changed_by kept (Some change) = changed kept change
 
--- a record as contracts see it: the kept part, and the number of slots, from 0 on, with room for an accepted entry
+-- a record as contracts see it: the kept part, and the number of slots, from 0 on, for which memory is reserved
 pub record RecordView (V : Type 0) : Type 0 where
   pub kept : KeptPart V
-  pub room : ℕ
+  pub capacity : ℕ
 
--- there is room for the change
-abbrev pub HasRoomFor : {V : Type 0} → ℕ → Option (Change V) → Type 0
-HasRoomFor room None = Unit {0}
-HasRoomFor room (Some (Round r)) = Unit {0}
-HasRoomFor room (Some (Promise b)) = Unit {0}
-HasRoomFor room (Some (Entry s h)) = s < room
+-- there is capacity for the change
+abbrev pub HasCapacityFor : {V : Type 0} → ℕ → Option (Change V) → Type 0
+HasCapacityFor capacity None = Unit {0}
+HasCapacityFor capacity (Some (Round r)) = Unit {0}
+HasCapacityFor capacity (Some (Promise b)) = Unit {0}
+HasCapacityFor capacity (Some (Entry s h)) = s < capacity

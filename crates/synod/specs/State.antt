@@ -7,4 +7,4 @@ use Rattle.synod.specs.Node.{Node}
 use Rattle.synod.specs.declared.node.state.NodeState.{NodeState}
 
 abbrev pub state_of : {V : Type 0} → Node V → NodeState
-state_of n = record { role = n.role; promise = n.promise; learned = log_length n; waiting = length n.waiting }
+state_of n = record { role = n.role; promise = n.promise; log_len = log_length n; waiting = length n.waiting }

@@ -14,13 +14,13 @@ pub use Rattle.synod.specs.declared.packet.Body.{Body}
 pub use Rattle.synod.specs.declared.packet.Body.TheVariants.{Accept, Accepted, Ask, Nack, Prepare, Promise, Told}
 pub use Rattle.synod.specs.declared.packet.Packet.{Packet}
 pub use Rattle.synod.specs.declared.packet.SlotReport.{SlotReport}
-pub use Rattle.synod.specs.declared.packet.TheConstants.{MOST_PAGES}
+pub use Rattle.synod.specs.declared.packet.TheConstants.{MAX_PAGES}
 pub use Rattle.synod.specs.declared.proposer.Heard.{Heard}
 pub use Rattle.synod.specs.declared.proposer.Role.{Role}
 pub use Rattle.synod.specs.declared.proposer.Role.TheVariants.{Idle, Leading, Preparing}
-pub use Rattle.synod.specs.declared.proposer.TheConstants.{MOST_WAITING}
+pub use Rattle.synod.specs.declared.proposer.TheConstants.{MAX_WAITING}
 pub use Rattle.synod.specs.declared.refusal.Refusal.{Refusal}
 pub use Rattle.synod.specs.declared.refusal.Refusal.TheVariants.{Busy, LogFull, Memory, RoundsSpent, TooLong}
 pub use Rattle.synod.specs.declared.tally.Tally.{Tally}
-pub use Rattle.synod.specs.declared.value.TheConstants.{MOST_BYTES}
-pub use Rattle.synod.specs.declared.weights.TheConstants.{MOST_NODES, MOST_WEIGHT}
+pub use Rattle.synod.specs.declared.value.TheConstants.{MAX_VALUE_BYTES}
+pub use Rattle.synod.specs.declared.weights.TheConstants.{MAX_NODES, MAX_WEIGHT}

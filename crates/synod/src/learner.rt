@@ -6,7 +6,7 @@ ghost use Rattle.slots.specs.FiniteMap.{entry_at, put_at, front_of};
 use crate::ballot::Ballot;
 use crate::other_tallies::OtherTallies;
 use crate::tally::Tally;
-use crate::weights::MOST_NODES;
+use crate::weights::MAX_NODES;
 use slots::Slots;
 use std::alloc::{AllocError, Global};
 use std::marker::Model;
@@ -21,7 +21,7 @@ pub enum LearnerUpdate<V> {
         node: u8,
     },
     /// A vote that completes a quorum is counted: the value is chosen, and it is learned here.
-    Choose {
+    CountAndLearn {
         slot: u32,
         ballot: Ballot,
         node: u8,
@@ -38,7 +38,7 @@ pub enum LearnerUpdate<V> {
 /// values.
 #[derive(Drop)]
 pub struct Learner<V> {
-    first: Slots<Tally>,
+    first_tallies: Slots<Tally>,
     other_tallies: OtherTallies,
     learned: Slots<Option<V>>,
 }
@@ -50,13 +50,13 @@ impl<V> Model for Learner<V> {
     ghost Value = { LearnerView V };
 
     ghost view = { λ l. record {
-      state = record { tallies = tallies_from 0 l.first.entries (other_tallies_at l.other_tallies.votes); learned = l.learned.entries };
-      tallies_room = l.first.room;
-      other_room = l.other_tallies.room;
-      learned_room = l.learned.room;
+      state = record { tallies = tallies_from 0 l.first_tallies.entries (other_tallies_at l.other_tallies.votes); learned = l.learned.entries };
+      tallies_capacity = l.first_tallies.capacity;
+      other_tallies_capacity = l.other_tallies.capacity;
+      learned_capacity = l.learned.capacity;
     } };
 
-    ghost invariant = { λ l. IsLearner l.first.entries (other_tallies_at l.other_tallies.votes) l.learned.entries };
+    ghost invariant = { λ l. IsLearner l.first_tallies.entries (other_tallies_at l.other_tallies.votes) l.learned.entries };
 }
 
 impl<V: Drop> Learner<V> {
@@ -70,7 +70,7 @@ impl<V: Drop> Learner<V> {
         ensures learned { result.state.learned ≡ [] }
     {
         Learner {
-            first: Slots::new(alloc),
+            first_tallies: Slots::new(alloc),
             other_tallies: OtherTallies::new(alloc),
             learned: Slots::new(alloc),
         }
@@ -101,11 +101,11 @@ impl<V: Drop> Learner<V> {
     }
 
     /// Returns the voters at a slot under a ballot once `node` is counted.
-    pub(crate) fn voters_with(&self, slot: u32, ballot: Ballot, node: u8) -> [bool; MOST_NODES]
-        requires { node < MOST_NODES }
+    pub(crate) fn voters_with(&self, slot: u32, ballot: Ballot, node: u8) -> [bool; MAX_NODES]
+        requires { node < MAX_NODES }
         ensures { (k : ℕ) → slice_index_or result k false ≡ has_voter (counted self.now.state.tallies slot ballot node) slot ballot k }
     {
-        match self.first.get(slot) {
+        match self.first_tallies.get(slot) {
             Some(first) => {
                 if first.ballot.is_same(ballot) {
                     first.with(node).voters
@@ -117,19 +117,19 @@ impl<V: Drop> Learner<V> {
         }
     }
 
-    /// Reserves room for a vote and for a value at a slot. Votes and values are unchanged.
-    pub(crate) fn room(&mut self, slot: u32) -> Result<(), AllocError>
+    /// Reserves capacity for a vote and for a value at a slot. Votes and values are unchanged.
+    pub(crate) fn reserve(&mut self, slot: u32) -> Result<(), AllocError>
         requires { slot < SLOTS }
-        ensures tallies { OnOk result (slot < self.new.tallies_room) }
-        ensures other_tallies { OnOk result (0 < self.new.other_room) }
-        ensures learned { OnOk result (slot < self.new.learned_room) }
+        ensures tallies { OnOk result (slot < self.new.tallies_capacity) }
+        ensures other_tallies { OnOk result (0 < self.new.other_tallies_capacity) }
+        ensures learned { OnOk result (slot < self.new.learned_capacity) }
         ensures state { self.new.state ≡ self.old.state }
-        ensures tallies_room { self.old.tallies_room ≤ self.new.tallies_room }
-        ensures other_room { self.old.other_room ≤ self.new.other_room }
-        ensures learned_room { self.old.learned_room ≤ self.new.learned_room }
+        ensures tallies_capacity { self.old.tallies_capacity ≤ self.new.tallies_capacity }
+        ensures other_tallies_capacity { self.old.other_tallies_capacity ≤ self.new.other_tallies_capacity }
+        ensures learned_capacity { self.old.learned_capacity ≤ self.new.learned_capacity }
     {
-        self.first.room(slot)?;
-        self.other_tallies.room()?;
+        self.first_tallies.room(slot)?;
+        self.other_tallies.reserve()?;
         self.learned.room(slot)
     }
 
@@ -141,15 +141,15 @@ impl<V: Drop> Learner<V> {
         requires { CanCount self.old slot node }
         ensures tallies { self.new.state.tallies ≡ counted self.old.state.tallies slot ballot node }
         ensures learned { self.new.state.learned ≡ self.old.state.learned }
-        ensures room { self.new.learned_room ≡ self.old.learned_room }
+        ensures capacity { self.new.learned_capacity ≡ self.old.learned_capacity }
     {
-        let Some(first) = self.first.get(slot) else {
-            self.first.put(slot, Tally::one(ballot, node));
+        let Some(first) = self.first_tallies.get(slot) else {
+            self.first_tallies.put(slot, Tally::one(ballot, node));
             return;
         };
         if first.ballot.is_same(ballot) {
             let first = first.with(node);
-            self.first.put(slot, first);
+            self.first_tallies.put(slot, first);
         } else {
             self.other_tallies.count(slot, ballot, node);
         }
@@ -163,7 +163,7 @@ impl<V: Drop> Learner<V> {
         match update {
             Some(LearnerUpdate::Count { slot, ballot, node }) => self.count(slot, ballot, node),
             Some(
-                LearnerUpdate::Choose {
+                LearnerUpdate::CountAndLearn {
                     slot,
                     ballot,
                     node,

@@ -2,7 +2,7 @@
 //!
 //! `NodeCore` takes the steps of Multi-Paxos: the contract of each call cites the definition of its step in
 //! `specs/Step.antt` or `specs/Proposer.antt`, with the packets that it posts and the refusal that it may meet.
-//! A step is staged first: staging allocates, may fail and changes nothing but reserved room. Then the step is
+//! A step is staged first: staging allocates, may fail and changes nothing but capacity. Then the step is
 //! committed, which does not allocate. The public calls that stage a step are named `ready_..`, the functions that they
 //! are made of `stage_..`.
 //!
@@ -36,11 +36,11 @@ pub use ballot::Ballot;
 pub use change::{AcceptedEntry, Change};
 pub use keep::{Failed, Keep};
 pub use node::{NodeCore, NodeState};
-pub use packet::{Body, MOST_PAGES, PAGE_REPORTS, Packet, Reports, SlotReport};
-pub use proposer::{Heard, MOST_WAITING, Role};
+pub use packet::{Body, MAX_PAGES, PAGE_REPORTS, Packet, Reports, SlotReport};
+pub use proposer::{Heard, MAX_WAITING, Role};
 pub use ready::Ready;
 pub use record::Record;
 pub use refusal::Refusal;
 pub use tally::Tally;
-pub use value::{MOST_BYTES, Value, copy_value};
-pub use weights::{MOST_NODES, MOST_WEIGHT, Weights};
+pub use value::{MAX_VALUE_BYTES, Value, copy_value};
+pub use weights::{MAX_NODES, MAX_WEIGHT, Weights};

@@ -12,19 +12,19 @@ use crate::ballot::Ballot;
 use crate::learner::Learner;
 use crate::packet::{Body, Packet};
 use crate::posts::{Broadcast, broadcast_posts};
-use crate::proposer::{MOST_WAITING, Proposer, Role};
+use crate::proposer::{MAX_WAITING, Proposer, Role};
 use crate::ready::{Ready, StagedStep};
 use crate::record::Record;
 use crate::refusal::Refusal;
-use crate::value::{MOST_BYTES, Value, copy_value};
+use crate::value::{MAX_VALUE_BYTES, Value, copy_value};
 use crate::weights::Weights;
 use slots::SLOTS;
 pub use state::NodeState;
 use std::alloc::{AllocError, Global};
 use std::marker::Model;
 
-/// One node of a replicated log, generic over its values. Contracts see a `Core`: its state (`Node`) and the room that
-/// it has reserved.
+/// One node of a replicated log, generic over its values. Contracts see a `Core`: its state (`Node`) and the
+/// capacity that it has reserved.
 ///
 /// Source: Lamport, Paxos Made Simple, 2 and 3; `specs/Step.antt` and `specs/Proposer.antt` define the steps.
 #[derive(Drop)]
@@ -54,11 +54,11 @@ impl<V: Value> NodeCore<V> {
     ghost use Rattle.synod.specs.declared.packet.Body.TheVariants.{Ask};
     ghost use Rattle.synod.specs.Node.{new_node, unchanged, volatile_step};
     ghost use Rattle.synod.specs.Log.{log_of};
-    ghost use Rattle.synod.specs.Proposer.{begun, offered, offer_waits};
+    ghost use Rattle.synod.specs.Proposer.{begin_result, offer_result, offer_waits};
     ghost use Rattle.synod.specs.Step.{IsNode, PreservesInvariant, on_body, on_packet, reloaded, restarted};
     ghost use Rattle.synod.specs.Refusals.{IsCallResult};
     ghost use Rattle.synod.specs.Ready.{IsStagingResult, IsReadyFor, staged_node, CanCommit};
-    ghost use Rattle.synod.specs.Rooms.{HasNoLessRoom};
+    ghost use Rattle.synod.specs.Capacity.{KeepsCapacity};
     ghost use Rattle.synod.specs.declared.refusal.Refusal.TheVariants.{Memory};
 
     /// Creates the new node `me` among nodes with these weights. It does not allocate.
@@ -89,9 +89,9 @@ impl<V: Value> NodeCore<V> {
     ///
     /// Errors and cost: those of `begin`.
     pub fn ready_begin(&mut self) -> Result<Ready<V>, Refusal>
-        ensures ready { IsStagingResult self.new (begun self.old.node) result }
+        ensures ready { IsStagingResult self.new (begin_result self.old.node) result }
         ensures node { self.new.node ≡ self.old.node }
-        ensures room { HasNoLessRoom self.old self.new }
+        ensures capacity { KeepsCapacity self.old self.new }
         ensures posts { IfOk result (λ ready. AllByRecursion (IsPost (length self.old.node.weights)) ready.step.posts) }
     {
         let last = std::cmp::max(self.kept_part.round(), self.kept_part.promise().round);
@@ -109,12 +109,12 @@ impl<V: Value> NodeCore<V> {
     ///
     /// Errors and cost: those of `offer`.
     pub fn ready_offer(&mut self, value: V) -> Result<Ready<V>, Refusal>
-        ensures ready { IsStagingResult self.new (offered V.bytes self.old.node value) result }
+        ensures ready { IsStagingResult self.new (offer_result V.bytes self.old.node value) result }
         ensures node { self.new.node ≡ self.old.node }
-        ensures room { HasNoLessRoom self.old self.new }
+        ensures capacity { KeepsCapacity self.old self.new }
         ensures posts { IfOk result (λ ready. AllByRecursion (IsPost (length self.old.node.weights)) ready.step.posts) }
     {
-        if value.size() > MOST_BYTES {
+        if value.size() > MAX_VALUE_BYTES {
             return Err(Refusal::TooLong);
         }
         match self.proposer.role() {
@@ -133,13 +133,13 @@ impl<V: Value> NodeCore<V> {
     fn stage_offer_waiting(&mut self, value: V) -> Result<Ready<V>, Refusal>
         ensures ready { IsStagingResult self.new (offer_waits self.old.node value) result }
         ensures node { self.new.node ≡ self.old.node }
-        ensures room { HasNoLessRoom self.old self.new }
+        ensures capacity { KeepsCapacity self.old self.new }
         ensures posts { IfOk result (λ ready. AllByRecursion (IsPost (length self.old.node.weights)) ready.step.posts) }
     {
         if self.learner.front() == SLOTS {
             return Err(Refusal::LogFull);
         }
-        if self.proposer.waiting().len() >= MOST_WAITING {
+        if self.proposer.waiting().len() >= MAX_WAITING {
             return Err(Refusal::Busy);
         }
         or_memory(self.stage_waiting(value))
@@ -152,7 +152,7 @@ impl<V: Value> NodeCore<V> {
         requires { IsPacket (length self.old.node.weights) packet.now }
         ensures ready { IsStagingResult self.new (Ok (on_packet self.old.node packet.now)) result }
         ensures node { self.new.node ≡ self.old.node }
-        ensures room { HasNoLessRoom self.old self.new }
+        ensures capacity { KeepsCapacity self.old self.new }
         ensures posts { IfOk result (λ ready. AllByRecursion (IsPost (length self.old.node.weights)) ready.step.posts) }
     {
         prove!(packet.from < self.nodes());
@@ -166,7 +166,7 @@ impl<V: Value> NodeCore<V> {
         requires preserves { PreservesInvariant (length self.old.node.weights) (on_body self.old.node from body.now) }
         ensures ready { IfOk result (IsReadyFor self.new (on_body self.old.node from body.now)) }
         ensures node { self.new.node ≡ self.old.node }
-        ensures room { HasNoLessRoom self.old self.new }
+        ensures capacity { KeepsCapacity self.old self.new }
     {
         match body {
             Body::Prepare { ballot, first } => self.stage_prepare(from, *ballot, *first),
@@ -194,11 +194,11 @@ impl<V: Value> NodeCore<V> {
 
     /// Commits a staged step, and returns its posts. It does not allocate.
     ///
-    /// The node has to be as it was when it staged the step, with no less room than it had then. It still is if it only
+    /// The node has to be as it was when it staged the step, with no less capacity than it had then. It still is if it only
     /// staged steps since then and committed none.
     pub fn commit(&mut self, ready: Ready<V>) -> Vec<Packet<V>>
         requires node { self.old.node ≡ ready.before.node }
-        requires room { HasNoLessRoom ready.before self.old }
+        requires capacity { KeepsCapacity ready.before self.old }
         ensures node { self.new.node ≡ ready.step.node }
         ensures posts { result.items ≡ ready.step.posts }
     {
@@ -223,7 +223,7 @@ impl<V: Value> NodeCore<V> {
     /// Errors, the first that applies: `RoundsSpent`, `Memory`. Cost: the posts, and the pages of an earlier ballot,
     /// which it discards.
     pub fn begin(&mut self) -> Result<Vec<Packet<V>>, Refusal>
-        ensures outcome { IsCallResult self.old.node self.new.node (begun self.old.node) result }
+        ensures outcome { IsCallResult self.old.node self.new.node (begin_result self.old.node) result }
         ensures posts { IfOk result (λ posts. AllByRecursion (IsPost (length self.old.node.weights)) posts.items) }
     {
         match self.ready_begin() {
@@ -258,7 +258,7 @@ impl<V: Value> NodeCore<V> {
     /// Errors, the first that applies: `TooLong`, `LogFull`, `Busy`, `Memory`. Cost: the posts, each with a copy of the
     /// value.
     pub fn offer(&mut self, value: V) -> Result<Vec<Packet<V>>, Refusal>
-        ensures outcome { IsCallResult self.old.node self.new.node (offered V.bytes self.old.node value) result }
+        ensures outcome { IsCallResult self.old.node self.new.node (offer_result V.bytes self.old.node value) result }
         ensures posts { IfOk result (λ posts. AllByRecursion (IsPost (length self.old.node.weights)) posts.items) }
     {
         match self.ready_offer(value) {
@@ -269,7 +269,7 @@ impl<V: Value> NodeCore<V> {
 
     /// Receives a packet, and returns the posts. After `Memory` the node is unchanged, as if the packet were lost.
     ///
-    /// Cost: the packet, the posts, and the room that it reserves, up to the slot or the page of the packet. A Prepare
+    /// Cost: the packet, the posts, and the capacity that it reserves, up to the slot or the page of the packet. A Prepare
     /// that is not refused also costs the slots from its first one up to the top of the record. The page that completes
     /// a quorum also costs all pages received for the ballot. A packet that fills the first gap of a map scans on to
     /// the next gap.
@@ -314,7 +314,7 @@ impl<V: Value> NodeCore<V> {
     }
 
     /// Returns the posts of a restart, which ask all other nodes for the first entry, or `Memory`.
-    pub fn ready_restart(&self) -> Result<Vec<Packet<V>>, Refusal>
+    pub fn restart_posts(&self) -> Result<Vec<Packet<V>>, Refusal>
         ensures asks { IfOk result (λ posts. posts.items ≡ to_others self.now.node.me self.now.node.weights (Ask 0)) }
         ensures posts { IfOk result (λ posts. AllByRecursion (IsPost (length self.now.node.weights)) posts.items) }
         ensures only_memory { IsOkUnless result Memory }
@@ -348,7 +348,7 @@ impl<V: Value> NodeCore<V> {
         ensures outcome { IsCallResult self.old.node self.new.node (Ok (restarted self.old.node)) result }
         ensures posts { IfOk result (λ posts. AllByRecursion (IsPost (length self.old.node.weights)) posts.items) }
     {
-        let posts = self.ready_restart()?;
+        let posts = self.restart_posts()?;
         self.commit_restart();
         Ok(posts)
     }
@@ -359,7 +359,7 @@ impl<V: Value> NodeCore<V> {
         ensures outcome { IsCallResult self.old.node self.new.node (Ok (reloaded self.old.node stored.kept)) result }
         ensures posts { IfOk result (λ posts. AllByRecursion (IsPost (length self.old.node.weights)) posts.items) }
     {
-        let posts = self.ready_restart()?;
+        let posts = self.restart_posts()?;
         self.commit_reload(stored);
         Ok(posts)
     }

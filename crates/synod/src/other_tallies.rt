@@ -5,7 +5,7 @@ ghost use Rattle.synod.specs.Stored.OtherTallies.{other_tallies_at, voters_among
 
 use crate::ballot::Ballot;
 use crate::tally::with_mark;
-use crate::weights::MOST_NODES;
+use crate::weights::MAX_NODES;
 use indexmap::IndexMap;
 use std::alloc::{AllocError, Global};
 use std::marker::Model;
@@ -16,7 +16,7 @@ use std::marker::Model;
 /// the slot.
 #[derive(Drop)]
 pub struct OtherTallies {
-    voters: IndexMap<(u32, Ballot), [bool; MOST_NODES]>,
+    voters: IndexMap<(u32, Ballot), [bool; MAX_NODES]>,
 }
 
 impl Model for OtherTallies {
@@ -25,7 +25,7 @@ impl Model for OtherTallies {
 
     ghost Value = { OtherTalliesView };
 
-    ghost view = { λ t. record { votes = t.voters.entries; room = spare t.voters } };
+    ghost view = { λ t. record { votes = t.voters.entries; capacity = spare t.voters } };
 }
 
 impl OtherTallies {
@@ -38,31 +38,31 @@ impl OtherTallies {
         }
     }
 
-    /// Reserves room for one more tally. The votes are unchanged.
-    pub(crate) fn room(&mut self) -> Result<(), AllocError>
-        ensures ok { OnOk result (0 < self.new.room) }
+    /// Reserves capacity for one more tally. The votes are unchanged.
+    pub(crate) fn reserve(&mut self) -> Result<(), AllocError>
+        ensures ok { OnOk result (0 < self.new.capacity) }
         ensures votes { self.new.votes ≡ self.old.votes }
-        ensures room { self.old.room ≤ self.new.room }
+        ensures capacity { self.old.capacity ≤ self.new.capacity }
     {
         self.voters.reserve(1)
     }
 
     /// Returns the voters in the table at a slot under a ballot, and `node`.
-    pub(crate) fn voters_with(&self, slot: u32, ballot: Ballot, node: u8) -> [bool; MOST_NODES]
-        requires { node < MOST_NODES }
+    pub(crate) fn voters_with(&self, slot: u32, ballot: Ballot, node: u8) -> [bool; MAX_NODES]
+        requires { node < MAX_NODES }
         ensures { result ≡ with_voter (voters_among self.now.votes slot ballot) node }
     {
         let voters = match self.voters.get(&(slot, ballot)) {
             Some(voters) => *voters,
-            None => [false; MOST_NODES],
+            None => [false; MAX_NODES],
         };
         with_mark(voters, node)
     }
 
     /// Counts a vote. It does not allocate.
     pub(crate) fn count(&mut self, slot: u32, ballot: Ballot, node: u8)
-        requires node { node < MOST_NODES }
-        requires room { 0 < self.old.room }
+        requires node { node < MAX_NODES }
+        requires capacity { 0 < self.old.capacity }
         ensures here { other_tallies_at self.new.votes slot ≡ counted_in (other_tallies_at self.old.votes slot) ballot node }
         ensures others { (s : ℕ) → s ≢ slot → other_tallies_at self.new.votes s ≡ other_tallies_at self.old.votes s }
     {

@@ -10,7 +10,7 @@ use std::marker::Model;
 pub const PAGE_REPORTS: usize = 256;
 
 /// The maximum number of pages of one promise: enough to report every slot.
-pub const MOST_PAGES: u32 = 4096;
+pub const MAX_PAGES: u32 = 4096;
 
 /// A report of the entry that an acceptor accepted at a slot. A value of `None` is the no-operation.
 #[derive(Drop)]

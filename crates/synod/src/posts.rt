@@ -118,9 +118,9 @@ pub(crate) fn post_broadcast<V: Value>(
 ) -> Result<(), AllocError>
     ensures { OnOk result (posts.new.items ≡ posts.old.items ++ broadcast_posts me weights.now message.now) }
 {
-    let places = weights.as_slice();
+    let node_weights = weights.as_slice();
     let mut to = 0u8;
-    for _place in places {
+    for _weight in node_weights {
         post_to_node(posts, me, to, message)?;
         to += 1;
     }

@@ -1,7 +1,7 @@
 //! Builds the packets of a promise: reports of the accepted entries from a slot on, in pages.
 ghost use Rattle.std.specs.Prelude.{◌≡◌, ◌≤◌, ◌<◌, IfOk, length};
 ghost use Rattle.slots.specs.declared.slots.TheConstants.{SLOTS};
-ghost use Rattle.synod.specs.declared.packet.TheConstants.{MOST_PAGES};
+ghost use Rattle.synod.specs.declared.packet.TheConstants.{MAX_PAGES};
 ghost use Rattle.synod.specs.PromisePages.{pages_of};
 ghost use Rattle.synod.specs.Acceptor.{reports_from, promise_posts};
 
@@ -18,7 +18,7 @@ fn report_pages<V: Value>(
     first: u32,
 ) -> Result<Vec<Reports<V>>, AllocError>
     ensures pages { IfOk result (λ pages. pages.items ≡ pages_of (reports_from first 0 stored.now.kept.accepted)) }
-    ensures few { IfOk result (λ pages. length pages.items ≤ MOST_PAGES) }
+    ensures few { IfOk result (λ pages. length pages.items ≤ MAX_PAGES) }
 {
     let mut pages = Vec::new(alloc);
     let mut page = Vec::new(alloc);
@@ -47,7 +47,7 @@ fn post_pages<V: Value>(
     ballot: Ballot,
     pages: Vec<Reports<V>>,
 ) -> Result<Vec<Packet<V>>, AllocError>
-    requires { length pages.items ≤ MOST_PAGES }
+    requires { length pages.items ≤ MAX_PAGES }
     ensures { IfOk result (λ posts. posts.items ≡ promise_posts me to ballot pages.items) }
 {
     let count = pages.len() as u32;

@@ -5,8 +5,8 @@ ghost use Rattle.slots.specs.declared.slots.TheConstants.{SLOTS};
 ghost use Rattle.slots.specs.FiniteMap.{entry_at, put_at, front_of};
 ghost use Rattle.synod.specs.declared.packet.SlotReport.{SlotReport};
 ghost use Rattle.synod.specs.Node.{no_pages, pages_from, page_of, with_page};
-ghost use Rattle.synod.specs.Stored.ReceivedPages.{entries_of, rooms_of, put_page};
-ghost use Rattle.synod.specs.Rooms.{RoomsGrow};
+ghost use Rattle.synod.specs.Stored.ReceivedPages.{entries_of, capacities_of, put_page};
+ghost use Rattle.synod.specs.Capacity.{KeepsCapacities};
 
 use crate::packet::Reports;
 use crate::weights::Weights;
@@ -53,13 +53,13 @@ impl<V: Drop> ReceivedPages<V> {
         Ok(ReceivedPages { by_node })
     }
 
-    /// Reserves room for a page. The pages are unchanged.
-    pub(crate) fn room(&mut self, node: u8, page: u32) -> Result<(), AllocError>
+    /// Reserves capacity for a page. The pages are unchanged.
+    pub(crate) fn reserve(&mut self, node: u8, page: u32) -> Result<(), AllocError>
         requires node { node < length self.old }
         requires page { page < SLOTS }
-        ensures ok { OnOk result (page < slice_index_or (rooms_of self.new) node 0) }
+        ensures ok { OnOk result (page < slice_index_or (capacities_of self.new) node 0) }
         ensures pages { entries_of self.new ≡ entries_of self.old }
-        ensures rooms { RoomsGrow (rooms_of self.old) (rooms_of self.new) }
+        ensures capacities { KeepsCapacities (capacities_of self.old) (capacities_of self.new) }
     {
         let pages = &mut self.by_node[node as usize];
         pages.room(page)
@@ -67,7 +67,7 @@ impl<V: Drop> ReceivedPages<V> {
 
     /// Adds a page. It does not allocate.
     pub(crate) fn put(&mut self, node: u8, page: u32, reports: Reports<V>)
-        requires { page < slice_index_or (rooms_of self.old) node 0 }
+        requires { page < slice_index_or (capacities_of self.old) node 0 }
         ensures { entries_of self.new ≡ put_page (entries_of self.old) node page reports }
     {
         let pages = &mut self.by_node[node as usize];

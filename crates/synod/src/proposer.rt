@@ -4,12 +4,12 @@ ghost use Rattle.std.specs.Prelude.{◌≡◌, ◌<◌, ◌≤◌, ℕ, OnOk, If
 use crate::ballot::Ballot;
 use crate::packet::Reports;
 use crate::promise_pages::ReceivedPages;
-use crate::weights::MOST_NODES;
+use crate::weights::MAX_NODES;
 use std::alloc::{AllocError, Global};
 use std::marker::Model;
 
 /// The maximum number of values that wait at a node.
-pub const MOST_WAITING: usize = 64;
+pub const MAX_WAITING: usize = 64;
 
 /// The role of a proposer.
 ///
@@ -100,15 +100,15 @@ pub struct Proposer<V> {
 impl<V> Model for Proposer<V> {
     ghost use Rattle.std.specs.Prelude.{vec_capacity};
     ghost use Rattle.synod.specs.Core.{ProposerView};
-    ghost use Rattle.synod.specs.Stored.ReceivedPages.{entries_of, rooms_of};
+    ghost use Rattle.synod.specs.Stored.ReceivedPages.{entries_of, capacities_of};
 
     ghost Value = { ProposerView V };
 
     ghost view = { λ p. record {
       state = record { role = p.role; pages = entries_of p.pages; heard = p.heard.items; waiting = p.waiting.items };
-      page_rooms = rooms_of p.pages;
-      heard_room = vec_capacity p.heard;
-      waiting_room = vec_capacity p.waiting;
+      page_capacities = capacities_of p.pages;
+      heard_capacity = vec_capacity p.heard;
+      waiting_capacity = vec_capacity p.waiting;
     } };
 }
 
@@ -116,9 +116,9 @@ impl<V: Drop> Proposer<V> {
     ghost use Rattle.std.specs.Prelude.{[]};
     ghost use Rattle.synod.specs.declared.proposer.Role.TheVariants.{Idle};
     ghost use Rattle.slots.specs.declared.slots.TheConstants.{SLOTS};
-    ghost use Rattle.synod.specs.Stored.ReceivedPages.{entries_of, rooms_of};
+    ghost use Rattle.synod.specs.Stored.ReceivedPages.{entries_of, capacities_of};
     ghost use Rattle.synod.specs.Updates.{proposer_after, CanUpdateProposer};
-    ghost use Rattle.synod.specs.Rooms.{RoomsGrow};
+    ghost use Rattle.synod.specs.Capacity.{KeepsCapacities};
 
     /// Creates an idle proposer. It does not allocate.
     pub(crate) fn new(alloc: Global) -> Self
@@ -160,42 +160,42 @@ impl<V: Drop> Proposer<V> {
     /// Returns the received pages.
     pub(crate) fn pages(&self) -> &ReceivedPages<V>
         ensures pages { entries_of result.now ≡ self.now.state.pages }
-        ensures rooms { rooms_of result.now ≡ self.now.page_rooms }
+        ensures capacities { capacities_of result.now ≡ self.now.page_capacities }
     {
         &self.pages
     }
 
-    /// Reserves room for a page.
-    pub(crate) fn room_for_page(&mut self, node: u8, page: u32) -> Result<(), AllocError>
+    /// Reserves capacity for a page.
+    pub(crate) fn reserve_page(&mut self, node: u8, page: u32) -> Result<(), AllocError>
         requires node { node < length self.old.state.pages }
         requires page { page < SLOTS }
-        ensures ok { OnOk result (page < slice_index_or self.new.page_rooms node 0) }
+        ensures ok { OnOk result (page < slice_index_or self.new.page_capacities node 0) }
         ensures state { self.new.state ≡ self.old.state }
-        ensures pages { RoomsGrow self.old.page_rooms self.new.page_rooms }
-        ensures heard { self.new.heard_room ≡ self.old.heard_room }
-        ensures waiting { self.new.waiting_room ≡ self.old.waiting_room }
+        ensures pages { KeepsCapacities self.old.page_capacities self.new.page_capacities }
+        ensures heard { self.new.heard_capacity ≡ self.old.heard_capacity }
+        ensures waiting { self.new.waiting_capacity ≡ self.old.waiting_capacity }
     {
-        self.pages.room(node, page)
+        self.pages.reserve(node, page)
     }
 
-    /// Reserves room for a waiting value.
-    pub(crate) fn room_for_waiting(&mut self) -> Result<(), AllocError>
-        ensures ok { OnOk result (length self.new.state.waiting < self.new.waiting_room) }
+    /// Reserves capacity for a waiting value.
+    pub(crate) fn reserve_waiting(&mut self) -> Result<(), AllocError>
+        ensures ok { OnOk result (length self.new.state.waiting < self.new.waiting_capacity) }
         ensures state { self.new.state ≡ self.old.state }
-        ensures pages { self.new.page_rooms ≡ self.old.page_rooms }
-        ensures heard { self.new.heard_room ≡ self.old.heard_room }
-        ensures waiting { self.old.waiting_room ≤ self.new.waiting_room }
+        ensures pages { self.new.page_capacities ≡ self.old.page_capacities }
+        ensures heard { self.new.heard_capacity ≡ self.old.heard_capacity }
+        ensures waiting { self.old.waiting_capacity ≤ self.new.waiting_capacity }
     {
         self.waiting.reserve(1)
     }
 
-    /// Reserves room for a node whose promise is complete.
-    pub(crate) fn room_for_heard(&mut self) -> Result<(), AllocError>
-        ensures ok { OnOk result (length self.new.state.heard < self.new.heard_room) }
+    /// Reserves capacity for a node whose promise is complete.
+    pub(crate) fn reserve_heard(&mut self) -> Result<(), AllocError>
+        ensures ok { OnOk result (length self.new.state.heard < self.new.heard_capacity) }
         ensures state { self.new.state ≡ self.old.state }
-        ensures pages { self.new.page_rooms ≡ self.old.page_rooms }
-        ensures heard { self.old.heard_room ≤ self.new.heard_room }
-        ensures waiting { self.new.waiting_room ≡ self.old.waiting_room }
+        ensures pages { self.new.page_capacities ≡ self.old.page_capacities }
+        ensures heard { self.old.heard_capacity ≤ self.new.heard_capacity }
+        ensures waiting { self.new.waiting_capacity ≡ self.old.waiting_capacity }
     {
         self.heard.reserve(1)
     }
@@ -288,11 +288,11 @@ pub(crate) fn is_heard(heard: &[Heard], node: u8) -> bool
 }
 
 /// Returns a mark for each node that is heard.
-pub(crate) fn marks_of(heard: &[Heard]) -> [bool; MOST_NODES]
-    ensures { (k : ℕ) → k < MOST_NODES → slice_index_or result k false ≡ is_heard heard.now k }
+pub(crate) fn marks_of(heard: &[Heard]) -> [bool; MAX_NODES]
+    ensures { (k : ℕ) → k < MAX_NODES → slice_index_or result k false ≡ is_heard heard.now k }
 {
-    let mut marks = [false; MOST_NODES];
-    for node in 0..MOST_NODES {
+    let mut marks = [false; MAX_NODES];
+    for node in 0..MAX_NODES {
         marks[node] = is_heard(heard, node as u8);
     }
     marks

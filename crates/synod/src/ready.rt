@@ -80,9 +80,9 @@ impl<V: Drop> Ready<V> {
     }
 
     /// Returns the changes and the posts. It does not allocate. The changes can be committed to the node as it was when
-    /// it staged the step (`follows`).
+    /// it staged the step (`committable`).
     pub(crate) fn into_staged(self) -> (StagedStep<V>, Vec<Packet<V>>)
-        ensures follows { CanCommit self.before result.0 }
+        ensures committable { CanCommit self.before result.0 }
         ensures node { self.step.node ≡ staged_node self.before.node result.0 }
         ensures posts { result.1.items ≡ self.step.posts }
     {

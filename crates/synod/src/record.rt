@@ -28,14 +28,14 @@ impl<V> Model for Record<V> {
 
     ghost view = { λ r. record {
       kept = record { promise = r.promise; round = r.round; accepted = r.accepted.entries };
-      room = r.accepted.room;
+      capacity = r.accepted.capacity;
     } };
 
     ghost invariant = { λ r. length r.accepted.entries ≤ SLOTS };
 }
 
 impl<V: Drop> Record<V> {
-    ghost use Rattle.synod.specs.Record.{new_kept, changed_by, HasRoomFor};
+    ghost use Rattle.synod.specs.Record.{new_kept, changed_by, HasCapacityFor};
 
     /// Creates the record of a new node. It does not allocate.
     pub fn new(alloc: Global) -> Self
@@ -77,21 +77,21 @@ impl<V: Drop> Record<V> {
         self.accepted.top()
     }
 
-    /// Reserves room for an entry at a slot. The kept part is unchanged.
+    /// Reserves capacity for an entry at a slot. The kept part is unchanged.
     ///
     /// Errors: an allocation fails.
-    pub fn room(&mut self, slot: u32) -> Result<(), AllocError>
+    pub fn reserve(&mut self, slot: u32) -> Result<(), AllocError>
         requires { slot < SLOTS }
-        ensures ok { OnOk result (slot < self.new.room) }
+        ensures ok { OnOk result (slot < self.new.capacity) }
         ensures kept { self.new.kept ≡ self.old.kept }
-        ensures room { self.old.room ≤ self.new.room }
+        ensures capacity { self.old.capacity ≤ self.new.capacity }
     {
         self.accepted.room(slot)
     }
 
     /// Applies a change, if there is one. It does not allocate.
     pub fn apply_change(&mut self, change: Option<Change<V>>)
-        requires { HasRoomFor self.old.room change }
+        requires { HasCapacityFor self.old.capacity change }
         ensures { self.new.kept ≡ changed_by self.old.kept change }
     {
         match change {

@@ -13,7 +13,7 @@ pub enum Refusal {
     LogFull,
     /// No higher round exists.
     RoundsSpent,
-    /// The value is longer than `MOST_BYTES`.
+    /// The value is longer than `MAX_VALUE_BYTES`.
     TooLong,
     /// An allocation failed.
     Memory,

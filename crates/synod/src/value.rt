@@ -4,7 +4,7 @@ ghost use Rattle.std.specs.Prelude.{◌≡◌, IfOk};
 use std::alloc::AllocError;
 
 /// The maximum size of a value that is offered, in bytes.
-pub const MOST_BYTES: u64 = 67_108_864;
+pub const MAX_VALUE_BYTES: u64 = 67_108_864;
 
 /// A value that the nodes agree on.
 pub trait Value: Sized + Drop {

@@ -5,17 +5,17 @@ ghost use Rattle.synod.specs.Weights.{IsWeights, is_quorum};
 use std::marker::Model;
 
 /// The maximum number of nodes.
-pub const MOST_NODES: usize = 9;
+pub const MAX_NODES: usize = 9;
 
 /// The maximum weight of a node.
-pub const MOST_WEIGHT: u8 = 100;
+pub const MAX_WEIGHT: u8 = 100;
 
 /// The weights of 1 to 9 nodes, each from 1 to 100. They are stored inline.
 ///
 /// Source: Lamport, Paxos Made Simple, 2.2; a majority is more than half of the total weight.
 #[derive(Clone, Copy)]
 pub struct Weights {
-    padded_weights: [u8; MOST_NODES],
+    padded_weights: [u8; MAX_NODES],
     count: usize,
 }
 
@@ -42,12 +42,12 @@ impl Weights {
         ensures weights { IfSome result (λ weights. weights ≡ numbers.now) }
         ensures some { IsSome result ↔ IsWeights numbers.now }
     {
-        if numbers.is_empty() || numbers.len() > MOST_NODES {
+        if numbers.is_empty() || numbers.len() > MAX_NODES {
             return None;
         }
-        let mut padded_weights = [0; MOST_NODES];
+        let mut padded_weights = [0; MAX_NODES];
         for (i, number) in numbers.iter().enumerate() {
-            if *number == 0 || *number > MOST_WEIGHT {
+            if *number == 0 || *number > MAX_WEIGHT {
                 return None;
             }
             padded_weights[i] = *number;
@@ -61,10 +61,10 @@ impl Weights {
     /// Creates the weights of `nodes` nodes, each 1. It does not allocate.
     pub fn equal(nodes: u8) -> Self
         requires some { 1 ≤ nodes }
-        requires few { nodes ≤ MOST_NODES }
+        requires few { nodes ≤ MAX_NODES }
         ensures { result ≡ replicate nodes 1 }
     {
-        let mut padded_weights = [0; MOST_NODES];
+        let mut padded_weights = [0; MAX_NODES];
         for i in 0..nodes {
             padded_weights[i as usize] = 1;
         }
@@ -85,7 +85,7 @@ impl Weights {
     /// Returns the weights in the order of the nodes.
     pub fn as_slice(&self) -> &[u8]
         ensures weights { result.now ≡ self.now }
-        ensures few { length self.now ≤ MOST_NODES }
+        ensures few { length self.now ≤ MAX_NODES }
     {
         &self.padded_weights[..self.count]
     }

@@ -10,7 +10,7 @@ ghost use Rattle.net.specs.declared.fault.StepFault.TheVariants.{NoNode, NoPacke
 use crate::carried::{Carried, entries, restarted, to_value_event};
 use crate::node_library::{NodeLibrary, new_libraries, reset_library};
 use library::{Entry, Library, Verdict};
-use net::{Event, MOST_EVENTS, Net, StepFault};
+use net::{Event, MAX_EVENTS, Net, StepFault};
 use std::alloc::Global;
 use std::marker::Model;
 use synod::{NodeState, Packet, Weights};
@@ -108,7 +108,7 @@ impl World {
     /// Returns the events taken, in order. None of them meets a fault, and the headline holds of them.
     pub fn history(&self) -> &[Event<Carried>]
         ensures events { result.now ≡ self.now.history.events }
-        ensures few { length self.now.history.events ≤ MOST_EVENTS }
+        ensures few { length self.now.history.events ≤ MAX_EVENTS }
         ensures headline { Headline self.now.history }
     {
         self.net.history()

@@ -12,7 +12,7 @@ padded stored = stored ++ replicate (PAGE_SLOTS - length stored) None
 
 pub record IsStoredPage {T : Type 0} (stored : List (Option T)) (capacity : ℕ) : Type 0 where
   pub within : length stored ≤ PAGE_SLOTS
-  pub room : PAGE_SLOTS ≤ capacity
+  pub enough : PAGE_SLOTS ≤ capacity
 
 -- the slots of all pages
 abbrev pub joined : {T : Type 0} → List (List T) → List T

@@ -1,6 +1,6 @@
 -- The received pages, as the maps that store them.
 -- Source: this project's representation.
--- The code has a map of pages for each node, with its room.
+-- The code has a map of pages for each node, with its capacity.
 use Rattle.std.specs.Prelude.{ℕ, List, Option, map, slice_set}
 use Rattle.synod.specs.Words.{SlotsView, put_at, SlotReport}
 use Rattle.synod.specs.declared.promise_pages.PagesWithDelivered.{PagesWithDelivered}
@@ -10,8 +10,8 @@ use Rattle.synod.specs.Node.{pages_from, with_page}
 abbrev pub entries_of : {T : Type 0} → List (SlotsView T) → List (List (Option T))
 entries_of maps = map (λ m. m.entries) maps
 
-abbrev pub rooms_of : {T : Type 0} → List (SlotsView T) → List ℕ
-rooms_of maps = map (λ m. m.room) maps
+abbrev pub capacities_of : {T : Type 0} → List (SlotsView T) → List ℕ
+capacities_of maps = map (λ m. m.capacity) maps
 
 -- the pages with page i of node k put into the map of the node
 abbrev pub put_page : {V : Type 0} → List (List (Option (List (SlotReport V)))) → ℕ → ℕ → List (SlotReport V) → List (List (Option (List (SlotReport V))))

@@ -13,15 +13,15 @@ use crate::value::{Value, copy_value};
 use std::alloc::AllocError;
 
 impl<V: Value> NodeCore<V> {
-    ghost use Rattle.synod.specs.Acceptor.{refuses, on_prepare, on_accept, accepts_value};
+    ghost use Rattle.synod.specs.Acceptor.{sends_nack, on_prepare, on_accept, accepts_value};
     ghost use Rattle.synod.specs.Step.{PreservesInvariant};
-    ghost use Rattle.synod.specs.Rooms.{HasNoLessRoom};
+    ghost use Rattle.synod.specs.Capacity.{KeepsCapacity};
     ghost use Rattle.synod.specs.Ready.{IsReadyFor};
 
     /// Stages a Nack to the proposer `from`, which says that `ballot` is refused and which ballot this node has
     /// promised.
-    fn stage_refusal(&self, from: u8, ballot: Ballot) -> Result<Ready<V>, AllocError>
-        ensures { IfOk result (IsReadyFor self.now (refuses self.now.node from ballot)) }
+    fn stage_nack_to(&self, from: u8, ballot: Ballot) -> Result<Ready<V>, AllocError>
+        ensures { IfOk result (IsReadyFor self.now (sends_nack self.now.node from ballot)) }
     {
         let mut posts = Vec::new(self.alloc);
         posts.push(Packet {
@@ -45,10 +45,10 @@ impl<V: Value> NodeCore<V> {
         requires { PreservesInvariant (length self.old.node.weights) (on_prepare self.old.node from ballot first) }
         ensures ready { IfOk result (IsReadyFor self.new (on_prepare self.old.node from ballot first)) }
         ensures node { self.new.node ≡ self.old.node }
-        ensures room { HasNoLessRoom self.old self.new }
+        ensures capacity { KeepsCapacity self.old self.new }
     {
         if !self.kept_part.promise().is_below(ballot) {
-            return self.stage_refusal(from, ballot);
+            return self.stage_nack_to(from, ballot);
         }
         let posts = promise_posts(self.alloc, &self.kept_part, self.me, from, ballot, first)?;
         let staged = StagedStep {
@@ -71,19 +71,19 @@ impl<V: Value> NodeCore<V> {
         requires preserves { PreservesInvariant (length self.old.node.weights) (on_accept self.old.node from ballot slot value.now) }
         ensures ready { IfOk result (IsReadyFor self.new (on_accept self.old.node from ballot slot value.now)) }
         ensures node { self.new.node ≡ self.old.node }
-        ensures room { HasNoLessRoom self.old self.new }
+        ensures capacity { KeepsCapacity self.old self.new }
     {
         if ballot.is_below(self.kept_part.promise()) {
-            return self.stage_refusal(from, ballot);
+            return self.stage_nack_to(from, ballot);
         }
-        self.kept_part.room(slot)?;
+        self.kept_part.reserve(slot)?;
         let value = copy_value(value)?;
         self.stage_entry(slot, AcceptedEntry { ballot, value })
     }
 
     /// Stages accepting an entry, and posts Accepted to all nodes.
     fn stage_entry(&self, slot: u32, entry: AcceptedEntry<V>) -> Result<Ready<V>, AllocError>
-        requires room { slot < self.now.accepted_room }
+        requires capacity { slot < self.now.accepted_capacity }
         requires preserves { PreservesInvariant (length self.now.node.weights) (accepts_value self.now.node entry.ballot slot entry.value) }
         ensures { IfOk result (IsReadyFor self.now (accepts_value self.now.node entry.ballot slot entry.value)) }
     {

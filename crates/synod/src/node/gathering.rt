@@ -19,7 +19,7 @@ impl<V: Value> NodeCore<V> {
     ghost use Rattle.synod.specs.Node.{is_heard, with_page};
     ghost use Rattle.synod.specs.Proposer.{on_promise, on_promise_page, leads_with, adds_page, completes_promise};
     ghost use Rattle.synod.specs.Step.{PreservesInvariant};
-    ghost use Rattle.synod.specs.Rooms.{HasNoLessRoom};
+    ghost use Rattle.synod.specs.Capacity.{KeepsCapacity};
     ghost use Rattle.synod.specs.Ready.{IsReadyFor};
 
     /// Stages adding a page, unless it was received before.
@@ -34,12 +34,12 @@ impl<V: Value> NodeCore<V> {
         requires preserves { PreservesInvariant (length self.old.node.weights) (adds_page self.old.node (with_page self.old.node.pages node page reports.now)) }
         ensures ready { IfOk result (IsReadyFor self.new (adds_page self.old.node (with_page self.old.node.pages node page reports.now))) }
         ensures node { self.new.node ≡ self.old.node }
-        ensures room { HasNoLessRoom self.old self.new }
+        ensures capacity { KeepsCapacity self.old self.new }
     {
         if self.proposer.pages().get(node, page).is_some() {
             return Ok(self.stage_nothing());
         }
-        self.proposer.room_for_page(node, page)?;
+        self.proposer.reserve_page(node, page)?;
         let reports = copy_reports(self.alloc, reports)?;
         let update = ProposerUpdate::Page {
             node,
@@ -61,15 +61,15 @@ impl<V: Value> NodeCore<V> {
         requires preserves { PreservesInvariant (length self.old.node.weights) (completes_promise self.old.node (with_page self.old.node.pages heard.node page reports.now) (self.old.node.heard ++ heard ∷ [])) }
         ensures ready { IfOk result (IsReadyFor self.new (completes_promise self.old.node (with_page self.old.node.pages heard.node page reports.now) (self.old.node.heard ++ heard ∷ []))) }
         ensures node { self.new.node ≡ self.old.node }
-        ensures room { HasNoLessRoom self.old self.new }
+        ensures capacity { KeepsCapacity self.old self.new }
     {
         if self.proposer.pages().get(heard.node, page).is_some() {
-            self.proposer.room_for_heard()?;
+            self.proposer.reserve_heard()?;
             let update = ProposerUpdate::AddHeard(heard);
             return Ok(self.stage_proposer_update(update, Vec::new(self.alloc)));
         }
-        self.proposer.room_for_page(heard.node, page)?;
-        self.proposer.room_for_heard()?;
+        self.proposer.reserve_page(heard.node, page)?;
+        self.proposer.reserve_heard()?;
         let reports = copy_reports(self.alloc, reports)?;
         let update = ProposerUpdate::CompletePromise {
             heard,
@@ -103,7 +103,7 @@ impl<V: Value> NodeCore<V> {
         requires preserves { PreservesInvariant (length self.old.node.weights) (on_promise_page self.old.node heard.node ballot first heard.count (with_page self.old.node.pages heard.node page reports.now)) }
         ensures ready { IfOk result (IsReadyFor self.new (on_promise_page self.old.node heard.node ballot first heard.count (with_page self.old.node.pages heard.node page reports.now))) }
         ensures node { self.new.node ≡ self.old.node }
-        ensures room { HasNoLessRoom self.old self.new }
+        ensures capacity { KeepsCapacity self.old self.new }
     {
         let front = front_after(self.proposer.pages(), heard.node, page);
         if front < heard.count {
@@ -180,7 +180,7 @@ impl<V: Value> NodeCore<V> {
         requires preserves { PreservesInvariant (length self.old.node.weights) (on_promise self.old.node from ballot page count reports.now) }
         ensures ready { IfOk result (IsReadyFor self.new (on_promise self.old.node from ballot page count reports.now)) }
         ensures node { self.new.node ≡ self.old.node }
-        ensures room { HasNoLessRoom self.old self.new }
+        ensures capacity { KeepsCapacity self.old self.new }
     {
         let Role::Preparing { ballot: at, first } = self.proposer.role() else {
             return Ok(self.stage_nothing());

@@ -15,12 +15,12 @@ use std::alloc::AllocError;
 impl<V: Value> NodeCore<V> {
     ghost use Rattle.synod.specs.Learner.{has_voter, counted, on_accepted, on_ask, on_told, asks_below, asks_for};
     ghost use Rattle.std.specs.Prelude.{Some};
-    ghost use Rattle.synod.specs.declared.weights.TheConstants.{MOST_NODES};
+    ghost use Rattle.synod.specs.declared.weights.TheConstants.{MAX_NODES};
     ghost use Rattle.synod.specs.Weights.{is_quorum};
     ghost use Rattle.synod.specs.Node.{volatile_step};
     ghost use Rattle.synod.specs.Updates.{CanUpdateLearner};
     ghost use Rattle.synod.specs.Step.{PreservesInvariant, IsNode};
-    ghost use Rattle.synod.specs.Rooms.{HasNoLessRoom};
+    ghost use Rattle.synod.specs.Capacity.{KeepsCapacity};
     ghost use Rattle.synod.specs.Ready.{IsReadyFor, learner_of, with_learner_update};
 
     /// Stages the step of an Ask.
@@ -52,15 +52,15 @@ impl<V: Value> NodeCore<V> {
         requires preserves { PreservesInvariant (length self.old.node.weights) (on_told self.old.node from slot value.now) }
         ensures ready { IfOk result (IsReadyFor self.new (on_told self.old.node from slot value.now)) }
         ensures node { self.new.node ≡ self.old.node }
-        ensures room { HasNoLessRoom self.old self.new }
+        ensures capacity { KeepsCapacity self.old self.new }
     {
         if self.learner.learned(slot).is_some() {
             return Ok(self.stage_nothing());
         }
-        self.learner.room(slot)?;
+        self.learner.reserve(slot)?;
         let gap = self.learner.front_with(slot);
         let value = copy_value(value)?;
-        self.stage_told_next(LearnerUpdate::Learn { slot, value }, from, gap)
+        self.stage_told_value(LearnerUpdate::Learn { slot, value }, from, gap)
     }
 
     /// Stages the step of an Accepted.
@@ -76,15 +76,15 @@ impl<V: Value> NodeCore<V> {
         requires preserves { PreservesInvariant (length self.old.node.weights) (on_accepted self.old.node from ballot slot value.now) }
         ensures ready { IfOk result (IsReadyFor self.new (on_accepted self.old.node from ballot slot value.now)) }
         ensures node { self.new.node ≡ self.old.node }
-        ensures room { HasNoLessRoom self.old self.new }
+        ensures capacity { KeepsCapacity self.old self.new }
     {
         if self.learner.learned(slot).is_some() {
             return Ok(self.stage_nothing());
         }
-        self.learner.room(slot)?;
-        if self.is_chosen(slot, ballot, from) {
+        self.learner.reserve(slot)?;
+        if self.completes_quorum(slot, ballot, from) {
             let gap = self.learner.front_with(slot);
-            let update = LearnerUpdate::Choose {
+            let update = LearnerUpdate::CountAndLearn {
                 slot,
                 ballot,
                 node: from,
@@ -103,8 +103,8 @@ impl<V: Value> NodeCore<V> {
 
     /// Returns whether the nodes counted at a slot under a ballot are a quorum once `node` is counted: the value that
     /// they accepted is then chosen.
-    fn is_chosen(&self, slot: u32, ballot: Ballot, node: u8) -> bool
-        requires { node < MOST_NODES }
+    fn completes_quorum(&self, slot: u32, ballot: Ballot, node: u8) -> bool
+        requires { node < MAX_NODES }
         ensures { result ≡ is_quorum self.now.node.weights (has_voter (counted self.now.node.tallies slot ballot node) slot ballot) }
     {
         let voters = self.learner.voters_with(slot, ballot, node);
@@ -113,7 +113,7 @@ impl<V: Value> NodeCore<V> {
 
     /// Returns Asks to all other nodes for `gap`, the first gap once a value is learned at `slot`, if it is below
     /// `slot`.
-    fn asks_for_first_gap(&self, slot: u32, gap: u32) -> Result<Vec<Packet<V>>, AllocError>
+    fn asks_others_for_first_gap(&self, slot: u32, gap: u32) -> Result<Vec<Packet<V>>, AllocError>
         ensures { IfOk result (λ posts. posts.items ≡ asks_below self.now.node slot gap) }
     {
         if gap >= slot {
@@ -131,33 +131,33 @@ impl<V: Value> NodeCore<V> {
         slot: u32,
         gap: u32,
     ) -> Result<Ready<V>, AllocError>
-        requires room { CanUpdateLearner (learner_of self.now) (Some update) }
+        requires capacity { CanUpdateLearner (learner_of self.now) (Some update) }
         requires node { IsNode (with_learner_update self.now.node update) }
         ensures { IfOk result (IsReadyFor self.now (volatile_step (with_learner_update self.now.node update) (asks_below self.now.node slot gap))) }
     {
-        let posts = self.asks_for_first_gap(slot, gap)?;
+        let posts = self.asks_others_for_first_gap(slot, gap)?;
         Ok(self.stage_learner_update(update, posts))
     }
 
     /// Stages an update that learns a value that `from` sent in a Told, and asks `from` for `gap`, the first gap once
     /// it is learned, unless the log is then full.
-    fn stage_told_next(
+    fn stage_told_value(
         &self,
         update: LearnerUpdate<V>,
         from: u8,
         gap: u32,
     ) -> Result<Ready<V>, AllocError>
-        requires room { CanUpdateLearner (learner_of self.now) (Some update) }
+        requires capacity { CanUpdateLearner (learner_of self.now) (Some update) }
         requires node { IsNode (with_learner_update self.now.node update) }
         ensures { IfOk result (IsReadyFor self.now (volatile_step (with_learner_update self.now.node update) (asks_for self.now.node from gap))) }
     {
-        let posts = self.asks_for_next_gap(from, gap)?;
+        let posts = self.asks_sender_for_first_gap(from, gap)?;
         Ok(self.stage_learner_update(update, posts))
     }
 
     /// Stages a step that changes only the learner.
     fn stage_learner_update(&self, update: LearnerUpdate<V>, posts: Vec<Packet<V>>) -> Ready<V>
-        requires room { CanUpdateLearner (learner_of self.now) (Some update) }
+        requires capacity { CanUpdateLearner (learner_of self.now) (Some update) }
         requires node { IsNode (with_learner_update self.now.node update) }
         ensures { IsReadyFor self.now (volatile_step (with_learner_update self.now.node update) posts.items) result }
     {
@@ -170,7 +170,7 @@ impl<V: Value> NodeCore<V> {
     }
 
     /// Returns the Ask to `from` for `gap`, unless the log is full.
-    fn asks_for_next_gap(&self, from: u8, gap: u32) -> Result<Vec<Packet<V>>, AllocError>
+    fn asks_sender_for_first_gap(&self, from: u8, gap: u32) -> Result<Vec<Packet<V>>, AllocError>
         ensures { IfOk result (λ posts. posts.items ≡ asks_for self.now.node from gap) }
     {
         let mut posts = Vec::new(self.alloc);

@@ -18,7 +18,7 @@ impl<V: Value> NodeCore<V> {
     ghost use Rattle.synod.specs.Proposer.{begins, next_ballot, waits, proposes_value, on_nack};
     ghost use Rattle.synod.specs.Updates.{CanUpdateProposer};
     ghost use Rattle.synod.specs.Step.{PreservesInvariant, IsNode};
-    ghost use Rattle.synod.specs.Rooms.{HasNoLessRoom};
+    ghost use Rattle.synod.specs.Capacity.{KeepsCapacity};
     ghost use Rattle.synod.specs.Ready.{IsReadyFor, proposer_of, with_proposer_update};
 
     /// Stages a step that changes only the proposer.
@@ -27,7 +27,7 @@ impl<V: Value> NodeCore<V> {
         update: ProposerUpdate<V>,
         posts: Vec<Packet<V>>,
     ) -> Ready<V>
-        requires room { CanUpdateProposer (proposer_of self.now) (Some update) }
+        requires capacity { CanUpdateProposer (proposer_of self.now) (Some update) }
         requires node { IsNode (with_proposer_update self.now.node update) }
         ensures { IsReadyFor self.now (volatile_step (with_proposer_update self.now.node update) posts.items) result }
     {
@@ -44,9 +44,9 @@ impl<V: Value> NodeCore<V> {
         requires preserves { PreservesInvariant (length self.old.node.weights) (waits self.old.node value) }
         ensures ready { IfOk result (IsReadyFor self.new (waits self.old.node value)) }
         ensures node { self.new.node ≡ self.old.node }
-        ensures room { HasNoLessRoom self.old self.new }
+        ensures capacity { KeepsCapacity self.old self.new }
     {
-        self.proposer.room_for_waiting()?;
+        self.proposer.reserve_waiting()?;
         Ok(self.stage_proposer_update(ProposerUpdate::AddWaiting(value), Vec::new(self.alloc)))
     }
 
@@ -61,7 +61,7 @@ impl<V: Value> NodeCore<V> {
         requires preserves { PreservesInvariant (length self.old.node.weights) (proposes_value self.old.node ballot slot value) }
         ensures ready { IfOk result (IsReadyFor self.new (proposes_value self.old.node ballot slot value)) }
         ensures node { self.new.node ≡ self.old.node }
-        ensures room { HasNoLessRoom self.old self.new }
+        ensures capacity { KeepsCapacity self.old self.new }
     {
         let value = Some(value);
         let message = Broadcast::Accept {
@@ -80,7 +80,7 @@ impl<V: Value> NodeCore<V> {
         requires ballot { ballot ≡ next_ballot self.old.node }
         ensures ready { IfOk result (IsReadyFor self.new (begins self.old.node)) }
         ensures node { self.new.node ≡ self.old.node }
-        ensures room { HasNoLessRoom self.old self.new }
+        ensures capacity { KeepsCapacity self.old self.new }
     {
         let first = self.learner.front();
         let pages = ReceivedPages::of_nodes(self.alloc, &self.weights)?;

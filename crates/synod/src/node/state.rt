@@ -14,7 +14,7 @@ pub struct NodeState {
     /// The ballot that its acceptor promised.
     pub promise: Ballot,
     /// The number of entries of its log: of the values learned before the first gap.
-    pub learned: u32,
+    pub log_len: u32,
     /// The number of offered values that wait until it leads.
     pub waiting: usize,
 }
@@ -29,7 +29,7 @@ impl<V: Value> NodeCore<V> {
         NodeState {
             role: self.proposer.role(),
             promise: self.kept_part.promise(),
-            learned: self.learner.front(),
+            log_len: self.learner.front(),
             waiting: self.proposer.waiting().len(),
         }
     }

@@ -26,16 +26,16 @@ returns-then-has_room-clause-front g c = λ entry.
 
 pub returns-then-has_room-clause-within : goal.returns-then-has_room-clause-within
 returns-then-has_room-clause-within g c =
-    let room = ap (λ (v : SlotsView g.row.T.Denot). v.room) c.self.view_is in
-    let below = has_room_is c.has_room.result c.args.slot c.args.self.now.room (length c.self.inside.pages) c.has_room.ensures room c.if-has_room.true in
+    let room = ap (λ (v : SlotsView g.row.T.Denot). v.capacity) c.self.view_is in
+    let below = has_room_is c.has_room.result c.args.slot c.args.self.now.capacity (length c.self.inside.pages) c.has_room.ensures room c.if-has_room.true in
     let rest = front_of-le (drop (c.args.slot + 1) c.self.inside.pages) in
     let left = length-drop (c.args.slot + 1) c.self.inside.pages in
     omega (arith, c.self.invariant.within, c.first_empty_from.ensures, rest, left, below)
 
 pub returns-else-has_room-clause-front : goal.returns-else-has_room-clause-front
 returns-else-has_room-clause-front g c = λ entry.
-    let room = ap (λ (v : SlotsView g.row.T.Denot). v.room) c.self.view_is in
-    let past : length c.self.inside.pages ≤ suc c.args.slot = omega (arith, not_below c.has_room.result c.args.slot c.args.self.now.room (length c.self.inside.pages) c.has_room.ensures room c.if-has_room.false) in
+    let room = ap (λ (v : SlotsView g.row.T.Denot). v.capacity) c.self.view_is in
+    let past : length c.self.inside.pages ≤ suc c.args.slot = omega (arith, not_below c.has_room.result c.args.slot c.args.self.now.capacity (length c.self.inside.pages) c.has_room.ensures room c.if-has_room.false) in
     let none = front_of-drop-None c.self.inside.pages (suc c.args.slot) (entry_at-past c.self.inside.pages (suc c.args.slot) past) in
     ap (λ (v : SlotsView g.row.T.Denot). front_of (put_at v.entries c.args.slot entry)) (sym c.self.view_is)
     ∙ front_of-put_at-trimmed c.self.inside.pages c.args.slot entry (c.if-slot-self.false ∙ c.self.invariant.front_is)

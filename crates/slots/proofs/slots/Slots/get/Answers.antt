@@ -13,8 +13,8 @@ returns-then-has_room g c =
 
 pub returns-else-has_room : goal.returns-else-has_room
 returns-else-has_room g c =
-    let room = ap (λ (v : SlotsView g.row.T.Denot). v.room) c.self.view_is in
-    let past : length c.self.inside.pages ≤ c.args.slot = not_below c.has_room.result c.args.slot c.args.self.now.room (length c.self.inside.pages) c.has_room.ensures c.if-has_room.false room in
+    let room = ap (λ (v : SlotsView g.row.T.Denot). v.capacity) c.self.view_is in
+    let past : length c.self.inside.pages ≤ c.args.slot = not_below c.has_room.result c.args.slot c.args.self.now.capacity (length c.self.inside.pages) c.has_room.ensures c.if-has_room.false room in
     ap (λ (v : SlotsView g.row.T.Denot). entry_at v.entries c.args.slot) (sym c.self.view_is)
     ∙ entry_at-trimmed c.self.inside.pages c.args.slot
     ∙ entry_at-past c.self.inside.pages c.args.slot past

@@ -10,7 +10,7 @@ first_empty_from-self-inside-requires-clause-from g c =
 pub invariant_of-self : goal.invariant_of-self
 invariant_of-self g c =
     let same = ap (λ (slots : List (Option g.row.T.Denot)). length slots) c.put-before.ensures.put ∙ length-set c.self.inside.pages c.args.slot (Some c.args.entry) in
-    let room = ap (λ (v : SlotsView g.row.T.Denot). v.room) c.self.view_is in
+    let room = ap (λ (v : SlotsView g.row.T.Denot). v.capacity) c.self.view_is in
     record {
       within = omega (arith, same, c.self.invariant.within);
       front_is = c.first_empty_from-self-inside.ensures
@@ -27,7 +27,7 @@ invariant_of-self g c =
 
 pub returns-clause-entries : goal.returns-clause-entries
 returns-clause-entries g c =
-    let room = ap (λ (v : SlotsView g.row.T.Denot). v.room) c.self.view_is in
+    let room = ap (λ (v : SlotsView g.row.T.Denot). v.capacity) c.self.view_is in
     ap (λ (slots : List (Option g.row.T.Denot)). trimmed slots) c.put-before.ensures.put
     ∙ trimmed-set c.self.inside.pages c.args.slot c.args.entry (omega (arith, room, c.requires))
     ∙ ap (λ (v : SlotsView g.row.T.Denot). put_at v.entries c.args.slot c.args.entry) c.self.view_is

@@ -23,7 +23,7 @@ returns-in_default g c =
 
 pub step-requires : goal.step-requires
 step-requires g c = record {
-  owed = no_restart c.args.event c.in_default-2.not-Restart;
+  pending = no_restart c.args.event c.in_default-2.not-Restart;
   up = test_at g.V.Value.bytes c.args.self.now c.args.event c.node_of.result (found_at g.V.Value.bytes _ _ c.self.invariant _ c.self.view_is c.args.event c.node_of.result c.node_of.ensures) false (sym c.is_down-is_down.ensures ∙ c.if-is_down-2.false);
 }
 

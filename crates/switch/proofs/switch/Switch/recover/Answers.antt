@@ -1,4 +1,4 @@
-use Rattle.switch.proofs.Words.{◌≡◌, ◌+◌, ℕ, List, length, ap, refl, sym, subst, ◌∙◌, arith, Event, History, Packet, StagedEvent, HasRoom, IsStaged, IsTaken, posts_of, StoreState, owed_in, posts_owed, staged_still, still_more}
+use Rattle.switch.proofs.Words.{◌≡◌, ◌+◌, ℕ, List, length, ap, refl, sym, subst, ◌∙◌, arith, Event, History, Packet, StagedEvent, HasSpareCapacity, IsStaged, IsTaken, posts_of, StoreState, pending_of, pending_posts, staged_still, still_more}
 use Rattle.switch.proofs.StoresLemmas.{same_at}
 use Rattle.switch.proofs.SwitchLemmas.{still_switch}
 use Rattle.switch.proofs.CallLemmas.{still_view}
@@ -8,83 +8,83 @@ use Rattle.switch.proofs.RecoveryRefused.{recover_spent, recover_unready}
 use Rattle.switch.proofs.TieLemmas.{answers, answers_memory, down_err}
 use Rattle.switch.proofs.switch.Switch.recover.Goals as goal
 
-pub returns-then-history-gt-MOST_EVENTS : goal.returns-then-history-gt-MOST_EVENTS
-returns-then-history-gt-MOST_EVENTS g c = recover_spent g.V.Value.bytes _ _ c.self.invariant _ c.self.view_is c.args.k (omega (arith, c.if-history-gt-MOST_EVENTS.true, ap (λ (es : List (Event g.row.V.Denot)). length es) c.history.ensures.events))
+pub returns-then-history-gt-MAX_EVENTS : goal.returns-then-history-gt-MAX_EVENTS
+returns-then-history-gt-MAX_EVENTS g c = recover_spent g.V.Value.bytes _ _ c.self.invariant _ c.self.view_is c.args.k (omega (arith, c.if-history-gt-MAX_EVENTS.true, ap (λ (es : List (Event g.row.V.Denot)). length es) c.history.ensures.events))
 
 pub invariant_of-self : goal.invariant_of-self
-invariant_of-self g c = (still_switch g.V.Value.bytes _ _ c.self.invariant c.stage.new.self c.stage.ensures.only_room)
+invariant_of-self g c = (still_switch g.V.Value.bytes _ _ c.self.invariant c.stage.new.self c.stage.ensures.only_capacity)
 
 pub returns-in_err-staged : goal.returns-in_err-staged
 returns-in_err-staged g c =
     down_err g.V.Value.bytes _ _ _ _ (answers c.from_residual.result c.in_err-staged.field-0.0 c.from_residual.ensures.1) c.args.k
-    (recover_unready g.V.Value.bytes _ _ c.self.invariant _ c.self.view_is c.args.k c.requires (omega (arith, c.if-history-gt-MOST_EVENTS.false, ap (λ (es : List (Event g.row.V.Denot)). length es) c.history.ensures.events)) c.in_err-staged.field-0.0 c.stage.result c.in_err-staged.was _ (still_view _ _ c.self.inside.stores.items c.stage.ensures.only_room) c.stage.ensures.only_memory)
+    (recover_unready g.V.Value.bytes _ _ c.self.invariant _ c.self.view_is c.args.k c.requires (omega (arith, c.if-history-gt-MAX_EVENTS.false, ap (λ (es : List (Event g.row.V.Denot)). length es) c.history.ensures.events)) c.in_err-staged.field-0.0 c.stage.result c.in_err-staged.was _ (still_view _ _ c.self.inside.stores.items c.stage.ensures.only_capacity) c.stage.ensures.only_memory)
 
 pub index-requires : goal.index-requires
 index-requires g c =
-    let low = (in_stores g.V.Value.bytes _ _ c.stage.ensures.only_room c.self.inside.stores.items c.self.invariant _ c.self.view_is c.in_ok-staged.staged c.in_ok-staged.ensures.staged c.at-at.result c.at-at.ensures) in
+    let low = (in_stores g.V.Value.bytes _ _ c.stage.ensures.only_capacity c.self.inside.stores.items c.self.invariant _ c.self.view_is c.in_ok-staged.staged c.in_ok-staged.ensures.staged c.at-at.result c.at-at.ensures) in
     omega (arith, low, c.self.inside.stores.ok.0)
 
 pub invariant_of-self-in_default : goal.invariant_of-self-in_default
-invariant_of-self-in_default g c = (still_switch g.V.Value.bytes _ _ c.self.invariant c.stage.new.self c.stage.ensures.only_room)
+invariant_of-self-in_default g c = (still_switch g.V.Value.bytes _ _ c.self.invariant c.stage.new.self c.stage.ensures.only_capacity)
 
 pub returns-in_default : goal.returns-in_default
 returns-in_default g c =
-    no_memory g.V.Value.bytes c.stage.new.self c.self.inside.stores.items (still_switch g.V.Value.bytes _ _ c.self.invariant c.stage.new.self c.stage.ensures.only_room) _ (still_view _ _ c.self.inside.stores.items c.stage.ensures.only_room ∙ c.self.view_is) c.in_ok-staged.staged c.in_ok-staged.ensures.staged c.args.k c.in_ok-staged.ensures.event c.in_ok-staged.ensures.kind c.at-at.result c.at-at.ensures c.index.result.now c.index.ensures (in_stores g.V.Value.bytes _ _ c.stage.ensures.only_room c.self.inside.stores.items c.self.invariant _ c.self.view_is c.in_ok-staged.staged c.in_ok-staged.ensures.staged c.at-at.result c.at-at.ensures) c.requires (let same = ap (λ (t : History g.row.V.Denot). length t.events) c.stage.ensures.only_room.history in let few = ap (λ (es : List (Event g.row.V.Denot)). length es) c.history.ensures.events in omega (arith, same, few, c.if-history-gt-MOST_EVENTS.false)) _ refl
+    no_memory g.V.Value.bytes c.stage.new.self c.self.inside.stores.items (still_switch g.V.Value.bytes _ _ c.self.invariant c.stage.new.self c.stage.ensures.only_capacity) _ (still_view _ _ c.self.inside.stores.items c.stage.ensures.only_capacity ∙ c.self.view_is) c.in_ok-staged.staged c.in_ok-staged.ensures.staged c.args.k c.in_ok-staged.ensures.event c.in_ok-staged.ensures.kind c.at-at.result c.at-at.ensures c.index.result.now c.index.ensures (in_stores g.V.Value.bytes _ _ c.stage.ensures.only_capacity c.self.inside.stores.items c.self.invariant _ c.self.view_is c.in_ok-staged.staged c.in_ok-staged.ensures.staged c.at-at.result c.at-at.ensures) c.requires (let same = ap (λ (t : History g.row.V.Denot). length t.events) c.stage.ensures.only_capacity.history in let few = ap (λ (es : List (Event g.row.V.Denot)). length es) c.history.ensures.events in omega (arith, same, few, c.if-history-gt-MAX_EVENTS.false)) _ refl
 
-pub invariant_of-self-in_err-room : goal.invariant_of-self-in_err-room
-invariant_of-self-in_err-room g c = (still_switch g.V.Value.bytes _ _ c.self.invariant c.room.new.self (still_more _ _ _ c.stage.ensures.only_room c.room.ensures.only_room))
+pub invariant_of-self-in_err-reserve : goal.invariant_of-self-in_err-reserve
+invariant_of-self-in_err-reserve g c = (still_switch g.V.Value.bytes _ _ c.self.invariant c.reserve.new.self (still_more _ _ _ c.stage.ensures.only_capacity c.reserve.ensures.only_capacity))
 
-pub returns-in_err-room : goal.returns-in_err-room
-returns-in_err-room g c =
-    down_err g.V.Value.bytes _ _ _ _ (answers_memory c.from_residual-in_err-room.result c.in_err-room.field-0.0 c.from_residual-in_err-room.ensures.1 c.in_err-room.ensures.only_memory) c.args.k
-    (no_memory g.V.Value.bytes c.room.new.self c.self.inside.stores.items (still_switch g.V.Value.bytes _ _ c.self.invariant c.room.new.self (still_more _ _ _ c.stage.ensures.only_room c.room.ensures.only_room)) _ (still_view _ _ c.self.inside.stores.items (still_more _ _ _ c.stage.ensures.only_room c.room.ensures.only_room) ∙ c.self.view_is) c.in_ok-staged.staged (staged_still g.V.Value.bytes _ _ c.in_ok-staged.staged c.room.ensures.only_room c.in_ok-staged.ensures.staged) c.args.k c.in_ok-staged.ensures.event c.in_ok-staged.ensures.kind c.at-at.result c.at-at.ensures c.index.result.now c.index.ensures (in_stores g.V.Value.bytes _ _ c.stage.ensures.only_room c.self.inside.stores.items c.self.invariant _ c.self.view_is c.in_ok-staged.staged c.in_ok-staged.ensures.staged c.at-at.result c.at-at.ensures) c.requires (let same = ap (λ (t : History g.row.V.Denot). length t.events) c.stage.ensures.only_room.history in let more = ap (λ (t : History g.row.V.Denot). length t.events) c.room.ensures.only_room.history in let few = ap (λ (es : List (Event g.row.V.Denot)). length es) c.history.ensures.events in omega (arith, same, more, few, c.if-history-gt-MOST_EVENTS.false)) _ refl)
+pub returns-in_err-reserve : goal.returns-in_err-reserve
+returns-in_err-reserve g c =
+    down_err g.V.Value.bytes _ _ _ _ (answers_memory c.from_residual-in_err-reserve.result c.in_err-reserve.field-0.0 c.from_residual-in_err-reserve.ensures.1 c.in_err-reserve.ensures.only_memory) c.args.k
+    (no_memory g.V.Value.bytes c.reserve.new.self c.self.inside.stores.items (still_switch g.V.Value.bytes _ _ c.self.invariant c.reserve.new.self (still_more _ _ _ c.stage.ensures.only_capacity c.reserve.ensures.only_capacity)) _ (still_view _ _ c.self.inside.stores.items (still_more _ _ _ c.stage.ensures.only_capacity c.reserve.ensures.only_capacity) ∙ c.self.view_is) c.in_ok-staged.staged (staged_still g.V.Value.bytes _ _ c.in_ok-staged.staged c.reserve.ensures.only_capacity c.in_ok-staged.ensures.staged) c.args.k c.in_ok-staged.ensures.event c.in_ok-staged.ensures.kind c.at-at.result c.at-at.ensures c.index.result.now c.index.ensures (in_stores g.V.Value.bytes _ _ c.stage.ensures.only_capacity c.self.inside.stores.items c.self.invariant _ c.self.view_is c.in_ok-staged.staged c.in_ok-staged.ensures.staged c.at-at.result c.at-at.ensures) c.requires (let same = ap (λ (t : History g.row.V.Denot). length t.events) c.stage.ensures.only_capacity.history in let more = ap (λ (t : History g.row.V.Denot). length t.events) c.reserve.ensures.only_capacity.history in let few = ap (λ (es : List (Event g.row.V.Denot)). length es) c.history.ensures.events in omega (arith, same, more, few, c.if-history-gt-MAX_EVENTS.false)) _ refl)
 
 pub index_mut-requires : goal.index_mut-requires
 index_mut-requires g c =
-    let low = (in_stores g.V.Value.bytes _ _ c.stage.ensures.only_room c.self.inside.stores.items c.self.invariant _ c.self.view_is c.in_ok-staged.staged c.in_ok-staged.ensures.staged c.at-at.result c.at-at.ensures) in
+    let low = (in_stores g.V.Value.bytes _ _ c.stage.ensures.only_capacity c.self.inside.stores.items c.self.invariant _ c.self.view_is c.in_ok-staged.staged c.in_ok-staged.ensures.staged c.at-at.result c.at-at.ensures) in
     omega (arith, low, c.self.inside.stores.ok.0)
 
-pub invariant_of-self-in_err-owed : goal.invariant_of-self-in_err-owed
-invariant_of-self-in_err-owed g c =
-    stays_down g.V.Value.bytes c.room.new.self c.self.inside.stores.items (still_switch g.V.Value.bytes _ _ c.self.invariant c.room.new.self (still_more _ _ _ c.stage.ensures.only_room c.room.ensures.only_room)) _ (still_view _ _ c.self.inside.stores.items (still_more _ _ _ c.stage.ensures.only_room c.room.ensures.only_room) ∙ c.self.view_is) c.in_ok-staged.staged (staged_still g.V.Value.bytes _ _ c.in_ok-staged.staged c.room.ensures.only_room c.in_ok-staged.ensures.staged) c.args.k c.in_ok-staged.ensures.event c.in_ok-staged.ensures.kind c.at-at.result c.at-at.ensures c.index_mut.result.now c.index_mut.ensures.value (in_stores g.V.Value.bytes _ _ c.stage.ensures.only_room c.self.inside.stores.items c.self.invariant _ c.self.view_is c.in_ok-staged.staged c.in_ok-staged.ensures.staged c.at-at.result c.at-at.ensures) c.requires (let same = ap (λ (t : History g.row.V.Denot). length t.events) c.stage.ensures.only_room.history in let more = ap (λ (t : History g.row.V.Denot). length t.events) c.room.ensures.only_room.history in let few = ap (λ (es : List (Event g.row.V.Denot)). length es) c.history.ensures.events in omega (arith, same, more, few, c.if-history-gt-MOST_EVENTS.false)) c.bring_up.new.self c.in_err-owed.ensures.failed
+pub invariant_of-self-in_err-pending : goal.invariant_of-self-in_err-pending
+invariant_of-self-in_err-pending g c =
+    stays_down g.V.Value.bytes c.reserve.new.self c.self.inside.stores.items (still_switch g.V.Value.bytes _ _ c.self.invariant c.reserve.new.self (still_more _ _ _ c.stage.ensures.only_capacity c.reserve.ensures.only_capacity)) _ (still_view _ _ c.self.inside.stores.items (still_more _ _ _ c.stage.ensures.only_capacity c.reserve.ensures.only_capacity) ∙ c.self.view_is) c.in_ok-staged.staged (staged_still g.V.Value.bytes _ _ c.in_ok-staged.staged c.reserve.ensures.only_capacity c.in_ok-staged.ensures.staged) c.args.k c.in_ok-staged.ensures.event c.in_ok-staged.ensures.kind c.at-at.result c.at-at.ensures c.index_mut.result.now c.index_mut.ensures.value (in_stores g.V.Value.bytes _ _ c.stage.ensures.only_capacity c.self.inside.stores.items c.self.invariant _ c.self.view_is c.in_ok-staged.staged c.in_ok-staged.ensures.staged c.at-at.result c.at-at.ensures) c.requires (let same = ap (λ (t : History g.row.V.Denot). length t.events) c.stage.ensures.only_capacity.history in let more = ap (λ (t : History g.row.V.Denot). length t.events) c.reserve.ensures.only_capacity.history in let few = ap (λ (es : List (Event g.row.V.Denot)). length es) c.history.ensures.events in omega (arith, same, more, few, c.if-history-gt-MAX_EVENTS.false)) c.bring_up.new.self c.in_err-pending.ensures.failed
 
-pub returns-in_err-owed : goal.returns-in_err-owed
-returns-in_err-owed g c =
-    down_err g.V.Value.bytes _ _ _ _ (answers c.from_residual-in_err-owed.result _ c.from_residual-in_err-owed.ensures.1) c.args.k
-    (stays_acts g.V.Value.bytes c.room.new.self c.self.inside.stores.items (still_switch g.V.Value.bytes _ _ c.self.invariant c.room.new.self (still_more _ _ _ c.stage.ensures.only_room c.room.ensures.only_room)) _ (still_view _ _ c.self.inside.stores.items (still_more _ _ _ c.stage.ensures.only_room c.room.ensures.only_room) ∙ c.self.view_is) c.in_ok-staged.staged (staged_still g.V.Value.bytes _ _ c.in_ok-staged.staged c.room.ensures.only_room c.in_ok-staged.ensures.staged) c.args.k c.in_ok-staged.ensures.event c.in_ok-staged.ensures.kind c.at-at.result c.at-at.ensures c.index_mut.result.now c.index_mut.ensures.value (in_stores g.V.Value.bytes _ _ c.stage.ensures.only_room c.self.inside.stores.items c.self.invariant _ c.self.view_is c.in_ok-staged.staged c.in_ok-staged.ensures.staged c.at-at.result c.at-at.ensures) c.requires (let same = ap (λ (t : History g.row.V.Denot). length t.events) c.stage.ensures.only_room.history in let more = ap (λ (t : History g.row.V.Denot). length t.events) c.room.ensures.only_room.history in let few = ap (λ (es : List (Event g.row.V.Denot)). length es) c.history.ensures.events in omega (arith, same, more, few, c.if-history-gt-MOST_EVENTS.false)) c.bring_up.new.self c.in_err-owed.ensures.failed)
+pub returns-in_err-pending : goal.returns-in_err-pending
+returns-in_err-pending g c =
+    down_err g.V.Value.bytes _ _ _ _ (answers c.from_residual-in_err-pending.result _ c.from_residual-in_err-pending.ensures.1) c.args.k
+    (stays_acts g.V.Value.bytes c.reserve.new.self c.self.inside.stores.items (still_switch g.V.Value.bytes _ _ c.self.invariant c.reserve.new.self (still_more _ _ _ c.stage.ensures.only_capacity c.reserve.ensures.only_capacity)) _ (still_view _ _ c.self.inside.stores.items (still_more _ _ _ c.stage.ensures.only_capacity c.reserve.ensures.only_capacity) ∙ c.self.view_is) c.in_ok-staged.staged (staged_still g.V.Value.bytes _ _ c.in_ok-staged.staged c.reserve.ensures.only_capacity c.in_ok-staged.ensures.staged) c.args.k c.in_ok-staged.ensures.event c.in_ok-staged.ensures.kind c.at-at.result c.at-at.ensures c.index_mut.result.now c.index_mut.ensures.value (in_stores g.V.Value.bytes _ _ c.stage.ensures.only_capacity c.self.inside.stores.items c.self.invariant _ c.self.view_is c.in_ok-staged.staged c.in_ok-staged.ensures.staged c.at-at.result c.at-at.ensures) c.requires (let same = ap (λ (t : History g.row.V.Denot). length t.events) c.stage.ensures.only_capacity.history in let more = ap (λ (t : History g.row.V.Denot). length t.events) c.reserve.ensures.only_capacity.history in let few = ap (λ (es : List (Event g.row.V.Denot)). length es) c.history.ensures.events in omega (arith, same, more, few, c.if-history-gt-MAX_EVENTS.false)) c.bring_up.new.self c.in_err-pending.ensures.failed)
 
-pub commit_owed-requires : goal.commit_owed-requires
-commit_owed-requires g c =
-    let low = (in_stores g.V.Value.bytes _ _ c.stage.ensures.only_room c.self.inside.stores.items c.self.invariant _ c.self.view_is c.in_ok-staged.staged c.in_ok-staged.ensures.staged c.at-at.result c.at-at.ensures) in
+pub commit_pending-requires : goal.commit_pending-requires
+commit_pending-requires g c =
+    let low = (in_stores g.V.Value.bytes _ _ c.stage.ensures.only_capacity c.self.inside.stores.items c.self.invariant _ c.self.view_is c.in_ok-staged.staged c.in_ok-staged.ensures.staged c.at-at.result c.at-at.ensures) in
     let same : c.index.result.now ≡ c.index_mut.result.now = same_at c.self.inside.stores.items c.at-at.result c.index.result.now c.index_mut.result.now low c.index.ensures c.index_mut.ensures.value in
-    let count : c.count_owed.result ≡ length (posts_owed (owed_in c.index_mut.result.now.status)) = c.count_owed.ensures ∙ ap (λ (s : StoreState g.row.V.Denot). length (posts_owed (owed_in s.status))) same in
+    let count : c.count_pending_posts.result ≡ length (pending_posts (pending_of c.index_mut.result.now.status)) = c.count_pending_posts.ensures ∙ ap (λ (s : StoreState g.row.V.Denot). length (pending_posts (pending_of s.status))) same in
     let all : length c.posts.result.now ≡ length (posts_of c.in_ok-staged.staged.work) = ap (λ (ps : List (Packet g.row.V.Denot)). length ps) c.posts.ensures in
-    let sum : c.in-Some.room ≡ c.count_owed.result + length c.posts.result.now = c.in-Some.ensures.1 in
-    let room = subst (λ (i : ℕ). HasRoom c.room.new.self i 2) sum c.in_ok-room.ensures.room in
-    can_commit_owed g.V.Value.bytes c.room.new.self c.self.inside.stores.items (still_switch g.V.Value.bytes _ _ c.self.invariant c.room.new.self (still_more _ _ _ c.stage.ensures.only_room c.room.ensures.only_room)) _ (still_view _ _ c.self.inside.stores.items (still_more _ _ _ c.stage.ensures.only_room c.room.ensures.only_room) ∙ c.self.view_is) c.in_ok-staged.staged (staged_still g.V.Value.bytes _ _ c.in_ok-staged.staged c.room.ensures.only_room c.in_ok-staged.ensures.staged) c.args.k c.in_ok-staged.ensures.event c.in_ok-staged.ensures.kind c.at-at.result c.at-at.ensures c.index_mut.result.now c.index_mut.ensures.value (in_stores g.V.Value.bytes _ _ c.stage.ensures.only_room c.self.inside.stores.items c.self.invariant _ c.self.view_is c.in_ok-staged.staged c.in_ok-staged.ensures.staged c.at-at.result c.at-at.ensures) c.requires (let same = ap (λ (t : History g.row.V.Denot). length t.events) c.stage.ensures.only_room.history in let more = ap (λ (t : History g.row.V.Denot). length t.events) c.room.ensures.only_room.history in let few = ap (λ (es : List (Event g.row.V.Denot)). length es) c.history.ensures.events in omega (arith, same, more, few, c.if-history-gt-MOST_EVENTS.false)) c.in_ok-owed.owed c.in_ok-owed.ensures.owed _ _ count room
+    let sum : c.in-Some.packets ≡ c.count_pending_posts.result + length c.posts.result.now = c.in-Some.ensures.1 in
+    let room = subst (λ (i : ℕ). HasSpareCapacity c.reserve.new.self i 2) sum c.in_ok-reserve.ensures.capacity in
+    can_commit_owed g.V.Value.bytes c.reserve.new.self c.self.inside.stores.items (still_switch g.V.Value.bytes _ _ c.self.invariant c.reserve.new.self (still_more _ _ _ c.stage.ensures.only_capacity c.reserve.ensures.only_capacity)) _ (still_view _ _ c.self.inside.stores.items (still_more _ _ _ c.stage.ensures.only_capacity c.reserve.ensures.only_capacity) ∙ c.self.view_is) c.in_ok-staged.staged (staged_still g.V.Value.bytes _ _ c.in_ok-staged.staged c.reserve.ensures.only_capacity c.in_ok-staged.ensures.staged) c.args.k c.in_ok-staged.ensures.event c.in_ok-staged.ensures.kind c.at-at.result c.at-at.ensures c.index_mut.result.now c.index_mut.ensures.value (in_stores g.V.Value.bytes _ _ c.stage.ensures.only_capacity c.self.inside.stores.items c.self.invariant _ c.self.view_is c.in_ok-staged.staged c.in_ok-staged.ensures.staged c.at-at.result c.at-at.ensures) c.requires (let same = ap (λ (t : History g.row.V.Denot). length t.events) c.stage.ensures.only_capacity.history in let more = ap (λ (t : History g.row.V.Denot). length t.events) c.reserve.ensures.only_capacity.history in let few = ap (λ (es : List (Event g.row.V.Denot)). length es) c.history.ensures.events in omega (arith, same, more, few, c.if-history-gt-MAX_EVENTS.false)) c.in_ok-pending.pending c.in_ok-pending.ensures.pending _ _ count room
 
 pub commit-requires-clause-staged : goal.commit-requires-clause-staged
 commit-requires-clause-staged g c =
-    subst (λ (x : StagedEvent g.row.V.Denot). IsStaged g.V.Value.bytes c.commit_owed.new.net x) (sym c.load.ensures) (staged_m g.V.Value.bytes c.room.new.self c.self.inside.stores.items (still_switch g.V.Value.bytes _ _ c.self.invariant c.room.new.self (still_more _ _ _ c.stage.ensures.only_room c.room.ensures.only_room)) _ (still_view _ _ c.self.inside.stores.items (still_more _ _ _ c.stage.ensures.only_room c.room.ensures.only_room) ∙ c.self.view_is) c.in_ok-staged.staged (staged_still g.V.Value.bytes _ _ c.in_ok-staged.staged c.room.ensures.only_room c.in_ok-staged.ensures.staged) c.args.k c.in_ok-staged.ensures.event c.in_ok-staged.ensures.kind c.at-at.result c.at-at.ensures c.index_mut.result.now c.index_mut.ensures.value (in_stores g.V.Value.bytes _ _ c.stage.ensures.only_room c.self.inside.stores.items c.self.invariant _ c.self.view_is c.in_ok-staged.staged c.in_ok-staged.ensures.staged c.at-at.result c.at-at.ensures) c.requires (let same = ap (λ (t : History g.row.V.Denot). length t.events) c.stage.ensures.only_room.history in let more = ap (λ (t : History g.row.V.Denot). length t.events) c.room.ensures.only_room.history in let few = ap (λ (es : List (Event g.row.V.Denot)). length es) c.history.ensures.events in omega (arith, same, more, few, c.if-history-gt-MOST_EVENTS.false)) c.bring_up.new.self c.in_ok-owed.ensures.up c.commit_owed.new.net c.in_ok-owed.owed c.in_ok-owed.ensures.owed c.commit_owed.ensures c.in_ok-owed.record.kept c.in_ok-owed.ensures.loaded)
+    subst (λ (x : StagedEvent g.row.V.Denot). IsStaged g.V.Value.bytes c.commit_pending.new.net x) (sym c.load.ensures) (staged_m g.V.Value.bytes c.reserve.new.self c.self.inside.stores.items (still_switch g.V.Value.bytes _ _ c.self.invariant c.reserve.new.self (still_more _ _ _ c.stage.ensures.only_capacity c.reserve.ensures.only_capacity)) _ (still_view _ _ c.self.inside.stores.items (still_more _ _ _ c.stage.ensures.only_capacity c.reserve.ensures.only_capacity) ∙ c.self.view_is) c.in_ok-staged.staged (staged_still g.V.Value.bytes _ _ c.in_ok-staged.staged c.reserve.ensures.only_capacity c.in_ok-staged.ensures.staged) c.args.k c.in_ok-staged.ensures.event c.in_ok-staged.ensures.kind c.at-at.result c.at-at.ensures c.index_mut.result.now c.index_mut.ensures.value (in_stores g.V.Value.bytes _ _ c.stage.ensures.only_capacity c.self.inside.stores.items c.self.invariant _ c.self.view_is c.in_ok-staged.staged c.in_ok-staged.ensures.staged c.at-at.result c.at-at.ensures) c.requires (let same = ap (λ (t : History g.row.V.Denot). length t.events) c.stage.ensures.only_capacity.history in let more = ap (λ (t : History g.row.V.Denot). length t.events) c.reserve.ensures.only_capacity.history in let few = ap (λ (es : List (Event g.row.V.Denot)). length es) c.history.ensures.events in omega (arith, same, more, few, c.if-history-gt-MAX_EVENTS.false)) c.bring_up.new.self c.in_ok-pending.ensures.up c.commit_pending.new.net c.in_ok-pending.pending c.in_ok-pending.ensures.pending c.commit_pending.ensures c.in_ok-pending.record.kept c.in_ok-pending.ensures.loaded)
 
-pub commit-requires-clause-room : goal.commit-requires-clause-room
-commit-requires-clause-room g c =
-    let low = (in_stores g.V.Value.bytes _ _ c.stage.ensures.only_room c.self.inside.stores.items c.self.invariant _ c.self.view_is c.in_ok-staged.staged c.in_ok-staged.ensures.staged c.at-at.result c.at-at.ensures) in
+pub commit-requires-clause-capacity : goal.commit-requires-clause-capacity
+commit-requires-clause-capacity g c =
+    let low = (in_stores g.V.Value.bytes _ _ c.stage.ensures.only_capacity c.self.inside.stores.items c.self.invariant _ c.self.view_is c.in_ok-staged.staged c.in_ok-staged.ensures.staged c.at-at.result c.at-at.ensures) in
     let same : c.index.result.now ≡ c.index_mut.result.now = same_at c.self.inside.stores.items c.at-at.result c.index.result.now c.index_mut.result.now low c.index.ensures c.index_mut.ensures.value in
-    let count : c.count_owed.result ≡ length (posts_owed (owed_in c.index_mut.result.now.status)) = c.count_owed.ensures ∙ ap (λ (s : StoreState g.row.V.Denot). length (posts_owed (owed_in s.status))) same in
+    let count : c.count_pending_posts.result ≡ length (pending_posts (pending_of c.index_mut.result.now.status)) = c.count_pending_posts.ensures ∙ ap (λ (s : StoreState g.row.V.Denot). length (pending_posts (pending_of s.status))) same in
     let all : length c.posts.result.now ≡ length (posts_of c.in_ok-staged.staged.work) = ap (λ (ps : List (Packet g.row.V.Denot)). length ps) c.posts.ensures in
-    let sum : c.in-Some.room ≡ c.count_owed.result + length c.posts.result.now = c.in-Some.ensures.1 in
-    let room = subst (λ (i : ℕ). HasRoom c.room.new.self i 2) sum c.in_ok-room.ensures.room in
-    subst (λ (x : StagedEvent g.row.V.Denot). HasRoom c.commit_owed.new.net (length (posts_of x.work)) 1) (sym c.load.ensures) (room_m g.V.Value.bytes c.room.new.self c.self.inside.stores.items (still_switch g.V.Value.bytes _ _ c.self.invariant c.room.new.self (still_more _ _ _ c.stage.ensures.only_room c.room.ensures.only_room)) _ (still_view _ _ c.self.inside.stores.items (still_more _ _ _ c.stage.ensures.only_room c.room.ensures.only_room) ∙ c.self.view_is) c.in_ok-staged.staged (staged_still g.V.Value.bytes _ _ c.in_ok-staged.staged c.room.ensures.only_room c.in_ok-staged.ensures.staged) c.args.k c.in_ok-staged.ensures.event c.in_ok-staged.ensures.kind c.at-at.result c.at-at.ensures c.index_mut.result.now c.index_mut.ensures.value (in_stores g.V.Value.bytes _ _ c.stage.ensures.only_room c.self.inside.stores.items c.self.invariant _ c.self.view_is c.in_ok-staged.staged c.in_ok-staged.ensures.staged c.at-at.result c.at-at.ensures) c.requires (let same = ap (λ (t : History g.row.V.Denot). length t.events) c.stage.ensures.only_room.history in let more = ap (λ (t : History g.row.V.Denot). length t.events) c.room.ensures.only_room.history in let few = ap (λ (es : List (Event g.row.V.Denot)). length es) c.history.ensures.events in omega (arith, same, more, few, c.if-history-gt-MOST_EVENTS.false)) c.bring_up.new.self c.in_ok-owed.ensures.up c.commit_owed.new.net c.in_ok-owed.owed c.in_ok-owed.ensures.owed c.commit_owed.ensures c.in_ok-owed.record.kept c.in_ok-owed.ensures.loaded _ _ count all room)
+    let sum : c.in-Some.packets ≡ c.count_pending_posts.result + length c.posts.result.now = c.in-Some.ensures.1 in
+    let room = subst (λ (i : ℕ). HasSpareCapacity c.reserve.new.self i 2) sum c.in_ok-reserve.ensures.capacity in
+    subst (λ (x : StagedEvent g.row.V.Denot). HasSpareCapacity c.commit_pending.new.net (length (posts_of x.work)) 1) (sym c.load.ensures) (room_m g.V.Value.bytes c.reserve.new.self c.self.inside.stores.items (still_switch g.V.Value.bytes _ _ c.self.invariant c.reserve.new.self (still_more _ _ _ c.stage.ensures.only_capacity c.reserve.ensures.only_capacity)) _ (still_view _ _ c.self.inside.stores.items (still_more _ _ _ c.stage.ensures.only_capacity c.reserve.ensures.only_capacity) ∙ c.self.view_is) c.in_ok-staged.staged (staged_still g.V.Value.bytes _ _ c.in_ok-staged.staged c.reserve.ensures.only_capacity c.in_ok-staged.ensures.staged) c.args.k c.in_ok-staged.ensures.event c.in_ok-staged.ensures.kind c.at-at.result c.at-at.ensures c.index_mut.result.now c.index_mut.ensures.value (in_stores g.V.Value.bytes _ _ c.stage.ensures.only_capacity c.self.inside.stores.items c.self.invariant _ c.self.view_is c.in_ok-staged.staged c.in_ok-staged.ensures.staged c.at-at.result c.at-at.ensures) c.requires (let same = ap (λ (t : History g.row.V.Denot). length t.events) c.stage.ensures.only_capacity.history in let more = ap (λ (t : History g.row.V.Denot). length t.events) c.reserve.ensures.only_capacity.history in let few = ap (λ (es : List (Event g.row.V.Denot)). length es) c.history.ensures.events in omega (arith, same, more, few, c.if-history-gt-MAX_EVENTS.false)) c.bring_up.new.self c.in_ok-pending.ensures.up c.commit_pending.new.net c.in_ok-pending.pending c.in_ok-pending.ensures.pending c.commit_pending.ensures c.in_ok-pending.record.kept c.in_ok-pending.ensures.loaded _ _ count all room)
 
 pub commit-requires-clause-few : goal.commit-requires-clause-few
 commit-requires-clause-few g c =
-    low_m g.V.Value.bytes c.room.new.self c.self.inside.stores.items (still_switch g.V.Value.bytes _ _ c.self.invariant c.room.new.self (still_more _ _ _ c.stage.ensures.only_room c.room.ensures.only_room)) _ (still_view _ _ c.self.inside.stores.items (still_more _ _ _ c.stage.ensures.only_room c.room.ensures.only_room) ∙ c.self.view_is) c.in_ok-staged.staged (staged_still g.V.Value.bytes _ _ c.in_ok-staged.staged c.room.ensures.only_room c.in_ok-staged.ensures.staged) c.args.k c.in_ok-staged.ensures.event c.in_ok-staged.ensures.kind c.at-at.result c.at-at.ensures c.index_mut.result.now c.index_mut.ensures.value (in_stores g.V.Value.bytes _ _ c.stage.ensures.only_room c.self.inside.stores.items c.self.invariant _ c.self.view_is c.in_ok-staged.staged c.in_ok-staged.ensures.staged c.at-at.result c.at-at.ensures) c.requires (let same = ap (λ (t : History g.row.V.Denot). length t.events) c.stage.ensures.only_room.history in let more = ap (λ (t : History g.row.V.Denot). length t.events) c.room.ensures.only_room.history in let few = ap (λ (es : List (Event g.row.V.Denot)). length es) c.history.ensures.events in omega (arith, same, more, few, c.if-history-gt-MOST_EVENTS.false)) c.bring_up.new.self c.in_ok-owed.ensures.up c.commit_owed.new.net c.in_ok-owed.owed c.in_ok-owed.ensures.owed c.commit_owed.ensures
+    low_m g.V.Value.bytes c.reserve.new.self c.self.inside.stores.items (still_switch g.V.Value.bytes _ _ c.self.invariant c.reserve.new.self (still_more _ _ _ c.stage.ensures.only_capacity c.reserve.ensures.only_capacity)) _ (still_view _ _ c.self.inside.stores.items (still_more _ _ _ c.stage.ensures.only_capacity c.reserve.ensures.only_capacity) ∙ c.self.view_is) c.in_ok-staged.staged (staged_still g.V.Value.bytes _ _ c.in_ok-staged.staged c.reserve.ensures.only_capacity c.in_ok-staged.ensures.staged) c.args.k c.in_ok-staged.ensures.event c.in_ok-staged.ensures.kind c.at-at.result c.at-at.ensures c.index_mut.result.now c.index_mut.ensures.value (in_stores g.V.Value.bytes _ _ c.stage.ensures.only_capacity c.self.inside.stores.items c.self.invariant _ c.self.view_is c.in_ok-staged.staged c.in_ok-staged.ensures.staged c.at-at.result c.at-at.ensures) c.requires (let same = ap (λ (t : History g.row.V.Denot). length t.events) c.stage.ensures.only_capacity.history in let more = ap (λ (t : History g.row.V.Denot). length t.events) c.reserve.ensures.only_capacity.history in let few = ap (λ (es : List (Event g.row.V.Denot)). length es) c.history.ensures.events in omega (arith, same, more, few, c.if-history-gt-MAX_EVENTS.false)) c.bring_up.new.self c.in_ok-pending.ensures.up c.commit_pending.new.net c.in_ok-pending.pending c.in_ok-pending.ensures.pending c.commit_pending.ensures
 
 pub invariant_of-self-2 : goal.invariant_of-self-2
 invariant_of-self-2 g c =
-    recovered g.V.Value.bytes c.room.new.self c.self.inside.stores.items (still_switch g.V.Value.bytes _ _ c.self.invariant c.room.new.self (still_more _ _ _ c.stage.ensures.only_room c.room.ensures.only_room)) _ (still_view _ _ c.self.inside.stores.items (still_more _ _ _ c.stage.ensures.only_room c.room.ensures.only_room) ∙ c.self.view_is) c.in_ok-staged.staged (staged_still g.V.Value.bytes _ _ c.in_ok-staged.staged c.room.ensures.only_room c.in_ok-staged.ensures.staged) c.args.k c.in_ok-staged.ensures.event c.in_ok-staged.ensures.kind c.at-at.result c.at-at.ensures c.index_mut.result.now c.index_mut.ensures.value (in_stores g.V.Value.bytes _ _ c.stage.ensures.only_room c.self.inside.stores.items c.self.invariant _ c.self.view_is c.in_ok-staged.staged c.in_ok-staged.ensures.staged c.at-at.result c.at-at.ensures) c.requires (let same = ap (λ (t : History g.row.V.Denot). length t.events) c.stage.ensures.only_room.history in let more = ap (λ (t : History g.row.V.Denot). length t.events) c.room.ensures.only_room.history in let few = ap (λ (es : List (Event g.row.V.Denot)). length es) c.history.ensures.events in omega (arith, same, more, few, c.if-history-gt-MOST_EVENTS.false)) c.bring_up.new.self c.in_ok-owed.ensures.up c.commit_owed.new.net c.in_ok-owed.owed c.in_ok-owed.ensures.owed c.commit_owed.ensures c.in_ok-owed.record.kept c.in_ok-owed.ensures.loaded c.commit.new.self (subst (λ (x : StagedEvent g.row.V.Denot). IsTaken c.commit_owed.new.net c.commit.new.self x) c.load.ensures c.commit.ensures.taken)
+    recovered g.V.Value.bytes c.reserve.new.self c.self.inside.stores.items (still_switch g.V.Value.bytes _ _ c.self.invariant c.reserve.new.self (still_more _ _ _ c.stage.ensures.only_capacity c.reserve.ensures.only_capacity)) _ (still_view _ _ c.self.inside.stores.items (still_more _ _ _ c.stage.ensures.only_capacity c.reserve.ensures.only_capacity) ∙ c.self.view_is) c.in_ok-staged.staged (staged_still g.V.Value.bytes _ _ c.in_ok-staged.staged c.reserve.ensures.only_capacity c.in_ok-staged.ensures.staged) c.args.k c.in_ok-staged.ensures.event c.in_ok-staged.ensures.kind c.at-at.result c.at-at.ensures c.index_mut.result.now c.index_mut.ensures.value (in_stores g.V.Value.bytes _ _ c.stage.ensures.only_capacity c.self.inside.stores.items c.self.invariant _ c.self.view_is c.in_ok-staged.staged c.in_ok-staged.ensures.staged c.at-at.result c.at-at.ensures) c.requires (let same = ap (λ (t : History g.row.V.Denot). length t.events) c.stage.ensures.only_capacity.history in let more = ap (λ (t : History g.row.V.Denot). length t.events) c.reserve.ensures.only_capacity.history in let few = ap (λ (es : List (Event g.row.V.Denot)). length es) c.history.ensures.events in omega (arith, same, more, few, c.if-history-gt-MAX_EVENTS.false)) c.bring_up.new.self c.in_ok-pending.ensures.up c.commit_pending.new.net c.in_ok-pending.pending c.in_ok-pending.ensures.pending c.commit_pending.ensures c.in_ok-pending.record.kept c.in_ok-pending.ensures.loaded c.commit.new.self (subst (λ (x : StagedEvent g.row.V.Denot). IsTaken c.commit_pending.new.net c.commit.new.self x) c.load.ensures c.commit.ensures.taken)
 
 pub returns : goal.returns
 returns g c =
-    recovered_acts g.V.Value.bytes c.room.new.self c.self.inside.stores.items (still_switch g.V.Value.bytes _ _ c.self.invariant c.room.new.self (still_more _ _ _ c.stage.ensures.only_room c.room.ensures.only_room)) _ (still_view _ _ c.self.inside.stores.items (still_more _ _ _ c.stage.ensures.only_room c.room.ensures.only_room) ∙ c.self.view_is) c.in_ok-staged.staged (staged_still g.V.Value.bytes _ _ c.in_ok-staged.staged c.room.ensures.only_room c.in_ok-staged.ensures.staged) c.args.k c.in_ok-staged.ensures.event c.in_ok-staged.ensures.kind c.at-at.result c.at-at.ensures c.index_mut.result.now c.index_mut.ensures.value (in_stores g.V.Value.bytes _ _ c.stage.ensures.only_room c.self.inside.stores.items c.self.invariant _ c.self.view_is c.in_ok-staged.staged c.in_ok-staged.ensures.staged c.at-at.result c.at-at.ensures) c.requires (let same = ap (λ (t : History g.row.V.Denot). length t.events) c.stage.ensures.only_room.history in let more = ap (λ (t : History g.row.V.Denot). length t.events) c.room.ensures.only_room.history in let few = ap (λ (es : List (Event g.row.V.Denot)). length es) c.history.ensures.events in omega (arith, same, more, few, c.if-history-gt-MOST_EVENTS.false)) c.bring_up.new.self c.in_ok-owed.ensures.up c.commit_owed.new.net c.in_ok-owed.owed c.in_ok-owed.ensures.owed c.commit_owed.ensures c.in_ok-owed.record.kept c.in_ok-owed.ensures.loaded c.commit.new.self (subst (λ (x : StagedEvent g.row.V.Denot). IsTaken c.commit_owed.new.net c.commit.new.self x) c.load.ensures c.commit.ensures.taken) c.commit.result c.commit.ensures.posted
+    recovered_acts g.V.Value.bytes c.reserve.new.self c.self.inside.stores.items (still_switch g.V.Value.bytes _ _ c.self.invariant c.reserve.new.self (still_more _ _ _ c.stage.ensures.only_capacity c.reserve.ensures.only_capacity)) _ (still_view _ _ c.self.inside.stores.items (still_more _ _ _ c.stage.ensures.only_capacity c.reserve.ensures.only_capacity) ∙ c.self.view_is) c.in_ok-staged.staged (staged_still g.V.Value.bytes _ _ c.in_ok-staged.staged c.reserve.ensures.only_capacity c.in_ok-staged.ensures.staged) c.args.k c.in_ok-staged.ensures.event c.in_ok-staged.ensures.kind c.at-at.result c.at-at.ensures c.index_mut.result.now c.index_mut.ensures.value (in_stores g.V.Value.bytes _ _ c.stage.ensures.only_capacity c.self.inside.stores.items c.self.invariant _ c.self.view_is c.in_ok-staged.staged c.in_ok-staged.ensures.staged c.at-at.result c.at-at.ensures) c.requires (let same = ap (λ (t : History g.row.V.Denot). length t.events) c.stage.ensures.only_capacity.history in let more = ap (λ (t : History g.row.V.Denot). length t.events) c.reserve.ensures.only_capacity.history in let few = ap (λ (es : List (Event g.row.V.Denot)). length es) c.history.ensures.events in omega (arith, same, more, few, c.if-history-gt-MAX_EVENTS.false)) c.bring_up.new.self c.in_ok-pending.ensures.up c.commit_pending.new.net c.in_ok-pending.pending c.in_ok-pending.ensures.pending c.commit_pending.ensures c.in_ok-pending.record.kept c.in_ok-pending.ensures.loaded c.commit.new.self (subst (λ (x : StagedEvent g.row.V.Denot). IsTaken c.commit_pending.new.net c.commit.new.self x) c.load.ensures c.commit.ensures.taken) c.commit.result c.commit.ensures.posted

@@ -4,13 +4,13 @@ use Rattle.synod.proofs.learner.Learner.voters_with.Goals as goal
 
 pub returns-then-is_same : goal.returns-then-is_same
 returns-then-is_same g c = rw (← c.self.view_is) (λ k. ap (λ (voters : List Bool). is_voter voters k) c.with.ensures.voters
-    ∙ sym (voters_first c.self.inside.first.entries (other_tallies_at c.self.inside.other_tallies.votes) c.args.slot c.args.ballot c.args.node c.in-Some.first.now c.in-Some.ensures (sym c.is_same.ensures ∙ c.if-is_same.true) k))
+    ∙ sym (voters_first c.self.inside.first_tallies.entries (other_tallies_at c.self.inside.other_tallies.votes) c.args.slot c.args.ballot c.args.node c.in-Some.first.now c.in-Some.ensures (sym c.is_same.ensures ∙ c.if-is_same.true) k))
 
 pub returns-else-is_same : goal.returns-else-is_same
 returns-else-is_same g c = rw (← c.self.view_is) (λ k. ap (λ (voters : List Bool). is_voter voters k) c.voters_with.ensures
     ∙ sym (other_tallies-voters c.self.inside.other_tallies.votes c.args.slot c.args.ballot c.args.node k)
-    ∙ sym (voters_other c.self.inside.first.entries (other_tallies_at c.self.inside.other_tallies.votes) c.args.slot c.args.ballot c.args.node c.in-Some.first.now c.in-Some.ensures (sym c.is_same.ensures ∙ c.if-is_same.false) k))
+    ∙ sym (voters_other c.self.inside.first_tallies.entries (other_tallies_at c.self.inside.other_tallies.votes) c.args.slot c.args.ballot c.args.node c.in-Some.first.now c.in-Some.ensures (sym c.is_same.ensures ∙ c.if-is_same.false) k))
 
 pub returns-in-None : goal.returns-in-None
 returns-in-None g c = rw (← c.self.view_is) (λ k. ap (λ (voters : List Bool). is_voter voters k) c.one.ensures.voters
-    ∙ sym (voters_new c.self.inside.first.entries (other_tallies_at c.self.inside.other_tallies.votes) c.args.slot c.args.ballot c.args.node c.in-None.ensures k))
+    ∙ sym (voters_new c.self.inside.first_tallies.entries (other_tallies_at c.self.inside.other_tallies.votes) c.args.slot c.args.ballot c.args.node c.in-None.ensures k))

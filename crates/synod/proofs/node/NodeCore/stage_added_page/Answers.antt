@@ -11,7 +11,7 @@ stage_proposer_update-requires-clause-node g c =
     ap (λ (ps : List (List (Option (List (SlotReport g.row.V.Denot))))). page_of ps c.args.node c.args.page) (sym c.pages.ensures.pages)
     ∙ none_is c.get.result (page_of (entries_of c.pages.result.now) c.args.node c.args.page) _ c.is_some.result c.get.ensures c.is_some.ensures c.if-is_some.false in
     subst (λ (step : StepResult g.row.V.Denot). IsNode step.node)
-    (keep_step (assembled c.self.inside.me c.self.inside.weights c.self.inside.kept_part.kept c.self.inside.proposer.state c.self.inside.learner.state) c.args.self.now.node same c.room_for_page.new.self.state (c.room_for_page.ensures.state) c.args.page c.args.reports.now c.in_ok-reports.reports c.in_ok-reports.ensures c.new.result.items c.new.ensures.items c.args.node none)
+    (keep_step (assembled c.self.inside.me c.self.inside.weights c.self.inside.kept_part.kept c.self.inside.proposer.state c.self.inside.learner.state) c.args.self.now.node same c.reserve_page.new.self.state (c.reserve_page.ensures.state) c.args.page c.args.reports.now c.in_ok-reports.reports c.in_ok-reports.ensures c.new.result.items c.new.ensures.items c.args.node none)
     c.requires.preserves.node
 
 pub returns-clause-ready : goal.returns-clause-ready
@@ -20,9 +20,9 @@ returns-clause-ready g c =
     let none : page_of c.self.inside.proposer.state.pages c.args.node c.args.page ≡ None =
     ap (λ (ps : List (List (Option (List (SlotReport g.row.V.Denot))))). page_of ps c.args.node c.args.page) (sym c.pages.ensures.pages)
     ∙ none_is c.get.result (page_of (entries_of c.pages.result.now) c.args.node c.args.page) _ c.is_some.result c.get.ensures c.is_some.ensures c.if-is_some.false in
-    (c.stage_proposer_update.ensures.0, c.stage_proposer_update.ensures.1 ∙ sym (keep_step (assembled c.self.inside.me c.self.inside.weights c.self.inside.kept_part.kept c.self.inside.proposer.state c.self.inside.learner.state) c.args.self.now.node same c.room_for_page.new.self.state (c.room_for_page.ensures.state) c.args.page c.args.reports.now c.in_ok-reports.reports c.in_ok-reports.ensures c.new.result.items c.new.ensures.items c.args.node none))
+    (c.stage_proposer_update.ensures.0, c.stage_proposer_update.ensures.1 ∙ sym (keep_step (assembled c.self.inside.me c.self.inside.weights c.self.inside.kept_part.kept c.self.inside.proposer.state c.self.inside.learner.state) c.args.self.now.node same c.reserve_page.new.self.state (c.reserve_page.ensures.state) c.args.page c.args.reports.now c.in_ok-reports.reports c.in_ok-reports.ensures c.new.result.items c.new.ensures.items c.args.node none))
 
-pub returns-clause-room : goal.returns-clause-room
-returns-clause-room g c =
-    proposer_room c.self.inside.me c.self.inside.weights c.self.inside.kept_part c.self.inside.proposer c.self.inside.learner c.args.self.now c.self.view_is c.room_for_page.new.self
-    c.room_for_page.ensures.pages (let same = c.room_for_page.ensures.heard in omega (arith, same)) (let same = c.room_for_page.ensures.waiting in omega (arith, same))
+pub returns-clause-capacity : goal.returns-clause-capacity
+returns-clause-capacity g c =
+    proposer_room c.self.inside.me c.self.inside.weights c.self.inside.kept_part c.self.inside.proposer c.self.inside.learner c.args.self.now c.self.view_is c.reserve_page.new.self
+    c.reserve_page.ensures.pages (let same = c.reserve_page.ensures.heard in omega (arith, same)) (let same = c.reserve_page.ensures.waiting in omega (arith, same))

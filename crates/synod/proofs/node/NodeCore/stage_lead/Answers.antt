@@ -14,8 +14,8 @@ stage_proposer_update-requires-clause-node g c =
     (lead_step (assembled c.self.inside.me c.self.inside.weights c.self.inside.kept_part.kept c.self.inside.proposer.state c.self.inside.learner.state) c.args.self.now.node (ap (λ (core : Core g.row.V.Denot). core.node) c.self.view_is) (entries_of c.pages.result.now) c.pages.ensures.pages c.waiting-waiting.result.now c.waiting-waiting.ensures c.args.ballot c.args.first c.args.node c.args.page c.args.reports.now c.args.heard.now c.in_ok-lead.lead.posts.items c.in_ok-lead.lead.next c.in_ok-lead.lead.proposed c.in_ok-lead.ensures)
     c.requires.preserves.node
 
-pub stage_proposer_update-requires-clause-room : goal.stage_proposer_update-requires-clause-room
-stage_proposer_update-requires-clause-room g c =
+pub stage_proposer_update-requires-clause-capacity : goal.stage_proposer_update-requires-clause-capacity
+stage_proposer_update-requires-clause-capacity g c =
     let listed = ap (λ (vs : List g.row.V.Denot). length vs) c.waiting-waiting.ensures in
     let seen = ap (λ (core : Core g.row.V.Denot). length core.node.waiting) c.self.view_is in
     omega (arith, listed, seen, c.in_ok-lead.ensures.within)

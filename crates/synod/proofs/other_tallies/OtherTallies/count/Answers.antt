@@ -4,8 +4,8 @@ use Rattle.synod.proofs.other_tallies.OtherTallies.count.Goals as goal
 
 put : (c : goal.After-insert) → c.insert.new.self.entries ≡ vote_put c.args.self.now.votes c.args.slot c.args.ballot c.args.node
 put c =
-    let room = ap (λ (view : OtherTalliesView). view.room) c.self.view_is in
-    on_ok c.insert.result _ (c.insert.ensures.succeeds (omega (arith, room, c.requires.room))) c.insert.ensures.entries
+    let room = ap (λ (view : OtherTalliesView). view.capacity) c.self.view_is in
+    on_ok c.insert.result _ (c.insert.ensures.succeeds (omega (arith, room, c.requires.capacity))) c.insert.ensures.entries
     ∙ rw (c.voters_with-voters.ensures, ← c.self.view_is) refl
 
 pub returns-clause-here : goal.returns-clause-here

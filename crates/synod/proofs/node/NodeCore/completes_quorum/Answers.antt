@@ -1,6 +1,6 @@
 use Rattle.synod.proofs.Words.{◌∙◌, ap, false, get_or, Core, is_quorum, has_voter, counted}
 use Rattle.synod.proofs.WeighLemmas.{is_quorum-same}
-use Rattle.synod.proofs.node.NodeCore.is_chosen.Goals as goal
+use Rattle.synod.proofs.node.NodeCore.completes_quorum.Goals as goal
 
 pub returns : goal.returns
 returns g c =
