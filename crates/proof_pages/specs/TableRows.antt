@@ -4,7 +4,7 @@
 use Rattle.std.specs.Prelude.{ℕ, Bool, List, [], ◌∷◌, ◌++◌, codes, flat_map}
 use Rattle.proof_pages.specs.Words.{Name, Database, Row}
 use Rattle.proof_pages.specs.StepLines.{number_text}
-use Rattle.proof_pages.specs.Notations.{expr_html, cited_html}
+use Rattle.proof_pages.specs.Notations.{expr_html, label_at_html}
 
 -- a link to the row of a step, after a space; the ids of the rows of one table share this prefix
 unfoldable pub link_html : List ℕ → ℕ → List ℕ
@@ -20,7 +20,7 @@ taken_html id_prefix index taken = number_text index ++ codes "<td>" ++ flat_map
 
 -- label, expression
 abbrev pub row_rest : Bool → Database → List Name → List ℕ → ℕ → List ℕ → List ℕ
-row_rest linked S names classes position expr = cited_html linked S position ++ codes "<td>" ++ expr_html names classes expr ++ codes "\n"
+row_rest linked S names classes position expr = label_at_html linked S position ++ codes "<td>" ++ expr_html names classes expr ++ codes "\n"
 
 -- number, links to the steps taken, label, expression
 abbrev pub step_html : Bool → Database → List Name → List ℕ → List ℕ → ℕ → Row → List ℕ
@@ -29,7 +29,7 @@ step_html linked S names classes id_prefix index row =
 
 -- the label of the statement at a position as an item of a list
 abbrev pub item_html : Bool → Database → ℕ → List ℕ
-item_html linked S position = codes "<li>" ++ cited_html linked S position ++ codes "\n"
+item_html linked S position = codes "<li>" ++ label_at_html linked S position ++ codes "\n"
 
 -- a list of one label and others
 abbrev pub list_html : Bool → Database → ℕ → List ℕ → List ℕ

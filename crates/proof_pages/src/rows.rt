@@ -3,7 +3,7 @@ ghost use Rattle.std.specs.Prelude.{◌≡◌, ◌<◌, ◌++◌, length, get_or
 ghost use Rattle.steps.specs.Rows.{no_row};
 ghost use Rattle.proof_pages.specs.TableRows.{link_html, row_start, taken_html, row_rest, step_html, item_html, list_html, labels_html};
 
-use crate::notation::{Notation, push_cited, push_html_expr};
+use crate::notation::{Notation, push_html_expr, push_label_at};
 use crate::step_lines::push_step_number;
 use std::alloc::AllocError;
 use steps::ProofTable;
@@ -64,7 +64,7 @@ pub fn push_row_rest(
         ++ row_rest notation.now.is_linked notation.now.statements.now notation.now.frames.now.names
         notation.now.colours.now.classes.items position expr.now) }
 {
-    push_cited(page, notation, position)?;
+    push_label_at(page, notation, position)?;
     page.extend_from_slice(b"<td>")?;
     push_html_expr(page, notation, expr)?;
     page.extend_from_slice(b"\n")
@@ -97,7 +97,7 @@ fn push_item(page: &mut Vec<u8>, notation: &Notation<'_>, position: u32) -> Resu
         ++ item_html notation.now.is_linked notation.now.statements.now position) }
 {
     page.extend_from_slice(b"<li>")?;
-    push_cited(page, notation, position as usize)?;
+    push_label_at(page, notation, position as usize)?;
     page.extend_from_slice(b"\n")
 }
 
