@@ -28,7 +28,7 @@ posts n s = nat_le s.first_post n && nat_lt n s.end_post
 -- the act is the delivery of packet n
 abbrev pub delivers_act : ℕ → Act → Bool
 delivers_act n (Deliver number) = number == n
-delivers_act n (Offer event) = false
+delivers_act n (Offer index) = false
 delivers_act n Begin = false
 delivers_act n Restart = false
 delivers_act n (Apply slot verdict) = false
@@ -44,7 +44,7 @@ step_point row s = record { row = row; node = s.node }
 -- a restart breaks the line of its node
 abbrev pub break_marks : ℕ → Step → Act → List Mark
 break_marks row s Restart = Break (step_point row s) ∷ []
-break_marks row s (Offer event) = []
+break_marks row s (Offer index) = []
 break_marks row s Begin = []
 break_marks row s (Deliver number) = []
 break_marks row s (Apply slot verdict) = []
@@ -61,7 +61,7 @@ arrow shown row n (Some p) = Arrow n (record { row = position_from (posts n) 0 s
 -- the arrow of the packet that an act delivers, if it is a delivery
 abbrev pub arrow_marks : Packets → List Step → ℕ → Act → List Mark
 arrow_marks packets shown row (Deliver n) = arrow shown row n (slice_get packets n)
-arrow_marks packets shown row (Offer event) = []
+arrow_marks packets shown row (Offer index) = []
 arrow_marks packets shown row Begin = []
 arrow_marks packets shown row Restart = []
 arrow_marks packets shown row (Apply slot verdict) = []

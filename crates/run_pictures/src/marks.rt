@@ -59,7 +59,7 @@ fn push_step(
         ≡ marks.old.items ++ step_marks (packets_of world.now) shown.now row step) }
 {
     push_point(marks, row, step)?;
-    push_arrows(marks, world, shown, row, step.act)?;
+    push_arrow_of_act(marks, world, shown, row, step.act)?;
     push_learned(marks, row, step)?;
     push_stumps(marks, world, shown, row, step)
 }
@@ -131,7 +131,7 @@ fn push_learned(marks: &mut Vec<Mark>, row: usize, step: Step) -> Result<(), All
 }
 
 /// Appends the arrow of the packet that is delivered, if the act is a delivery.
-fn push_arrows(
+fn push_arrow_of_act(
     marks: &mut Vec<Mark>,
     world: &World,
     shown: &[Step],

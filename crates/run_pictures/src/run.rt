@@ -173,7 +173,7 @@ fn act(event: &Event<Entry>, index: u64) -> Act
     ensures { result ≡ act_of index (value_event event.now) }
 {
     match event {
-        Event::Offer(_, _) => Act::Offer { event: index },
+        Event::Offer(_, _) => Act::Offer { event_index: index },
         Event::Begin(_) => Act::Begin,
         Event::Deliver(number) => Act::Deliver { packet: *number },
         Event::Restart(_) => Act::Restart,
