@@ -35,7 +35,7 @@ abbrev pub label_question_or_else : Option LabelQuestion → List ℕ → Words 
 label_question_or_else (Some kind) verb ws = option_map (λ q. Ask q) (node_question_of kind ws)
 label_question_or_else None verb ws = node_line_without_label verb ws
 
--- a line without a text on the lines that follow
+-- a line that takes none of the lines that follow
 abbrev pub without_text : {L : Type 0} → Option L → Option (L × ℕ)
 without_text expected = option_map (λ l. (l, 0)) expected
 
