@@ -15,8 +15,8 @@ abbrev pub row_start : List ℕ → ℕ → List ℕ
 row_start id_prefix index = codes "<tr id=\"" ++ id_prefix ++ number_text index ++ codes "\"><td>"
 
 -- number, links to the steps taken
-abbrev pub taken_html : List ℕ → ℕ → List ℕ → List ℕ
-taken_html id_prefix index taken = number_text index ++ codes "<td>" ++ flat_map (link_html id_prefix) taken ++ codes "<td>"
+abbrev pub number_and_links_html : List ℕ → ℕ → List ℕ → List ℕ
+number_and_links_html id_prefix index taken = number_text index ++ codes "<td>" ++ flat_map (link_html id_prefix) taken ++ codes "<td>"
 
 -- label, expression
 abbrev pub row_rest : Bool → Database → List Name → List ℕ → ℕ → List ℕ → List ℕ
@@ -25,7 +25,7 @@ row_rest linked S names classes position expr = label_at_html linked S position 
 -- number, links to the steps taken, label, expression
 abbrev pub step_html : Bool → Database → List Name → List ℕ → List ℕ → ℕ → Row → List ℕ
 step_html linked S names classes id_prefix index row =
-    row_start id_prefix index ++ taken_html id_prefix index row.step.taken ++ row_rest linked S names classes row.step.position row.expr
+    row_start id_prefix index ++ number_and_links_html id_prefix index row.step.taken ++ row_rest linked S names classes row.step.position row.expr
 
 -- the label of the statement at a position as an item of a list
 abbrev pub item_html : Bool → Database → ℕ → List ℕ
