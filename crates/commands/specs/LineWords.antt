@@ -12,20 +12,20 @@ infixl 10 ◌>>=◌
 abbrev pub ◌>>=◌ : {A B : Type 0} → Option A → (A → Option B) → Option B
 o >>= f = option_and_then f o
 
--- words of a line
+-- the words of a line
 abbrev pub Words : Type 0
 Words = List (List ℕ)
 
--- a line by its first word and the words after it
+-- the line that `line_of` gives for the first word and the words after it; none if there is no word
 abbrev pub by_first_word : {L : Type 0} → (List ℕ → Words → Option L) → Words → Option L
 by_first_word line_of [] = None
 by_first_word line_of (verb ∷ ws) = line_of verb ws
 
--- a line by its verb, which is its first word, and the words after it, with a space between words
+-- the line of these bytes, whose words are separated by single spaces: its verb is the first word
 abbrev pub line_by_first_word : {L : Type 0} → (List ℕ → Words → Option L) → List ℕ → Option L
 line_by_first_word line_of line = by_first_word line_of (split_at SPACE line)
 
--- a number
+-- the first word as a number, and the words after it
 abbrev pub number_at : Words → Option (ℕ × Words)
 number_at [] = None
 number_at (w ∷ ws) = option_map (λ n. (n, ws)) (number_of w)
@@ -40,6 +40,7 @@ abbrev pub has_no_words : Words → Bool
 has_no_words [] = true
 has_no_words (w ∷ ws) = false
 
+-- the only word as a number
 abbrev pub one_number : Words → Option ℕ
 one_number ws = do
   n ← number_at ws
@@ -49,21 +50,22 @@ one_number ws = do
 abbrev pub node_of : ℕ → ℕ
 node_of n = if nat_lt n 256 then n else 255
 
+-- the only word as a node
 abbrev pub one_node : Words → Option ℕ
 one_node ws = option_map node_of (one_number ws)
 
--- a node, and the words after it
+-- the first word as a node, and the words after it
 abbrev pub node_at : Words → Option (ℕ × Words)
 node_at ws = option_map (λ k. (node_of k.0, k.1)) (number_at ws)
 
--- J K
+-- two nodes: J K
 abbrev pub two_nodes : Words → Option NodePair
 two_nodes ws = do
   j ← node_at ws
   k ← one_node j.1
   Some (record { first = j.0; second = k })
 
--- K AUTHOR SERIAL
+-- the first three words as a node, an author and a serial number (K AUTHOR SERIAL), and the words after them
 abbrev pub entry_at : Words → Option (NodeEntryId × Words)
 entry_at ws = do
   k ← number_at ws
@@ -71,6 +73,7 @@ entry_at ws = do
   s ← number_at a.1
   Some (record { node = node_of k.0; author = a.0; serial = s.0 }, s.1)
 
+-- the only three words as K AUTHOR SERIAL
 abbrev pub one_entry : Words → Option NodeEntryId
 one_entry ws = do
   e ← entry_at ws

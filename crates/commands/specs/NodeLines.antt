@@ -31,11 +31,11 @@ node_line_without_label verb ws =
     if bytes_eq verb (codes "compare") then option_map (λ p. Compare p) (two_nodes ws) else overview_line verb ws))))
 
 -- a question about a label, or a line that names none
-abbrev pub question_or_short_line : Option LabelQuestion → List ℕ → Words → Option NodeLine
-question_or_short_line (Some kind) verb ws = option_map (λ q. Ask q) (node_question_of kind ws)
-question_or_short_line None verb ws = node_line_without_label verb ws
+abbrev pub label_question_or_else : Option LabelQuestion → List ℕ → Words → Option NodeLine
+label_question_or_else (Some kind) verb ws = option_map (λ q. Ask q) (node_question_of kind ws)
+label_question_or_else None verb ws = node_line_without_label verb ws
 
--- a line without a text on the lines that follow
+-- a line that takes none of the lines that follow
 abbrev pub without_text : {L : Type 0} → Option L → Option (L × ℕ)
 without_text expected = option_map (λ l. (l, 0)) expected
 
@@ -47,4 +47,4 @@ text_line_or_else line None otherwise ws lines = otherwise
 -- a line that offers no text
 abbrev pub node_line : List ℕ → Words → Option NodeLine
 node_line verb ws =
-    if bytes_eq verb (codes "charter") then option_map (λ o. Offer o) (charter_offer ws) else question_or_short_line (label_question_of verb) verb ws
+    if bytes_eq verb (codes "charter") then option_map (λ o. Offer o) (charter_offer ws) else label_question_or_else (label_question_of verb) verb ws

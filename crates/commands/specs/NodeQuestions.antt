@@ -18,7 +18,7 @@ label_question_of verb =
     if bytes_eq verb (codes "show") then Some Show else (
     if bytes_eq verb (codes "proof") then Some Proof else None))))
 
--- K LABEL
+-- a node and a label: K LABEL
 abbrev pub node_question_of : LabelQuestion → Words → Option NodeQuestion
 node_question_of kind ws = do
   k ← node_at ws

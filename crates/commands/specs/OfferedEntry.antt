@@ -26,7 +26,7 @@ numbers_of (w ∷ ws) = do
   ns ← numbers_of ws
   Some (n ∷ ns)
 
--- whether these are 1 to 64 numbers in rising order
+-- whether these numbers can be those of the authors of a charter: 1 to 64 in rising order
 abbrev pub are_names : List ℕ → Bool
 are_names numbers = nat_lt 0 (length numbers) && nat_lt (length numbers) (MOST_NAMES + 1) && is_rising numbers
 
@@ -35,7 +35,7 @@ abbrev pub rises : Option ℕ → ℕ → Bool
 rises None n = true
 rises (Some last) n = nat_lt last n
 
--- the names of a charter: 1 to 64 numbers in rising order
+-- the authors that a charter names: 1 to 64 numbers in rising order
 abbrev pub names_of : Words → Option (List ℕ)
 names_of ws = do
   names ← numbers_of ws

@@ -31,7 +31,7 @@ play_text_form verb = form_by (codes "offer") (codes "offer-lines") (codes "offe
 abbrev pub play_without_text : List (List ℕ) → List ℕ → Words → Option (PlayLine × ℕ)
 play_without_text lines verb ws = without_text (line_or_node_line (play_only_line verb ws) verb ws)
 
--- a line by its verb and the words after it
+-- the line with a verb and the words after it, given the lines that follow
 abbrev pub play_line_by : List (List ℕ) → List ℕ → Words → Option (PlayLine × ℕ)
 play_line_by lines verb ws = text_line_or_else (λ o. Node (Offer o)) (play_text_form verb) (play_without_text lines verb ws) ws lines
 

@@ -11,13 +11,13 @@ use Rattle.commands.specs.declared.script.TheConstants.{LINE_FEED}
 use Rattle.commands.specs.Pieces.{split_at}
 use Rattle.commands.specs.RemainingLines.{RemainingLines, IsAdvanced}
 
--- the result of parsing a line that by definition is `expected`
+-- the result of parsing a line that is `expected` by definition; `None` if it is a bad line
 abbrev pub Parses : {A : Type 0} → Option A → Result A LineFault → Type 0
 Parses expected (Ok x) = expected ≡ Some x
 Parses expected (Err Bad) = expected ≡ None
 Parses expected (Err NoMemory) = IsSome expected
 
--- the result of parsing a line that by definition is `expected`, given the lines after it; the lines of its text are taken
+-- the same, given the lines after it: `expected` is the line and how many of those lines are its text, and these are taken
 abbrev pub ParsesLine : {A : Type 0} → Option (A × ℕ) → RemainingLines → RemainingLines → Result A LineFault → Type 0
 ParsesLine {A = A} expected old new (Ok x) = (count : ℕ) × (expected ≡ Some (x, count)) × IsAdvanced count old new
 ParsesLine {A = A} expected old new (Err Bad) = expected ≡ None
@@ -44,7 +44,7 @@ script_from expected number zero ((c ∷ cs) ∷ lines) =
 abbrev pub script_of : {L : Type 0} → (List ℕ → List (List ℕ) → Option (L × ℕ)) → List ℕ → Result (List L) ℕ
 script_of expected script = script_from expected 1 0 (split_at LINE_FEED script)
 
--- the result of parsing a script that by definition is `expected`
+-- the result of parsing a script that is `expected` by definition: its lines, or the number of the first bad line
 abbrev pub ParsesScript : {L : Type 0} → Result (List L) ℕ → Result (Vec L Global) ScriptFault → Type 0
 ParsesScript expected (Ok lines) = expected ≡ Ok lines.items
 ParsesScript expected (Err (BadLine number)) = expected ≡ Err number

@@ -18,7 +18,7 @@ submit_form verb = form_by (codes "submit") (codes "submit-lines") (codes "submi
 abbrev pub add_form : List ℕ → Option TextForm
 add_form verb = form_by (codes "add") (codes "add-lines") (codes "add-bytes") verb
 
--- the line without a text that `play` does not have
+-- the line without a text that `serve` has and `play` does not
 abbrev pub serve_only_line : List ℕ → Words → Option ServeLine
 serve_only_line verb ws = if bytes_eq verb (codes "settle") then option_map (λ e. Settle e) (one_entry ws) else None
 
@@ -35,7 +35,7 @@ serve_without_text lines verb ws = without_text (line_or_node_line (serve_only_l
 abbrev pub add_line_or_else : List (List ℕ) → List ℕ → Words → Option (ServeLine × ℕ)
 add_line_or_else lines verb ws = text_line_or_else (λ o. Add o) (add_form verb) (serve_without_text lines verb ws) ws lines
 
--- a line by its verb and the words after it
+-- the line with a verb and the words after it, given the lines that follow
 abbrev pub serve_line_by : List (List ℕ) → List ℕ → Words → Option (ServeLine × ℕ)
 serve_line_by lines verb ws = text_line_or_else (λ o. Node (Offer o)) (submit_form verb) (add_line_or_else lines verb ws) ws lines
 

@@ -41,13 +41,13 @@ const LABEL: Argument = Argument {
     help: "A label of the database; one that begins with - stands after --",
 };
 
-const LABELS: Argument = Argument {
+const ASSERTION_LABELS: Argument = Argument {
     name: "labels",
     form: Form::Labels,
     help: "The labels of assertions; those that begin with - stand after --",
 };
 
-const ANY_LABELS: Argument = Argument {
+const STATEMENT_LABELS: Argument = Argument {
     name: "labels",
     form: Form::Labels,
     help: "The labels of statements; those that begin with - stand after --",
@@ -229,13 +229,13 @@ const COMMANDS: [CommandDefinition; 14] = [
         "extract",
         "mmlib extract LABEL .. < DATABASE",
         "Print some assertions of the database on standard input, with all that they need: mmlib extract id < set.mm",
-        &[LABELS, ASSUME, NAME],
+        &[ASSERTION_LABELS, ASSUME, NAME],
     ),
     CommandDefinition(
         "show",
         "mmlib show LABEL .. < DATABASE",
         "Print statements of the database on standard input, each with its description and its hypotheses: mmlib show id < set.mm",
-        &[ANY_LABELS, ASSUME, NAME],
+        &[STATEMENT_LABELS, ASSUME, NAME],
     ),
     CommandDefinition(
         "find",

@@ -4,7 +4,7 @@ use std::alloc::{AllocError, Global};
 
 /// The kind of text that a command reads from standard input.
 #[derive(Clone, Copy, PartialEq, Eq)]
-enum Source {
+enum InputKind {
     Database,
     Script,
 }
@@ -20,7 +20,7 @@ pub(crate) fn push_hint(
 ) -> Result<(), AllocError> {
     if let [file] = words {
         if is_file_name(file) {
-            return push_file(text, Source::Database, &["check"], file);
+            return push_file(text, InputKind::Database, &["check"], file);
         }
         return Ok(());
     }
@@ -28,10 +28,10 @@ pub(crate) fn push_hint(
         let index = words.len() - 1 - step;
         if may_be_file(words, index) {
             let others = without(alloc, words, index)?;
-            if let Some(source) = source_of(alloc, others.as_slice())
-                && (source == Source::Database || is_file_name(words[index]))
+            if let Some(kind) = input_kind_of(alloc, others.as_slice())
+                && (kind == InputKind::Database || is_file_name(words[index]))
             {
-                return push_file(text, source, others.as_slice(), words[index]);
+                return push_file(text, kind, others.as_slice(), words[index]);
             }
         }
     }
@@ -65,11 +65,11 @@ fn without<'a>(alloc: Global, words: &[&'a str], index: usize) -> Result<Vec<&'a
 
 /// Returns the kind of text that the request of these words reads, or `None` if they are no
 /// request.
-fn source_of(alloc: Global, words: &[&str]) -> Option<Source> {
+fn input_kind_of(alloc: Global, words: &[&str]) -> Option<InputKind> {
     match matches_of(alloc, words) {
         Ok(matches) => match matches.subcommand() {
-            Some(("play" | "serve", _)) => Some(Source::Script),
-            Some(_) => Some(Source::Database),
+            Some(("play" | "serve", _)) => Some(InputKind::Script),
+            Some(_) => Some(InputKind::Database),
             None => None,
         },
         Err(_) => None,
@@ -79,13 +79,13 @@ fn source_of(alloc: Global, words: &[&str]) -> Option<Source> {
 /// Appends the line that says how to give one file to the command.
 fn push_file(
     text: &mut String,
-    source: Source,
+    kind: InputKind,
     words: &[&str],
     file: &str,
 ) -> Result<(), AllocError> {
-    text.push_str(match source {
-        Source::Database => "the database is read from standard input: mmlib ",
-        Source::Script => "the script is read from standard input: mmlib ",
+    text.push_str(match kind {
+        InputKind::Database => "the database is read from standard input: mmlib ",
+        InputKind::Script => "the script is read from standard input: mmlib ",
     })?;
     for word in words {
         text.push_str(word)?;
@@ -104,7 +104,7 @@ fn push_files(alloc: Global, words: &[&str], text: &mut String) -> Result<(), Al
     };
     if !is_file_name(first)
         || !is_file_name(second)
-        || source_of(alloc, front) != Some(Source::Database)
+        || input_kind_of(alloc, front) != Some(InputKind::Database)
     {
         return Ok(());
     }

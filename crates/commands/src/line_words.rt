@@ -40,27 +40,27 @@ impl<'a> Pieces<'a, SPACE> {
     }
 
     /// Takes the next word as a number. Returns `None` if it is not a number.
-    pub fn number(&mut self) -> Option<u64>
+    pub fn take_number(&mut self) -> Option<u64>
         ensures { option_map (λ number. (number, self.new)) result ≡ number_at self.old }
     {
         parse_number(self.take()?)
     }
 
     /// Takes the next word as the number of a node. Returns `None` if it is not a number.
-    pub fn node(&mut self) -> Option<u8>
+    pub fn take_node(&mut self) -> Option<u8>
         ensures { option_map (λ node. (node, self.new)) result ≡ node_at self.old }
     {
-        let number = self.number()?;
-        Some(node(number))
+        let number = self.take_number()?;
+        Some(node_with_number(number))
     }
 
     /// Takes the next three words as `K AUTHOR SERIAL`.
-    pub fn entry(&mut self) -> Option<NodeEntryId>
+    pub fn take_entry(&mut self) -> Option<NodeEntryId>
         ensures { option_map (λ entry. (entry, self.new)) result ≡ entry_at self.old }
     {
-        let node = node(self.number()?);
-        let author = self.number()?;
-        let serial = self.number()?;
+        let node = node_with_number(self.take_number()?);
+        let author = self.take_number()?;
+        let serial = self.take_number()?;
         Some(NodeEntryId {
             node,
             author,
@@ -72,7 +72,7 @@ impl<'a> Pieces<'a, SPACE> {
     pub fn only_number(mut self) -> Option<u64>
         ensures { result ≡ one_number self.entry }
     {
-        let number = self.number()?;
+        let number = self.take_number()?;
         match self.take() {
             Some(_word) => None,
             None => Some(number),
@@ -83,7 +83,7 @@ impl<'a> Pieces<'a, SPACE> {
     pub fn only_node(self) -> Option<u8>
         ensures { result ≡ one_node self.entry }
     {
-        Some(node(self.only_number()?))
+        Some(node_with_number(self.only_number()?))
     }
 
     /// Returns whether no word is left.
@@ -97,7 +97,7 @@ impl<'a> Pieces<'a, SPACE> {
     pub fn only_pair(mut self) -> Option<NodePair>
         ensures { result ≡ two_nodes self.entry }
     {
-        let first = self.node()?;
+        let first = self.take_node()?;
         let second = self.only_node()?;
         Some(NodePair { first, second })
     }
@@ -107,7 +107,7 @@ impl<'a> Pieces<'a, SPACE> {
     pub fn only_entry(mut self) -> Option<NodeEntryId>
         ensures { result ≡ one_entry self.entry }
     {
-        let entry = self.entry()?;
+        let entry = self.take_entry()?;
         match self.take() {
             Some(_word) => None,
             None => Some(entry),
@@ -116,7 +116,7 @@ impl<'a> Pieces<'a, SPACE> {
 }
 
 /// Returns the node with this number, or 255 if the number is greater. No cluster has a node 255.
-fn node(number: u64) -> u8
+fn node_with_number(number: u64) -> u8
     ensures { result ≡ node_of number }
 {
     u8::try_from(number).unwrap_or(u8::MAX)

@@ -99,7 +99,7 @@ pub(crate) fn parse_question(
 ) -> Result<NodeQuestion, LineFault>
     ensures { Parses (node_question_of kind words.entry) result }
 {
-    let node = words.node().ok_or(LineFault::Bad)?;
+    let node = words.take_node().ok_or(LineFault::Bad)?;
     let label = only_word(words).ok_or(LineFault::Bad)?;
     let Ok(label) = Bytes::copy_from_slice(alloc, label) else {
         return Err(LineFault::Memory);

@@ -31,7 +31,7 @@ pub(crate) fn parse_text<'a>(
     ensures { ParsesLine (text_offer form words.entry lines.old.lines)
         lines.old lines.new result }
 {
-    let at = words.entry().ok_or(LineFault::Bad)?;
+    let at = words.take_entry().ok_or(LineFault::Bad)?;
     let text = take_text(form, words, lines).ok_or(LineFault::Bad)?;
     let Ok(text) = Bytes::copy_from_slice(alloc, text) else {
         return Err(LineFault::Memory);
@@ -50,7 +50,7 @@ pub(crate) fn parse_text<'a>(
 pub(crate) fn parse_charter(alloc: Global, mut words: Words<'_>) -> Result<OfferedEntry, LineFault>
     ensures { Parses (charter_offer words.entry) result }
 {
-    let at = words.entry().ok_or(LineFault::Bad)?;
+    let at = words.take_entry().ok_or(LineFault::Bad)?;
     if !are_names(words.copy()) {
         return Err(LineFault::Bad);
     }

@@ -1,6 +1,6 @@
--- The list of the `$e` with a pattern, which a search carries from statement to statement.
+-- The positions of the `$e` with a pattern, a list that a search carries from statement to statement.
 -- Source: none; for the private functions of `hypotheses` and `lines`.
--- The code keeps the positions of those that may still be active, and removes from the end those that no longer are.
+-- The code keeps the positions of the `$e` that may still be active, and removes from the end of the list those that no longer are.
 use Rattle.std.specs.Prelude.{◌≡◌, ℕ, suc, ◌+◌, ◌<◌, ◌≤◌, true, List, length, get_or}
 use Rattle.mm_read.specs.Statements.{Database}
 use Rattle.mm_read.specs.declared.stmt.Stmt.{Stmt}
@@ -21,11 +21,11 @@ abbrev pub AreRecorded : SearchQuery → Database → ℕ → List ℕ → Type 
 AreRecorded (WithHypotheses p) S n list = AreMatchingEssentials p S n list
 AreRecorded query S n list = Unit {0}
 
--- the statement at i is a hypothesis that is active at `at`
+-- the statement at position i is a hypothesis that is active at position `at`
 abbrev pub IsActiveHypothesis : Database → ℕ → ℕ → Type 0
 IsActiveHypothesis F at i = (s : Stmt) × IsHypothesis F at i s
 
--- how many of a list are left once those at its end that are no hypotheses active at `at` are removed
+-- the length of the list up to the last position that is that of a hypothesis active at `at`, that position included; 0 if there is none
 pub record IsTrimmedLength (F : Database) (at : ℕ) (list : List ℕ) (left : ℕ) : Type 0 where
   pub within : left ≤ length list
   pub gone : (k : ℕ) → left ≤ k → k < length list → IsActiveHypothesis F at (get_or list k 0) → ⊥

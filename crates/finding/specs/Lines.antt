@@ -13,8 +13,9 @@ found_line (Axiom label expr) = label ++ codes " " ++ spaced expr ++ codes "\n"
 found_line (Prove label expr proof) = label ++ codes " " ++ spaced expr ++ codes "\n"
 found_line s = []
 
+-- the line of a statement if it is found, else nothing
 abbrev pub line_if : Bool → Stmt → List ℕ
-line_if is s = if is then found_line s else []
+line_if found s = if found then found_line s else []
 
 -- the line of a statement if it matches (`matches`), else nothing
 abbrev pub IsLineIf : Type 0 → Stmt → List ℕ → Type 0

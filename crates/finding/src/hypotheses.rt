@@ -61,8 +61,8 @@ pub(crate) fn trim_to_active(frames: &Frames, at: usize, positions: &mut Vec<usi
     left > 0
 }
 
-/// Returns how many positions are left once those at the end that are not of hypotheses active at
-/// `at` are removed.
+/// Returns the length of the list up to the last position that is that of a hypothesis active at `at`,
+/// that position included, or 0 if there is none.
 fn count_left(frames: &Frames, at: usize, positions: &[usize]) -> usize
     requires position { (1 ≤ at) × (at ≤ length frames.now.statements) }
     ensures { IsTrimmedLength frames.now.statements at positions.now result }

@@ -8,7 +8,7 @@ pub use Rattle.mm_read.specs.declared.stmt.Stmt.TheVariants.{Open, Prove}
 pub use Rattle.printed.specs.Counted.{spaced_value_text}
 pub use Rattle.printed.specs.Outline.{outline_lines, numbered_line, outline_line, outline_of, rules_line}
 pub use Rattle.printed.specs.Printed.{assertion_line, spaced_entry_text, report_text}
-pub use Rattle.printed.specs.Trees.{label_line, node_line, tree_lines, trees_lines}
+pub use Rattle.printed.specs.Trees.{label_line, tree_node_line, tree_lines, trees_lines}
 pub use Rattle.scope.specs.Legal.{broken_rule, first_broken, numbered, or_later}
 pub use Rattle.scope.specs.contracts.rule.Rule.{the_type}
 pub use Rattle.scope.specs.declared.rule.Rule.TheVariants.{G10, Memory}

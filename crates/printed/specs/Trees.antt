@@ -13,14 +13,14 @@ abbrev pub label_line : Name → List ℕ
 label_line label = label ++ codes "\n"
 
 -- the line of a node: its depth, a space, and the label of the statement at its position
-abbrev pub node_line : Database → ℕ → ℕ → List ℕ
-node_line S depth at = decimal depth ++ codes " " ++ label_or_none (stmt_at S at) ++ codes "\n"
+abbrev pub tree_node_line : Database → ℕ → ℕ → List ℕ
+tree_node_line S depth at = decimal depth ++ codes " " ++ label_or_none (stmt_at S at) ++ codes "\n"
 
 -- a line for each node, parents before children, children in order
 abbrev mutual
   pub tree_lines : Database → ℕ → Derivation → List ℕ
-  tree_lines S depth (hyp i) = node_line S depth i
-  tree_lines S depth (apply a children) = node_line S depth a ++ trees_lines S (depth + 1) children
+  tree_lines S depth (hyp i) = tree_node_line S depth i
+  tree_lines S depth (apply a children) = tree_node_line S depth a ++ trees_lines S (depth + 1) children
 
   pub trees_lines : Database → ℕ → Derivations → List ℕ
   trees_lines S depth none = []

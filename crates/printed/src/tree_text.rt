@@ -3,7 +3,7 @@ ghost use Rattle.std.specs.Prelude.{◌≡◌, ◌+◌, ◌++◌, flat_map, opti
 ghost use Rattle.scope.specs.Active.{stmt_at, label_of};
 ghost use Rattle.verify.specs.Derivations.{derivation_of};
 ghost use Rattle.verify.specs.Proves.{label_or_none};
-ghost use Rattle.printed.specs.Trees.{label_line, node_line, tree_lines};
+ghost use Rattle.printed.specs.Trees.{label_line, tree_node_line, tree_lines};
 
 use mm_lex::Word;
 use mm_read::Stmt;
@@ -25,9 +25,9 @@ pub fn push_tree(
         ≡ text.old.items ++ tree_lines statements.now depth (derivation_of tree.now)) }
 {
     match tree {
-        Tree::Hyp(at) => push_node(text, statements, *at, depth),
+        Tree::Hyp(at) => push_tree_node(text, statements, *at, depth),
         Tree::Apply(at, children) => {
-            push_node(text, statements, *at, depth)?;
+            push_tree_node(text, statements, *at, depth)?;
             let below = depth_below(depth)?;
             for child in children {
                 push_tree(text, statements, child, below)?;
@@ -47,13 +47,13 @@ fn depth_below(depth: u64) -> Result<u64, AllocError>
 }
 
 /// Appends the depth, a space, and the label of the statement at a position.
-fn push_node(
+fn push_tree_node(
     text: &mut Vec<u8>,
     statements: &[Stmt],
     at: usize,
     depth: u64,
 ) -> Result<(), AllocError>
-    ensures { OnOk result (text.new.items ≡ text.old.items ++ node_line statements.now depth at) }
+    ensures { OnOk result (text.new.items ≡ text.old.items ++ tree_node_line statements.now depth at) }
 {
     push_number(text, depth)?;
     text.extend_from_slice(b" ")?;

@@ -32,11 +32,14 @@ pub fn write_answer<O: Write>(
     output: &mut O,
 ) -> Result<(), Fault> {
     match question {
-        Question::Check => print(output, proved(alloc, library.statements())?.as_slice()),
+        Question::Check => print(output, proved_line(alloc, library.statements())?.as_slice()),
         Question::CheckEach => {
-            print(output, all_proved(alloc, library.statements())?.as_slice())
+            print(
+                output,
+                all_proved_line(alloc, library.statements())?.as_slice(),
+            )
         }
-        Question::List => print(output, list(alloc, library)?.as_slice()),
+        Question::List => print(output, assertion_lines(alloc, library)?.as_slice()),
         Question::Export => print(output, library.export()?.as_slice()),
         Question::Tree(label) => print(output, tree(alloc, library, label)?.as_slice()),
         Question::Trace(label) => print_labels(alloc, library.trace(label)?.as_slice(), output),
@@ -66,7 +69,7 @@ pub fn write_answer<O: Write>(
 }
 
 /// Returns the line `proved N`, where N is the number of `$p`.
-fn proved(alloc: Global, statements: &[Stmt]) -> Result<Vec<u8>, AllocError> {
+fn proved_line(alloc: Global, statements: &[Stmt]) -> Result<Vec<u8>, AllocError> {
     let mut line = Vec::from_slice(alloc, b"proved ")?;
     push_number(&mut line, count_of_proofs(statements) as u64)?;
     line.extend_from_slice(b"\n")?;
@@ -74,7 +77,7 @@ fn proved(alloc: Global, statements: &[Stmt]) -> Result<Vec<u8>, AllocError> {
 }
 
 /// Returns the line `proved N of N`, where N is the number of `$p`.
-fn all_proved(alloc: Global, statements: &[Stmt]) -> Result<Vec<u8>, AllocError> {
+fn all_proved_line(alloc: Global, statements: &[Stmt]) -> Result<Vec<u8>, AllocError> {
     let mut line = Vec::new(alloc);
     push_proved(&mut line, statements, 0)?;
     Ok(line)
@@ -106,7 +109,7 @@ fn count_of_proofs(statements: &[Stmt]) -> usize {
 }
 
 /// Returns a line for each assertion.
-fn list(alloc: Global, library: &Library) -> Result<Vec<u8>, AllocError> {
+fn assertion_lines(alloc: Global, library: &Library) -> Result<Vec<u8>, AllocError> {
     let list = library.list()?;
     let mut lines = Vec::new(alloc);
     push_assertions(&mut lines, list.as_slice())?;

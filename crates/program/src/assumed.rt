@@ -15,11 +15,12 @@ use std::thread::Threads;
 use unproved::LegalDatabase;
 use verify_pool::Workers;
 
-/// The greatest count of labels that are named.
+/// The greatest count of labels that are printed.
 const MOST_NAMED: usize = 10;
 
 /// Prints the answer about the statements of a text, each `$p` that is not proved taken as a `$a`;
-/// returns the exit status. The count of these `$p` and the first of their labels go to `faults`.
+/// returns the exit status. The count of these `$p` and the labels of the first `MOST_NAMED` go to
+/// `faults`.
 ///
 /// The library is leaked: the end of the process frees all of it at once.
 pub fn answer_assuming<R: AllocGlobal + Threads + Sync, O: Write, F: Write>(
@@ -44,7 +45,7 @@ pub fn answer_assuming<R: AllocGlobal + Threads + Sync, O: Write, F: Write>(
 }
 
 /// Returns a library of the statements of a text, each `$p` that is not proved taken as a `$a`. The
-/// count of these `$p` and the first of their labels go to `faults`.
+/// count of these `$p` and the labels of the first `MOST_NAMED` go to `faults`.
 pub fn assume_unproved<R: AllocGlobal + Threads + Sync, F: Write>(
     rt: &R,
     database: LegalDatabase,
@@ -55,8 +56,8 @@ pub fn assume_unproved<R: AllocGlobal + Threads + Sync, F: Write>(
     database.assume(unproved.as_slice())
 }
 
-/// Prints how many theorems are taken as axioms and the labels of the first, if there are any and
-/// if allocation succeeds.
+/// Prints how many theorems are taken as axioms and the labels of the first `MOST_NAMED`, if there
+/// are any and if allocation succeeds.
 fn print_assumed<F: Write>(
     alloc: Global,
     database: &LegalDatabase,
@@ -71,7 +72,8 @@ fn print_assumed<F: Write>(
     }
 }
 
-/// Returns the line that says how many theorems are taken as axioms, with the labels of the first.
+/// Returns the line that says how many theorems are taken as axioms, with the labels of the first
+/// `MOST_NAMED`.
 fn assumed_line(
     alloc: Global,
     database: &LegalDatabase,

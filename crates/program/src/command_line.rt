@@ -1,7 +1,7 @@
 //! Runs a command line.
 use crate::databases::{answer_question, print_outline};
 use crate::fault::Fault;
-use crate::pages::print_pages;
+use crate::pages::write_pages;
 use crate::play::play;
 use crate::play_picture::print_picture;
 use crate::serve::serve;
@@ -18,8 +18,9 @@ use std::thread::Threads;
 ///
 /// The status is 0 if all is good (the version too), 1 after a refusal (of the input, of a line,
 /// out of memory) or a failed write, 2 for a bad command line, help, bad weights or a bad script.
-/// Answers, refusals and the bad lines of scripts go to `output`; all else that is printed (help,
-/// the text of a bad command line, explanations, notes, the progress of `pages`) goes to `faults`.
+/// Answers, refusals and the bad lines of scripts go to `output`, the standard output of `mmlib`; all
+/// else that is printed (help, the text of a bad command line, explanations, notes, the progress of
+/// `pages`) goes to `faults`, its standard error.
 pub fn run<
     R: AllocGlobal + Threads + Wait + Copy + Send + Sync + Drop + 'static,
     I: Read,
@@ -57,7 +58,7 @@ fn answer<
         Request::Version => print_version(output),
         Request::Outline { name } => print_outline(rt.alloc(), name, input, output, faults),
         Request::Ask(question) => answer_question(rt, &question, input, output, faults),
-        Request::Pages(request) => print_pages(rt, request, input, output, faults, folder),
+        Request::Pages(request) => write_pages(rt, request, input, output, faults, folder),
         Request::Play { weights } => play(rt.alloc(), weights, input, output),
         Request::Picture { weights, steps } => {
             print_picture(rt.alloc(), weights, steps, input, output)

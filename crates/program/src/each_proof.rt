@@ -84,7 +84,7 @@ pub fn read_legal_database<R: AllocGlobal + Threads + Sync>(
 }
 
 /// Prints a line for each `$p` of a text that is not proved and the count of those that are, and
-/// explains the first lines on `faults`; returns the exit status.
+/// explains the first `MOST_EXPLAINED` lines on `faults`; returns the exit status.
 ///
 /// The statements are leaked: the end of the process frees all of them at once.
 fn print_each<R: AllocGlobal + Threads + Sync, O: Write, F: Write>(
@@ -99,7 +99,7 @@ fn print_each<R: AllocGlobal + Threads + Sync, O: Write, F: Write>(
     printed
 }
 
-/// Prints these lines and explanations for the statements of a text.
+/// Prints what `print_each` prints, and leaks nothing.
 fn print_unproved<R: AllocGlobal + Threads + Sync, O: Write, F: Write>(
     rt: &R,
     text: NamedText<'_>,
@@ -109,7 +109,7 @@ fn print_unproved<R: AllocGlobal + Threads + Sync, O: Write, F: Write>(
 ) -> Result<u8, Fault> {
     let alloc = rt.alloc();
     let unproved = database.unproved(rt, Workers::offered(rt))?;
-    let lines = lines(alloc, database, unproved.as_slice())?;
+    let lines = unproved_lines(alloc, database, unproved.as_slice())?;
     print(output, lines.as_slice())?;
     if unproved.is_empty() {
         return Ok(0);
@@ -119,7 +119,11 @@ fn print_unproved<R: AllocGlobal + Threads + Sync, O: Write, F: Write>(
 }
 
 /// Returns a line for each `$p` at these positions, and the line that counts the proved ones.
-fn lines(alloc: Global, database: &LegalDatabase, unproved: &[usize]) -> Result<Vec<u8>, AllocError>
+fn unproved_lines(
+    alloc: Global,
+    database: &LegalDatabase,
+    unproved: &[usize],
+) -> Result<Vec<u8>, AllocError>
     requires { All (IsPositionOf (length database.now)) unproved.now }
 {
     let mut lines = Vec::new(alloc);

@@ -152,7 +152,7 @@ impl From<WriteFault> for Fault {
 impl From<PictureFault> for Fault {
     fn from(fault: PictureFault) -> Fault {
         match fault {
-            PictureFault::TooLarge => Fault::LongRun,
+            PictureFault::TooManySteps => Fault::LongRun,
             PictureFault::Memory => Fault::Memory(AllocError),
         }
     }

@@ -22,7 +22,7 @@ use unproved::LegalDatabase;
 /// so does the progress if there are many pages.
 ///
 /// The library is leaked: the end of the process frees all of it at once.
-pub fn print_pages<R: AllocGlobal + Threads + Sync, I: Read, O: Write, F: Write, S: Folder>(
+pub fn write_pages<R: AllocGlobal + Threads + Sync, I: Read, O: Write, F: Write, S: Folder>(
     rt: &R,
     request: SiteRequest<'_>,
     input: &mut I,
@@ -33,7 +33,7 @@ pub fn print_pages<R: AllocGlobal + Threads + Sync, I: Read, O: Write, F: Write,
     let text = Bytes::from_vec(read_text(rt.alloc(), input)?)?;
     let mut library = Library::new(rt.alloc());
     let streams = Streams { output, faults };
-    let answered = apply_and_print(rt, request, &text, &mut library, streams, folder);
+    let answered = apply_and_write(rt, request, &text, &mut library, streams, folder);
     forget(library);
     answered
 }
@@ -46,7 +46,7 @@ struct Streams<'a, O, F> {
 }
 
 /// Adds a text to an empty library, and writes the pages of the library.
-fn apply_and_print<R: AllocGlobal + Threads + Sync, O: Write, F: Write, S: Folder>(
+fn apply_and_write<R: AllocGlobal + Threads + Sync, O: Write, F: Write, S: Folder>(
     rt: &R,
     request: SiteRequest<'_>,
     bytes: &Bytes,
@@ -60,7 +60,7 @@ fn apply_and_print<R: AllocGlobal + Threads + Sync, O: Write, F: Write, S: Folde
     };
     match apply_text(rt, library, bytes)? {
         Verdict::Refused(cause) => assume_or_refuse(rt, request, text, cause, streams, folder),
-        _ => print_site(
+        _ => write_site_files(
             rt.alloc(),
             library,
             text.bytes,
@@ -84,7 +84,7 @@ fn assume_or_refuse<R: AllocGlobal + Threads + Sync, O: Write, F: Write, S: Fold
     let is_unproved = matches!(cause, Cause::Proof { .. } | Cause::Unfinished { .. });
     if is_unproved && request.assumes {
         if let Some(database) = read_legal_database(rt, text)? {
-            return assume_and_print(rt, request, text, database, streams, folder);
+            return assume_and_write(rt, request, text, database, streams, folder);
         }
     }
     let Streams { output, faults } = streams;
@@ -92,7 +92,7 @@ fn assume_or_refuse<R: AllocGlobal + Threads + Sync, O: Write, F: Write, S: Fold
 }
 
 /// Writes the pages of the statements of a text, each `$p` that is not proved taken as a `$a`.
-fn assume_and_print<R: AllocGlobal + Threads + Sync, O: Write, F: Write, S: Folder>(
+fn assume_and_write<R: AllocGlobal + Threads + Sync, O: Write, F: Write, S: Folder>(
     rt: &R,
     request: SiteRequest<'_>,
     text: NamedText<'_>,
@@ -103,7 +103,7 @@ fn assume_and_print<R: AllocGlobal + Threads + Sync, O: Write, F: Write, S: Fold
     let Streams { output, faults } = streams;
     let library = assume_unproved(rt, database, faults)?;
     let streams = Streams { output, faults };
-    let answered = print_site(
+    let answered = write_site_files(
         rt.alloc(),
         &library,
         text.bytes,
@@ -117,7 +117,7 @@ fn assume_and_print<R: AllocGlobal + Threads + Sync, O: Write, F: Write, S: Fold
 
 /// Writes the files of the site of a library that was read from a text, and returns the exit
 /// status. The name of a file that cannot be written goes to `faults`, and so does the progress.
-fn print_site<O: Write, F: Write, S: Folder>(
+fn write_site_files<O: Write, F: Write, S: Folder>(
     alloc: Global,
     library: &Library,
     text: &[u8],

@@ -4,7 +4,7 @@ ghost use Rattle.event_lines.specs.EventLines.{history_text};
 
 use crate::fault::Fault;
 use crate::node_answers::{ahead_line, compare_libraries, label_answer};
-use crate::scripts::{Answers, answer_lines, read_script};
+use crate::scripts::{AnswerLines, answer_lines, read_script};
 use crate::why::{decision_of, push_why};
 use commands::{NodeEntryId, NodeLine, PlayLine};
 use event_lines::push_events;
@@ -31,7 +31,7 @@ pub fn play<I: Read, O: Write>(
     answer_lines::<PlayLine, World, IntoIter<PlayLine>, O>(alloc, &mut world, &mut lines, output)
 }
 
-impl Answers<PlayLine> for World {
+impl AnswerLines<PlayLine> for World {
     fn answer(&mut self, line: PlayLine, text: &mut Vec<u8>) -> Result<(), Fault> {
         match line {
             PlayLine::Node(line) => answer_node_line(self, line, text),

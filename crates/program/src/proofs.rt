@@ -64,7 +64,7 @@ fn write_steps<O: Write>(
         proof.now.frames.now.names proof.now.steps.now }
 {
     if matches!(question.form, ProofForm::Page) {
-        write_theorem(alloc, proof, question, output)
+        write_proof_page(alloc, proof, question, output)
     } else if question.is_essential {
         let essential = essential_table(alloc, proof.frames, proof.at, proof.steps)?;
         write_table(alloc, proof.frames, &essential, question, output)
@@ -90,7 +90,7 @@ fn write_table<O: Write>(
 }
 
 /// Writes the page of the `$p`.
-fn write_theorem<O: Write>(
+fn write_proof_page<O: Write>(
     alloc: Global,
     proof: &Proof<'_>,
     question: &ProofQuestion<'_>,

@@ -6,12 +6,12 @@ use std::alloc::Global;
 use std::io::{Read, Write};
 use std::vec::IntoIter;
 
-/// The capacity in bytes that is reserved for an answer. That to an event needs no more, nor does a
-/// verdict.
+/// The capacity in bytes that is reserved for an answer. The answer to an event and a verdict need no
+/// more.
 const ANSWER_CAPACITY: usize = 128;
 
 /// Nodes that answer the lines of a script or a session.
-pub trait Answers<L> {
+pub trait AnswerLines<L> {
     /// Carries out a line, and appends its answer to a text.
     ///
     /// Errors: the line is refused; the text is then discarded.
@@ -50,7 +50,7 @@ pub fn read_script<L: Line, I: Read>(alloc: Global, input: &mut I) -> Result<Vec
 ///
 /// Errors: no further line can be read; an allocation fails before anything is printed; a write
 /// fails.
-pub fn answer_lines<L: Drop, N: Answers<L>, S: LineSource<L>, O: Write>(
+pub fn answer_lines<L: Drop, N: AnswerLines<L>, S: LineSource<L>, O: Write>(
     alloc: Global,
     nodes: &mut N,
     lines: &mut S,
@@ -72,7 +72,7 @@ pub fn answer_lines<L: Drop, N: Answers<L>, S: LineSource<L>, O: Write>(
 }
 
 /// Prints the answer to a line, and returns its exit status. `text` is a buffer that is reused.
-fn print_answer<L: Drop, N: Answers<L>, O: Write>(
+fn print_answer<L: Drop, N: AnswerLines<L>, O: Write>(
     nodes: &mut N,
     line: L,
     text: &mut Vec<u8>,

@@ -8,7 +8,7 @@ ghost use Rattle.printed.specs.Printed.{list_text};
 
 use crate::desk_answers::AnsweringDesk;
 use crate::fault::Fault;
-use crate::scripts::{Answers, LineSource, answer_lines};
+use crate::scripts::{AnswerLines, LineSource, answer_lines};
 use crate::served_nodes::{Nodes, NodesDesk, start_nodes, stop_nodes};
 use crate::session::{Script, ServedLine, Session};
 use crate::streams::print;
@@ -89,7 +89,7 @@ fn answer_at_desk<R: AllocGlobal + Wait, S: LineSource<ServedLine>, O: Write>(
     )
 }
 
-impl<R: Wait> Answers<ServedLine> for AnsweringDesk<'_, R> {
+impl<R: Wait> AnswerLines<ServedLine> for AnsweringDesk<'_, R> {
     fn answer(&mut self, line: ServedLine, text: &mut Vec<u8>) -> Result<(), Fault> {
         match line? {
             SessionLine::Serve(line) => answer_serve_line(self, line, text),

@@ -26,7 +26,7 @@ pub type Nodes = Cluster<OpenGate, MemoryKeep<Carried>>;
 pub type NodesDesk = Desk<OpenGate, MemoryKeep<Carried>>;
 
 /// Starts a node for each weight, with the weather that the seed draws, or a clear one without a
-/// seed. Each thread passes the gate at once.
+/// seed. The gate lets each thread pass at once.
 ///
 /// Errors: `Memory` if an allocation fails or a thread cannot be started; then no thread is left
 /// running.

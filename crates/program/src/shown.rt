@@ -15,7 +15,7 @@ struct DatabaseText<'a> {
     name: Option<&'a str>,
     text: &'a [u8],
     /// The offset after the last token of each statement, in order.
-    ends: &'a [usize],
+    statement_ends: &'a [usize],
 }
 
 /// Returns the block of the statement of each label, with an empty line between two.
@@ -28,11 +28,11 @@ pub fn blocks(
     labels: &[&str],
 ) -> Result<Vec<u8>, Fault> {
     let positions = positions(alloc, library, labels)?;
-    let ends = ends(alloc, text.bytes)?;
+    let statement_ends = statement_ends(alloc, text.bytes)?;
     let database = DatabaseText {
         name: text.name,
         text: text.bytes,
-        ends: ends.as_slice(),
+        statement_ends: statement_ends.as_slice(),
     };
     let mut blocks = Vec::new(alloc);
     for at in positions.as_slice() {
@@ -59,27 +59,29 @@ fn positions(alloc: Global, library: &Library, labels: &[&str]) -> Result<Vec<us
 /// Returns the offset after the last token of each statement of a text that was parsed.
 ///
 /// Cost: the size of the text.
-fn ends(alloc: Global, text: &[u8]) -> Result<Vec<usize>, AllocError> {
-    let mut ends = Vec::new(alloc);
+fn statement_ends(alloc: Global, text: &[u8]) -> Result<Vec<usize>, AllocError> {
+    let mut statement_ends = Vec::new(alloc);
     let mut is_in_comment = false;
     for at in memchr_iter(b'$', text) {
-        match keyword(text, at) {
+        match byte_after_dollar(text, at) {
             Some(b')') => is_in_comment = false,
             Some(b'(') => is_in_comment = true,
-            Some(b'.' | b'{' | b'}') if !is_in_comment => ends.push(at.saturating_add(2))?,
+            Some(b'.' | b'{' | b'}') if !is_in_comment => statement_ends.push(at.saturating_add(
+                2,
+            ))?,
             _ => {}
         }
     }
-    Ok(ends)
+    Ok(statement_ends)
 }
 
 /// Returns the byte after the `$` at an offset, if the two have white space before and after them.
-fn keyword(text: &[u8], at: usize) -> Option<u8> {
-    let begins = match at.checked_sub(1) {
+fn byte_after_dollar(text: &[u8], at: usize) -> Option<u8> {
+    let is_token_start = match at.checked_sub(1) {
         Some(before) => is_white(text, before),
         None => true,
     };
-    if begins && is_white(text, at.saturating_add(2)) {
+    if is_token_start && is_white(text, at.saturating_add(2)) {
         text.get(at.saturating_add(1)).copied()
     } else {
         None
@@ -106,16 +108,16 @@ fn push_statement_block(
     if at == 0 || at > statements.len() {
         return Ok(());
     }
-    let begin = begin(database, at);
-    let part = part(database, begin, at);
-    let descriptions = descriptions(alloc, part)?;
+    let start = statement_start(database, at);
+    let statement_text = statement_text(database, start, at);
+    let descriptions = descriptions(alloc, statement_text)?;
     let input = BlockInput {
         statements,
         frames: library.frames(),
         statement: &statements[at - 1],
         position: at,
-        line_and_column: first_line_and_column(alloc, database, begin, part)?,
-        description: first_description(part, descriptions.as_slice()),
+        line_and_column: first_line_and_column(alloc, database, start, statement_text)?,
+        description: first_description(statement_text, descriptions.as_slice()),
     };
     if let Some(name) = database.name {
         blocks.extend_from_slice(name.as_bytes())?;
@@ -125,35 +127,35 @@ fn push_statement_block(
 }
 
 /// Returns the offset at which the statement before the one at a position ends; 0 for the first.
-fn begin(database: &DatabaseText<'_>, at: usize) -> usize {
+fn statement_start(database: &DatabaseText<'_>, at: usize) -> usize {
     match at.checked_sub(2) {
-        Some(before) => database.ends.get(before).copied().unwrap_or(0),
+        Some(before) => database.statement_ends.get(before).copied().unwrap_or(0),
         None => 0,
     }
 }
 
-/// Returns the text of the statement at a position with all comments before it, from `begin`, where
-/// the previous statement ends. Parsed alone, this part has the same description.
-fn part<'a>(database: &DatabaseText<'a>, begin: usize, at: usize) -> &'a [u8] {
-    match database.ends.get(at.saturating_sub(1)) {
-        Some(end) => database.text.get(begin..*end).unwrap_or(b""),
+/// Returns the text of the statement at a position with all comments before it, from `start`, where
+/// the previous statement ends. Parsed alone, this text has the same description.
+fn statement_text<'a>(database: &DatabaseText<'a>, start: usize, at: usize) -> &'a [u8] {
+    match database.statement_ends.get(at.saturating_sub(1)) {
+        Some(end) => database.text.get(start..*end).unwrap_or(b""),
         None => b"",
     }
 }
 
-/// Returns the line and column of the first token of a part of the text that begins at `begin`.
+/// Returns the line and column of the first token of a part of the text that begins at `start`.
 fn first_line_and_column(
     alloc: Global,
     database: &DatabaseText<'_>,
-    begin: usize,
-    part: &[u8],
+    start: usize,
+    statement_text: &[u8],
 ) -> Result<Position, AllocError> {
-    let Ok(spans) = tokens(alloc, part) else {
+    let Ok(spans) = tokens(alloc, statement_text) else {
         return Err(AllocError);
     };
     let offset = match spans.first() {
-        Some(span) => begin.saturating_add(span.start),
-        None => begin,
+        Some(span) => start.saturating_add(span.start),
+        None => start,
     };
     Ok(line_and_column(database.text, offset.min(database.text.len())))
 }

@@ -38,5 +38,5 @@ abbrev pub label_if : Bool → ℕ → Option Stmt → List ℕ
 label_if linked position None = []
 label_if linked position (Some s) = label_html linked position s
 
-abbrev pub cited_html : Bool → Database → ℕ → List ℕ
-cited_html linked S position = label_if linked position (stmt_at S position)
+abbrev pub label_at_html : Bool → Database → ℕ → List ℕ
+label_at_html linked S position = label_if linked position (stmt_at S position)

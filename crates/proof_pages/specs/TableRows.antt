@@ -4,7 +4,7 @@
 use Rattle.std.specs.Prelude.{ℕ, Bool, List, [], ◌∷◌, ◌++◌, codes, flat_map}
 use Rattle.proof_pages.specs.Words.{Name, Database, Row}
 use Rattle.proof_pages.specs.StepLines.{number_text}
-use Rattle.proof_pages.specs.Notations.{expr_html, cited_html}
+use Rattle.proof_pages.specs.Notations.{expr_html, label_at_html}
 
 -- a link to the row of a step, after a space; the ids of the rows of one table share this prefix
 unfoldable pub link_html : List ℕ → ℕ → List ℕ
@@ -15,21 +15,21 @@ abbrev pub row_start : List ℕ → ℕ → List ℕ
 row_start id_prefix index = codes "<tr id=\"" ++ id_prefix ++ number_text index ++ codes "\"><td>"
 
 -- number, links to the steps taken
-abbrev pub taken_html : List ℕ → ℕ → List ℕ → List ℕ
-taken_html id_prefix index taken = number_text index ++ codes "<td>" ++ flat_map (link_html id_prefix) taken ++ codes "<td>"
+abbrev pub number_and_links_html : List ℕ → ℕ → List ℕ → List ℕ
+number_and_links_html id_prefix index taken = number_text index ++ codes "<td>" ++ flat_map (link_html id_prefix) taken ++ codes "<td>"
 
 -- label, expression
 abbrev pub row_rest : Bool → Database → List Name → List ℕ → ℕ → List ℕ → List ℕ
-row_rest linked S names classes position expr = cited_html linked S position ++ codes "<td>" ++ expr_html names classes expr ++ codes "\n"
+row_rest linked S names classes position expr = label_at_html linked S position ++ codes "<td>" ++ expr_html names classes expr ++ codes "\n"
 
 -- number, links to the steps taken, label, expression
 abbrev pub step_html : Bool → Database → List Name → List ℕ → List ℕ → ℕ → Row → List ℕ
 step_html linked S names classes id_prefix index row =
-    row_start id_prefix index ++ taken_html id_prefix index row.step.taken ++ row_rest linked S names classes row.step.position row.expr
+    row_start id_prefix index ++ number_and_links_html id_prefix index row.step.taken ++ row_rest linked S names classes row.step.position row.expr
 
 -- the label of the statement at a position as an item of a list
 abbrev pub item_html : Bool → Database → ℕ → List ℕ
-item_html linked S position = codes "<li>" ++ cited_html linked S position ++ codes "\n"
+item_html linked S position = codes "<li>" ++ label_at_html linked S position ++ codes "\n"
 
 -- a list of one label and others
 abbrev pub list_html : Bool → Database → ℕ → List ℕ → List ℕ

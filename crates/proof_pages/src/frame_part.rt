@@ -88,15 +88,15 @@ fn push_disjoint(
         values.now.contents.now.at s }
 {
     let contents = values.contents;
-    if let Some(cited) = contents.frames.kept_view(contents.at) {
-        return push_groups(page, &values.notation, &cited.groups);
+    if let Some(view) = contents.frames.kept_view(contents.at) {
+        return push_groups(page, &values.notation, &view.groups);
     }
     let mut frame_buffers = FrameBuffers::new(alloc);
     contents
         .frames
         .fill_buffers(contents.at, &mut frame_buffers)?;
-    let cited = contents.frames.buffered_view(contents.at, &frame_buffers);
-    push_groups(page, &values.notation, &cited.groups)
+    let buffered = contents.frames.buffered_view(contents.at, &frame_buffers);
+    push_groups(page, &values.notation, &buffered.groups)
 }
 
 fn push_groups(

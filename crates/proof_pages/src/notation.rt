@@ -1,7 +1,7 @@
 //! Symbols and labels on a page.
 ghost use Rattle.std.specs.Prelude.{◌≡◌, ◌++◌, Some, flat_map, OnOk};
 ghost use Rattle.verify.specs.Proves.{label_or_none};
-ghost use Rattle.proof_pages.specs.Notations.{first_class_html, variable_html, coloured, symbol_html, expr_html, link_start, page_link, label_html, cited_html};
+ghost use Rattle.proof_pages.specs.Notations.{first_class_html, variable_html, coloured, symbol_html, expr_html, link_start, page_link, label_html, label_at_html};
 
 use crate::colours::Colours;
 use file_names::push_file_name;
@@ -142,13 +142,13 @@ pub fn push_label(
 /// assertion and labels are linked.
 ///
 /// Errors: an allocation fails. Cost: the size of the label.
-pub(crate) fn push_cited(
+pub(crate) fn push_label_at(
     page: &mut Vec<u8>,
     notation: &Notation<'_>,
     position: usize,
 ) -> Result<(), AllocError>
     ensures { OnOk result (page.new.items ≡ page.old.items
-        ++ cited_html notation.now.is_linked notation.now.statements.now position) }
+        ++ label_at_html notation.now.is_linked notation.now.statements.now position) }
 {
     if position == 0 || position > notation.statements.len() {
         return Ok(());

@@ -1,9 +1,9 @@
 //! Rows of tables, and lists of labels. The end tags that HTML allows to omit are omitted.
 ghost use Rattle.std.specs.Prelude.{◌≡◌, ◌<◌, ◌++◌, length, get_or, flat_map, OnOk};
 ghost use Rattle.steps.specs.Rows.{no_row};
-ghost use Rattle.proof_pages.specs.TableRows.{link_html, row_start, taken_html, row_rest, step_html, item_html, list_html, labels_html};
+ghost use Rattle.proof_pages.specs.TableRows.{link_html, row_start, number_and_links_html, row_rest, step_html, item_html, list_html, labels_html};
 
-use crate::notation::{Notation, push_cited, push_html_expr};
+use crate::notation::{Notation, push_html_expr, push_label_at};
 use crate::step_lines::push_step_number;
 use std::alloc::AllocError;
 use steps::ProofTable;
@@ -39,13 +39,13 @@ fn push_row_start(page: &mut Vec<u8>, id_prefix: &[u8], index: usize) -> Result<
 }
 
 /// Appends the number of a step, and links to the rows of the steps that it takes.
-fn push_taken(
+fn push_number_and_links(
     page: &mut Vec<u8>,
     id_prefix: &[u8],
     index: usize,
     taken: &[usize],
 ) -> Result<(), AllocError>
-    ensures { OnOk result (page.new.items ≡ page.old.items ++ taken_html id_prefix.now index taken.now) }
+    ensures { OnOk result (page.new.items ≡ page.old.items ++ number_and_links_html id_prefix.now index taken.now) }
 {
     push_step_number(page, index)?;
     page.extend_from_slice(b"<td>")?;
@@ -64,7 +64,7 @@ pub fn push_row_rest(
         ++ row_rest notation.now.is_linked notation.now.statements.now notation.now.frames.now.names
         notation.now.colours.now.classes.items position expr.now) }
 {
-    push_cited(page, notation, position)?;
+    push_label_at(page, notation, position)?;
     page.extend_from_slice(b"<td>")?;
     push_html_expr(page, notation, expr)?;
     page.extend_from_slice(b"\n")
@@ -87,7 +87,7 @@ pub(crate) fn push_html_step(
         notation.now.colours.now.classes.items id_prefix.now index (get_or table.now index no_row)) }
 {
     push_row_start(page, id_prefix, index)?;
-    push_taken(page, id_prefix, index, table.taken(index))?;
+    push_number_and_links(page, id_prefix, index, table.taken(index))?;
     push_row_rest(page, notation, table.position(index), table.expr(index))
 }
 
@@ -97,7 +97,7 @@ fn push_item(page: &mut Vec<u8>, notation: &Notation<'_>, position: u32) -> Resu
         ++ item_html notation.now.is_linked notation.now.statements.now position) }
 {
     page.extend_from_slice(b"<li>")?;
-    push_cited(page, notation, position as usize)?;
+    push_label_at(page, notation, position as usize)?;
     page.extend_from_slice(b"\n")
 }
 

@@ -1,32 +1,33 @@
 //! Compares what a run printed with the expected output.
-use crate::row::Faults;
+use crate::row::ExpectedStderr;
 use std::alloc::{AllocError, Global};
 
 /// The standard error for a database without statements.
 const NO_STATEMENT: &[u8] = b"the database has no statement\n";
 
-/// The expected output of a run.
+/// What a run is to print, and its exit status.
 #[derive(Clone, Copy)]
 pub struct Expected<'a> {
     pub output: &'a [u8],
     /// The number of lines of the output, if `output` is only its beginning.
     pub lines: Option<u64>,
     /// The expected standard error.
-    pub faults: &'a Faults,
+    pub stderr: &'a ExpectedStderr,
     pub status: u8,
 }
 
-/// The output of a run.
+/// What a run printed, and its exit status.
 #[derive(Drop)]
 pub struct Printed {
     pub output: Vec<u8>,
     /// The text on standard error.
-    pub faults: Vec<u8>,
+    pub stderr: Vec<u8>,
     pub status: u8,
 }
 
-/// Returns the expected status for an output, if the row gives none.
-pub fn status_of(output: &[u8]) -> u8 {
+/// Returns the exit status that a row expects if it gives none: 1 if a line of the output begins with
+/// `refused`, else 0.
+pub fn default_status(output: &[u8]) -> u8 {
     for line in output.split(|byte| *byte == b'\n') {
         if line.starts_with(b"refused") {
             return 1;
@@ -48,9 +49,9 @@ pub fn compare(
     } else if printed.output.as_slice() != expected.output {
         return line_difference(alloc, expected.output, printed.output.as_slice());
     }
-    if !faults_match(expected, printed.faults.as_slice()) {
-        let faults = printed.faults.escape_ascii();
-        return Ok(Some(format!(in alloc; "standard error: `{faults}`")?));
+    if !stderr_matches(expected, printed.stderr.as_slice()) {
+        let stderr = printed.stderr.escape_ascii();
+        return Ok(Some(format!(in alloc; "standard error: `{stderr}`")?));
     }
     if printed.status != expected.status {
         let (status, got) = (expected.status, printed.status);
@@ -66,20 +67,21 @@ fn matches_beginning(output: &[u8], beginning: &[u8], lines: u64) -> bool {
 }
 
 /// Returns whether the text on standard error is as expected.
-fn faults_match(expected: &Expected<'_>, text: &[u8]) -> bool {
-    match expected.faults {
-        Faults::Unspecified => {
+fn stderr_matches(expected: &Expected<'_>, text: &[u8]) -> bool {
+    match expected.stderr {
+        ExpectedStderr::Unspecified => {
             text.is_empty()
-                || is_refusal(expected.output)
+                || ends_with_refusal(expected.output)
                 || (text == NO_STATEMENT && expected.output == b"proved 0\n".as_slice())
         }
-        Faults::Exactly(faults) => text == faults.as_slice(),
-        Faults::Beginning(faults) => !text.is_empty() && text.starts_with(faults.as_slice()),
+        ExpectedStderr::Exactly(wanted) => text == wanted.as_slice(),
+        ExpectedStderr::Beginning(beginning) => !text.is_empty()
+            && text.starts_with(beginning.as_slice()),
     }
 }
 
 /// Returns whether the last line of the output that is not empty begins with `refused C`.
-fn is_refusal(output: &[u8]) -> bool {
+fn ends_with_refusal(output: &[u8]) -> bool {
     let mut refuses = false;
     for line in output.split(|byte| *byte == b'\n') {
         if !line.is_empty() {

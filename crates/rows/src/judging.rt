@@ -1,8 +1,8 @@
-//! Whether a row holds.
-use crate::expected_output::{Expected, Printed, compare, status_of};
+//! Runs the program for a row, and compares what it prints with what the row expects.
+use crate::expected_output::{Expected, Printed, compare, default_status};
 use crate::failing_streams::{FailingReader, FailingWriter};
 use crate::limited_folder::LimitedFolder;
-use crate::row::{Ending, Faults, Mode, Row, Truncation};
+use crate::row::{Ending, ExpectedStderr, Mode, Row, Truncation};
 use folders::MemoryFolder;
 use program::run;
 use std::alloc::{AllocError, Global};
@@ -114,20 +114,20 @@ impl<'a, 'w, R: AllocGlobal + Threads + Wait + Copy + Send + Sync + Drop + 'stat
     /// Runs the program on a reader.
     fn run_on<I: Read>(&self, input: &mut I) -> Printed {
         let mut output = Vec::new(self.rt.alloc());
-        let mut faults = Vec::new(self.rt.alloc());
+        let mut stderr = Vec::new(self.rt.alloc());
         let mut folder = LimitedFolder::new(self.rt.alloc(), self.row.folder_calls);
         let status = run(
             self.rt,
             self.words,
             input,
             &mut output,
-            &mut faults,
+            &mut stderr,
             &mut folder,
         );
         let _ = push_files(&mut output, &folder.folder);
         Printed {
             output,
-            faults,
+            stderr,
             status,
         }
     }
@@ -187,7 +187,7 @@ impl<'a, 'w, R: AllocGlobal + Threads + Wait + Copy + Send + Sync + Drop + 'stat
         let alloc = self.rt.alloc();
         let printed = self.run_on(reader);
         let difference = if reader.failed {
-            unread_difference(alloc, &printed)?
+            failed_read_difference(alloc, &printed)?
         } else {
             compare(alloc, expected, &printed)?
         };
@@ -198,12 +198,12 @@ impl<'a, 'w, R: AllocGlobal + Threads + Wait + Copy + Send + Sync + Drop + 'stat
     /// writes all.
     fn judge_failing_writes(&self, input: &[u8], expected: &Expected<'_>) -> Difference {
         let message = Vec::from_slice(self.rt.alloc(), b"standard output cannot be written\n")?;
-        let faults = Faults::Exactly(message);
+        let stderr = ExpectedStderr::Exactly(message);
         for calls in 0..expected.output.len() {
             let prefix = Expected {
                 output: &expected.output[..calls],
                 lines: None,
-                faults: &faults,
+                stderr: &stderr,
                 status: 1,
             };
             match self.judge_failing_write(input, &prefix) {
@@ -219,23 +219,23 @@ impl<'a, 'w, R: AllocGlobal + Threads + Wait + Copy + Send + Sync + Drop + 'stat
         let alloc = self.rt.alloc();
         let calls = prefix.output.len();
         let mut writer = FailingWriter::new(alloc, calls);
-        let mut faults = Vec::new(alloc);
+        let mut stderr = Vec::new(alloc);
         let mut folder = MemoryFolder::new(alloc);
         let status = run(
             self.rt,
             self.words,
             &mut input,
             &mut writer,
-            &mut faults,
+            &mut stderr,
             &mut folder,
         );
         let called_again = writer.called_again;
         let printed = Printed {
             output: writer.text,
-            faults,
+            stderr,
             status,
         };
-        let difference = write_difference(alloc, called_again, prefix, &printed)?;
+        let difference = failed_write_difference(alloc, called_again, prefix, &printed)?;
         difference_at(alloc, format_args!("{calls} writes"), &difference)
     }
 }
@@ -253,13 +253,13 @@ fn push_files(output: &mut Vec<u8>, folder: &MemoryFolder) -> Result<(), AllocEr
     Ok(())
 }
 
-/// Returns how an output differs from the refusal of an input that cannot be read, if it does.
-fn unread_difference(alloc: Global, printed: &Printed) -> Difference {
+/// Returns how what is printed after a failed read differs from the refusal of the input, if it does.
+fn failed_read_difference(alloc: Global, printed: &Printed) -> Difference {
     let message = Vec::from_slice(alloc, b"standard input cannot be read\n")?;
     let refused = Expected {
         output: b"refused Input\n",
         lines: None,
-        faults: &Faults::Exactly(message),
+        stderr: &ExpectedStderr::Exactly(message),
         status: 1,
     };
     compare(alloc, &refused, printed)
@@ -277,8 +277,8 @@ fn expected_of<'a>(row: &'a Row, output: &'a [u8]) -> Expected<'a> {
     Expected {
         output,
         lines: row.lines,
-        faults: &row.faults,
-        status: row.status.unwrap_or(status_of(output)),
+        stderr: &row.stderr,
+        status: row.status.unwrap_or(default_status(output)),
     }
 }
 
@@ -293,7 +293,7 @@ fn output_at<'a>(truncations: &'a [Truncation], end: usize, elsewhere: &'a [u8])
 }
 
 /// Returns how an output differs from the expected one after a failed write, if it does.
-fn write_difference(
+fn failed_write_difference(
     alloc: Global,
     called_again: bool,
     prefix: &Expected<'_>,

@@ -1,6 +1,7 @@
-//! Rows: the expected output of the program for a command line and an input.
+//! Rows: test cases of the program.
 
-/// A row: a test case of what the program prints for an input.
+/// A row: a test case of the program, that is one or more command lines, an input, and what the program is to
+/// print for them.
 #[derive(Drop)]
 pub struct Row {
     /// A sentence that states what the row shows.
@@ -15,11 +16,11 @@ pub struct Row {
     /// The number of lines of the output, if `output` is only its beginning.
     pub lines: Option<u64>,
     /// The expected standard error.
-    pub faults: Faults,
+    pub stderr: ExpectedStderr,
     /// The exit status; `None` means 1 if a line of the output begins with `refused`, else 0.
     pub status: Option<u8>,
     pub mode: Mode,
-    /// How many calls, to open it or to write a file, the folder of `pages` answers, if not all.
+    /// `files N`: how many calls the folder of `pages` answers (a call opens it or writes a file), if not all.
     pub folder_calls: Option<u64>,
     /// The outputs for prefixes of the input.
     pub truncations: Vec<Truncation>,
@@ -34,7 +35,7 @@ pub struct Ending {
 
 /// The expected text on standard error.
 #[derive(Drop)]
-pub enum Faults {
+pub enum ExpectedStderr {
     /// Not given: it is empty; or any text, if the output ends with a line that begins with `refused C`,
     /// since the explanation is written there; or the line that there is no statement, if the output is
     /// `proved 0`.

@@ -1,5 +1,5 @@
 //! Parses the rows of a file.
-use crate::row::{Ending, Faults, Mode, Row, Truncation};
+use crate::row::{Ending, ExpectedStderr, Mode, Row, Truncation};
 use crate::row_texts::{RowFault, push_line, push_lines, word_of};
 use numbers::parse_number;
 use std::alloc::{AllocError, Global};
@@ -59,7 +59,7 @@ fn new_row(alloc: Global, sentence: &str) -> Result<Row, AllocError> {
         output: Vec::new(alloc),
         endings: Vec::new(alloc),
         lines: None,
-        faults: Faults::Unspecified,
+        stderr: ExpectedStderr::Unspecified,
         status: None,
         mode: Mode::Whole,
         folder_calls: None,
@@ -67,10 +67,10 @@ fn new_row(alloc: Global, sentence: &str) -> Result<Row, AllocError> {
     })
 }
 
-/// Parses a line of a row: a mark, which is its keyword, and the text after a space, or an empty text.
+/// Parses a line of a row: its keyword, and the text after a space, or an empty text without one.
 fn parse_row_line(alloc: Global, row: &mut Row, line: &str) -> Result<(), RowFault> {
-    let (mark, text) = line.split_once(' ').unwrap_or((line, ""));
-    match mark {
+    let (keyword, text) = line.split_once(' ').unwrap_or((line, ""));
+    match keyword {
         "run" => add_command(alloc, row, text),
         "status" => set_status(row, text),
         "lines" => set_lines(row, text),
@@ -79,11 +79,11 @@ fn parse_row_line(alloc: Global, row: &mut Row, line: &str) -> Result<(), RowFau
         "reads" if text == "none" => set_mode(row, Mode::NoReads, text, "none"),
         "reads" => set_mode(row, Mode::FailingReads, text, "fail"),
         "writes" => set_mode(row, Mode::FailingWrites, text, "fail"),
-        "!" => add_fault(alloc, row, text),
-        "!~" => set_beginning(alloc, row, text),
+        "!" => add_stderr_line(alloc, row, text),
+        "!~" => set_stderr_beginning(alloc, row, text),
         "</" => add_ending(alloc, row, text, "\\"),
         "</>" => add_ending_with_answer(alloc, row, text),
-        _ => add_lines(alloc, row, mark, text),
+        _ => add_lines(alloc, row, keyword, text),
     }
 }
 
@@ -133,23 +133,23 @@ fn set_mode(row: &mut Row, mode: Mode, text: &str, expected: &str) -> Result<(),
     Ok(())
 }
 
-/// Appends a line of standard error.
-fn add_fault(alloc: Global, row: &mut Row, text: &str) -> Result<(), RowFault> {
-    match &mut row.faults {
-        Faults::Exactly(lines) => push_line(lines, text, 0),
-        Faults::Beginning(_) => Err(RowFault::NotALine),
-        Faults::Unspecified => {
+/// Appends a line to the expected standard error.
+fn add_stderr_line(alloc: Global, row: &mut Row, text: &str) -> Result<(), RowFault> {
+    match &mut row.stderr {
+        ExpectedStderr::Exactly(lines) => push_line(lines, text, 0),
+        ExpectedStderr::Beginning(_) => Err(RowFault::NotALine),
+        ExpectedStderr::Unspecified => {
             let mut lines = Vec::new(alloc);
             push_line(&mut lines, text, 0)?;
-            row.faults = Faults::Exactly(lines);
+            row.stderr = ExpectedStderr::Exactly(lines);
             Ok(())
         }
     }
 }
 
 /// Sets the beginning of the standard error, in place of what earlier lines say of it.
-fn set_beginning(alloc: Global, row: &mut Row, text: &str) -> Result<(), RowFault> {
-    row.faults = Faults::Beginning(word_of(alloc, text)?.into_bytes());
+fn set_stderr_beginning(alloc: Global, row: &mut Row, text: &str) -> Result<(), RowFault> {
+    row.stderr = ExpectedStderr::Beginning(word_of(alloc, text)?.into_bytes());
     Ok(())
 }
 
@@ -171,16 +171,17 @@ fn add_ending_with_answer(alloc: Global, row: &mut Row, text: &str) -> Result<()
     add_ending(alloc, row, text, answer)
 }
 
-/// Appends lines to the input, the output or both. The mark may end in `*` and how many.
-fn add_lines(alloc: Global, row: &mut Row, mark: &str, text: &str) -> Result<(), RowFault> {
-    let (mark, times) = match mark.split_once('*') {
-        Some((mark, times)) => (
-            mark,
+/// Appends lines to the input, the output or both. The keyword may end in `*` and a number, which says
+/// how many lines.
+fn add_lines(alloc: Global, row: &mut Row, keyword: &str, text: &str) -> Result<(), RowFault> {
+    let (keyword, times) = match keyword.split_once('*') {
+        Some((keyword, times)) => (
+            keyword,
             parse_number(times.as_bytes()).ok_or(RowFault::NotALine)?,
         ),
-        None => (mark, 1),
+        None => (keyword, 1),
     };
-    match mark {
+    match keyword {
         "<" => push_lines(&mut row.input, text, times),
         ">" => push_lines(&mut row.output, text, times),
         "<>" => {

@@ -17,20 +17,21 @@ impl From<AllocError> for RowFault {
     }
 }
 
-/// Appends the line `times` times. In each, `\{K}` and `\{K+S}` are replaced by the number for that time.
+/// Appends a line `times` times, with the indexes 0, 1 and so on.
 pub fn push_lines(bytes: &mut Vec<u8>, text: &str, times: u64) -> Result<(), RowFault> {
-    for time in 0..times {
-        push_line(bytes, text, time)?;
+    for index in 0..times {
+        push_line(bytes, text, index)?;
     }
     Ok(())
 }
 
-/// Appends the line, with a line feed unless the text ends in a backslash.
-pub fn push_line(bytes: &mut Vec<u8>, text: &str, time: u64) -> Result<(), RowFault> {
+/// Appends the line of a text, with a line feed unless the text ends in a backslash. Escapes of numbers
+/// (`\{K}` and `\{K+S}`) are replaced by the numbers for an index.
+pub fn push_line(bytes: &mut Vec<u8>, text: &str, index: u64) -> Result<(), RowFault> {
     match text.strip_suffix("\\") {
-        Some(text) => push_text(bytes, text, time),
+        Some(text) => push_text(bytes, text, index),
         None => {
-            push_text(bytes, text, time)?;
+            push_text(bytes, text, index)?;
             bytes.extend_from_slice(b"\n")?;
             Ok(())
         }
@@ -47,20 +48,20 @@ pub fn word_of(alloc: Global, text: &str) -> Result<String, RowFault> {
     }
 }
 
-/// Appends the bytes of a text.
-fn push_text(bytes: &mut Vec<u8>, text: &str, time: u64) -> Result<(), RowFault> {
+/// Appends the bytes of a text, with its escapes replaced.
+fn push_text(bytes: &mut Vec<u8>, text: &str, index: u64) -> Result<(), RowFault> {
     let mut pieces = text.split('\\');
     if let Some(first) = pieces.next() {
         bytes.extend_from_slice(first.as_bytes())?;
     }
     for piece in pieces {
-        push_escaped(bytes, piece, time)?;
+        push_escaped(bytes, piece, index)?;
     }
     Ok(())
 }
 
-/// Appends the byte of an escape and the text after it.
-fn push_escaped(bytes: &mut Vec<u8>, piece: &str, time: u64) -> Result<(), RowFault> {
+/// Appends the byte or the number of an escape, and the text after it. `piece` begins after the backslash.
+fn push_escaped(bytes: &mut Vec<u8>, piece: &str, index: u64) -> Result<(), RowFault> {
     if let Some(digits) = piece.strip_prefix("x") {
         return push_byte(bytes, digits);
     }
@@ -70,7 +71,7 @@ fn push_escaped(bytes: &mut Vec<u8>, piece: &str, time: u64) -> Result<(), RowFa
     let Some((number, rest)) = number_and_rest.split_once('}') else {
         return Err(RowFault::NotALine);
     };
-    let number = number_at(number, time).ok_or(RowFault::NotALine)?;
+    let number = number_at(number, index).ok_or(RowFault::NotALine)?;
     push_number(bytes, number)?;
     bytes.extend_from_slice(rest.as_bytes())?;
     Ok(())
@@ -89,11 +90,11 @@ fn push_byte(bytes: &mut Vec<u8>, digits: &str) -> Result<(), RowFault> {
     Ok(())
 }
 
-/// Returns the number of `K` or `K+S` for a time, counted from 0: K plus the time, or plus S times it.
-fn number_at(text: &str, time: u64) -> Option<u64> {
+/// Returns the number of `K` or `K+S` for an index: K plus the index, or K plus S times the index.
+fn number_at(text: &str, index: u64) -> Option<u64> {
     let (first, step) = match text.split_once('+') {
         Some((first, step)) => (first, parse_number(step.as_bytes())?),
         None => (text, 1),
     };
-    parse_number(first.as_bytes())?.checked_add(step.checked_mul(time)?)
+    parse_number(first.as_bytes())?.checked_add(step.checked_mul(index)?)
 }

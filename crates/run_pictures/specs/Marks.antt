@@ -11,7 +11,7 @@ use Rattle.run_pictures.specs.declared.step.Act.{Act}
 use Rattle.run_pictures.specs.declared.step.Act.TheVariants.{Offer, Begin, Deliver, Restart, Apply}
 use Rattle.run_pictures.specs.declared.mark.Mark.{Mark}
 use Rattle.run_pictures.specs.declared.mark.Mark.TheVariants.{Point, Break, Learned, Arrow, Stump}
-use Rattle.run_pictures.specs.declared.mark.Spot.{Spot}
+use Rattle.run_pictures.specs.declared.mark.StepPoint.{StepPoint}
 
 -- packets by number, from 0
 abbrev pub Packets : Type 0
@@ -28,7 +28,7 @@ posts n s = nat_le s.first_post n && nat_lt n s.end_post
 -- the act is the delivery of packet n
 abbrev pub delivers_act : ℕ → Act → Bool
 delivers_act n (Deliver number) = number == n
-delivers_act n (Offer event) = false
+delivers_act n (Offer index) = false
 delivers_act n Begin = false
 delivers_act n Restart = false
 delivers_act n (Apply slot verdict) = false
@@ -38,20 +38,20 @@ abbrev pub delivers : ℕ → Step → Bool
 delivers n s = delivers_act n s.act
 
 -- the point of a step in a row
-abbrev pub spot : ℕ → Step → Spot
-spot row s = record { row = row; node = s.node }
+abbrev pub step_point : ℕ → Step → StepPoint
+step_point row s = record { row = row; node = s.node }
 
 -- a restart breaks the line of its node
 abbrev pub break_marks : ℕ → Step → Act → List Mark
-break_marks row s Restart = Break (spot row s) ∷ []
-break_marks row s (Offer event) = []
+break_marks row s Restart = Break (step_point row s) ∷ []
+break_marks row s (Offer index) = []
 break_marks row s Begin = []
 break_marks row s (Deliver number) = []
 break_marks row s (Apply slot verdict) = []
 
 -- the mark of the slots that its node learned in the step, if there are any
 abbrev pub learned_marks : ℕ → Step → List Mark
-learned_marks row s = if nat_lt s.learned_before s.learned then Learned (spot row s) s.learned_before s.learned ∷ [] else []
+learned_marks row s = if nat_lt s.learned_before s.learned then Learned (step_point row s) s.learned_before s.learned ∷ [] else []
 
 -- the arrow of packet n, delivered in a row: from the row of the shown step that posted it, or from no row if that step is not shown
 abbrev pub arrow : List Step → ℕ → ℕ → Option (Packet Carried) → List Mark
@@ -61,19 +61,19 @@ arrow shown row n (Some p) = Arrow n (record { row = position_from (posts n) 0 s
 -- the arrow of the packet that an act delivers, if it is a delivery
 abbrev pub arrow_marks : Packets → List Step → ℕ → Act → List Mark
 arrow_marks packets shown row (Deliver n) = arrow shown row n (slice_get packets n)
-arrow_marks packets shown row (Offer event) = []
+arrow_marks packets shown row (Offer index) = []
 arrow_marks packets shown row Begin = []
 arrow_marks packets shown row Restart = []
 arrow_marks packets shown row (Apply slot verdict) = []
 
--- the stump of packet n, posted at a spot
-abbrev pub stump_at : Spot → ℕ → Option (Packet Carried) → List Mark
+-- the stump of packet n, which the step at a point posted
+abbrev pub stump_at : StepPoint → ℕ → Option (Packet Carried) → List Mark
 stump_at from n None = []
 stump_at from n (Some p) = Stump n from p.to ∷ []
 
 -- the stump of packet n, which the step in a row posted, unless a shown step delivers the packet
 abbrev pub stump : Packets → List Step → ℕ → Step → ℕ → List Mark
-stump packets shown row s n = if list_any (delivers n) shown then [] else stump_at (spot row s) n (slice_get packets n)
+stump packets shown row s n = if list_any (delivers n) shown then [] else stump_at (step_point row s) n (slice_get packets n)
 
 -- the stumps of the packets from n on, as many as the last argument says
 abbrev pub stump_marks_from : Packets → List Step → ℕ → Step → ℕ → ℕ → List Mark
@@ -86,7 +86,7 @@ stump_marks packets shown row s = stump_marks_from packets shown row s s.first_p
 
 -- the point of a step, and the break of a restart
 abbrev pub point_marks : ℕ → Step → List Mark
-point_marks row s = Point (spot row s) ∷ [] ++ break_marks row s s.act
+point_marks row s = Point (step_point row s) ∷ [] ++ break_marks row s s.act
 
 -- the marks of the step in a row
 abbrev pub step_marks : Packets → List Step → ℕ → Step → List Mark

@@ -2,10 +2,10 @@
 ghost use Rattle.std.specs.Prelude.{◌≡◌, ◌<◌, ◌≤◌, Err, length, IsOkUnless};
 ghost use Rattle.timelines.specs.declared.grid.TheConstants.{MOST_ROWS};
 ghost use Rattle.run_pictures.specs.Marks.{shown_of};
-ghost use Rattle.run_pictures.specs.declared.drawing.PictureFault.TheVariants.{Memory, TooLarge};
+ghost use Rattle.run_pictures.specs.declared.drawing.PictureFault.TheVariants.{Memory, TooManySteps};
 
 use crate::labels::{learned_note, packet_label, packet_title, step_label};
-use crate::mark::{Mark, Origin, Spot};
+use crate::mark::{ArrowStart, Mark, StepPoint};
 use crate::part::Part;
 use crate::run::Run;
 use crate::step::{Act, Step};
@@ -19,7 +19,7 @@ use world::World;
 #[derive(Clone, Copy, Debug, PartialEq, Eq)]
 pub enum PictureFault {
     /// More than `MOST_ROWS` steps are to be shown.
-    TooLarge,
+    TooManySteps,
     /// An allocation failed.
     Memory,
 }
@@ -44,17 +44,17 @@ struct ShownSteps<'a> {
 /// Returns a picture, in SVG, of the marks of a part of a run. `weights` are those with which the run was
 /// made.
 ///
-/// Errors: `TooLarge` if more than `MOST_ROWS` steps are to be shown, else `Memory` if an allocation
+/// Errors: `TooManySteps` if more than `MOST_ROWS` steps are to be shown, else `Memory` if an allocation
 /// fails. Cost: that of `Run::marks`, and the size of the picture.
 pub fn draw(alloc: Global, weights: Weights, run: &Run, part: Part) -> Result<Vec<u8>, PictureFault>
-    ensures too_large { MOST_ROWS < length (shown_of run.now.steps part.from part.count)
-        → result ≡ Err TooLarge }
+    ensures too_many_steps { MOST_ROWS < length (shown_of run.now.steps part.from part.count)
+        → result ≡ Err TooManySteps }
     ensures only_memory { length (shown_of run.now.steps part.from part.count) ≤ MOST_ROWS
         → IsOkUnless result Memory }
 {
     let shown = run.shown(part);
     if shown.len() as u64 > MOST_ROWS {
-        return Err(PictureFault::TooLarge);
+        return Err(PictureFault::TooManySteps);
     }
     let steps = ShownSteps {
         world: run.world(),
@@ -111,7 +111,7 @@ fn draw_point(
     alloc: Global,
     timeline: &mut Timeline,
     steps: ShownSteps<'_>,
-    at: Spot,
+    at: StepPoint,
 ) -> Result<(), AllocError> {
     let Some(step) = steps.shown.get(at.row) else {
         return Ok(());
@@ -138,14 +138,14 @@ fn draw_arrow(
     timeline: &mut Timeline,
     steps: ShownSteps<'_>,
     number: u64,
-    from: Origin,
-    to: Spot,
+    from: ArrowStart,
+    to: StepPoint,
 ) -> Result<(), AllocError> {
     let Ok(packet) = steps.world.packet(number) else {
         return Ok(());
     };
     let label = packet_label(alloc, packet)?;
-    timeline.push_arrow(grid_origin(from), grid_point(to), label.as_slice())
+    timeline.push_arrow(grid_start(from), grid_point(to), label.as_slice())
 }
 
 /// Draws the stump of a packet of the step that was drawn last.
@@ -163,16 +163,16 @@ fn draw_stump(
     timeline.push_stump(to, number, title.as_slice())
 }
 
-/// Returns where a spot is drawn.
-fn grid_point(spot: Spot) -> GridPoint {
+/// Returns where the point of a step is drawn.
+fn grid_point(point: StepPoint) -> GridPoint {
     GridPoint {
-        node: spot.node,
-        row: Some(grid_row(spot.row)),
+        node: point.node,
+        row: Some(grid_row(point.row)),
     }
 }
 
-/// Returns where an arrow begins.
-fn grid_origin(from: Origin) -> GridPoint {
+/// Returns where the beginning of an arrow is drawn.
+fn grid_start(from: ArrowStart) -> GridPoint {
     GridPoint {
         node: from.node,
         row: from.row.map(grid_row),

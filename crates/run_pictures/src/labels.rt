@@ -24,7 +24,7 @@ const REPLACEMENT: u8 = b'?';
 pub(crate) fn step_label(alloc: Global, world: &World, act: Act) -> Result<Vec<u8>, AllocError> {
     let mut label = Vec::new(alloc);
     match act {
-        Act::Offer { event } => push_offer(&mut label, world, event)?,
+        Act::Offer { event_index } => push_offer(&mut label, world, event_index)?,
         Act::Begin => label.extend_from_slice(b"begin")?,
         Act::Deliver { packet } => push_numbered(&mut label, b"deliver ", packet)?,
         Act::Restart => label.extend_from_slice(b"restart")?,

@@ -23,7 +23,7 @@ mod run;
 mod step;
 
 pub use drawing::{PictureFault, draw};
-pub use mark::{Mark, Origin, Spot};
+pub use mark::{ArrowStart, Mark, StepPoint};
 pub use part::Part;
 pub use run::Run;
 pub use step::{Act, Step};

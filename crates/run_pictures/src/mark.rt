@@ -2,7 +2,7 @@
 
 /// A point of a picture: the row of a step, and the node at which the step happened.
 #[derive(Clone, Copy, Debug, PartialEq, Eq)]
-pub struct Spot {
+pub struct StepPoint {
     pub row: usize,
     pub node: u8,
 }
@@ -10,7 +10,7 @@ pub struct Spot {
 /// The beginning of an arrow: the node that posted the packet, and the row of the step that posted it, or
 /// `None` if that step is not shown.
 #[derive(Clone, Copy, Debug, PartialEq, Eq)]
-pub struct Origin {
+pub struct ArrowStart {
     pub row: Option<usize>,
     pub node: u8,
 }
@@ -19,13 +19,29 @@ pub struct Origin {
 #[derive(Clone, Copy, Debug, PartialEq, Eq)]
 pub enum Mark {
     /// A step happens.
-    Point { at: Spot },
+    Point {
+        at: StepPoint,
+    },
     /// A node restarts, which breaks its line.
-    Break { at: Spot },
+    Break {
+        at: StepPoint,
+    },
     /// A node learns the entries of the slots `first..end`.
-    Learned { at: Spot, first: u32, end: u32 },
+    Learned {
+        at: StepPoint,
+        first: u32,
+        end: u32,
+    },
     /// A packet with this number is delivered.
-    Arrow { packet: u64, from: Origin, to: Spot },
+    Arrow {
+        packet: u64,
+        from: ArrowStart,
+        to: StepPoint,
+    },
     /// A packet with this number is posted to node `to`, and no shown step delivers it.
-    Stump { packet: u64, from: Spot, to: u8 },
+    Stump {
+        packet: u64,
+        from: StepPoint,
+        to: u8,
+    },
 }

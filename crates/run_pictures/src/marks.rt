@@ -2,24 +2,24 @@
 ghost use Rattle.std.specs.Prelude.{◌≡◌, ◌≤◌, ◌+◌, ◌++◌, [], ◌∷◌, length, slice_get, IfOk, OnOk};
 ghost use Rattle.std.specs.List.{list_any, position_from};
 ghost use Rattle.timelines.specs.declared.grid.TheConstants.{MOST_ROWS};
-ghost use Rattle.run_pictures.specs.Marks.{arrow, arrow_marks, break_marks, delivers, delivers_act, learned_marks, marks_from, marks_of as marks_shown};
-ghost use Rattle.run_pictures.specs.Marks.{point_marks, posts, spot, step_marks, stump, stump_marks, stump_at};
+ghost use Rattle.run_pictures.specs.Marks.{arrow, arrow_marks, break_marks, delivers, delivers_act, learned_marks, marks_from, marks_of};
+ghost use Rattle.run_pictures.specs.Marks.{point_marks, posts, step_point, step_marks, stump, stump_marks, stump_at};
 ghost use Rattle.run_pictures.specs.RunView.{packets_of};
 
-use crate::mark::{Mark, Origin, Spot};
+use crate::mark::{ArrowStart, Mark, StepPoint};
 use crate::step::{Act, Step};
 use std::alloc::{AllocError, Global};
 use timelines::MOST_ROWS;
 use world::World;
 
 /// Returns the marks of the shown steps, row by row.
-pub(crate) fn marks_of(
+pub(crate) fn collect_marks(
     alloc: Global,
     world: &World,
     shown: &[Step],
 ) -> Result<Vec<Mark>, AllocError>
     requires { length shown.now ≤ MOST_ROWS }
-    ensures { IfOk result (λ marks. marks.items ≡ marks_shown (packets_of world.now) shown.now) }
+    ensures { IfOk result (λ marks. marks.items ≡ marks_of (packets_of world.now) shown.now) }
 {
     let mut marks = Vec::new(alloc);
     push_rows(&mut marks, world, shown, 0, shown)?;
@@ -59,7 +59,7 @@ fn push_step(
         ≡ marks.old.items ++ step_marks (packets_of world.now) shown.now row step) }
 {
     push_point(marks, row, step)?;
-    push_arrows(marks, world, shown, row, step.act)?;
+    push_arrow_of_act(marks, world, shown, row, step.act)?;
     push_learned(marks, row, step)?;
     push_stumps(marks, world, shown, row, step)
 }
@@ -79,17 +79,17 @@ fn push_point(marks: &mut Vec<Mark>, row: usize, step: Step) -> Result<(), Alloc
     push_mark(
         marks,
         Mark::Point {
-            at: spot_of(row, step),
+            at: step_point_of(row, step),
         },
     )?;
     push_break(marks, row, step)
 }
 
 /// Returns where the point of a step is.
-fn spot_of(row: usize, step: Step) -> Spot
-    ensures { result ≡ spot row step }
+fn step_point_of(row: usize, step: Step) -> StepPoint
+    ensures { result ≡ step_point row step }
 {
-    Spot {
+    StepPoint {
         row,
         node: step.node,
     }
@@ -104,7 +104,7 @@ fn push_break(marks: &mut Vec<Mark>, row: usize, step: Step) -> Result<(), Alloc
             push_mark(
                 marks,
                 Mark::Break {
-                    at: spot_of(row, step),
+                    at: step_point_of(row, step),
                 },
             )
         }
@@ -120,7 +120,7 @@ fn push_learned(marks: &mut Vec<Mark>, row: usize, step: Step) -> Result<(), All
         push_mark(
             marks,
             Mark::Learned {
-                at: spot_of(row, step),
+                at: step_point_of(row, step),
                 first: step.learned_before,
                 end: step.learned,
             },
@@ -131,7 +131,7 @@ fn push_learned(marks: &mut Vec<Mark>, row: usize, step: Step) -> Result<(), All
 }
 
 /// Appends the arrow of the packet that is delivered, if the act is a delivery.
-fn push_arrows(
+fn push_arrow_of_act(
     marks: &mut Vec<Mark>,
     world: &World,
     shown: &[Step],
@@ -160,11 +160,11 @@ fn push_arrow(
 {
     match world.packet(number) {
         Ok(packet) => {
-            let from = Origin {
+            let from = ArrowStart {
                 row: row_of_post(shown, number),
                 node: packet.from,
             };
-            let to = Spot {
+            let to = StepPoint {
                 row,
                 node: packet.to,
             };
@@ -227,7 +227,7 @@ fn push_stump(
     if is_delivered(shown, number) {
         Ok(())
     } else {
-        push_stump_at(marks, world, spot_of(row, step), number)
+        push_stump_at(marks, world, step_point_of(row, step), number)
     }
 }
 
@@ -248,11 +248,11 @@ fn is_delivery_of(act: Act, number: u64) -> bool
     }
 }
 
-/// Appends the stump of a packet that is posted at a spot.
+/// Appends the stump of a packet that the step at a point posted.
 fn push_stump_at(
     marks: &mut Vec<Mark>,
     world: &World,
-    from: Spot,
+    from: StepPoint,
     number: u64,
 ) -> Result<(), AllocError>
     ensures { OnOk result (marks.new.items ≡ marks.old.items

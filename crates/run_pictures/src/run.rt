@@ -9,7 +9,7 @@ ghost use Rattle.timelines.specs.declared.grid.TheConstants.{MOST_ROWS};
 ghost use Rattle.run_pictures.specs.Steps.{act_of, step_start_of, is_event, learned_by, node_of_event, receiver_of, steps_of};
 
 use crate::mark::Mark;
-use crate::marks::marks_of;
+use crate::marks::collect_marks;
 use crate::part::{Part, shown};
 use crate::step::{Act, Step, StepStart};
 use library::{Entry, Verdict};
@@ -42,7 +42,7 @@ impl Model for Run {
 impl Run {
     ghost use Rattle.world.specs.WorldView.{after_event};
     ghost use Rattle.run_pictures.specs.RunView.{RunView, packets_of};
-    ghost use Rattle.run_pictures.specs.Marks.{marks_of as marks_shown, shown_of};
+    ghost use Rattle.run_pictures.specs.Marks.{marks_of, shown_of};
 
     /// Makes a run of new nodes, without steps.
     #[tactic(auto, using(crate::proofs::RunLemmas::new_recorded))]
@@ -119,11 +119,11 @@ impl Run {
     /// or delivers.
     pub fn marks(&self, alloc: Global, part: Part) -> Result<Vec<Mark>, AllocError>
         requires { length (shown_of self.now.steps part.from part.count) ≤ MOST_ROWS }
-        ensures marks { IfOk result (λ marks. marks.items ≡ marks_shown
+        ensures marks { IfOk result (λ marks. marks.items ≡ marks_of
             (packets_of self.now.world) (shown_of self.now.steps part.from part.count)) }
         ensures events { filter is_event self.now.steps ≡ steps_of self.now.world.history }
     {
-        marks_of(alloc, &self.world, self.shown(part))
+        collect_marks(alloc, &self.world, self.shown(part))
     }
 }
 
@@ -173,7 +173,7 @@ fn act(event: &Event<Entry>, index: u64) -> Act
     ensures { result ≡ act_of index (value_event event.now) }
 {
     match event {
-        Event::Offer(_, _) => Act::Offer { event: index },
+        Event::Offer(_, _) => Act::Offer { event_index: index },
         Event::Begin(_) => Act::Begin,
         Event::Deliver(number) => Act::Deliver { packet: *number },
         Event::Restart(_) => Act::Restart,

@@ -26,7 +26,7 @@ pub struct Step {
 #[derive(Clone, Copy, PartialEq, Eq)]
 pub enum Act {
     /// The event of the history at this index offers an entry.
-    Offer { event: u64 },
+    Offer { event_index: u64 },
     /// A ballot begins.
     Begin,
     /// The packet with this number is delivered.

@@ -29,14 +29,19 @@ pub fn push_page(
     page: &mut Vec<u8>,
 ) -> Result<(), SiteFault> {
     match sources.site.library.statements().get(index) {
-        Some(Stmt::Axiom { .. }) => push_axiom(alloc, sources, index + 1, page),
-        Some(Stmt::Prove { label, .. }) => push_theorem(alloc, sources, label.as_bytes(), page),
+        Some(Stmt::Axiom { .. }) => push_axiom_page(alloc, sources, index + 1, page),
+        Some(Stmt::Prove { label, .. }) => push_theorem_page(
+            alloc,
+            sources,
+            label.as_bytes(),
+            page,
+        ),
         _ => Ok(()),
     }
 }
 
 /// Appends the page of the `$a` at a position.
-fn push_axiom(
+fn push_axiom_page(
     alloc: Global,
     sources: &PageSources<'_>,
     at: usize,
@@ -45,11 +50,11 @@ fn push_axiom(
     requires { (s : Statement)
         × HasAssertion (bares sources.now.site.now.library.now.replica.statements) at s }
 {
-    push_assertion(alloc, sources, at, None, page)
+    push_assertion_page(alloc, sources, at, None, page)
 }
 
 /// Appends the page of the `$p` with a label.
-fn push_theorem(
+fn push_theorem_page(
     alloc: Global,
     sources: &PageSources<'_>,
     label: &[u8],
@@ -63,11 +68,11 @@ fn push_theorem(
         steps: &steps,
         essential: &essential,
     };
-    push_assertion(alloc, sources, at, Some(proof), page)
+    push_assertion_page(alloc, sources, at, Some(proof), page)
 }
 
 /// Appends the page of the assertion at a position, with the steps of its proof if it has one.
-fn push_assertion(
+fn push_assertion_page(
     alloc: Global,
     sources: &PageSources<'_>,
     at: usize,

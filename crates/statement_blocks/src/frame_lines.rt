@@ -68,15 +68,15 @@ fn push_disjoint(
         (mandatory_groups (before (bares input.now.statements.now) input.now.position)
         input.now.statement.now)) }
 {
-    if let Some(cited) = input.frames.kept_view(input.position) {
-        return push_groups(text, input.frames, &cited.groups);
+    if let Some(view) = input.frames.kept_view(input.position) {
+        return push_groups(text, input.frames, &view.groups);
     }
     let mut frame_buffers = FrameBuffers::new(alloc);
     input
         .frames
         .fill_buffers(input.position, &mut frame_buffers)?;
-    let whole = input.frames.buffered_view(input.position, &frame_buffers);
-    push_groups(text, input.frames, &whole.groups)
+    let buffered = input.frames.buffered_view(input.position, &frame_buffers);
+    push_groups(text, input.frames, &buffered.groups)
 }
 
 /// Appends a line for each group of variables.

@@ -22,8 +22,8 @@ pub(crate) const TOP_EDGE: u64 = 34;
 /// How far a stump goes sideways for each column from its node to that of its receiver.
 const STUMP_WIDTH: u64 = 44;
 
-/// How far a stump to its own node goes to the left. A stump to a node at the left goes further by
-/// this distance.
+/// How far a stump from a node to itself goes to the left; also added to the width of a stump to a node
+/// at the left.
 const OWN_STUMP_WIDTH: u64 = 22;
 
 /// How far a stump goes down.

@@ -134,7 +134,11 @@ pub(crate) fn push_break(text: &mut Vec<u8>, at: GridPoint) -> Result<(), AllocE
 }
 
 /// Appends a point; `class` is an attribute of the element, or empty.
-pub(crate) fn push_dot(text: &mut Vec<u8>, at: GridPoint, class: &[u8]) -> Result<(), AllocError> {
+pub(crate) fn push_point(
+    text: &mut Vec<u8>,
+    at: GridPoint,
+    class: &[u8],
+) -> Result<(), AllocError> {
     text.extend_from_slice(b"<circle")?;
     text.extend_from_slice(class)?;
     push_two_numbered(text, b" cx=\"", at.x(), b"\" cy=\"", at.y())?;

@@ -1,7 +1,7 @@
 //! A picture that is drawn row by row.
 use crate::grid::{GridPoint, row_y, width};
 use crate::parts::{
-    push_arrow, push_break, push_dot, push_node, push_numbered, push_row, push_span, push_stump,
+    push_arrow, push_break, push_node, push_numbered, push_point, push_row, push_span, push_stump,
     push_stump_numbers,
 };
 use crate::style::{END, HEAD, STYLE};
@@ -30,7 +30,7 @@ pub struct Timeline {
     /// How many rows there are.
     rows: u32,
     /// The point of the last row.
-    last: GridPoint,
+    last_point: GridPoint,
     /// The stumps of the last row, one for each node that they go to.
     stumps: Vec<Stump>,
     /// Arrows and stumps, which are drawn below points and texts.
@@ -38,9 +38,9 @@ pub struct Timeline {
     points: Vec<u8>,
     texts: Vec<u8>,
     /// How many characters the text of the last row shows.
-    length: u32,
-    /// The greatest `length` of the rows before the last.
-    longest: u32,
+    last_row_length: u32,
+    /// How many characters the longest text of an earlier row shows.
+    longest_row_length: u32,
 }
 
 /// The stumps of a row that go to one node, which are drawn as one.
@@ -59,13 +59,13 @@ impl Timeline {
         Timeline {
             nodes,
             rows: 0,
-            last: GridPoint { node: 0, row: None },
+            last_point: GridPoint { node: 0, row: None },
             stumps: Vec::new(alloc),
             lines: Vec::new(alloc),
             points: Vec::new(alloc),
             texts: Vec::new(alloc),
-            length: 0,
-            longest: 0,
+            last_row_length: 0,
+            longest_row_length: 0,
         }
     }
 
@@ -82,11 +82,11 @@ impl Timeline {
             node,
             row: Some(self.rows),
         };
-        push_dot(&mut self.points, at, class_attribute(style))?;
+        push_point(&mut self.points, at, class_attribute(style))?;
         push_row(&mut self.texts, at, number)?;
         self.texts.extend_from_slice(label)?;
-        self.last = at;
-        self.length = character_count(label);
+        self.last_point = at;
+        self.last_row_length = character_count(label);
         self.rows = self.rows.saturating_add(1);
         Ok(())
     }
@@ -140,8 +140,8 @@ impl Timeline {
     /// Appends words to the text of the last row, with a class for their style.
     fn push_words(&mut self, class: &[u8], words: &[u8]) -> Result<(), AllocError> {
         push_span(&mut self.texts, class, words)?;
-        self.length = self
-            .length
+        self.last_row_length = self
+            .last_row_length
             .saturating_add(1)
             .saturating_add(character_count(words));
         Ok(())
@@ -152,13 +152,13 @@ impl Timeline {
         for stump in self.stumps.as_slice() {
             push_stump(
                 &mut self.lines,
-                self.last,
+                self.last_point,
                 stump.to,
                 stump.titles.as_slice(),
             )?;
             push_stump_numbers(
                 &mut self.points,
-                self.last,
+                self.last_point,
                 stump.to,
                 stump.numbers.as_slice(),
             )?;
@@ -173,7 +173,7 @@ impl Timeline {
         if self.rows > 0 {
             self.texts.extend_from_slice(b"</text>\n")?;
         }
-        self.longest = self.longest.max(self.length);
+        self.longest_row_length = self.longest_row_length.max(self.last_row_length);
         Ok(())
     }
 
@@ -182,7 +182,7 @@ impl Timeline {
         self.end_row()?;
         let bottom = row_y(self.rows);
         let mut svg = Vec::new(alloc);
-        push_numbered(&mut svg, HEAD, width(self.nodes, self.longest))?;
+        push_numbered(&mut svg, HEAD, width(self.nodes, self.longest_row_length))?;
         push_numbered(&mut svg, b"\" height=\"", bottom)?;
         svg.extend_from_slice(STYLE)?;
         for node in 0..self.nodes {

@@ -4,10 +4,10 @@ use Rattle.commands.proofs.offered_entry.parse_text.Goals as goal
 
 pub returns-in_default : goal.returns-in_default
 returns-in_default c =
-    let is : Some (c.in_ok-at.at, c.entry.new.self) ≡ entry_at c.args.words = search rules in
-    let taken : (count : ℕ) × (text_at c.args.form c.entry.new.self c.args.lines.now.lines ≡ Some (c.in_ok-text.text.now, count))
+    let is : Some (c.in_ok-at.at, c.take_entry.new.self) ≡ entry_at c.args.words = search rules in
+    let taken : (count : ℕ) × (text_at c.args.form c.take_entry.new.self c.args.lines.now.lines ≡ Some (c.in_ok-text.text.now, count))
     × IsAdvanced count c.args.lines.now c.take_text.new.lines = search rules in (
       (offered_text c.in_ok-at.at c.in_ok-text.text.now, taken.0),
-      offered_found c.args.form c.args.words c.entry.new.self c.args.lines.now.lines c.in_ok-at.at c.in_ok-text.text.now taken.0 is taken.1,
+      offered_found c.args.form c.args.words c.take_entry.new.self c.args.lines.now.lines c.in_ok-at.at c.in_ok-text.text.now taken.0 is taken.1,
       taken.2,
     )

@@ -2,8 +2,8 @@ use Rattle.sites.proofs.Words.{◌≡◌, ℕ, ◌+◌, Some, slice_get, ◌∙�
 use Rattle.sites.proofs.SiteLemmas.{assertion-at}
 use Rattle.sites.proofs.assertion_page.push_page.Goals as goal
 
-pub push_axiom-requires : goal.push_axiom-requires
-push_axiom-requires c =
+pub push_axiom_page-requires : goal.push_axiom_page-requires
+push_axiom_page-requires c =
     let x = c.in-Some-Axiom.field-0.now in
     let T = c.statements.result.now in
     let stands : slice_get T c.args.index ≡ Some x =

@@ -12,8 +12,8 @@ fill_buffers-requires c =
     let s = c.args.input.now in
     (bare s.statement.now, has_assertion s.statements.now s.frames.now.statements s.position s.statement.now c.requires.input.same c.requires.input.stands c.requires.assertion)
 
-pub buffered_view-whole-requires-clause-assertion : goal.buffered_view-whole-requires-clause-assertion
-buffered_view-whole-requires-clause-assertion c =
+pub buffered_view-buffered-requires-clause-assertion : goal.buffered_view-buffered-requires-clause-assertion
+buffered_view-buffered-requires-clause-assertion c =
     let s = c.args.input.now in
     (bare s.statement.now, has_assertion s.statements.now s.frames.now.statements s.position s.statement.now c.requires.input.same c.requires.input.stands c.requires.assertion)
 
@@ -30,5 +30,5 @@ returns c =
     let s = c.args.input.now in
     let there = stands_bare s.statements.now s.frames.now.statements s.position s.statement.now c.requires.input.same c.requires.input.stands in
     on_ok c.push_groups-2.result
-    (groups_are s.statements.now s.frames.now.statements s.position s.statement.now c.requires.input.same c.requires.input.stands s.frames.now.names _ _ _ (c.buffered_view-whole.ensures (bare s.statement.now) there).groups)
+    (groups_are s.statements.now s.frames.now.statements s.position s.statement.now c.requires.input.same c.requires.input.stands s.frames.now.names _ _ _ (c.buffered_view-buffered.ensures (bare s.statement.now) there).groups)
     c.push_groups-2.ensures

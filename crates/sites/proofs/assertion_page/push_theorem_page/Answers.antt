@@ -1,5 +1,5 @@
 use Rattle.sites.proofs.Words.{◌≡◌, ℕ, ◌≤◌, length, true, refl, Stmt, Prove, Database, bare, bares, is_assertion, is_provable, stands-within, IsProvable, provable-bare}
-use Rattle.sites.proofs.assertion_page.push_theorem.Goals as goal
+use Rattle.sites.proofs.assertion_page.push_theorem_page.Goals as goal
 
 within : (S F : Database) (at : ℕ) (s : Stmt) → F ≡ bares S → IsProvable S at s → (1 ≤ at) × (at ≤ length F)
 within S F at s same p = let provable = provable-bare S F at s same p in stands-within F at (bare s) provable.stands
@@ -15,8 +15,8 @@ essential_table-requires-clause-at c =
     within c.args.sources.now.site.now.library.now.replica.statements c.frames-frames.result.now.statements c.in_ok-at.at named.stmt
     c.frames-frames.ensures.same named.provable
 
-pub push_assertion-requires : goal.push_assertion-requires
-push_assertion-requires c =
+pub push_assertion_page-requires : goal.push_assertion_page-requires
+push_assertion_page-requires c =
     let named = c.in_ok-at.ensures.items.named in
     let S = c.args.sources.now.site.now.library.now.replica.statements in
     let provable = provable-bare S (bares S) c.in_ok-at.at named.stmt refl named.provable in
