@@ -3,10 +3,10 @@
 use crate::written_lines::Lines;
 use frame::Frames;
 
-/// The most symbols that are written of an expression.
+/// The largest number of symbols that are written of an expression.
 const MOST_SYMBOLS: usize = 400;
 
-/// The most bytes that are written of an expression, with a space before each symbol.
+/// The largest number of bytes that are written of an expression, with a space before each symbol.
 const MOST_EXPRESSION_BYTES: usize = 4_096;
 
 /// Writes the symbols of an expression, with a space before each. Truncates a long one before the first symbol that would

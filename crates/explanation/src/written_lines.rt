@@ -7,7 +7,7 @@ use mm_lex::Span;
 use places::line_and_column;
 use std::alloc::{AllocError, Global};
 
-/// The most bytes of an explanation.
+/// The largest number of bytes of an explanation.
 pub const MOST_BYTES: usize = 65_536;
 
 /// The last line of a truncated explanation.

@@ -1,4 +1,6 @@
 //! The active `$d` of a walk over the statements, and which of them contain two variables of an assertion.
+//!
+//! A statement is *included* if the extract has it: if its position is marked.
 use crate::cited::is_marked;
 use std::alloc::{AllocError, Global};
 

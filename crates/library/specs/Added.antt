@@ -10,7 +10,7 @@ use Rattle.library.specs.declared.adding.StepCounts.{StepCounts}
 use Rattle.library.specs.declared.adding.Tables.{Tables}
 use Rattle.library.specs.Judging.{Begins, IsKnown, IsProvedIfProvable}
 
--- all steps that were taken
+-- the number of statements that were given to rules and frames, by all threads
 abbrev pub count_of : StepCounts → ℕ
 count_of steps = steps.calling.count + steps.ahead.count
 
@@ -18,7 +18,7 @@ count_of steps = steps.calling.count + steps.ahead.count
 abbrev pub AreProvedTo : Database → ℕ → Type 0
 AreProvedTo S end = (at : ℕ) → at ≤ end → IsProvedIfProvable S at
 
--- the tables took the statements T, or this rule is broken
+-- the outcome of adding the statements T to tables: the tables then have them, or a statement breaks a rule
 pub record IsAdded (old new : Tables) (T : Database) (a : Added) : Type 0 where
   pub found : IfOk a.broken (λ broken. broken ≡ first_broken 1 old.rules.statements T)
   pub rules_are : a.broken ≡ Ok None → new.rules.statements ≡ old.rules.statements ++ bares T
@@ -42,7 +42,8 @@ Adds pre post =
     (a : Added) (tables' : MutBor Tables) (steps' : MutBor StepCounts) (checkers' : MutBor Checkers)
     → post T tables steps checkers a tables' steps' checkers' → IsAdded tables.now tables'.now T.now a × IsCounted steps.now steps'.now T.now)
 
--- the tables have the statements S, of which those after the first ones were added now, or this rule is broken
+-- the outcome of adding those of the statements S that follow the first ones, which the tables had: the tables then have all
+-- of S, or a statement breaks a rule
 pub record IsAddedAfter (S : Database) (front : ℕ) (tables : Tables) (a : Added) : Type 0 where
   pub found : IfOk a.broken (λ broken. broken ≡ first_broken 1 (take front S) (drop front S))
   pub rules_are : a.broken ≡ Ok None → tables.rules.statements ≡ bares S

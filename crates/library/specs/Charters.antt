@@ -12,17 +12,17 @@ is_rising [] = true
 is_rising (x ∷ []) = true
 is_rising (x ∷ y ∷ numbers) = nat_lt x y && is_rising (y ∷ numbers)
 
--- the names of a charter: 1 to 64 authors, in rising order
+-- the authors that a charter lists: 1 to 64 numbers, in rising order
 pub record AreNames (numbers : List ℕ) : Type 0 where
   pub some : 1 ≤ length numbers
   pub few : length numbers ≤ MOST_NAMES
   pub rising : IsTrue (is_rising numbers)
 
--- the author is among the names
+-- the author is among those that a charter lists
 abbrev pub names_author : List ℕ → ℕ → Bool
 names_author names author = list_any (λ n. n == author) names
 
--- there is no charter, or it names the author
+-- there is no charter, or it lists the author
 abbrev pub may_declare : Option (List ℕ) → ℕ → Bool
 may_declare None author = true
 may_declare (Some names) author = names_author names author

@@ -25,7 +25,7 @@ abbrev pub size_of : Entry → ℕ
 size_of (Text submission) = length submission.text
 size_of (Charter author serial names) = 8 * length names
 
--- the verdict on an author's entry of that number
+-- an entry that was decided, by its author and serial number, and the verdict on it
 pub record Decided : Type 0 where
   pub author : ℕ
   pub serial : ℕ
@@ -44,7 +44,7 @@ empty = record { statements = []; decided = []; charter = None }
 abbrev pub holding : Database → Replica
 holding S = record { statements = S; decided = []; charter = None }
 
--- the verdict first decided on an author's entry of that number
+-- the verdict first decided on an author's entry of that serial number
 abbrev pub status : List Decided → ℕ → ℕ → Option Verdict
 status [] author serial = None
 status (d ∷ ds) author serial =
@@ -74,7 +74,7 @@ Decides old (Charter author serial names) (Refused cause) new =
     × (new ≡ record old { decided = decided_with old (Charter author serial names) (Refused cause) })
 Decides old entry verdict new = ⊥
 
--- given the verdict decided before under its author and serial number, if any
+-- an entry turns the replica old into new, given the verdict decided before under its author and serial number, if any
 abbrev pub AppliesAt : Option Verdict → Replica → Entry → Verdict → Replica → Type 0
 AppliesAt (Some first) old entry verdict new = (verdict ≡ Repeat) × (new ≡ old)
 AppliesAt None old entry verdict new = Decides old entry verdict new

@@ -45,8 +45,8 @@ IsDecision Added = ⊤
 IsDecision (Refused cause) = ⊤
 IsDecision verdict = ⊥
 
--- the judging of a text raises the count of steps by at most three for each statement, and not at all if the text does
--- not read; a statement that is given to the rules and frames is a step
+-- the judging of a text raises the count of steps by at most three for each statement, and not at all if the text does not
+-- read (the count is that of the statements that are given to the rules and frames)
 pub record HasFewStepsText (submission : Submission) (before after : ℕ) : Type 0 where
   pub read : (T : Database) → Reads submission.text T → after ≤ before + 3 * length T
   pub unread : ((T : Database) → ¬ Reads submission.text T) → after ≡ before
@@ -56,7 +56,7 @@ abbrev pub HasFewStepsEntry : Entry → ℕ → ℕ → Type 0
 HasFewStepsEntry (Text submission) before after = HasFewStepsText submission before after
 HasFewStepsEntry (Charter author serial names) before after = after ≡ before
 
--- given the verdict decided before under its author and serial number, if any
+-- the application of an entry, given the verdict decided before under its author and serial number, if any
 abbrev pub HasFewStepsAt : Option Verdict → Entry → ℕ → ℕ → Type 0
 HasFewStepsAt (Some first) entry before after = after ≡ before
 HasFewStepsAt None entry before after = HasFewStepsEntry entry before after

@@ -29,7 +29,7 @@ pub record NamesProof (S : Database) (label : Name) (j : ℕ) : Type 0 where
 abbrev pub IsTrace : Database → Name → List Name → Type 0
 IsTrace S label labels = (j : ℕ) × NamesProof S label j × AreLabelsOf S (Uses S j) labels
 
--- the labels of the `$p` that cite the statement with the label, or, where all are meant, that rest on it
+-- the labels of the `$p` that cite the statement with the label, or, if all users are asked for, that rest on it
 abbrev pub IsUsage : Database → Name → Bool → List Name → Type 0
 IsUsage S label all labels = (a : ℕ) × (s : Stmt) × Carries S a s label × AreLabelsOf S (IsUser S all a) labels
 

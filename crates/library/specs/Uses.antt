@@ -41,11 +41,12 @@ pub data RestsOn (S : Database) : ℕ → ℕ → Type 0 where
   directly : {j a : ℕ} → Cites S j a → RestsOn S j a
   through : {j b a : ℕ} → Cites S j b → RestsOn S b a → RestsOn S j a
 
--- the `$p` at j rests on the `$a` at a
+-- the `$p` at j rests on the `$a` at a, which `Library::trace` then lists
 abbrev pub Uses : Database → ℕ → ℕ → Type 0
 Uses S j a = RestsOn S j a × IsAxiomAt S a
 
--- the `$p` at j uses the statement at a: it cites it, or, where all are meant, rests on it
+-- the `$p` at j is a user of the statement at a, which `Library::usage` lists: it cites the statement, or, if all users are
+-- asked for (`true`), rests on it
 abbrev pub IsUser : Database → Bool → ℕ → ℕ → Type 0
 IsUser S true a j = RestsOn S j a
 IsUser S false a j = Cites S j a

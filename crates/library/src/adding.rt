@@ -50,8 +50,8 @@ pub(crate) struct Added {
     pub known: usize,
 }
 
-/// Adds the statements to the frames and the rules, up to the first that breaks a rule. Before that, has the frames
-/// make room for half as many labels as there are statements, if allocation succeeds.
+/// Adds the statements to the frames and the rules, up to the first that breaks a rule. Before that, tries to reserve
+/// room in the frames for half as many labels as there are statements.
 ///
 /// Cost: that of the statements, at most one step each.
 pub(crate) fn add_all(statements: &[Stmt], tables: &mut Tables, steps: &mut Steps) -> Added

@@ -1,14 +1,15 @@
-//! The authors that a charter names, by their numbers.
+//! The authors that a charter lists, by their numbers.
 ghost use Rattle.std.specs.Prelude.{◌≡◌, IfOk, MatchOption};
 ghost use Rattle.library.specs.Charters.{AreNames, is_rising, names_author};
 
 use std::alloc::AllocError;
 use std::marker::Model;
 
-/// The largest number of authors that a charter may name.
+/// The largest number of authors that a charter may list.
 pub const MOST_NAMES: usize = 64;
 
-/// The authors that a charter names: 1 to 64 strictly increasing numbers. Contracts see the list.
+/// The authors that a charter lists: 1 to 64 strictly increasing numbers. While the charter is in force, these authors alone
+/// may declare constants and axioms. Contracts see the list of numbers.
 #[derive(Drop)]
 pub struct Names {
     numbers: Vec<u64>,
@@ -47,14 +48,14 @@ impl Names {
         self.numbers.as_slice()
     }
 
-    /// Returns whether the author is named.
+    /// Returns whether the author is among them.
     pub fn has(&self, author: u64) -> bool
         ensures { result ≡ names_author self.now author }
     {
         self.numbers.contains(&author)
     }
 
-    /// Copies the names.
+    /// Copies the list.
     ///
     /// Errors: an allocation fails.
     pub fn copy(&self) -> Result<Names, AllocError>

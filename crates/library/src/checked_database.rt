@@ -106,7 +106,7 @@ impl CheckedDatabase {
         &self.tables.frames
     }
 
-    /// Returns the allocator of all that is kept and returned.
+    /// Returns the allocator of the statements and tables.
     pub(crate) fn alloc(&self) -> Global {
         self.checkers.alloc()
     }

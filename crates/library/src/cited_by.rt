@@ -135,7 +135,7 @@ impl Search {
 
 /// Returns whether one of the numbers cites a marked statement. Puts into `label_marks` a flag for each mandatory
 /// hypothesis and then for each listed label: whether its statement is marked. A label that is listed is usually cited,
-/// so the numbers are searched at the first marked one, and after the last label only if that found nothing.
+/// so the numbers are searched once the first marked label is found, and again after the last label if nothing was found.
 fn numbers_cite_marked(
     frames: &Frames,
     heading: Heading<'_>,

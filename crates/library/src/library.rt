@@ -101,8 +101,8 @@ impl Library {
     ///
     /// Errors: an allocation fails; the entry stays undecided, and statements, verdicts and charter are as before.
     /// Cost: that of reading the entry's text and of judging its statements and proofs, whatever was added before and
-    /// whoever submitted it, with the exceptions of `docs/COSTS.md`; the logarithm of the count of entries; and the
-    /// searches of the text before that the frames repeat (`Checkers::repeat_searches`).
+    /// whoever submitted it, with the exceptions of `docs/COSTS.md`; the logarithm of the count of entries; and that of
+    /// the searches made for the text before, which the frames repeat (`Checkers::repeat_searches`).
     pub fn apply(&mut self, next: Option<&Entry>) -> Result<Verdict, AllocError>
         ensures step { IfOk result (λ verdict. Applies self.old.replica (option_map (λ e. e.now) next.entry) verdict self.new.replica) }
         ensures same { OnErr result (self.new.replica ≡ self.old.replica) }
@@ -168,8 +168,9 @@ impl Library {
     }
 
     /// Applies the next entry, where `read` returns the statements that a text writes, `add` adds statements to the
-    /// tables, and `least` returns the index of the first proof that is not right, or `None`. The statements of a text
-    /// are added if the whole list is good with them; a charter that is added is in force from now on.
+    /// tables, and `least` returns the index of the first proof that is not right, or `None` if each is right. The
+    /// statements of a text are added if the whole list is good with them; a charter that is added is in force from now
+    /// on.
     fn apply_by<
         T: Fn(&[u8]) -> Result<Vec<Stmt>, ReadFault>,
         E: Fn(&[Stmt], &mut Tables, &mut StepCounts, &mut Checkers) -> Added,

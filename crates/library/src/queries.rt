@@ -132,6 +132,8 @@ impl Library {
 }
 
 /// Returns the position of the `$p` with the label.
+///
+/// Errors: `NoLabel` if no statement has the label, `NotProvable` if it is no `$p`.
 fn proof_at(database: &CheckedDatabase, label: &[u8]) -> Result<usize, AskFault>
     ensures found { MatchResult result (λ at. NamesProof database.now label.now at × (¬ NamesNoProof database.now label.now)) (IsNoProof database.now label.now) }
     ensures good { Good database.now }

@@ -13,7 +13,7 @@ use verify::{Answer, Checker};
 use verify_pool::{Checkers, Work};
 
 /// The `$p` to be judged, by position, as jobs for a pool of workers. Contracts see all statements, the list of names
-/// that the frames give numbers, and positions among the statements.
+/// to which the frames give numbers, and the positions of these `$p`.
 #[derive(Drop)]
 pub(crate) struct Proofs<'a> {
     frames: &'a Frames,
