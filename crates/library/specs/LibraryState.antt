@@ -11,13 +11,13 @@ use Rattle.library.specs.declared.verdict.Verdict.{Verdict}
 use Rattle.library.specs.declared.verdict.Verdict.TheVariants.{Added, Refused}
 use Rattle.library.specs.declared.decided.EntryState.{EntryState}
 use Rattle.library.specs.declared.decided.EntryState.TheVariants.{Undecided, Decided}
-use Rattle.library.specs.LibraryOf.{Decided as DecidedEntry, Replica, status, status_of}
+use Rattle.library.specs.LibraryOf.{EntryVerdict, ReplicaState, status, status_of}
 use Rattle.std.specs.BTreeMap.{BTreeMap, get}
 use Rattle.std.specs.Ordering.{nat_cmp, ordering_then}
 use Rattle.std.specs.declared.cmp.Ordering.{Ordering}
 
 pub record LibraryModel : Type 0 where
-  pub replica : Replica
+  pub replica : ReplicaState
   pub steps : ℕ
 
 -- a decision: added, or refused for this cause
@@ -36,7 +36,7 @@ abbrev pub key_cmp : ℕ × ℕ → ℕ × ℕ → Ordering
 key_cmp a b = ordering_then (nat_cmp a.0 b.0) (nat_cmp a.1 b.1)
 
 -- the table has the first verdict on each entry
-abbrev pub IsTableOf : List DecidedEntry → BTreeMap (ℕ × ℕ) EntryState → Type 0
+abbrev pub IsTableOf : List EntryVerdict → BTreeMap (ℕ × ℕ) EntryState → Type 0
 IsTableOf entries table = (author serial : ℕ) → verdict_at (get key_cmp table (author, serial)) ≡ status entries author serial
 
 -- a decided entry is added or refused
@@ -62,6 +62,6 @@ HasFewStepsAt (Some first) entry before after = after ≡ before
 HasFewStepsAt None entry before after = HasFewStepsEntry entry before after
 
 -- how far one application may raise the count of steps: a no-operation and a repeat not at all
-abbrev pub HasFewSteps : Replica → Option Entry → ℕ → ℕ → Type 0
+abbrev pub HasFewSteps : ReplicaState → Option Entry → ℕ → ℕ → Type 0
 HasFewSteps old None before after = after ≡ before
 HasFewSteps old (Some entry) before after = HasFewStepsAt (status_of old entry) entry before after

@@ -14,10 +14,10 @@ pub record HasItems (S : Database) (j : ℕ) (items : List Item) : Type 0 where
 
 -- one of the items cites the statement at a
 pub record ItemsCite (S : Database) (items : List Item) (a : ℕ) : Type 0 where
-  pub place : ℕ
+  pub index : ℕ
   pub label : Name
   pub cited : Stmt
-  pub cites : slice_get items place ≡ Some (Cite label)
+  pub cites : slice_get items index ≡ Some (Cite label)
   pub carries : Carries S a cited label
 
 -- an item of the `$p` at j cites the statement at a

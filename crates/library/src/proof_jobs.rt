@@ -1,10 +1,10 @@
 //! The least `$p` of a text that is not proved. (The crate `unproved` finds all of a database.)
 ghost use Rattle.std.specs.Prelude.{◌≡◌, ◌≤◌, length, IfOk};
 ghost use Rattle.library.specs.Judging.{IsLeastUnproved};
-ghost use Rattle.library.specs.Unproved.{FindsLeast};
+ghost use Rattle.library.specs.ProofJobs.{FindsLeast};
 ghost use Rattle.scope.specs.Active.{bares};
 
-use crate::queries::is_proof;
+use crate::queries::is_provable;
 use frame::Frames;
 use mm_read::Stmt;
 use std::alloc::AllocError;
@@ -22,7 +22,7 @@ pub(crate) struct Proofs<'a> {
 }
 
 impl<'a> Model for Proofs<'a> {
-    ghost use Rattle.library.specs.Unproved.{ProofsAt, AreProofs};
+    ghost use Rattle.library.specs.ProofJobs.{ProofsAt, AreProofs};
 
     ghost Value = { ProofsAt };
 
@@ -33,7 +33,7 @@ impl<'a> Model for Proofs<'a> {
 
 impl<'a> Work for Proofs<'a> {
     ghost use Rattle.std.specs.Prelude.{length};
-    ghost use Rattle.library.specs.Unproved.{IsRightProof};
+    ghost use Rattle.library.specs.ProofJobs.{IsRightProof};
     ghost use Rattle.scope.specs.Active.{bares};
     ghost use Rattle.verify.specs.KeptLists.{IsCacheFor};
 
@@ -60,7 +60,7 @@ impl<'a> Work for Proofs<'a> {
     }
 }
 
-/// Returns the position of the first `$p` after the first `front` statements that is not proved, where `least` returns the
+/// Returns the position of the first `$p` after the first `start` statements that is not proved, where `least` returns the
 /// index of the first proof that is not right, or `None`.
 ///
 /// Errors: an allocation fails. Cost: that of the proofs, and one pass over these statements.
@@ -70,17 +70,17 @@ pub(crate) fn least_unproved<
     least: &F,
     frames: &Frames,
     statements: &[Stmt],
-    front: usize,
+    start: usize,
     checkers: &mut Checkers,
 ) -> Result<Option<usize>, AllocError>
     requires finds { FindsLeast (F.pre least.now) (F.post least.now) }
     requires same { frames.now.statements ≡ bares statements.now }
-    requires within { front ≤ length statements.now }
-    ensures { IfOk result (IsLeastUnproved statements.now front) }
+    requires within { start ≤ length statements.now }
+    ensures { IfOk result (IsLeastUnproved statements.now start) }
 {
     let mut positions = Vec::new(checkers.alloc());
-    for index in front..statements.len() {
-        if is_proof(&statements[index]) {
+    for index in start..statements.len() {
+        if is_provable(&statements[index]) {
             positions.push(index + 1)?;
         }
     }
