@@ -31,8 +31,8 @@ AreProvablesAfter S start end (at ∷ positions) =
     (start < at) × (at ≤ end) × ((m : ℕ) (s : Stmt) → start < m → m < at → ¬ IsProvable S m s) × AreProvablesAfter S at end positions
 
 -- a function with this contract returns the index of the least of the proofs that is not right
-abbrev pub FindsLeast : {E : Type 0} → (Bor ProofsAt → MutBor Checkers → Type 0) → (Bor ProofsAt → MutBor Checkers → Result (Option ℕ) E → MutBor Checkers → Type 0) → Type 0
-FindsLeast {E} pre post =
+abbrev pub FindsFirstWrong : {E : Type 0} → (Bor ProofsAt → MutBor Checkers → Type 0) → (Bor ProofsAt → MutBor Checkers → Result (Option ℕ) E → MutBor Checkers → Type 0) → Type 0
+FindsFirstWrong {E} pre post =
     ((proofs : Bor ProofsAt) (checkers : MutBor Checkers) → pre proofs checkers)
     × ((proofs : Bor ProofsAt) (checkers : MutBor Checkers) (r : Result (Option ℕ) E) (checkers' : MutBor Checkers)
     → post proofs checkers r checkers' → IfOk r (IsLeast (IsRightProof proofs.now) (length proofs.now.positions)))

@@ -53,7 +53,7 @@ pub(crate) struct AddOutcome {
 /// Adds the statements to the frames and the rules, up to the first that breaks a rule. Before that, tries to reserve
 /// room in the frames for half as many labels as there are statements.
 ///
-/// Cost: that of the statements, at most one step each.
+/// Cost: that of the statements, each of which `steps` counts at most once.
 pub(crate) fn add_all(statements: &[Stmt], tables: &mut Tables, steps: &mut Steps) -> AddOutcome
     requires shaped { AreShaped statements.now }
     requires same { tables.old.frames.statements ≡ tables.old.rules.statements }
@@ -86,8 +86,8 @@ pub(crate) fn add_all(statements: &[Stmt], tables: &mut Tables, steps: &mut Step
 /// calling thread. The position returned as `known` is the last of that part if its proofs are found to be right, else
 /// 0.
 ///
-/// Cost: that of `add_all`, and meanwhile that of `verify_ahead`: at most one step more for each statement of that
-/// part.
+/// Cost: that of `add_all`, and meanwhile that of `verify_ahead`, for which `steps` counts each statement of that part at
+/// most once more.
 pub(crate) fn add_all_verifying<G: Gate + Sync, R: Threads + Sync>(
     parallel: &Parallel<'_, G, R>,
     statements: &[Stmt],
@@ -179,10 +179,10 @@ fn verify_ahead<G: Gate + Sync, R: Threads + Sync>(
     let Ok(None) = added.broken else {
         return 0;
     };
-    let least = |proofs: &Proofs<'_>, checkers: &mut Checkers| {
+    let first_wrong = |proofs: &Proofs<'_>, checkers: &mut Checkers| {
         judge_all(rt, checkers, proofs, workers, gate)
     };
-    match least_unproved(&least, &tables.frames, statements, 0, checkers) {
+    match least_unproved(&first_wrong, &tables.frames, statements, 0, checkers) {
         Ok(None) => statements.len(),
         _ => 0,
     }

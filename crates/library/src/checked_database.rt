@@ -4,7 +4,7 @@ ghost use Rattle.frame.specs.AtPosition.{HasLabelsOnce};
 ghost use Rattle.library.specs.Added.{Adds, IsAddedAfter, count_of};
 ghost use Rattle.library.specs.Good.{Good};
 ghost use Rattle.library.specs.Judging.{Extends, IsChecked, IsJudged, IsKnown};
-ghost use Rattle.library.specs.ProofJobs.{FindsLeast};
+ghost use Rattle.library.specs.ProofJobs.{FindsFirstWrong};
 ghost use Rattle.mm_read.specs.Statements.{AreShaped};
 ghost use Rattle.scope.specs.Active.{bares, stmt_at};
 ghost use Rattle.scope.specs.Legal.{first_broken};
@@ -111,11 +111,12 @@ impl CheckedDatabase {
         self.checkers.alloc()
     }
 
-    /// Appends the statements if the whole list is then good; otherwise appends none and returns the cause.
+    /// Appends the statements if the whole list is then good; otherwise appends none and returns the cause. `add` adds
+    /// statements to the tables, and `first_wrong` returns the index of the first proof that is not right, or `None`.
     ///
-    /// Errors: an allocation fails; nothing is added then. Cost: that of the statements added, at most two steps each;
-    /// that of their proofs; and that of `Checkers::repeat_searches`. Rolling back cannot fail. Most of the memory that
-    /// only refused statements needed is given back, if smaller blocks can be allocated.
+    /// Errors: an allocation fails; nothing is added then. Cost: that of the statements added, each of which `steps`
+    /// counts at most twice; that of their proofs; and that of `Checkers::repeat_searches`. Rolling back cannot fail.
+    /// Most of the memory that only refused statements needed is given back, if smaller blocks can be allocated.
     pub(crate) fn extend<
         E: Fn(&[Stmt], &mut Tables, &mut StepCounts, &mut Checkers) -> AddOutcome,
         F: Fn(&Proofs<'_>, &mut Checkers) -> Result<Option<usize>, AllocError>,
@@ -124,11 +125,11 @@ impl CheckedDatabase {
         more: Vec<Stmt>,
         steps: &mut StepCounts,
         add: &E,
-        least: &F,
+        first_wrong: &F,
     ) -> Result<Option<Cause>, AllocError>
         requires shaped { AreShaped more.items }
         requires adds { Adds (E.pre add.now) (E.post add.now) }
-        requires finds { FindsLeast (F.pre least.now) (F.post least.now) }
+        requires finds { FindsFirstWrong (F.pre first_wrong.now) (F.post first_wrong.now) }
         ensures judged { IfOk result (λ found. Extends self.old more.items found self.new) }
         ensures same { OnErr result (self.new ≡ self.old) }
         ensures rises { count_of steps.old ≤ count_of steps.new }
@@ -140,7 +141,14 @@ impl CheckedDatabase {
         let tables = &mut self.tables;
         let checkers = &mut self.checkers;
         let added = add_after(statements, start, tables, steps, checkers, add);
-        let found = judge(added, &tables.frames, statements, start, checkers, least);
+        let found = judge(
+            added,
+            &tables.frames,
+            statements,
+            start,
+            checkers,
+            first_wrong,
+        );
         checkers.shrink();
         if let Ok(None) = found {
             tables.rules.mark();
@@ -205,9 +213,9 @@ fn judge<F: Fn(&Proofs<'_>, &mut Checkers) -> Result<Option<usize>, AllocError>>
     statements: &[Stmt],
     start: usize,
     checkers: &mut Checkers,
-    least: &F,
+    first_wrong: &F,
 ) -> Result<Option<Cause>, AllocError>
-    requires finds { FindsLeast (F.pre least.now) (F.post least.now) }
+    requires finds { FindsFirstWrong (F.pre first_wrong.now) (F.post first_wrong.now) }
     requires broken { IfOk added.broken (λ broken. broken ≡ first_broken 1 (take start statements.now) (drop start statements.now)) }
     requires frames { added.broken ≡ Ok None → frames.now.statements ≡ bares statements.now }
     requires known { IsKnown statements.now start added.known }
@@ -217,7 +225,7 @@ fn judge<F: Fn(&Proofs<'_>, &mut Checkers) -> Result<Option<usize>, AllocError>>
     if let Some((statement, rule)) = added.broken? {
         return Ok(Some(Cause::Rule { statement, rule }));
     }
-    let Some(at) = least_unproved(least, frames, statements, added.known, checkers)? else {
+    let Some(at) = least_unproved(first_wrong, frames, statements, added.known, checkers)? else {
         return Ok(None);
     };
     let statement = at - start;

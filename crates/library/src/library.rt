@@ -5,7 +5,7 @@ ghost use Rattle.library.specs.Good.{Good};
 ghost use Rattle.library.specs.Judging.{ReadsTexts};
 ghost use Rattle.library.specs.LibraryOf.{Applies, empty, holding, status};
 ghost use Rattle.library.specs.LibraryState.{IsDecision, HasFewSteps, verdict_of};
-ghost use Rattle.library.specs.ProofJobs.{FindsLeast};
+ghost use Rattle.library.specs.ProofJobs.{FindsFirstWrong};
 ghost use Rattle.mm_read.specs.Statements.{AreShaped};
 ghost use Rattle.scope.specs.Active.{bares};
 ghost use Rattle.std.specs.Fn.{FnReturnsAt};
@@ -168,17 +168,23 @@ impl Library {
     }
 
     /// Applies the next entry, where `read` returns the statements that a text writes, `add` adds statements to the
-    /// tables, and `least` returns the index of the first proof that is not right, or `None` if each is right. The
-    /// statements of a text are added if the whole list is good with them; a charter that is added is in force from now
-    /// on.
+    /// tables, and `first_wrong` returns the index of the first proof that is not right, or `None` if each is right.
+    /// The statements of a text are added if the whole list is good with them; a charter that is added is in force from
+    /// now on.
     fn apply_by<
         T: Fn(&[u8]) -> Result<Vec<Stmt>, ReadFault>,
         E: Fn(&[Stmt], &mut Tables, &mut StepCounts, &mut Checkers) -> AddOutcome,
         F: Fn(&Proofs<'_>, &mut Checkers) -> Result<Option<usize>, AllocError>,
-    >(&mut self, next: Option<&Entry>, read: &T, add: &E, least: &F) -> Result<Verdict, AllocError>
+    >(
+        &mut self,
+        next: Option<&Entry>,
+        read: &T,
+        add: &E,
+        first_wrong: &F,
+    ) -> Result<Verdict, AllocError>
         requires reads { T.IsAlwaysCallable read.now × ReadsTexts (FnReturnsAt T.Fn read.now) }
         requires adds { Adds (E.pre add.now) (E.post add.now) }
-        requires finds { FindsLeast (F.pre least.now) (F.post least.now) }
+        requires finds { FindsFirstWrong (F.pre first_wrong.now) (F.post first_wrong.now) }
         ensures applies { IfOk result (λ verdict. Applies self.old.replica (option_map (λ e. e.now) next.entry) verdict self.new.replica) }
         ensures same { OnErr result (self.new.replica ≡ self.old.replica) }
         ensures rises { self.old.steps ≤ self.new.steps }
@@ -198,7 +204,7 @@ impl Library {
             Entry::Text(submission) => match read_text(&self.charter, submission, read)? {
                 Ok(statements) => self
                     .database
-                    .extend(statements, &mut self.steps, add, least)?,
+                    .extend(statements, &mut self.steps, add, first_wrong)?,
                 Err(cause) => Some(cause),
             },
             Entry::Charter { author, names, .. } => {

@@ -1,7 +1,7 @@
 //! The least `$p` of a text that is not proved. (The crate `unproved` finds all of a database.)
 ghost use Rattle.std.specs.Prelude.{◌≡◌, ◌≤◌, length, IfOk};
 ghost use Rattle.library.specs.Judging.{IsLeastUnproved};
-ghost use Rattle.library.specs.ProofJobs.{FindsLeast};
+ghost use Rattle.library.specs.ProofJobs.{FindsFirstWrong};
 ghost use Rattle.scope.specs.Active.{bares};
 
 use crate::queries::is_provable;
@@ -60,20 +60,20 @@ impl<'a> Work for Proofs<'a> {
     }
 }
 
-/// Returns the position of the first `$p` after the first `start` statements that is not proved, where `least` returns the
-/// index of the first proof that is not right, or `None`.
+/// Returns the position of the first `$p` after the first `start` statements that is not proved, or `None` if each is
+/// proved. `first_wrong` returns the index of the first proof that is not right, or `None`.
 ///
 /// Errors: an allocation fails. Cost: that of the proofs, and one pass over these statements.
 pub(crate) fn least_unproved<
     F: Fn(&Proofs<'_>, &mut Checkers) -> Result<Option<usize>, AllocError>,
 >(
-    least: &F,
+    first_wrong: &F,
     frames: &Frames,
     statements: &[Stmt],
     start: usize,
     checkers: &mut Checkers,
 ) -> Result<Option<usize>, AllocError>
-    requires finds { FindsLeast (F.pre least.now) (F.post least.now) }
+    requires finds { FindsFirstWrong (F.pre first_wrong.now) (F.post first_wrong.now) }
     requires same { frames.now.statements ≡ bares statements.now }
     requires within { start ≤ length statements.now }
     ensures { IfOk result (IsLeastUnproved statements.now start) }
@@ -89,7 +89,7 @@ pub(crate) fn least_unproved<
         statements,
         positions,
     };
-    match least(&proofs, checkers)? {
+    match first_wrong(&proofs, checkers)? {
         Some(index) => Ok(Some(proofs.positions[index])),
         None => Ok(None),
     }
