@@ -84,6 +84,7 @@ pub fn explain_unproved(
     lines.into_bytes()
 }
 
+/// Writes the lines that explain the fault.
 fn push_lines(alloc: Global, lines: &mut Lines<'_>, text: &[u8], fault: DatabaseFault) {
     match fault {
         DatabaseFault::TooLong => lines.push(

@@ -27,6 +27,7 @@ fn explain_misplaced_token(alloc: Global, lines: &mut Lines<'_>, text: &[u8], to
     }
 }
 
+/// Writes the explanation for the token at an index, if the index is at most the number of tokens.
 fn explain_token_at(lines: &mut Lines<'_>, text: &[u8], spans: &[Span], index: usize)
     requires { All (IsWordAt text.now) spans.now }
 {
@@ -36,6 +37,7 @@ fn explain_token_at(lines: &mut Lines<'_>, text: &[u8], spans: &[Span], index: u
     explain_token(lines, text, spans, index);
 }
 
+/// Writes the explanation for the token at an index, or for the end of the text if the index is the number of tokens.
 fn explain_token(lines: &mut Lines<'_>, text: &[u8], spans: &[Span], index: usize)
     requires words { All (IsWordAt text.now) spans.now }
     requires within { index ≤ length spans.now }

@@ -28,6 +28,7 @@ pub(crate) struct Lines<'a> {
 }
 
 impl<'a> Lines<'a> {
+    /// Returns an explanation without lines.
     pub(crate) fn new(alloc: Global, name: Option<&'a str>, library_len: usize) -> Lines<'a> {
         Lines {
             bytes: Vec::new(alloc),

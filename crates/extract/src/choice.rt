@@ -45,7 +45,7 @@ struct Choice<'a> {
     active: Vec<usize>,
     /// The number of these that are before the last included assertion.
     active_before_last: usize,
-    /// The variables of an assertion that no `$e` included before contains.
+    /// The variables of the visited assertion that no active, included `$e` contains.
     other_variables: Vec<usize>,
     /// The active `$d`.
     disjoint: DisjointLists,

@@ -1,6 +1,6 @@
 //! The active `$d` of a walk over the statements, and which of them contain two variables of an assertion.
 //!
-//! A statement is *included* if the extract has it: if its position is marked.
+//! A statement is *included* if the extract has it: if its position is marked. A symbol is given by its number, `code`.
 use crate::cited::is_marked;
 use std::alloc::{AllocError, Global};
 
@@ -138,8 +138,8 @@ impl DisjointLists {
         }
     }
 
-    /// Appends the positions of the `$d` that are not marked and contain two variables of the assertion at a position: those in
-    /// `other_variables`, each listed once, and the covered ones.
+    /// Appends the positions of the `$d` that are not included and contain two variables of the assertion at a position. Its
+    /// variables are the covered ones and those in `other_variables`, which lists each once.
     ///
     /// Cost: the number of `$d` that contain a variable of `other_variables`, times a logarithm; for the variable with the most
     /// `$d`, only those not visited since a variable last became covered.
@@ -226,7 +226,7 @@ impl DisjointLists {
         Ok(())
     }
 
-    /// Removes the marked `$d` from those of a symbol, from index `from` on, and records that all were visited.
+    /// Removes the included `$d` from those recorded for a symbol, from offset `from` on, and records that all were visited.
     fn remove_included(&mut self, code: usize, from: usize, marks: &[bool]) {
         let mut kept = from;
         for offset in from..self.list_count(code) {
@@ -262,6 +262,7 @@ impl DisjointLists {
         Ok(())
     }
 
+    /// Returns whether the `$d` at an index is included.
     fn is_included(&self, index: usize, marks: &[bool]) -> bool {
         match self.lists.get(index) {
             Some(list) => is_marked(marks, list.position),
@@ -269,6 +270,7 @@ impl DisjointLists {
         }
     }
 
+    /// Returns whether a symbol is covered.
     fn is_covered(&self, code: usize) -> bool {
         match self.symbols.get(code) {
             Some(symbol) => symbol.covered,
@@ -297,6 +299,7 @@ impl DisjointLists {
         self.symbols.get(code)?.indexes.get(offset).copied()
     }
 
+    /// Replaces the index at an offset among the `$d` of a symbol.
     fn set_list_index(&mut self, code: usize, offset: usize, index: usize) {
         if let Some(symbol) = self.symbols.get_mut(code) {
             if let Some(old) = symbol.indexes.get_mut(offset) {
@@ -314,6 +317,7 @@ impl DisjointLists {
     }
 }
 
+/// Returns 1 if `yes`, else 0.
 fn one_if(yes: bool) -> usize {
     if yes { 1 } else { 0 }
 }

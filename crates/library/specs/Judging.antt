@@ -19,13 +19,13 @@ IsPrefix prefix whole = (rest : Database) × (whole ≡ prefix ++ rest)
 abbrev pub IsProvedIfProvable : Database → ℕ → Type 0
 IsProvedIfProvable S at = (s : Stmt) → IsProvable S at s → IsProved S at
 
--- after the first statements each `$p` is proved, or this is the least that is not
+-- after the first `start` statements each `$p` is proved (`None`), or this is the least position of one that is not
 abbrev pub IsLeastUnproved : Database → ℕ → Option ℕ → Type 0
 IsLeastUnproved S start None = (at : ℕ) → start < at → at ≤ length S → IsProvedIfProvable S at
 IsLeastUnproved S start (Some at) =
     (start < at) × (at ≤ length S) × (¬ IsProvedIfProvable S at) × ((m : ℕ) → start < m → m < at → IsProvedIfProvable S m)
 
--- after the first statements, up to this position, each `$p` is proved
+-- after the first `start` statements, up to the position `known`, each `$p` is proved
 pub record IsKnown (S : Database) (start known : ℕ) : Type 0 where
   pub low : start ≤ known
   pub within : known ≤ length S

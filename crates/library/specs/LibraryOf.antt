@@ -37,6 +37,7 @@ pub record ReplicaState : Type 0 where
   pub decided : List EntryVerdict
   pub charter : Option (List ℕ)
 
+-- no statements, no verdicts, no charter
 abbrev pub empty : ReplicaState
 empty = record { statements = []; decided = []; charter = None }
 

@@ -16,6 +16,7 @@ use Rattle.std.specs.BTreeMap.{BTreeMap, get}
 use Rattle.std.specs.Ordering.{nat_cmp, ordering_then}
 use Rattle.std.specs.declared.cmp.Ordering.{Ordering}
 
+-- what contracts see of a library: its replica, and the number of statements that were given to the rules and frames
 pub record LibraryModel : Type 0 where
   pub replica : ReplicaState
   pub steps : ℕ

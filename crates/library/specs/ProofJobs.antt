@@ -24,7 +24,7 @@ pub record AreProofs (S frames : Database) (positions : List ℕ) : Type 0 where
   pub same : frames ≡ bares S
   pub placed : (k at : ℕ) → slice_get positions k ≡ Some at → (1 ≤ at) × (at ≤ length S)
 
--- the positions of the `$p` above the one position, up to the other, in order
+-- exactly the positions of the `$p` after the first `start` statements, up to `end`, in order
 abbrev pub AreProvablesAfter : Database → ℕ → ℕ → List ℕ → Type 0
 AreProvablesAfter S start end [] = (at : ℕ) (s : Stmt) → start < at → at ≤ end → ¬ IsProvable S at s
 AreProvablesAfter S start end (at ∷ positions) =

@@ -26,6 +26,7 @@ pub record Cites (S : Database) (j a : ℕ) : Type 0 where
   pub has : HasItems S j items
   pub one : ItemsCite S items a
 
+-- the statement is a `$a`
 abbrev pub is_axiom : Stmt → Bool
 is_axiom (Axiom label expr) = true
 is_axiom s = false
