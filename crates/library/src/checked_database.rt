@@ -1,4 +1,4 @@
-//! Good statements, with the tables that judge later ones.
+//! Good statements (each obeys the rules, all blocks close, and each `$p` is proved), with the tables that judge later ones.
 ghost use Rattle.std.specs.Prelude.{◌≡◌, ◌+◌, ◌-◌, ◌*◌, ◌≤◌, ◌++◌, [], length, take, drop, Ok, Some, None, IfOk, OnOk, OnErr};
 ghost use Rattle.frame.specs.AtPosition.{HasLabelsOnce};
 ghost use Rattle.library.specs.Added.{Adds, IsAddedAfter, count_of};
