@@ -4,7 +4,7 @@ pub use Rattle.cluster.specs.Cell.{AddsEntry, Cell, IsCell, TakesOver, new_cell,
 pub use Rattle.cluster.specs.Cells.{new_cells}
 pub use Rattle.cluster.specs.CopiedSlots.{with_copied_slot}
 pub use Rattle.cluster.specs.Outcome.{first_with_key}
-pub use Rattle.library.specs.LibraryOf.{Replica}
+pub use Rattle.library.specs.LibraryOf.{ReplicaState}
 pub use Rattle.library.specs.declared.entry.Entry.{Entry}
 pub use Rattle.library.specs.declared.verdict.Verdict.{Verdict}
 pub use Rattle.mm_read.specs.Statements.{Database}

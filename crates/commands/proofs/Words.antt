@@ -22,7 +22,7 @@ pub use Rattle.commands.specs.declared.session_line.SessionLine.{SessionLine}
 pub use Rattle.commands.specs.declared.session_line.SessionLine.TheVariants.{Help, Serve}
 pub use Rattle.commands.specs.declared.text_form.TextForm.{TextForm}
 pub use Rattle.library.specs.Charters.{is_rising}
-pub use Rattle.library.specs.declared.charter.TheConstants.{MOST_NAMES}
+pub use Rattle.library.specs.declared.charter.TheConstants.{MAX_NAMES}
 pub use Rattle.library.specs.declared.entry.Entry.TheVariants.{Text}
 pub use Rattle.std.proofs.Common.{ap, append-nil, append_assoc, arith, drop, get_or, length, length-append, length-drop, rules, subst, suc, sym, take, ◌∙◌}
 pub use Rattle.std.proofs.lemmas.Bool.{eqb-true, false≢true, ltb-false, ltb-true}

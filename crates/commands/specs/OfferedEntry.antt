@@ -2,7 +2,7 @@
 -- Source: this project's own form.
 -- The code copies the text and the names into an entry of their own.
 use Rattle.std.specs.Prelude.{ℕ, ◌+◌, Bool, true, ◌&&◌, nat_lt, List, [], ◌∷◌, length, Option, Some, None, if◌then◌else◌}
-use Rattle.library.specs.declared.charter.TheConstants.{MOST_NAMES}
+use Rattle.library.specs.declared.charter.TheConstants.{MAX_NAMES}
 use Rattle.library.specs.declared.entry.Entry.TheVariants.{Text, Charter}
 use Rattle.library.specs.Charters.{is_rising}
 use Rattle.commands.specs.declared.offered_entry.OfferedEntry.{OfferedEntry}
@@ -28,7 +28,7 @@ numbers_of (w ∷ ws) = do
 
 -- whether these numbers can be those of the authors of a charter: 1 to 64 in rising order
 abbrev pub are_names : List ℕ → Bool
-are_names numbers = nat_lt 0 (length numbers) && nat_lt (length numbers) (MOST_NAMES + 1) && is_rising numbers
+are_names numbers = nat_lt 0 (length numbers) && nat_lt (length numbers) (MAX_NAMES + 1) && is_rising numbers
 
 -- whether a number is greater than the last one, or there is no last one
 abbrev pub rises : Option ℕ → ℕ → Bool

@@ -10,7 +10,7 @@ use crate::lines::Lines;
 use crate::script::LineFault;
 use crate::text_form::{TextForm, take_text};
 use bytes::Bytes;
-use library::{Entry, MOST_NAMES, Names, Submission};
+use library::{Entry, MAX_NAMES, Names, Submission};
 use numbers::parse_number;
 use std::alloc::{AllocError, Global};
 
@@ -75,7 +75,7 @@ fn are_names(mut words: Words<'_>) -> bool
         let Some(number) = parse_number(word) else {
             return false;
         };
-        if count >= MOST_NAMES || !is_above(number, last) {
+        if count >= MAX_NAMES || !is_above(number, last) {
             return false;
         }
         count += 1;

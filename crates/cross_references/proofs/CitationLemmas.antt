@@ -69,12 +69,12 @@ module _ (S : Database) (labels : List Name) (positions : List (Option ℕ)) (ar
       cites a i =
           let h = in-number numbers a i in
           let c = position-sound h.number a h.stands in
-          record { place = h.place; label = c.label; cited = c.cited; cites = slice_get-map (item_of labels) numbers h.place ∙ (ap (option_map (item_of labels)) h.there ∙ ap Some c.cites); carries = c.carries }
+          record { index = h.place; label = c.label; cited = c.cited; cites = slice_get-map (item_of labels) numbers h.place ∙ (ap (option_map (item_of labels)) h.there ∙ ap Some c.cites); carries = c.carries }
 
       back : (a : ℕ) → ItemsCite S (items_of labels numbers) a → In a (filter_map (cited_position positions) numbers)
       back a c =
-          let m = map-back (item_of labels) numbers c.place (Cite c.label) c.cites in
-          number-in numbers a c.place m.0 m.1 (position-whole m.0 a (record { label = c.label; cited = c.cited; cites = sym m.2; carries = c.carries }))
+          let m = map-back (item_of labels) numbers c.index (Cite c.label) c.cites in
+          number-in numbers a c.index m.0 m.1 (position-whole m.0 a (record { label = c.label; cited = c.cited; cites = sym m.2; carries = c.carries }))
 
 -- ---- the proof at an index
 

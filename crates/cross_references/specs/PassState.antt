@@ -7,7 +7,7 @@ use Rattle.mm_read.specs.Statements.{Database}
 use Rattle.library.specs.Uses.{Cites, Uses, IsAxiomAt}
 use Rattle.frame.specs.Stored.Hypotheses.{In, AreThose}
 
--- the lists of these vectors
+-- the elements of each of these vectors, as a list
 abbrev pub lists_of : List (Vec ℕ) → List (List ℕ)
 lists_of vectors = map (λ (v : Vec ℕ). v.items) vectors
 
@@ -22,7 +22,7 @@ pub record IsRoundTable (list rounds : List ℕ) (round : ℕ) : Type 0 where
   pub past : (k : ℕ) → get_or rounds k 0 ≤ round
   pub among : (k : ℕ) → get_or rounds k 0 ≡ round → In k list
 
--- a is c and the statement at c is a `$a`, or a is in the list of c
+-- citing the statement at c adds the position a to the axioms: a is c and a `$a` is at c, or a is in the list of c
 abbrev pub AddsAxiom : Database → List (List ℕ) → ℕ → ℕ → Type 0
 AddsAxiom S lists c a = (IsAxiomAt S c × (a ≡ c)) ⊎ In a (get_or lists (c - 1) [])
 

@@ -5,12 +5,12 @@ use Rattle.std.specs.Prelude.{◌≡◌, ◌↔◌, ℕ, suc, ◌<◌, false, Li
 use Rattle.mm_read.specs.Statements.{Database}
 use Rattle.library.specs.Uses.{Uses, IsUser, Rises, IsIn}
 
--- the positions for which it holds, in ascending order, each once
+-- exactly the positions for which `Holds`, in ascending order, each once
 pub record ArePositionsWhere (Holds : ℕ → Type 0) (positions : List ℕ) : Type 0 where
   pub rising : Rises 0 positions
   pub holding : (a : ℕ) → IsIn a positions ↔ Holds a
 
--- a list for each statement, the first for position 1: the positions that the statement's own relates to
+-- a list for each statement, in order: exactly the positions to which the statement's own position relates
 pub record AreListsOf (S : Database) (Relates : ℕ → ℕ → Type 0) (lists : List (List ℕ)) : Type 0 where
   pub count : length lists ≡ length S
   pub each : (k : ℕ) → k < length S → ArePositionsWhere (Relates (suc k)) (get_or lists k [])

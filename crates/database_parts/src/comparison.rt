@@ -16,9 +16,9 @@ use std::alloc::{AllocError, Global};
 #[derive(Drop)]
 struct Walk {
     /// The scope after the statements of the whole passed so far.
-    whole: Scope,
+    whole_scope: Scope,
     /// The scope after the statements of the part found so far.
-    part: Scope,
+    part_scope: Scope,
     /// The number of statements of the part found so far.
     next: usize,
 }
@@ -39,8 +39,8 @@ pub fn is_confirmed_part(
     ensures assertions { IfOk result (λ yes. yes ≡ true → HaveSameAssertions whole.now part.now (map (λ label. label.now) labels.now) (length whole.now)) }
 {
     let mut walk = Walk {
-        whole: Scope::new(alloc),
-        part: Scope::new(alloc),
+        whole_scope: Scope::new(alloc),
+        part_scope: Scope::new(alloc),
         next: 0,
     };
     walk_to_end(alloc, whole, part, labels, &mut walk)
@@ -55,7 +55,7 @@ fn walk_to_end(
     walk: &mut Walk,
 ) -> Result<bool, AllocError>
     requires shaped { AreShaped whole.now }
-    requires begins { IsWalked whole.now part.now (map (λ label. label.now) labels.now) 0 walk.old.next walk.old.whole.statements walk.old.part.statements }
+    requires begins { IsWalked whole.now part.now (map (λ label. label.now) labels.now) 0 walk.old.next walk.old.whole_scope.statements walk.old.part_scope.statements }
     ensures part { IfOk result (λ yes. yes ≡ true → IsPart part.now whole.now) }
     ensures assertions { IfOk result (λ yes. yes ≡ true → HaveSameAssertions whole.now part.now (map (λ label. label.now) labels.now) (length whole.now)) }
 {
@@ -79,8 +79,8 @@ fn advance(
     requires shaped { AreShaped whole.now }
     requires within { index < length whole.now }
     ensures { IfOk result (λ yes. yes ≡ true
-        → IsWalked whole.now part.now (map (λ label. label.now) labels.now) index walk.old.next walk.old.whole.statements walk.old.part.statements
-        → IsWalked whole.now part.now (map (λ label. label.now) labels.now) (index + 1) walk.new.next walk.new.whole.statements walk.new.part.statements) }
+        → IsWalked whole.now part.now (map (λ label. label.now) labels.now) index walk.old.next walk.old.whole_scope.statements walk.old.part_scope.statements
+        → IsWalked whole.now part.now (map (λ label. label.now) labels.now) (index + 1) walk.new.next walk.new.whole_scope.statements walk.new.part_scope.statements) }
 {
     let statement = &whole[index];
     let listed = is_listed(statement, labels);
@@ -88,7 +88,7 @@ fn advance(
         return if listed {
             Ok(false)
         } else {
-            accepts(&mut walk.whole, statement)
+            accepts(&mut walk.whole_scope, statement)
         };
     }
     if !has_same_frame(alloc, whole, part, walk, listed, statement)? {
@@ -101,14 +101,14 @@ fn advance(
 fn pass_both(walk: &mut Walk, statement: &Stmt, next: usize) -> Result<bool, AllocError>
     requires { IsShaped statement.now }
     ensures next { walk.new.next ≡ next }
-    ensures whole { IfOk result (λ yes. yes ≡ true → walk.new.whole.statements ≡ walk.old.whole.statements ++ bare statement.now ∷ []) }
-    ensures part { IfOk result (λ yes. yes ≡ true → walk.new.part.statements ≡ walk.old.part.statements ++ bare statement.now ∷ []) }
+    ensures whole { IfOk result (λ yes. yes ≡ true → walk.new.whole_scope.statements ≡ walk.old.whole_scope.statements ++ bare statement.now ∷ []) }
+    ensures part { IfOk result (λ yes. yes ≡ true → walk.new.part_scope.statements ≡ walk.old.part_scope.statements ++ bare statement.now ∷ []) }
 {
     walk.next = next;
-    if !accepts(&mut walk.part, statement)? {
+    if !accepts(&mut walk.part_scope, statement)? {
         return Ok(false);
     }
-    accepts(&mut walk.whole, statement)
+    accepts(&mut walk.whole_scope, statement)
 }
 
 /// Adds the statement to the scope. Returns whether it is legal there.
@@ -156,13 +156,13 @@ fn has_same_frame(
     statement: &Stmt,
 ) -> Result<bool, AllocError>
     requires { listed ≡ true → IsTrue (is_assertion statement.now) }
-    ensures { IfOk result (λ yes. yes ≡ true → listed ≡ true → IsSameFrame whole.now part.now walk.now.whole.statements walk.now.part.statements statement.now) }
+    ensures { IfOk result (λ yes. yes ≡ true → listed ≡ true → IsSameFrame whole.now part.now walk.now.whole_scope.statements walk.now.part_scope.statements statement.now) }
 {
     if !listed {
         return Ok(true);
     }
-    let left = frame(alloc, &walk.whole, statement)?;
-    let right = frame(alloc, &walk.part, statement)?;
+    let left = frame(alloc, &walk.whole_scope, statement)?;
+    let right = frame(alloc, &walk.part_scope, statement)?;
     Ok(same_frame(whole, part, &left, &right))
 }
 

@@ -1,5 +1,5 @@
 -- The line of an event, as `play` parses it.
-use Rattle.event_lines.proofs.Words.{◌≡◌, ℕ, ◌+◌, ◌^◌, ◌<◌, ◌≤◌, ◌==◌, nat_lt, Bool, true, false, ◌&&◌, List, [], ◌∷◌, ◌++◌, codes, decimal, map, Option, Some, None, option_map, option_and_then, if◌then◌else◌, refl, AllByRecursion, join_with_byte, ◌∙◌, ap, arith, length, lt-ltb, join_with_byte-slice_split, MOST_NAMES, Text, Charter, AreNames, is_rising, NodeEntryId, OfferedEntry, TextForm, Rest, Bytes, PlayLine, Node, split_at, Words, last_value, by_first_word, node_of, number_at, one_node, one_number, entry_at, without_text, are_names, names_of, numbers_of, line_or_node_line, play_line_by, play_line_of, bytes_before, text_at, spaced, entry_words}
+use Rattle.event_lines.proofs.Words.{◌≡◌, ℕ, ◌+◌, ◌^◌, ◌<◌, ◌≤◌, ◌==◌, nat_lt, Bool, true, false, ◌&&◌, List, [], ◌∷◌, ◌++◌, codes, decimal, map, Option, Some, None, option_map, option_and_then, if◌then◌else◌, refl, AllByRecursion, join_with_byte, ◌∙◌, ap, arith, length, lt-ltb, join_with_byte-slice_split, MAX_NAMES, Text, Charter, AreNames, is_rising, NodeEntryId, OfferedEntry, TextForm, Rest, Bytes, PlayLine, Node, split_at, Words, last_value, by_first_word, node_of, number_at, one_node, one_number, entry_at, without_text, are_names, names_of, numbers_of, line_or_node_line, play_line_by, play_line_of, bytes_before, text_at, spaced, entry_words}
 use Rattle.commands.specs.declared.node_line.NodeLine.TheVariants.{Offer, Begin, Restart}
 use Rattle.commands.specs.declared.play_line.PlayLine.TheVariants.{Deliver}
 use Rattle.event_lines.proofs.DecimalLemmas.{number_of-decimal}
@@ -102,8 +102,8 @@ are_names-AreNames : (ns : List ℕ) → AreNames ns → are_names ns ≡ true
 are_names-AreNames ns h =
     let some = h.some in
     let few = h.few in
-    all_three (nat_lt 0 (length ns)) (nat_lt (length ns) (MOST_NAMES + 1)) (is_rising ns)
-    (lt-ltb 0 (length ns) (omega arith)) (lt-ltb (length ns) (MOST_NAMES + 1) (omega arith)) h.rising
+    all_three (nat_lt 0 (length ns)) (nat_lt (length ns) (MAX_NAMES + 1)) (is_rising ns)
+    (lt-ltb 0 (length ns) (omega arith)) (lt-ltb (length ns) (MAX_NAMES + 1) (omega arith)) h.rising
 
 pub names_of-decimals : (ns : List ℕ) → AreNames ns → AllByRecursion (λ n. n < 2 ^ 64) ns → names_of (map decimal ns) ≡ Some ns
 names_of-decimals ns h small =

@@ -16,7 +16,7 @@ pub use Rattle.commands.specs.declared.text_form.TextForm.{TextForm}
 pub use Rattle.commands.specs.declared.text_form.TextForm.TheVariants.{Bytes, Rest}
 pub use Rattle.event_lines.specs.EventLines.{EventIsInRange, EntryIsInRange, TextIsInRange, offer_lines, event_text, events_text, spaced, spaced_word, play_line_of_event, text_offer_lines, entry_words}
 pub use Rattle.library.specs.Charters.{AreNames, is_rising}
-pub use Rattle.library.specs.declared.charter.TheConstants.{MOST_NAMES}
+pub use Rattle.library.specs.declared.charter.TheConstants.{MAX_NAMES}
 pub use Rattle.library.specs.declared.entry.Entry.{Entry}
 pub use Rattle.library.specs.declared.entry.Entry.TheVariants.{Charter, Text}
 pub use Rattle.library.specs.declared.submission.Submission.{Submission}

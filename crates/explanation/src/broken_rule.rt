@@ -60,6 +60,7 @@ fn explain_in_statements(
     }
 }
 
+/// Writes which rule is broken: by a block that is open at the end, or by the statement.
 fn explain_rule_in(alloc: Global, lines: &mut Lines<'_>, context: &RuleContext<'_>) {
     if context.statement > context.statements.len() {
         explain_open_block(lines, context);
@@ -98,6 +99,7 @@ fn push_token_place(
     lines.push_place(tokens.text(), tokens.start_of(statement, token));
 }
 
+/// Writes which rule the statement breaks, and by which of its symbols or its label.
 fn explain_statement(alloc: Global, lines: &mut Lines<'_>, context: &RuleContext<'_>) {
     let Some(index) = context.statement.checked_sub(1) else {
         return;
@@ -113,6 +115,7 @@ fn explain_statement(alloc: Global, lines: &mut Lines<'_>, context: &RuleContext
     }
 }
 
+/// Writes how the statement violates the rule.
 fn explain_violation(
     lines: &mut Lines<'_>,
     context: &RuleContext<'_>,
@@ -151,6 +154,7 @@ fn push_symbol(lines: &mut Lines<'_>, context: &RuleContext<'_>, stmt: &Stmt, sy
     lines.push(symbol_at(stmt, symbol));
 }
 
+/// Writes which symbol violates the rule, and why.
 fn explain_symbol(lines: &mut Lines<'_>, context: &RuleContext<'_>, stmt: &Stmt, symbol: usize) {
     push_symbol(lines, context, stmt, symbol);
     // G5: each symbol of an expression is a constant or an active variable. G6: the first is a constant. G9: each variable has
@@ -163,6 +167,7 @@ fn explain_symbol(lines: &mut Lines<'_>, context: &RuleContext<'_>, stmt: &Stmt,
     }
 }
 
+/// Writes that a symbol occurs twice in the statement, and where it occurs first.
 fn explain_twice(
     lines: &mut Lines<'_>,
     context: &RuleContext<'_>,
@@ -177,6 +182,7 @@ fn explain_twice(
     lines.push(b"\n");
 }
 
+/// Writes that another statement uses the symbol, and where.
 fn explain_earlier(
     lines: &mut Lines<'_>,
     context: &RuleContext<'_>,
@@ -188,6 +194,7 @@ fn explain_earlier(
     push_other_use(lines, context, symbol_at(stmt, symbol), other);
 }
 
+/// Writes that another statement uses the label, and where.
 fn explain_label(lines: &mut Lines<'_>, context: &RuleContext<'_>, stmt: &Stmt, other: usize) {
     push_token_start(lines, context, context.statement, 1);
     lines.push(label_of(stmt));

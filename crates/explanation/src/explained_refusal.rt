@@ -7,7 +7,7 @@ use crate::proof::{explain_in_database, explain_proof};
 use crate::shape_fault::explain_shape;
 use crate::text_fault::explain_text;
 use crate::text_tokens::TextTokens;
-use crate::written_lines::{Lines, MOST_BYTES};
+use crate::written_lines::{Lines, MAX_BYTES};
 use scope::Rule;
 use std::alloc::{AllocError, Global};
 use unproved::LegalDatabase;
@@ -40,7 +40,7 @@ pub fn explain_refusal(
     text: &[u8],
     fault: DatabaseFault,
 ) -> Result<Vec<u8>, AllocError>
-    ensures short { IfOk result (λ lines. length lines.items ≤ MOST_BYTES) }
+    ensures short { IfOk result (λ lines. length lines.items ≤ MAX_BYTES) }
 {
     let mut lines = Lines::new(alloc, name, 0);
     push_lines(alloc, &mut lines, text, fault);
@@ -58,7 +58,7 @@ pub fn explain_after(
     library_len: usize,
     fault: DatabaseFault,
 ) -> Result<Vec<u8>, AllocError>
-    ensures short { IfOk result (λ lines. length lines.items ≤ MOST_BYTES) }
+    ensures short { IfOk result (λ lines. length lines.items ≤ MAX_BYTES) }
 {
     let mut lines = Lines::new(alloc, None, library_len);
     push_lines(alloc, &mut lines, text, fault);
@@ -77,13 +77,14 @@ pub fn explain_unproved(
     database: &LegalDatabase,
     statement: usize,
 ) -> Result<Vec<u8>, AllocError>
-    ensures short { IfOk result (λ lines. length lines.items ≤ MOST_BYTES) }
+    ensures short { IfOk result (λ lines. length lines.items ≤ MAX_BYTES) }
 {
     let mut lines = Lines::new(alloc, name, 0);
     explain_in_database(alloc, &mut lines, tokens, database, statement);
     lines.into_bytes()
 }
 
+/// Writes the lines that explain the fault.
 fn push_lines(alloc: Global, lines: &mut Lines<'_>, text: &[u8], fault: DatabaseFault) {
     match fault {
         DatabaseFault::TooLong => lines.push(

@@ -3,21 +3,21 @@
 use crate::written_lines::Lines;
 use frame::Frames;
 
-/// The most symbols that are written of an expression.
-const MOST_SYMBOLS: usize = 400;
+/// The largest number of symbols that are written of an expression.
+const MAX_SYMBOLS: usize = 400;
 
-/// The most bytes that are written of an expression, with a space before each symbol.
-const MOST_EXPRESSION_BYTES: usize = 4_096;
+/// The largest number of bytes that are written of an expression, with a space before each symbol.
+const MAX_EXPRESSION_BYTES: usize = 4_096;
 
 /// Writes the symbols of an expression, with a space before each. Truncates a long one before the first symbol that would
 /// exceed either limit, and writes how many symbols it has.
 ///
 /// Cost: the bytes that are written.
 pub(crate) fn push_expression(lines: &mut Lines<'_>, frames: &Frames, expr: &[u32]) {
-    let mut left = MOST_EXPRESSION_BYTES;
+    let mut remaining = MAX_EXPRESSION_BYTES;
     for (index, number) in expr.iter().enumerate() {
         let symbol = frames.symbol(*number);
-        if index == MOST_SYMBOLS || symbol.len() >= left {
+        if index == MAX_SYMBOLS || symbol.len() >= remaining {
             lines.push(b" .. (");
             lines.push_number(expr.len());
             lines.push(b" symbols)");
@@ -25,6 +25,6 @@ pub(crate) fn push_expression(lines: &mut Lines<'_>, frames: &Frames, expr: &[u3
         }
         lines.push(b" ");
         lines.push(symbol);
-        left -= symbol.len() + 1;
+        remaining -= symbol.len() + 1;
     }
 }

@@ -27,4 +27,4 @@ mod written_lines;
 
 pub use explained_refusal::{DatabaseFault, explain_after, explain_refusal, explain_unproved};
 pub use text_tokens::TextTokens;
-pub use written_lines::MOST_BYTES;
+pub use written_lines::MAX_BYTES;

@@ -30,6 +30,7 @@ pub(crate) fn explain_proof(alloc: Global, lines: &mut Lines<'_>, text: &[u8], s
     }
 }
 
+/// Writes why the proof of the `$p` at a position is wrong or unfinished, given the statements parsed from the text.
 fn explain_wrong(
     alloc: Global,
     lines: &mut Lines<'_>,
@@ -44,6 +45,7 @@ fn explain_wrong(
     }
 }
 
+/// Writes why the proof of the `$p` at a position is wrong or unfinished, given the statements with their frames.
 fn explain_in_text(
     alloc: Global,
     lines: &mut Lines<'_>,
@@ -56,7 +58,8 @@ fn explain_in_text(
     }
 }
 
-/// Writes why the proof of the `$p` at a position is wrong or unfinished, given the statements parsed from the text.
+/// Writes why the proof of the `$p` at a position is wrong or unfinished, given the tokens of the text and its statements with
+/// their frames.
 pub(crate) fn explain_in_database(
     alloc: Global,
     lines: &mut Lines<'_>,
@@ -69,6 +72,7 @@ pub(crate) fn explain_in_database(
     }
 }
 
+/// Writes why the proof of the theorem is wrong or unfinished.
 fn explain_theorem(alloc: Global, lines: &mut Lines<'_>, frames: &Frames, theorem: &Theorem<'_>)
     requires { (s : Statement) × IsProvable frames.now.statements theorem.now.at s }
 {

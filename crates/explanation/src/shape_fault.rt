@@ -27,6 +27,7 @@ fn explain_misplaced_token(alloc: Global, lines: &mut Lines<'_>, text: &[u8], to
     }
 }
 
+/// Writes the explanation for the token at an index, if the index is at most the number of tokens.
 fn explain_token_at(lines: &mut Lines<'_>, text: &[u8], spans: &[Span], index: usize)
     requires { All (IsWordAt text.now) spans.now }
 {
@@ -36,6 +37,7 @@ fn explain_token_at(lines: &mut Lines<'_>, text: &[u8], spans: &[Span], index: u
     explain_token(lines, text, spans, index);
 }
 
+/// Writes the explanation for the token at an index, or for the end of the text if the index is the number of tokens.
 fn explain_token(lines: &mut Lines<'_>, text: &[u8], spans: &[Span], index: usize)
     requires words { All (IsWordAt text.now) spans.now }
     requires within { index ≤ length spans.now }
@@ -68,12 +70,12 @@ fn explain_token(lines: &mut Lines<'_>, text: &[u8], spans: &[Span], index: usiz
 
 /// Writes that a token is not allowed where it is, and which tokens are; for `$[`, that files are not included; and for a
 /// word in place of a label, which characters a label has.
-fn push_misplaced(lines: &mut Lines<'_>, expected: &[u8], token: &[u8], begins: bool) {
+fn push_misplaced(lines: &mut Lines<'_>, expected: &[u8], token: &[u8], begins_statement: bool) {
     if token == b"$[".as_slice() {
         lines.push(
             b": file inclusion is not supported; join the files first: cat a.mm b.mm | mmlib check",
         );
-    } else if begins && !token.starts_with(b"$") {
+    } else if begins_statement && !token.starts_with(b"$") {
         lines.push(b": ");
         lines.push(token);
         lines.push(b" is no label: letters, digits, . - and _ may stand in one");
@@ -94,13 +96,13 @@ fn allowed_tokens(text: &[u8], before: &[Span]) -> &'static [u8] {
         b"$c" => symbols_or_end(before.len(), 2),
         b"$v" => symbols_or_end(before.len(), 2),
         b"$d" => symbols_or_end(before.len(), 3),
-        _ => after_label(text, before),
+        _ => allowed_after_label(text, before),
     }
 }
 
 /// Returns the part of the message that names a symbol, and also `$.` if `len` tokens are enough for a statement.
-fn symbols_or_end(len: usize, enough: usize) -> &'static [u8] {
-    if len < enough {
+fn symbols_or_end(len: usize, min_len: usize) -> &'static [u8] {
+    if len < min_len {
         b"a symbol"
     } else {
         b"a symbol or $."
@@ -108,7 +110,7 @@ fn symbols_or_end(len: usize, enough: usize) -> &'static [u8] {
 }
 
 /// Returns the part of the message that names the tokens allowed after these, the first of which is a label.
-fn after_label(text: &[u8], before: &[Span]) -> &'static [u8] {
+fn allowed_after_label(text: &[u8], before: &[Span]) -> &'static [u8] {
     let Some(keyword) = before.get(1) else {
         return b"$f, $e, $a or $p";
     };
@@ -118,13 +120,13 @@ fn after_label(text: &[u8], before: &[Span]) -> &'static [u8] {
             3 => b"a variable",
             _ => b"$.",
         },
-        b"$p" => within_provable(text, before),
+        b"$p" => allowed_in_provable(text, before),
         _ => symbols_or_end(before.len(), 3),
     }
 }
 
 /// Returns the part of the message that names the tokens allowed after these tokens of a `$p`.
-fn within_provable(text: &[u8], before: &[Span]) -> &'static [u8] {
+fn allowed_in_provable(text: &[u8], before: &[Span]) -> &'static [u8] {
     for span in before {
         if token_in(text, *span) == b"$=".as_slice() {
             return b"a token of the proof or $.";

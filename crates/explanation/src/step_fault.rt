@@ -62,6 +62,7 @@ pub(crate) fn push_fault(
     }
 }
 
+/// Writes that the cited hypothesis is not active at the theorem.
 fn push_inactive(lines: &mut Lines<'_>, theorem: &Theorem<'_>) {
     lines.push(b"  this hypothesis is not active at ");
     lines.push(theorem.label);
@@ -81,6 +82,7 @@ fn push_not_earlier(lines: &mut Lines<'_>, theorem: &Theorem<'_>, at: usize) {
     lines.push(b"\n");
 }
 
+/// Writes that the step requires more results than are present.
 fn push_too_few(lines: &mut Lines<'_>, required: usize, present: usize) {
     lines.push(b"  it takes ");
     lines.push_number(required);
@@ -122,12 +124,14 @@ fn push_other_expression(
     push_actual(lines, frames, actual);
 }
 
+/// Writes the result that is there instead.
 fn push_actual(lines: &mut Lines<'_>, frames: &Frames, expr: &[u32]) {
     lines.push(b"\n  but the result there is");
     push_expression(lines, frames, expr);
     lines.push(b"\n");
 }
 
+/// Writes the label of the hypothesis at a position.
 fn push_hypothesis(lines: &mut Lines<'_>, theorem: &Theorem<'_>, at: usize) {
     lines.push(b"  its hypothesis ");
     lines.push(theorem.label_at(at));

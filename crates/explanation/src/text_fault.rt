@@ -16,6 +16,7 @@ pub(crate) fn explain_text(alloc: Global, lines: &mut Lines<'_>, text: &[u8]) {
     }
 }
 
+/// Writes which byte is not allowed, and where.
 fn explain_byte(lines: &mut Lines<'_>, text: &[u8], offset: usize) {
     let Some(byte) = text.get(offset) else {
         return;
@@ -35,6 +36,7 @@ fn hexadecimal(number: u8) -> u8 {
     }
 }
 
+/// Writes what is wrong with the comment at an offset.
 fn explain_comment(lines: &mut Lines<'_>, text: &[u8], offset: usize)
     requires { IsCommentFault text.now offset }
 {

@@ -7,13 +7,13 @@ use mm_lex::Span;
 use places::line_and_column;
 use std::alloc::{AllocError, Global};
 
-/// The most bytes of an explanation.
-pub const MOST_BYTES: usize = 65_536;
+/// The largest number of bytes of an explanation.
+pub const MAX_BYTES: usize = 65_536;
 
 /// The last line of a truncated explanation.
 const TRUNCATED_LINE: &[u8] = b"\n  the explanation is cut here: it has more than 65536 bytes\n";
 
-/// The lines of an explanation, or none after a failure. Keeps at most `MOST_BYTES` + 1 bytes, the last of which shows that
+/// The lines of an explanation, or none after a failure. Keeps at most `MAX_BYTES` + 1 bytes, the last of which shows that
 /// there were too many, and drops the rest.
 #[derive(Drop)]
 pub(crate) struct Lines<'a> {
@@ -28,6 +28,7 @@ pub(crate) struct Lines<'a> {
 }
 
 impl<'a> Lines<'a> {
+    /// Returns an explanation without lines.
     pub(crate) fn new(alloc: Global, name: Option<&'a str>, library_len: usize) -> Lines<'a> {
         Lines {
             bytes: Vec::new(alloc),
@@ -41,7 +42,7 @@ impl<'a> Lines<'a> {
     ///
     /// Errors: a failure was recorded, or an allocation fails.
     pub(crate) fn into_bytes(self) -> Result<Vec<u8>, AllocError>
-        ensures { IfOk result (λ bytes. length bytes.items ≤ MOST_BYTES) }
+        ensures { IfOk result (λ bytes. length bytes.items ≤ MAX_BYTES) }
     {
         let Lines {
             mut bytes,
@@ -51,8 +52,8 @@ impl<'a> Lines<'a> {
         if has_failed {
             return Err(AllocError);
         }
-        if bytes.len() > MOST_BYTES {
-            bytes.truncate(MOST_BYTES - TRUNCATED_LINE.len());
+        if bytes.len() > MAX_BYTES {
+            bytes.truncate(MAX_BYTES - TRUNCATED_LINE.len());
             bytes.extend_from_slice(TRUNCATED_LINE)?;
         }
         Ok(bytes)
@@ -76,7 +77,7 @@ impl<'a> Lines<'a> {
 
     /// Appends as many of the bytes as fit, and drops the rest.
     pub(crate) fn push(&mut self, bytes: &[u8]) {
-        let space = (MOST_BYTES + 1).saturating_sub(self.bytes.len());
+        let space = (MAX_BYTES + 1).saturating_sub(self.bytes.len());
         let kept = bytes.get(..space).unwrap_or(bytes);
         if self.bytes.extend_from_slice(kept).is_err() {
             self.fail();

@@ -45,7 +45,7 @@ struct Choice<'a> {
     active: Vec<usize>,
     /// The number of these that are before the last included assertion.
     active_before_last: usize,
-    /// The variables of an assertion that no `$e` included before contains.
+    /// The variables of the visited assertion that no active, included `$e` contains.
     other_variables: Vec<usize>,
     /// The active `$d`.
     disjoint: DisjointLists,
@@ -59,7 +59,7 @@ struct Choice<'a> {
 /// which an assertion is included.
 ///
 /// Cost: the statements, each `$e` and `$d` once; for each included assertion its own expression and proof, and the active `$d`
-/// that `DisjointLists::find` visits; for each variable of an included `$e` the active `$d` that contain it.
+/// that `DisjointLists::find_needed` visits; for each variable of an included `$e` the active `$d` that contain it.
 pub(crate) fn choose(
     alloc: Global,
     library: &Library,
@@ -136,7 +136,7 @@ impl<'a> Choice<'a> {
             Some(Stmt::Disj(names)) => {
                 for name in names.iter() {
                     if let Some(code) = self.symbols.find(name) {
-                        self.disjoint.remove(code);
+                        self.disjoint.remove_variable(code);
                     }
                 }
                 self.disjoint.pop();
@@ -208,7 +208,7 @@ impl<'a> Choice<'a> {
         self.disjoint.push(at)?;
         for name in names.iter() {
             if let Some(code) = self.symbols.find(name) {
-                self.disjoint.add(code)?;
+                self.disjoint.add_variable(code)?;
             }
         }
         Ok(())
@@ -239,8 +239,8 @@ impl<'a> Choice<'a> {
         if let Some(proof) = proof {
             self.include_cited_hypotheses(at, proof)?;
         }
-        self.disjoint.find(at, &self.other_variables, &self.marks, &mut self.to_include)?;
-        self.include_listed();
+        self.disjoint.find_needed(at, &self.other_variables, &self.marks, &mut self.to_include)?;
+        self.include_found();
         self.active_before_last = self.active.len();
         self.mark_block_used();
         Ok(())
@@ -360,7 +360,7 @@ impl<'a> Choice<'a> {
     }
 
     /// Includes the `$d` of `to_include`.
-    fn include_listed(&mut self) {
+    fn include_found(&mut self) {
         for index in 0..self.to_include.len() {
             if let Some(position) = self.to_include.get(index).copied() {
                 self.include_disjoint(position);

@@ -1,4 +1,6 @@
 //! The active `$d` of a walk over the statements, and which of them contain two variables of an assertion.
+//!
+//! A statement is *included* if the extract has it: if its position is marked. A symbol is given by its number, `code`.
 use crate::cited::is_marked;
 use std::alloc::{AllocError, Global};
 
@@ -73,7 +75,7 @@ impl DisjointLists {
     }
 
     /// Adds a variable to the `$d` on top.
-    pub(crate) fn add(&mut self, code: usize) -> Result<(), AllocError> {
+    pub(crate) fn add_variable(&mut self, code: usize) -> Result<(), AllocError> {
         let top = self.lists.len().saturating_sub(1);
         let Some(symbol) = self.symbols.get_mut(code) else {
             return Ok(());
@@ -86,7 +88,7 @@ impl DisjointLists {
     }
 
     /// Removes a variable from the `$d` on top.
-    pub(crate) fn remove(&mut self, code: usize) {
+    pub(crate) fn remove_variable(&mut self, code: usize) {
         let top = self.lists.len().saturating_sub(1);
         let Some(symbol) = self.symbols.get_mut(code) else {
             return;
@@ -111,8 +113,8 @@ impl DisjointLists {
         if let Some(symbol) = self.symbols.get_mut(code) {
             symbol.covered = true;
         }
-        for offset in 0..self.count(code) {
-            if let Some(index) = self.index(code, offset) {
+        for offset in 0..self.list_count(code) {
+            if let Some(index) = self.list_index(code, offset) {
                 self.count_covered(index);
                 self.push_if_two_covered(index, found)?;
             }
@@ -127,8 +129,8 @@ impl DisjointLists {
         if let Some(symbol) = self.symbols.get_mut(code) {
             symbol.covered = false;
         }
-        for offset in 0..self.count(code) {
-            if let Some(index) = self.index(code, offset) {
+        for offset in 0..self.list_count(code) {
+            if let Some(index) = self.list_index(code, offset) {
                 if let Some(list) = self.lists.get_mut(index) {
                     list.covered = list.covered.saturating_sub(1);
                 }
@@ -136,19 +138,19 @@ impl DisjointLists {
         }
     }
 
-    /// Appends the positions of the `$d` that are not marked and contain two variables of the assertion at a position: those in
-    /// `other_variables`, each listed once, and the covered ones.
+    /// Appends the positions of the `$d` that are not included and contain two variables of the assertion at a position. Its
+    /// variables are the covered ones and those in `other_variables`, which lists each once.
     ///
     /// Cost: the number of `$d` that contain a variable of `other_variables`, times a logarithm; for the variable with the most
     /// `$d`, only those not visited since a variable last became covered.
-    pub(crate) fn find(
+    pub(crate) fn find_needed(
         &mut self,
         at: usize,
         other_variables: &[usize],
         marks: &[bool],
         found: &mut Vec<usize>,
     ) -> Result<(), AllocError> {
-        let most = self.with_most_lists(other_variables);
+        let most = self.most_listed(other_variables);
         for code in other_variables {
             if !self.is_covered(*code) {
                 self.count_variable(at, *code, most, marks, found)?;
@@ -163,10 +165,10 @@ impl DisjointLists {
 
     /// Returns the variable of `other_variables` with the most `$d` among those that are not covered, or `usize::MAX` if all are
     /// covered.
-    fn with_most_lists(&self, other_variables: &[usize]) -> usize {
+    fn most_listed(&self, other_variables: &[usize]) -> usize {
         let mut most = usize::MAX;
         for code in other_variables {
-            if !self.is_covered(*code) && self.count(*code) >= self.count(most) {
+            if !self.is_covered(*code) && self.list_count(*code) >= self.list_count(most) {
                 most = *code;
             }
         }
@@ -184,14 +186,14 @@ impl DisjointLists {
         found: &mut Vec<usize>,
     ) -> Result<(), AllocError> {
         let from = if code == most {
-            self.visited_of(code)
+            self.visited_count(code)
         } else {
             0
         };
-        for offset in from..self.count(code) {
-            if let Some(index) = self.index(code, offset) {
+        for offset in from..self.list_count(code) {
+            if let Some(index) = self.list_index(code, offset) {
                 if !self.is_included(index, marks) {
-                    let has_most = self.has(most, index);
+                    let has_most = self.is_in_list(most, index);
                     self.count_in(at, index, code != most, has_most, found)?;
                 }
             }
@@ -224,13 +226,13 @@ impl DisjointLists {
         Ok(())
     }
 
-    /// Removes the marked `$d` from those of a symbol, from index `from` on, and records that all were visited.
+    /// Removes the included `$d` from those recorded for a symbol, from offset `from` on, and records that all were visited.
     fn remove_included(&mut self, code: usize, from: usize, marks: &[bool]) {
         let mut kept = from;
-        for offset in from..self.count(code) {
-            if let Some(index) = self.index(code, offset) {
+        for offset in from..self.list_count(code) {
+            if let Some(index) = self.list_index(code, offset) {
                 if !self.is_included(index, marks) {
-                    self.set_index(code, kept, index);
+                    self.set_list_index(code, kept, index);
                     kept = kept.saturating_add(1);
                 }
             }
@@ -260,6 +262,7 @@ impl DisjointLists {
         Ok(())
     }
 
+    /// Returns whether the `$d` at an index is included.
     fn is_included(&self, index: usize, marks: &[bool]) -> bool {
         match self.lists.get(index) {
             Some(list) => is_marked(marks, list.position),
@@ -267,6 +270,7 @@ impl DisjointLists {
         }
     }
 
+    /// Returns whether a symbol is covered.
     fn is_covered(&self, code: usize) -> bool {
         match self.symbols.get(code) {
             Some(symbol) => symbol.covered,
@@ -275,7 +279,7 @@ impl DisjointLists {
     }
 
     /// Returns the number of `$d` that are recorded for a symbol.
-    fn count(&self, code: usize) -> usize {
+    fn list_count(&self, code: usize) -> usize {
         match self.symbols.get(code) {
             Some(symbol) => symbol.indexes.len(),
             None => 0,
@@ -283,7 +287,7 @@ impl DisjointLists {
     }
 
     /// Returns the number of these that were visited since a variable last became covered.
-    fn visited_of(&self, code: usize) -> usize {
+    fn visited_count(&self, code: usize) -> usize {
         match self.symbols.get(code) {
             Some(symbol) if symbol.visited_at == self.cover_count => symbol.visited,
             _ => 0,
@@ -291,11 +295,12 @@ impl DisjointLists {
     }
 
     /// Returns the index of the `$d` at an offset among those of a symbol.
-    fn index(&self, code: usize, offset: usize) -> Option<usize> {
+    fn list_index(&self, code: usize, offset: usize) -> Option<usize> {
         self.symbols.get(code)?.indexes.get(offset).copied()
     }
 
-    fn set_index(&mut self, code: usize, offset: usize, index: usize) {
+    /// Replaces the index at an offset among the `$d` of a symbol.
+    fn set_list_index(&mut self, code: usize, offset: usize, index: usize) {
         if let Some(symbol) = self.symbols.get_mut(code) {
             if let Some(old) = symbol.indexes.get_mut(offset) {
                 *old = index;
@@ -304,7 +309,7 @@ impl DisjointLists {
     }
 
     /// Returns whether a `$d` is recorded for a symbol.
-    fn has(&self, code: usize, index: usize) -> bool {
+    fn is_in_list(&self, code: usize, index: usize) -> bool {
         match self.symbols.get(code) {
             Some(symbol) => symbol.indexes.binary_search(&index).is_ok(),
             None => false,
@@ -312,6 +317,7 @@ impl DisjointLists {
     }
 }
 
+/// Returns 1 if `yes`, else 0.
 fn one_if(yes: bool) -> usize {
     if yes { 1 } else { 0 }
 }

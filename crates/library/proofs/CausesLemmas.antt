@@ -1,5 +1,5 @@
 -- A text that is judged after given statements, under a given charter, has at most one verdict.
-use Rattle.library.proofs.Words.{◌≡◌, ◌≢◌, ℕ, zero, suc, ◌+◌, ◌-◌, ◌<◌, ◌≤◌, true, false, IsTrue, IsFalse, List, ◌++◌, length, Option, Some, None, refl, sym, ◌∙◌, ap, subst, arith, Name, Stmt, Database, tokens_of, Reads, HasTokens, IsNoDatabase, BrokenRule, proof_of, first_broken, is_unfinished, Submission, Cause, TooLong, Shape, NotChartered, Rule, Proof, Unfinished, Verdict, Added, Refused, first_forbidden, Good, IsReadable, IsAllowed, IsFirstUnproved, IsFault, IsCause, LexFault, IsLexFault, HasOnlyAllowedBytes-no_fault, AreTokens-no_comment_fault, one_statement_list, MOST_BYTES, some-same, same_tokens}
+use Rattle.library.proofs.Words.{◌≡◌, ◌≢◌, ℕ, zero, suc, ◌+◌, ◌-◌, ◌<◌, ◌≤◌, true, false, IsTrue, IsFalse, List, ◌++◌, length, Option, Some, None, refl, sym, ◌∙◌, ap, subst, arith, Name, Stmt, Database, tokens_of, Reads, HasTokens, IsNoDatabase, BrokenRule, proof_of, first_broken, is_unfinished, Submission, Cause, TooLong, Shape, NotChartered, Rule, Proof, Unfinished, Verdict, Added, Refused, first_forbidden, Good, IsReadable, IsAllowed, IsFirstUnproved, IsFault, IsCause, LexFault, IsLexFault, HasOnlyAllowedBytes-no_fault, AreTokens-no_comment_fault, one_statement_list, MAX_BYTES, some-same, same_tokens}
 use Rattle.mm_lex.specs.declared.fault.LexFault.TheVariants as lex
 use Rattle.library.specs.declared.verdict.Cause.TheVariants.{Text}
 use Rattle.library.proofs.GoodLemmas.{provable-after}
@@ -85,13 +85,13 @@ module _ (L : Database) (charter : Option (List ℕ)) (submission : Submission) 
     one-late None v w l m = absurd l
 
   abbrev IsLong : Type 0
-  IsLong = MOST_BYTES < length submission.text
+  IsLong = MAX_BYTES < length submission.text
 
   abbrev IsFaulty : Type 0
-  IsFaulty = (length submission.text ≤ MOST_BYTES) × ((fault : LexFault) × IsLexFault submission.text fault × (fault ≢ lex.Memory))
+  IsFaulty = (length submission.text ≤ MAX_BYTES) × ((fault : LexFault) × IsLexFault submission.text fault × (fault ≢ lex.Memory))
 
   abbrev IsShapeless : Type 0
-  IsShapeless = (length submission.text ≤ MOST_BYTES) × ((tokens : List Name) × HasTokens submission.text tokens × IsNoDatabase tokens)
+  IsShapeless = (length submission.text ≤ MAX_BYTES) × ((tokens : List Name) × HasTokens submission.text tokens × IsNoDatabase tokens)
 
   -- the stages at which a verdict can be reached
   data Reason (v : Verdict) : Type 0 where
@@ -110,7 +110,7 @@ module _ (L : Database) (charter : Option (List ℕ)) (submission : Submission) 
   reason (Refused cause) p = late p.0 p.1.readable (subst (λ o. Late p.0 o (Refused cause)) (sym p.1.allowed) p.2)
   reason v p = absurd p
 
-  too-long : {A : Type 0} → IsLong → length submission.text ≤ MOST_BYTES → A
+  too-long : {A : Type 0} → IsLong → length submission.text ≤ MAX_BYTES → A
   too-long p q = absurd (omega (arith, p, q))
 
   one-reason : (v w : Verdict) → Reason v → Reason w → v ≡ w

@@ -1,6 +1,6 @@
 -- A text is added whole or not at all; good statements with a judged text are good.
 use Rattle.library.proofs.Words.{◌≡◌, ℕ, zero, suc, ◌+◌, ◌-◌, ◌<◌, ◌≤◌, ◌&&◌, [], ◌∷◌, ◌++◌, length, take, drop, get_or, Option, Some, None, refl, list_all, sym, ◌∙◌, ap, subst, arith, inl, inr, Result, Ok, IfOk, length-append, true_from_ne_false, true≢false, map-append, take-append-drop, length-take-le, length-map, take_rest, take-append_seam, drop-append_seam, Stmt, Database, AreShaped, is_shaped, BrokenRule, bare, bares, is_provable, stmt_at, first_broken, stands-within, IsProvable, Good, IsProved, IsFirstUnproved, IsKnown, IsLeastUnproved, IsJudged, IsChecked, list_all-append, IsAdded, IsAddedAfter, Tables}
-use Rattle.library.specs.declared.adding.Added.{Added}
+use Rattle.library.specs.declared.adding.AddOutcome.{AddOutcome}
 use Rattle.library.proofs.FrontLemmas.{stmt_at-after, stands_index}
 use Rattle.library.proofs.GoodLemmas.{provable-where, provable-after, proved-later}
 use Rattle.library.proofs.JoinedRulesLemmas.{legal-more, first_broken-bares, bare-bare}
@@ -85,7 +85,7 @@ module _ (S : Database) (front : ℕ) {tables : Tables} (checked : IsChecked (ta
   all-bares old new before after =
       after ∙ (ap (λ U. U ++ bares (drop front S)) before ∙ (sym (map-append bare (take front S) (drop front S)) ∙ ap bares (take-append-drop front S)))
 
-  pub added-after : {new : Tables} (a : Added) → IsAdded tables new (take (length S - front) (drop front S)) a → IsAddedAfter S front new a
+  pub added-after : {new : Tables} (a : AddOutcome) → IsAdded tables new (take (length S - front) (drop front S)) a → IsAddedAfter S front new a
   added-after a added =
       let h = rw (take_rest S front) at added in
       let alone : length (take front S) ≡ length tables.frames.statements = sym (ap length checked.frames_are ∙ length-map (take front S) bare) in record {

@@ -66,7 +66,7 @@ cites-below S at a good c =
     let p = good.proved at c.has.stmt c.has.provable in
     let same = one-items S at p.items c.items (record { stmt = p.stmt; provable = p.provable; written = p.written }) c.has in
     let one = c.one in
-    let e = right-earlier (bares S) at p.items p.right one.place one.label (ap (λ is. slice_get is one.place) same ∙ one.cites) in
+    let e = right-earlier (bares S) at p.items p.right one.index one.label (ap (λ is. slice_get is one.index) same ∙ one.cites) in
     let here : a ≡ e.0 = labels-once S good a e.0 (bare one.cited) e.1 one.label (carries-bare S a one.cited one.label one.carries) e.2 in
     omega (arith, here, e.3)
 
@@ -76,16 +76,16 @@ module _ (S F : Database) (same : F ≡ bares S) (at : ℕ) where
   pub cites-of : (items : List Item) (a : ℕ) → HasItems S at items → ItemsCite F items a → Cites S at a
   cites-of items a has c =
       let w = carries-whole S a c.cited c.label (subst (λ U. Carries U a c.cited c.label) same c.carries) in
-      record { items = items; has = has; one = record { place = c.place; label = c.label; cited = w.0; cites = c.cites; carries = w.1 } }
+      record { items = items; has = has; one = record { index = c.index; label = c.label; cited = w.0; cites = c.cites; carries = w.1 } }
 
   pub cited-of : (items : List Item) (a : ℕ) → HasItems S at items → Cites S at a → ItemsCite F items a
   cited-of items a has c =
       let one = c.one in
       record {
-        place = one.place;
+        index = one.index;
         label = one.label;
         cited = bare one.cited;
-        cites = ap (λ is. slice_get is one.place) (one-items S at items c.items has c.has) ∙ one.cites;
+        cites = ap (λ is. slice_get is one.index) (one-items S at items c.items has c.has) ∙ one.cites;
         carries = subst (λ U. Carries U a (bare one.cited) one.label) (sym same) (carries-bare S a one.cited one.label one.carries);
       }
 

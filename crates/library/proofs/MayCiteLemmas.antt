@@ -121,7 +121,7 @@ module _ (S F : Database) (same : F ≡ bares S) (once : HasLabelsOnce F) (at : 
           let one = c.one in
           let written = written-of S at s tokens provable e c.items c.has in
           let carries : Carries F a (bare one.cited) one.label = subst (λ U. Carries U a (bare one.cited) one.label) (sym same) (carries-bare S a one.cited one.label one.carries) in
-          elim (cited-label tokens (mandatory_labels (bares S) at s) c.items written one.place one.label one.cites) [
+          elim (cited-label tokens (mandatory_labels (bares S) at s) c.items written one.index one.label one.cites) [
             | inl there ↦ true≢false (sym (any_passes_from_place (λ p. is_marked marks (Some p)) (hypotheses (before F at) (bare s)) there.0 a
                 (hypothesis-cited there.0 one.label a (bare one.cited) there.1 carries) m) ∙ mandatory)
             | inr listed ↦ true≢false (sym listed ∙ lists a (bare one.cited) one.label m carries)

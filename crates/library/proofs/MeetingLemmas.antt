@@ -119,7 +119,7 @@ item-front labels rest (suc n) label e = elim (cases_lt n (length labels)) [
 front-meets : (S : Database) (labels rest : List Name) (marks : List Bool) (numbers : List ℕ) → ItemsCiteMarked S (items_of labels numbers) marks → ItemsCiteMarked S (items_of (labels ++ rest) numbers) marks
 front-meets S labels rest marks numbers m =
     let c = m.2 in
-    (m.0, m.1, record { place = c.place; label = c.label; cited = c.cited; cites = by numbers c.place c.cites; carries = c.carries })
+    (m.0, m.1, record { index = c.index; label = c.label; cited = c.cited; cites = by numbers c.index c.cites; carries = c.carries })
   where
     by : (ns : List ℕ) (k : ℕ) → slice_get (items_of labels ns) k ≡ Some (Cite m.2.label) → slice_get (items_of (labels ++ rest) ns) k ≡ Some (Cite m.2.label)
     by [] k e = e
@@ -189,7 +189,7 @@ module _ (F : Database) (tokens : List Name) (items : List Item) (marks : List B
         one.position,
         one.marked,
         record {
-          place = there.0;
+          index = there.0;
           label = one.label;
           cited = one.stmt;
           cites = ap (λ is. slice_get is there.0) w.1.cites ∙ (slice_get-map (λ token. Cite token) tokens there.0 ∙ ap (option_map (λ token. Cite token)) there.1);
@@ -200,7 +200,7 @@ module _ (F : Database) (tokens : List Name) (items : List Item) (marks : List B
   none-cited : is_compressed tokens ≡ false → WritesFinishedNormal tokens items → ItemsCiteMarked F items marks → ListsNone F tokens marks → ⊥
   none-cited plain w m none =
       let c = m.2 in
-      elim (cited-label tokens [] items (inr (plain, w)) c.place c.label c.cites) [
+      elim (cited-label tokens [] items (inr (plain, w)) c.index c.label c.cites) [
         | inl there ↦ (let h = there.1 in cc)
         | inr listed ↦ true≢false (sym listed ∙ none m.0 c.cited c.label m.1 c.carries)
       ]

@@ -1,5 +1,5 @@
 -- A log without charters has the same library under the definition that knows no charters.
-use Rattle.library.proofs.Words.{◌≡◌, ◌↔◌, List, [], ◌∷◌, map, option_map, Option, Some, None, refl, sym, ◌∙◌, ap, subst, Database, Submission, Text, Verdict, Added, Refused, Cause, TooLong, BadText, Shape, NotChartered, IsCause, Replica, Decided, status, Decides, AppliesAt, Applies, Runs, PlainReplica, IsPlainCause, PlainDecides, PlainAppliesAt, PlainApplies, PlainRuns, without_charter}
+use Rattle.library.proofs.Words.{◌≡◌, ◌↔◌, List, [], ◌∷◌, map, option_map, Option, Some, None, refl, sym, ◌∙◌, ap, subst, Database, Submission, Text, Verdict, Added, Refused, Cause, TooLong, BadText, Shape, NotChartered, IsCause, ReplicaState, EntryVerdict, status, Decides, AppliesAt, Applies, Runs, PlainReplicaState, IsPlainCause, PlainDecides, PlainAppliesAt, PlainApplies, PlainRuns, without_charter}
 
 -- ---- causes
 
@@ -20,22 +20,22 @@ module _ (L : Database) (submission : Submission) where
 
 -- ---- one text
 
-abbrev bare_of : Database → List Decided → Replica
+abbrev bare_of : Database → List EntryVerdict → ReplicaState
 bare_of S decided = record { statements = S; decided = decided; charter = None }
 
-abbrev plain_of : Database → List Decided → PlainReplica
+abbrev plain_of : Database → List EntryVerdict → PlainReplicaState
 plain_of S decided = record { statements = S; decided = decided }
 
 -- a library without a charter is determined by its statements and its decided entries
-whole : (replica : Replica) → replica.charter ≡ None → replica ≡ bare_of replica.statements replica.decided
+whole : (replica : ReplicaState) → replica.charter ≡ None → replica ≡ bare_of replica.statements replica.decided
 whole replica e = ap (λ charter. record replica { charter = charter }) e
 
-made : (replica : Replica) (S : Database) (ds : List Decided) → (replica ≡ bare_of S ds) ↔ ((without_charter replica ≡ plain_of S ds) × (replica.charter ≡ None))
+made : (replica : ReplicaState) (S : Database) (ds : List EntryVerdict) → (replica ≡ bare_of S ds) ↔ ((without_charter replica ≡ plain_of S ds) × (replica.charter ≡ None))
 made replica S ds =
-    ((λ e. (ap without_charter e, ap (λ r. r.charter) e)), λ q. whole replica q.1 ∙ ap (λ (r : PlainReplica). bare_of r.statements r.decided) q.0)
+    ((λ e. (ap without_charter e, ap (λ r. r.charter) e)), λ q. whole replica q.1 ∙ ap (λ (r : PlainReplicaState). bare_of r.statements r.decided) q.0)
 
-module _ (S : Database) (ds : List Decided) where
-  decides : (submission : Submission) (v : Verdict) (new : Replica) → Decides (bare_of S ds) (Text submission) v new ↔ (PlainDecides (plain_of S ds) submission v (without_charter new) × (new.charter ≡ None))
+module _ (S : Database) (ds : List EntryVerdict) where
+  decides : (submission : Submission) (v : Verdict) (new : ReplicaState) → Decides (bare_of S ds) (Text submission) v new ↔ (PlainDecides (plain_of S ds) submission v (without_charter new) × (new.charter ≡ None))
   decides submission Added new = (
     (λ p. let m = (made new _ _).0 p.3 in ((p.0, p.1.readable, p.2, m.0), m.1)),
     λ q. (q.0.0, record { readable = q.0.1; allowed = refl }, q.0.2, (made new _ _).1 (q.0.3, q.1)),
@@ -46,22 +46,22 @@ module _ (S : Database) (ds : List Decided) where
   )
   decides submission v new = ((λ p. absurd p), λ q. absurd q.0)
 
-  decides-at : (first : Option Verdict) (submission : Submission) (v : Verdict) (new : Replica) → AppliesAt first (bare_of S ds) (Text submission) v new
+  decides-at : (first : Option Verdict) (submission : Submission) (v : Verdict) (new : ReplicaState) → AppliesAt first (bare_of S ds) (Text submission) v new
       ↔ (PlainAppliesAt first (plain_of S ds) submission v (without_charter new) × (new.charter ≡ None))
   decides-at (Some verdict) submission v new = ((λ p. let m = (made new S ds).0 p.1 in ((p.0, m.0), m.1)), λ q. (q.0.0, (made new S ds).1 (q.0.1, q.1)))
   decides-at None submission v new = decides submission v new
 
-  applies : (text : Option Submission) (v : Verdict) (new : Replica) → Applies (bare_of S ds) (option_map Text text) v new ↔ (PlainApplies (plain_of S ds) text v (without_charter new) × (new.charter ≡ None))
+  applies : (text : Option Submission) (v : Verdict) (new : ReplicaState) → Applies (bare_of S ds) (option_map Text text) v new ↔ (PlainApplies (plain_of S ds) text v (without_charter new) × (new.charter ≡ None))
   applies None v new = ((λ p. let m = (made new S ds).0 p.1 in ((p.0, m.0), m.1)), λ q. (q.0.0, (made new S ds).1 (q.0.1, q.1)))
   applies (Some submission) v new = decides-at (status ds submission.author submission.serial) submission v new
 
-applies-from : (old : Replica) (text : Option Submission) (v : Verdict) (mid : Replica) → old.charter ≡ None → Applies old (option_map Text text) v mid ↔ (PlainApplies (without_charter old) text v (without_charter mid) × (mid.charter ≡ None))
+applies-from : (old : ReplicaState) (text : Option Submission) (v : Verdict) (mid : ReplicaState) → old.charter ≡ None → Applies old (option_map Text text) v mid ↔ (PlainApplies (without_charter old) text v (without_charter mid) × (mid.charter ≡ None))
 applies-from old text v mid none =
     subst (λ r. Applies r (option_map Text text) v mid ↔ (PlainApplies (without_charter old) text v (without_charter mid) × (mid.charter ≡ None))) (sym (whole old none)) (applies old.statements old.decided text v mid)
 
 -- ---- logs
 
-pub runs-plain : (log : List (Option Submission)) (old new : Replica) → old.charter ≡ None → Runs old (map (option_map Text) log) new ↔ (PlainRuns (without_charter old) log (without_charter new) × (new.charter ≡ None))
+pub runs-plain : (log : List (Option Submission)) (old new : ReplicaState) → old.charter ≡ None → Runs old (map (option_map Text) log) new ↔ (PlainRuns (without_charter old) log (without_charter new) × (new.charter ≡ None))
 runs-plain [] old new none =
     ((λ p. (ap without_charter p, ap (λ r. r.charter) p ∙ none)), λ q. (made new old.statements old.decided).1 q ∙ sym (whole old none))
 runs-plain (text ∷ log) old new none = (

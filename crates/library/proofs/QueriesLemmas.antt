@@ -1,5 +1,5 @@
 -- The `$p` of a label, and the answers for it.
-use Rattle.library.proofs.Words.{◌≡◌, ◌↔◌, ◌⊎◌, ℕ, List, Option, Some, None, Result, Err, MatchOption, refl, inl, inr, sym, ◌∙◌, ap, subst, true≢false, Name, Stmt, Database, bare, bares, proof_of, stmt_at, is_provable, Carries, HasLabelsOnce, Item, Derivation, mandatory_labels, IsProvable, IsRight, Derives, Good, HasItems, HasNoLabel, NamesNoProof, NamesProof, SpellsTree, IsTreeOf, AskFault, NoLabel, NotProvable, TooLarge}
+use Rattle.library.proofs.Words.{◌≡◌, ◌↔◌, ◌⊎◌, ℕ, List, Option, Some, None, Result, Err, MatchOption, refl, inl, inr, sym, ◌∙◌, ap, subst, true≢false, Name, Stmt, Database, bare, bares, proof_of, stmt_at, is_provable, Carries, HasLabelsOnce, Item, Derivation, mandatory_labels, IsProvable, IsRight, Derives, Good, HasItems, HasNoLabel, NamesNoProvable, NamesProvable, SpellsTree, IsTreeOf, AskFault, NoLabel, NotProvable, TooLarge}
 use Rattle.library.specs.declared.queries.AskFault.TheVariants.{Memory}
 use Rattle.library.proofs.ProvingLemmas.{Found, has-items, written-of}
 use Rattle.library.proofs.CitationWalkLemmas.{carries-bare, carries-whole, labels-once, one-items}
@@ -20,18 +20,18 @@ module _ (S : Database) (good : Good S) (label : Name) where
   same-place : (i j : ℕ) (s r : Stmt) → Carries S i s label → Carries S j r label → i ≡ j
   same-place i j s r c d = one-place S (bares S) refl label i j s r (labels-once S good) c d
 
-  pub not-both : (at : ℕ) → NamesProof S label at → NamesNoProof S label → ⊥
+  pub not-both : (at : ℕ) → NamesProvable S label at → NamesNoProvable S label → ⊥
   not-both at p q =
       let e : at ≡ q.position = same-place at q.position p.stmt q.stmt p.carries q.carries in
       let stands : Some p.stmt ≡ Some q.stmt = sym p.provable.stands ∙ (ap (stmt_at S) e ∙ q.carries.stands) in
       let same : p.stmt ≡ q.stmt = cc in
       true≢false (sym p.provable.provable ∙ (ap is_provable same ∙ q.other))
 
-  pub one-tree : (at : ℕ) (t : Derivation) → NamesProof S label at → IsTreeOf S label t → SpellsTree S at t
+  pub one-tree : (at : ℕ) (t : Derivation) → NamesProvable S label at → IsTreeOf S label t → SpellsTree S at t
   one-tree at t p q = subst (λ j. SpellsTree S j t) (sym (same-place at q.0 p.stmt q.1.stmt p.carries q.1.carries)) q.2
 
   -- if the label has a derivation, the limits and memory are the only faults
-  pub large-fault : {A B : Type 0} (fault : AskFault) (t : Derivation) → IsTreeOf S label t → (◌≡◌ {A = Result A AskFault} (Err fault) (Err NoLabel)) ↔ HasNoLabel S label → (◌≡◌ {A = Result A AskFault} (Err fault) (Err NotProvable)) ↔ NamesNoProof S label
+  pub large-fault : {A B : Type 0} (fault : AskFault) (t : Derivation) → IsTreeOf S label t → (◌≡◌ {A = Result A AskFault} (Err fault) (Err NoLabel)) ↔ HasNoLabel S label → (◌≡◌ {A = Result A AskFault} (Err fault) (Err NotProvable)) ↔ NamesNoProvable S label
       → (◌≡◌ {A = Result B AskFault} (Err fault) (Err TooLarge)) ⊎ (◌≡◌ {A = Result B AskFault} (Err fault) (Err Memory))
   large-fault NoLabel t q none other = absurd (none.0 refl q.0 q.1.stmt q.1.carries)
   large-fault NotProvable t q none other = absurd (not-both q.0 q.1 (other.0 refl))

@@ -1,5 +1,5 @@
 -- Verdicts on small texts.
-use Rattle.library.proofs.Words.{◌≡◌, ℕ, zero, suc, ◌+◌, ◌<◌, true, false, List, [], ◌∷◌, ◌++◌, codes, refl, length, Some, None, list_all, true≢false, sym, ◌∙◌, ap, arith, inl, inr, lit≤, append-nil, Name, is_allowed, runs, word, Stmt, Const, Var, Axiom, Prove, Database, AreShaped, tokens_of, Reads, proof_of, stmt_at, is_provable, G4, Writes, is_unfinished, IsProvable, Submission, Text, Charter, Rule, Unfinished, NotChartered, Added, Nothing, Repeat, Refused, is_rising, first_forbidden, IsProved, IsCause, Replica, empty, Applies, is_plain, words, w, some-same}
+use Rattle.library.proofs.Words.{◌≡◌, ℕ, zero, suc, ◌+◌, ◌<◌, true, false, List, [], ◌∷◌, ◌++◌, codes, refl, length, Some, None, list_all, true≢false, sym, ◌∙◌, ap, arith, inl, inr, lit≤, append-nil, Name, is_allowed, runs, word, Stmt, Const, Var, Axiom, Prove, Database, AreShaped, tokens_of, Reads, proof_of, stmt_at, is_provable, G4, Writes, is_unfinished, IsProvable, Submission, Text, Charter, Rule, Unfinished, NotChartered, Added, Nothing, Repeat, Refused, is_rising, first_forbidden, IsProved, IsCause, ReplicaState, empty, Applies, is_plain, words, w, some-same}
 use Rattle.library.proofs.LibraryLemmas.{good-empty}
 
 -- a text without comments reads as statements if its words are their tokens
@@ -51,7 +51,7 @@ unfinished = (
 
 -- ---- verdicts
 
-abbrev one_charter : Replica
+abbrev one_charter : ReplicaState
 one_charter = record { statements = []; decided = record { author = 7; serial = 2; verdict = Added } ∷ []; charter = Some (7 ∷ 9 ∷ []) }
 
 -- the empty text is added, and adds no statement

@@ -108,13 +108,13 @@ module _ (S : Database) (labels : List Name) (label_positions : List (Option ℕ
 
   cites-number : (numbers : List ℕ) (a : ℕ) → ItemsCite S (items_of labels numbers) a → HasNumber numbers a
   cites-number numbers a c =
-      let m = map-back (item_of labels) numbers c.place (Cite c.label) c.cites in
-      (c.place, m.0, m.1, place-whole m.0 a (record { label = c.label; cited = c.cited; cites = sym m.2; carries = c.carries }))
+      let m = map-back (item_of labels) numbers c.index (Cite c.label) c.cites in
+      (c.index, m.0, m.1, place-whole m.0 a (record { label = c.label; cited = c.cited; cites = sym m.2; carries = c.carries }))
 
   number-cites : (numbers : List ℕ) (a : ℕ) → HasNumber numbers a → ItemsCite S (items_of labels numbers) a
   number-cites numbers a h =
       let c = place-sound h.1 a h.3 in
-      record { place = h.0; label = c.label; cited = c.cited; cites = slice_get-map (item_of labels) numbers h.0 ∙ (ap (option_map (item_of labels)) h.2 ∙ ap Some c.cites); carries = c.carries }
+      record { index = h.0; label = c.label; cited = c.cited; cites = slice_get-map (item_of labels) numbers h.0 ∙ (ap (option_map (item_of labels)) h.2 ∙ ap Some c.cites); carries = c.carries }
 
   items-sound : (numbers : List ℕ) (old : List Bool) (a : ℕ) → IsMarked (mark_items label_positions numbers old) a → IsMarked old a ⊎ HasNumber numbers a
   items-sound [] old a h = inl h

@@ -15,12 +15,12 @@ pub use Rattle.library.specs.Charters.{first_declaration, first_forbidden, is_ri
 pub use Rattle.library.specs.Good.{Good, IsProved}
 pub use Rattle.library.specs.Judging.{Extends, IsChecked, IsJudged, IsKnown, IsLeastUnproved, IsReading, IsProvedIfProvable}
 pub use Rattle.library.specs.Laws.{without_charter}
-pub use Rattle.library.specs.LibraryOf.{Applies, AppliesAt, Decided, Decides, IsLibraryOf, Replica, Runs, author_of, decided_with, empty, serial_of, status, status_of}
+pub use Rattle.library.specs.LibraryOf.{Applies, AppliesAt, Decides, EntryVerdict, IsLibraryOf, ReplicaState, Runs, author_of, decided_with, empty, serial_of, status, status_of}
 pub use Rattle.library.specs.LibraryState.{IsTableOf, HasFewStepsEntry, HasFewStepsText, key_cmp, verdict_of}
 pub use Rattle.library.specs.Listed.{listed, listed_of}
-pub use Rattle.library.specs.PlainLibraryOf.{IsPlainCause, PlainApplies, PlainAppliesAt, PlainDecides, PlainReplica, PlainRuns}
-pub use Rattle.library.specs.Queries.{HasNoLabel, IsNoProof, IsTreeOf, IsUsage, NamesNoProof, NamesProof, SpellsTree}
-pub use Rattle.library.specs.Unproved.{AreProvablesAfter, AreProofs, IsRightProof}
+pub use Rattle.library.specs.PlainLibraryOf.{IsPlainCause, PlainApplies, PlainAppliesAt, PlainDecides, PlainReplicaState, PlainRuns}
+pub use Rattle.library.specs.Queries.{HasNoLabel, IsNoProvable, IsTreeOf, IsUsage, NamesNoProvable, NamesProvable, SpellsTree}
+pub use Rattle.library.specs.ProofJobs.{AreProvablesAfter, AreProofs, IsRightProof}
 pub use Rattle.library.specs.UseMarks.{AreLabelMarks, IsMarked, IsMarkedAxiom, ItemsCiteMarked, ListsNone, ListsSome, Marks, ProofCitesMarked, is_marked, listed_in, mark, mark_items, cited_position}
 pub use Rattle.library.specs.Uses.{AreLabelsOf, Cites, HasItems, IsAxiomAt, IsIn, IsUser, ItemsCite, RestsOn, Rises, Uses, directly, is_axiom, through}
 pub use Rattle.library.specs.Words.{is_closed}
@@ -33,7 +33,7 @@ pub use Rattle.library.specs.declared.listed.Listed.{Listed}
 pub use Rattle.library.specs.declared.queries.AskFault.{AskFault}
 pub use Rattle.library.specs.declared.queries.AskFault.TheVariants.{NoLabel, NotProvable, TooLarge}
 pub use Rattle.library.specs.declared.submission.Submission.{Submission}
-pub use Rattle.library.specs.declared.submission.TheConstants.{MOST_BYTES}
+pub use Rattle.library.specs.declared.submission.TheConstants.{MAX_BYTES}
 pub use Rattle.library.specs.declared.verdict.Cause.{Cause}
 pub use Rattle.library.specs.declared.verdict.Cause.TheVariants.{NotChartered, Proof, Rule, Shape, Text as BadText, TooLong, Unfinished}
 pub use Rattle.library.specs.declared.verdict.Verdict.{Verdict}

@@ -4,7 +4,7 @@
 use Rattle.std.specs.Prelude.{◌≡◌, ◌≢◌, ℕ, ◌+◌, ◌<◌, ◌≤◌, IsTrue, IsFalse, List, ◌++◌, length, Option, Some, None}
 use Rattle.library.specs.Words.{Name, LexFault, IsLexFault, Stmt, Database, Reads, HasTokens, IsNoDatabase, proof_of, first_broken, is_unfinished, IsProvable}
 use Rattle.mm_lex.specs.declared.fault.LexFault.TheVariants as lex
-use Rattle.library.specs.declared.submission.TheConstants.{MOST_BYTES}
+use Rattle.library.specs.declared.submission.TheConstants.{MAX_BYTES}
 use Rattle.library.specs.declared.submission.Submission.{Submission}
 use Rattle.library.specs.declared.verdict.Cause.{Cause}
 use Rattle.library.specs.declared.verdict.Cause.TheVariants.{TooLong, Text, Shape, NotChartered, Rule, Proof, Unfinished}
@@ -13,7 +13,7 @@ use Rattle.library.specs.Good.{IsProved}
 
 -- the text is within the limit, and reads as T
 pub record IsReadable (text : List ℕ) (T : Database) : Type 0 where
-  pub short : length text ≤ MOST_BYTES
+  pub short : length text ≤ MAX_BYTES
   pub read : Reads text T
 
 -- the text reads as T, and the charter in force, if any, forbids its author nothing in it
@@ -38,11 +38,11 @@ IsFault L T cause = ⊥
 
 -- why the submission is not added after L, under the charter in force
 abbrev pub IsCause : Database → Option (List ℕ) → Submission → Cause → Type 0
-IsCause L charter submission TooLong = MOST_BYTES < length submission.text
+IsCause L charter submission TooLong = MAX_BYTES < length submission.text
 IsCause L charter submission Text =
-    (length submission.text ≤ MOST_BYTES) × ((fault : LexFault) × IsLexFault submission.text fault × (fault ≢ lex.Memory))
+    (length submission.text ≤ MAX_BYTES) × ((fault : LexFault) × IsLexFault submission.text fault × (fault ≢ lex.Memory))
 IsCause L charter submission Shape =
-    (length submission.text ≤ MOST_BYTES) × ((tokens : List Name) × HasTokens submission.text tokens × IsNoDatabase tokens)
+    (length submission.text ≤ MAX_BYTES) × ((tokens : List Name) × HasTokens submission.text tokens × IsNoDatabase tokens)
 IsCause L charter submission (NotChartered n) =
     (T : Database) × IsReadable submission.text T × (first_forbidden charter submission.author T ≡ Some n)
 IsCause L charter submission cause = (T : Database) × IsAllowed charter submission T × IsFault L T cause

@@ -4,7 +4,7 @@
 use Rattle.std.specs.Prelude.{ℕ, ◌+◌, ◌≤◌, Bool, true, false, ◌&&◌, nat_lt, ◌==◌, IsTrue, if◌then◌else◌, List, [], ◌∷◌, length, Option, Some, None}
 use Rattle.std.specs.List.{list_any}
 use Rattle.library.specs.Words.{Stmt, Const, Axiom, Database}
-use Rattle.library.specs.declared.charter.TheConstants.{MOST_NAMES}
+use Rattle.library.specs.declared.charter.TheConstants.{MAX_NAMES}
 
 -- each number is below the next
 abbrev pub is_rising : List ℕ → Bool
@@ -12,20 +12,20 @@ is_rising [] = true
 is_rising (x ∷ []) = true
 is_rising (x ∷ y ∷ numbers) = nat_lt x y && is_rising (y ∷ numbers)
 
--- the names of a charter: 1 to 64 authors, in rising order
+-- the authors that a charter lists: 1 to 64 numbers, in rising order
 pub record AreNames (numbers : List ℕ) : Type 0 where
   pub some : 1 ≤ length numbers
-  pub few : length numbers ≤ MOST_NAMES
+  pub few : length numbers ≤ MAX_NAMES
   pub rising : IsTrue (is_rising numbers)
 
--- the author is among the names
-abbrev pub names_author : List ℕ → ℕ → Bool
-names_author names author = list_any (λ n. n == author) names
+-- the author is among those that a charter lists
+abbrev pub lists_author : List ℕ → ℕ → Bool
+lists_author names author = list_any (λ n. n == author) names
 
--- there is no charter, or it names the author
+-- there is no charter, or it lists the author
 abbrev pub may_declare : Option (List ℕ) → ℕ → Bool
 may_declare None author = true
-may_declare (Some names) author = names_author names author
+may_declare (Some names) author = lists_author names author
 
 -- a `$c` or a `$a`
 abbrev pub is_declaration : Stmt → Bool

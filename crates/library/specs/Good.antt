@@ -4,7 +4,8 @@
 use Rattle.std.specs.Prelude.{ℕ, List}
 use Rattle.library.specs.Words.{Stmt, Database, bares, proof_of, AllLegal, Item, Writes, mandatory_labels, IsProvable, IsRight}
 
--- the tokens of the `$p` at a position write items that are right; frames and derivations do not depend on proofs
+-- the tokens of the `$p` at a position write items that are right (`bares` leaves the proofs out: neither frames nor
+-- derivations depend on them)
 pub record IsProved (S : Database) (at : ℕ) : Type 0 where
   pub stmt : Stmt
   pub items : List Item

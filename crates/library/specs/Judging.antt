@@ -12,24 +12,24 @@ use Rattle.library.specs.Good.{Good, IsProved}
 use Rattle.library.specs.Causes.{IsAllowed, IsCause, IsFault}
 
 -- these statements are a prefix of the list
-abbrev pub Begins : Database → Database → Type 0
-Begins front whole = (rest : Database) × (whole ≡ front ++ rest)
+abbrev pub IsPrefix : Database → Database → Type 0
+IsPrefix prefix whole = (rest : Database) × (whole ≡ prefix ++ rest)
 
 -- if a `$p` is at that position, it is proved
 abbrev pub IsProvedIfProvable : Database → ℕ → Type 0
 IsProvedIfProvable S at = (s : Stmt) → IsProvable S at s → IsProved S at
 
--- after the first statements each `$p` is proved, or this is the least that is not
+-- after the first `start` statements each `$p` is proved (`None`), or this is the least position of one that is not
 abbrev pub IsLeastUnproved : Database → ℕ → Option ℕ → Type 0
-IsLeastUnproved S front None = (at : ℕ) → front < at → at ≤ length S → IsProvedIfProvable S at
-IsLeastUnproved S front (Some at) =
-    (front < at) × (at ≤ length S) × (¬ IsProvedIfProvable S at) × ((m : ℕ) → front < m → m < at → IsProvedIfProvable S m)
+IsLeastUnproved S start None = (at : ℕ) → start < at → at ≤ length S → IsProvedIfProvable S at
+IsLeastUnproved S start (Some at) =
+    (start < at) × (at ≤ length S) × (¬ IsProvedIfProvable S at) × ((m : ℕ) → start < m → m < at → IsProvedIfProvable S m)
 
--- after the first statements, up to this position, each `$p` is proved
-pub record IsKnown (S : Database) (front known : ℕ) : Type 0 where
-  pub low : front ≤ known
+-- after the first `start` statements, up to the position `known`, each `$p` is proved
+pub record IsKnown (S : Database) (start known : ℕ) : Type 0 where
+  pub low : start ≤ known
   pub within : known ≤ length S
-  pub proved : (at : ℕ) → front < at → at ≤ known → IsProvedIfProvable S at
+  pub proved : (at : ℕ) → start < at → at ≤ known → IsProvedIfProvable S at
 
 -- the statements T are good after L, or this is why they are not
 abbrev pub IsJudged : Database → Database → Option Cause → Type 0

@@ -11,5 +11,5 @@ pub mod Listed
 pub mod Uses
 pub mod Queries
 pub mod UseMarks
-pub mod Unproved
+pub mod ProofJobs
 pub mod Added

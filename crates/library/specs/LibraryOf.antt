@@ -25,41 +25,42 @@ abbrev pub size_of : Entry → ℕ
 size_of (Text submission) = length submission.text
 size_of (Charter author serial names) = 8 * length names
 
--- the verdict on an author's entry of that number
-pub record Decided : Type 0 where
+-- an entry that was decided, by its author and serial number, and the verdict on it
+pub record EntryVerdict : Type 0 where
   pub author : ℕ
   pub serial : ℕ
   pub verdict : Verdict
 
 -- the state of a replica: the statements added, the verdicts decided, and the charter in force
-pub record Replica : Type 0 where
+pub record ReplicaState : Type 0 where
   pub statements : Database
-  pub decided : List Decided
+  pub decided : List EntryVerdict
   pub charter : Option (List ℕ)
 
-abbrev pub empty : Replica
+-- no statements, no verdicts, no charter
+abbrev pub empty : ReplicaState
 empty = record { statements = []; decided = []; charter = None }
 
 -- these statements, without verdicts and charter
-abbrev pub holding : Database → Replica
+abbrev pub holding : Database → ReplicaState
 holding S = record { statements = S; decided = []; charter = None }
 
--- the verdict first decided on an author's entry of that number
-abbrev pub status : List Decided → ℕ → ℕ → Option Verdict
+-- the verdict first decided on an author's entry of that serial number
+abbrev pub status : List EntryVerdict → ℕ → ℕ → Option Verdict
 status [] author serial = None
 status (d ∷ ds) author serial =
     if (author == d.author) && (serial == d.serial) then Some d.verdict else status ds author serial
 
-abbrev pub status_of : Replica → Entry → Option Verdict
+abbrev pub status_of : ReplicaState → Entry → Option Verdict
 status_of replica entry = status replica.decided (author_of entry) (serial_of entry)
 
 -- the verdicts, with this one on the entry
-abbrev pub decided_with : Replica → Entry → Verdict → List Decided
+abbrev pub decided_with : ReplicaState → Entry → Verdict → List EntryVerdict
 decided_with old entry verdict =
     old.decided ++ record { author = author_of entry; serial = serial_of entry; verdict = verdict } ∷ []
 
 -- an entry that was not decided before turns the replica old into new, with this verdict
-abbrev pub Decides : Replica → Entry → Verdict → Replica → Type 0
+abbrev pub Decides : ReplicaState → Entry → Verdict → ReplicaState → Type 0
 Decides old (Text submission) Added new =
     (T : Database) × IsAllowed old.charter submission T × Good (old.statements ++ T)
     × (new ≡ record old { statements = old.statements ++ T; decided = decided_with old (Text submission) Added })
@@ -74,21 +75,21 @@ Decides old (Charter author serial names) (Refused cause) new =
     × (new ≡ record old { decided = decided_with old (Charter author serial names) (Refused cause) })
 Decides old entry verdict new = ⊥
 
--- given the verdict decided before under its author and serial number, if any
-abbrev pub AppliesAt : Option Verdict → Replica → Entry → Verdict → Replica → Type 0
+-- an entry turns the replica old into new, given the verdict decided before under its author and serial number, if any
+abbrev pub AppliesAt : Option Verdict → ReplicaState → Entry → Verdict → ReplicaState → Type 0
 AppliesAt (Some first) old entry verdict new = (verdict ≡ Repeat) × (new ≡ old)
 AppliesAt None old entry verdict new = Decides old entry verdict new
 
 -- one entry of the log, or a no-operation (`None`), turns the replica old into new, with this verdict
-abbrev pub Applies : Replica → Option Entry → Verdict → Replica → Type 0
+abbrev pub Applies : ReplicaState → Option Entry → Verdict → ReplicaState → Type 0
 Applies old None verdict new = (verdict ≡ Nothing) × (new ≡ old)
 Applies old (Some entry) verdict new = AppliesAt (status_of old entry) old entry verdict new
 
 -- the entries of a log, one after another
-abbrev pub Runs : Replica → List (Option Entry) → Replica → Type 0
+abbrev pub Runs : ReplicaState → List (Option Entry) → ReplicaState → Type 0
 Runs old [] new = new ≡ old
-Runs old (entry ∷ log) new = (mid : Replica) × (verdict : Verdict) × Applies old entry verdict mid × Runs mid log new
+Runs old (entry ∷ log) new = (mid : ReplicaState) × (verdict : Verdict) × Applies old entry verdict mid × Runs mid log new
 
 -- the library of a log
-abbrev pub IsLibraryOf : List (Option Entry) → Replica → Type 0
+abbrev pub IsLibraryOf : List (Option Entry) → ReplicaState → Type 0
 IsLibraryOf log replica = Runs empty log replica

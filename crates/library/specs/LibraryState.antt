@@ -11,13 +11,14 @@ use Rattle.library.specs.declared.verdict.Verdict.{Verdict}
 use Rattle.library.specs.declared.verdict.Verdict.TheVariants.{Added, Refused}
 use Rattle.library.specs.declared.decided.EntryState.{EntryState}
 use Rattle.library.specs.declared.decided.EntryState.TheVariants.{Undecided, Decided}
-use Rattle.library.specs.LibraryOf.{Decided as DecidedEntry, Replica, status, status_of}
+use Rattle.library.specs.LibraryOf.{EntryVerdict, ReplicaState, status, status_of}
 use Rattle.std.specs.BTreeMap.{BTreeMap, get}
 use Rattle.std.specs.Ordering.{nat_cmp, ordering_then}
 use Rattle.std.specs.declared.cmp.Ordering.{Ordering}
 
+-- what contracts see of a library: its replica, and the number of statements that were given to the rules and frames
 pub record LibraryModel : Type 0 where
-  pub replica : Replica
+  pub replica : ReplicaState
   pub steps : ℕ
 
 -- a decision: added, or refused for this cause
@@ -36,7 +37,7 @@ abbrev pub key_cmp : ℕ × ℕ → ℕ × ℕ → Ordering
 key_cmp a b = ordering_then (nat_cmp a.0 b.0) (nat_cmp a.1 b.1)
 
 -- the table has the first verdict on each entry
-abbrev pub IsTableOf : List DecidedEntry → BTreeMap (ℕ × ℕ) EntryState → Type 0
+abbrev pub IsTableOf : List EntryVerdict → BTreeMap (ℕ × ℕ) EntryState → Type 0
 IsTableOf entries table = (author serial : ℕ) → verdict_at (get key_cmp table (author, serial)) ≡ status entries author serial
 
 -- a decided entry is added or refused
@@ -45,8 +46,8 @@ IsDecision Added = ⊤
 IsDecision (Refused cause) = ⊤
 IsDecision verdict = ⊥
 
--- the judging of a text raises the count of steps by at most three for each statement, and not at all if the text does
--- not read; a statement that is given to the rules and frames is a step
+-- the judging of a text raises the count of steps by at most three for each statement, and not at all if the text does not
+-- read (the count is that of the statements that are given to the rules and frames)
 pub record HasFewStepsText (submission : Submission) (before after : ℕ) : Type 0 where
   pub read : (T : Database) → Reads submission.text T → after ≤ before + 3 * length T
   pub unread : ((T : Database) → ¬ Reads submission.text T) → after ≡ before
@@ -56,12 +57,12 @@ abbrev pub HasFewStepsEntry : Entry → ℕ → ℕ → Type 0
 HasFewStepsEntry (Text submission) before after = HasFewStepsText submission before after
 HasFewStepsEntry (Charter author serial names) before after = after ≡ before
 
--- given the verdict decided before under its author and serial number, if any
+-- the application of an entry, given the verdict decided before under its author and serial number, if any
 abbrev pub HasFewStepsAt : Option Verdict → Entry → ℕ → ℕ → Type 0
 HasFewStepsAt (Some first) entry before after = after ≡ before
 HasFewStepsAt None entry before after = HasFewStepsEntry entry before after
 
 -- how far one application may raise the count of steps: a no-operation and a repeat not at all
-abbrev pub HasFewSteps : Replica → Option Entry → ℕ → ℕ → Type 0
+abbrev pub HasFewSteps : ReplicaState → Option Entry → ℕ → ℕ → Type 0
 HasFewSteps old None before after = after ≡ before
 HasFewSteps old (Some entry) before after = HasFewStepsAt (status_of old entry) entry before after

@@ -4,7 +4,7 @@
 use Rattle.std.specs.Prelude.{◌≡◌, ◌≢◌, ◌<◌, ◌≤◌, List, [], ◌∷◌, ◌++◌, length, Option, Some, None}
 use Rattle.library.specs.Words.{Name, LexFault, IsLexFault, Database, HasTokens, IsNoDatabase}
 use Rattle.mm_lex.specs.declared.fault.LexFault.TheVariants as lex
-use Rattle.library.specs.declared.submission.TheConstants.{MOST_BYTES}
+use Rattle.library.specs.declared.submission.TheConstants.{MAX_BYTES}
 use Rattle.library.specs.declared.submission.Submission.{Submission}
 use Rattle.library.specs.declared.verdict.Verdict.{Verdict}
 use Rattle.library.specs.declared.verdict.Verdict.TheVariants.{Added, Nothing, Repeat, Refused}
@@ -12,32 +12,32 @@ use Rattle.library.specs.declared.verdict.Cause.{Cause}
 use Rattle.library.specs.declared.verdict.Cause.TheVariants.{TooLong, Text, Shape}
 use Rattle.library.specs.Good.{Good}
 use Rattle.library.specs.Causes.{IsReadable, IsFault}
-use Rattle.library.specs.LibraryOf.{Decided, status}
+use Rattle.library.specs.LibraryOf.{EntryVerdict, status}
 
 -- the statements added and the verdicts decided
-pub record PlainReplica : Type 0 where
+pub record PlainReplicaState : Type 0 where
   pub statements : Database
-  pub decided : List Decided
+  pub decided : List EntryVerdict
 
-abbrev pub plain_empty : PlainReplica
+abbrev pub plain_empty : PlainReplicaState
 plain_empty = record { statements = []; decided = [] }
 
 -- the verdicts, with this one on the submission
-abbrev pub plain_decided_with : PlainReplica → Submission → Verdict → List Decided
+abbrev pub plain_decided_with : PlainReplicaState → Submission → Verdict → List EntryVerdict
 plain_decided_with old submission verdict =
     old.decided ++ record { author = submission.author; serial = submission.serial; verdict = verdict } ∷ []
 
 -- why the submission is not added after L
 abbrev pub IsPlainCause : Database → Submission → Cause → Type 0
-IsPlainCause L submission TooLong = MOST_BYTES < length submission.text
+IsPlainCause L submission TooLong = MAX_BYTES < length submission.text
 IsPlainCause L submission Text =
-    (length submission.text ≤ MOST_BYTES) × ((fault : LexFault) × IsLexFault submission.text fault × (fault ≢ lex.Memory))
+    (length submission.text ≤ MAX_BYTES) × ((fault : LexFault) × IsLexFault submission.text fault × (fault ≢ lex.Memory))
 IsPlainCause L submission Shape =
-    (length submission.text ≤ MOST_BYTES) × ((tokens : List Name) × HasTokens submission.text tokens × IsNoDatabase tokens)
+    (length submission.text ≤ MAX_BYTES) × ((tokens : List Name) × HasTokens submission.text tokens × IsNoDatabase tokens)
 IsPlainCause L submission cause = (T : Database) × IsReadable submission.text T × IsFault L T cause
 
 -- a text that was not decided before turns the replica old into new, with this verdict
-abbrev pub PlainDecides : PlainReplica → Submission → Verdict → PlainReplica → Type 0
+abbrev pub PlainDecides : PlainReplicaState → Submission → Verdict → PlainReplicaState → Type 0
 PlainDecides old submission Added new =
     (T : Database) × IsReadable submission.text T × Good (old.statements ++ T)
     × (new ≡ record { statements = old.statements ++ T; decided = plain_decided_with old submission Added })
@@ -46,22 +46,22 @@ PlainDecides old submission (Refused cause) new =
     × (new ≡ record { statements = old.statements; decided = plain_decided_with old submission (Refused cause) })
 PlainDecides old submission verdict new = ⊥
 
--- given the verdict decided before under its author and serial number, if any
-abbrev pub PlainAppliesAt : Option Verdict → PlainReplica → Submission → Verdict → PlainReplica → Type 0
+-- a text turns the replica old into new, given the verdict decided before under its author and serial number, if any
+abbrev pub PlainAppliesAt : Option Verdict → PlainReplicaState → Submission → Verdict → PlainReplicaState → Type 0
 PlainAppliesAt (Some first) old submission verdict new = (verdict ≡ Repeat) × (new ≡ old)
 PlainAppliesAt None old submission verdict new = PlainDecides old submission verdict new
 
 -- one text, or a no-operation, turns the replica old into new, with this verdict
-abbrev pub PlainApplies : PlainReplica → Option Submission → Verdict → PlainReplica → Type 0
+abbrev pub PlainApplies : PlainReplicaState → Option Submission → Verdict → PlainReplicaState → Type 0
 PlainApplies old None verdict new = (verdict ≡ Nothing) × (new ≡ old)
 PlainApplies old (Some submission) verdict new =
     PlainAppliesAt (status old.decided submission.author submission.serial) old submission verdict new
 
 -- the texts of a log, one after another
-abbrev pub PlainRuns : PlainReplica → List (Option Submission) → PlainReplica → Type 0
+abbrev pub PlainRuns : PlainReplicaState → List (Option Submission) → PlainReplicaState → Type 0
 PlainRuns old [] new = new ≡ old
-PlainRuns old (text ∷ log) new = (mid : PlainReplica) × (verdict : Verdict) × PlainApplies old text verdict mid × PlainRuns mid log new
+PlainRuns old (text ∷ log) new = (mid : PlainReplicaState) × (verdict : Verdict) × PlainApplies old text verdict mid × PlainRuns mid log new
 
 -- the library of a log of texts
-abbrev pub IsPlainLibraryOf : List (Option Submission) → PlainReplica → Type 0
+abbrev pub IsPlainLibraryOf : List (Option Submission) → PlainReplicaState → Type 0
 IsPlainLibraryOf log replica = PlainRuns plain_empty log replica

@@ -14,10 +14,10 @@ pub record HasItems (S : Database) (j : ℕ) (items : List Item) : Type 0 where
 
 -- one of the items cites the statement at a
 pub record ItemsCite (S : Database) (items : List Item) (a : ℕ) : Type 0 where
-  pub place : ℕ
+  pub index : ℕ
   pub label : Name
   pub cited : Stmt
-  pub cites : slice_get items place ≡ Some (Cite label)
+  pub cites : slice_get items index ≡ Some (Cite label)
   pub carries : Carries S a cited label
 
 -- an item of the `$p` at j cites the statement at a
@@ -26,6 +26,7 @@ pub record Cites (S : Database) (j a : ℕ) : Type 0 where
   pub has : HasItems S j items
   pub one : ItemsCite S items a
 
+-- the statement is a `$a`
 abbrev pub is_axiom : Stmt → Bool
 is_axiom (Axiom label expr) = true
 is_axiom s = false
@@ -41,11 +42,12 @@ pub data RestsOn (S : Database) : ℕ → ℕ → Type 0 where
   directly : {j a : ℕ} → Cites S j a → RestsOn S j a
   through : {j b a : ℕ} → Cites S j b → RestsOn S b a → RestsOn S j a
 
--- the `$p` at j rests on the `$a` at a
+-- the `$p` at j rests on the `$a` at a, which `Library::trace` then lists
 abbrev pub Uses : Database → ℕ → ℕ → Type 0
 Uses S j a = RestsOn S j a × IsAxiomAt S a
 
--- the `$p` at j uses the statement at a: it cites it, or, where all are meant, rests on it
+-- the `$p` at j is a user of the statement at a, which `Library::usage` lists: it cites the statement, or, if all users are
+-- asked for (`true`), rests on it
 abbrev pub IsUser : Database → Bool → ℕ → ℕ → Type 0
 IsUser S true a j = RestsOn S j a
 IsUser S false a j = Cites S j a

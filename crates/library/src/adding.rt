@@ -5,7 +5,7 @@ ghost use Rattle.std.specs.Thread.{IsSync};
 ghost use Rattle.mm_read.specs.Statements.{AreShaped};
 ghost use Rattle.library.specs.Added.{AreProvedTo, IsAdded, count_of};
 
-use crate::unproved::{Proofs, least_unproved};
+use crate::proof_jobs::{Proofs, least_unproved};
 use frame::Frames;
 use mm_read::Stmt;
 use scope::{Rule, Rules, Steps};
@@ -14,7 +14,7 @@ use std::thread::{Threads, join_mut};
 use verify_pool::{Checkers, Gate, Workers, judge_all};
 
 /// The proofs of a first part of a text are judged ahead only if that part has more statements than this.
-const MANY: usize = 8_192;
+const AHEAD_THRESHOLD: usize = 8_192;
 
 /// Tables that judge the next statement: the state of the rules, and the frames of the statements.
 #[derive(Drop)]
@@ -42,7 +42,7 @@ pub(crate) struct Parallel<'a, G: Gate + Sync, R: Threads + Sync> {
 
 /// The outcome of adding statements.
 #[derive(Drop)]
-pub(crate) struct Added {
+pub(crate) struct AddOutcome {
     /// The number of the first statement that breaks a rule, counted from 1, and its least rule. A block that is open at the
     /// end breaks G10 at the number after the last statement. An error if an allocation failed.
     pub broken: Result<Option<(usize, Rule)>, AllocError>,
@@ -50,11 +50,11 @@ pub(crate) struct Added {
     pub known: usize,
 }
 
-/// Adds the statements to the frames and the rules, up to the first that breaks a rule. Before that, has the frames
-/// make room for half as many labels as there are statements, if allocation succeeds.
+/// Adds the statements to the frames and the rules, up to the first that breaks a rule. Before that, tries to reserve
+/// room in the frames for half as many labels as there are statements.
 ///
-/// Cost: that of the statements, at most one step each.
-pub(crate) fn add_all(statements: &[Stmt], tables: &mut Tables, steps: &mut Steps) -> Added
+/// Cost: that of the statements, each of which `steps` counts at most once.
+pub(crate) fn add_all(statements: &[Stmt], tables: &mut Tables, steps: &mut Steps) -> AddOutcome
     requires shaped { AreShaped statements.now }
     requires same { tables.old.frames.statements ≡ tables.old.rules.statements }
     ensures added { IsAdded tables.old tables.new statements.now result }
@@ -70,14 +70,14 @@ pub(crate) fn add_all(statements: &[Stmt], tables: &mut Tables, steps: &mut Step
             } else {
                 Ok(Some((index + 1, rule)))
             };
-            return Added { broken, known };
+            return AddOutcome { broken, known };
         }
     }
     let broken = match tables.rules.close_at_end() {
         Ok(()) => Ok(None),
         Err(rule) => Ok(Some((statements.len() + 1, rule))),
     };
-    Added { broken, known }
+    AddOutcome { broken, known }
 }
 
 /// Adds the statements as `add_all` does. If they are the first of a library, there are at least two workers and
@@ -86,15 +86,15 @@ pub(crate) fn add_all(statements: &[Stmt], tables: &mut Tables, steps: &mut Step
 /// calling thread. The position returned as `known` is the last of that part if its proofs are found to be right, else
 /// 0.
 ///
-/// Cost: that of `add_all`, and meanwhile that of `verify_ahead`: at most one step more for each statement of that
-/// part.
+/// Cost: that of `add_all`, and meanwhile that of `verify_ahead`, for which `steps` counts each statement of that part at
+/// most once more.
 pub(crate) fn add_all_verifying<G: Gate + Sync, R: Threads + Sync>(
     parallel: &Parallel<'_, G, R>,
     statements: &[Stmt],
     tables: &mut Tables,
     steps: &mut StepCounts,
     checkers: &mut Checkers,
-) -> Added
+) -> AddOutcome
     requires shaped { AreShaped statements.now }
     requires same { tables.old.frames.statements ≡ tables.old.rules.statements }
     ensures added { IsAdded tables.old tables.new statements.now result }
@@ -109,12 +109,12 @@ pub(crate) fn add_all_verifying<G: Gate + Sync, R: Threads + Sync>(
     let StepCounts { calling, ahead } = steps;
     let (rt, gate, alloc) = (parallel.rt, parallel.gate, parallel.alloc);
     let first = &statements[..count];
-    let few = (workers / 2).max(2) - 1;
+    let workers_ahead = (workers / 2).max(2) - 1;
     let mut verify = || -> usize
-        requires { IsSync G.row × IsSync R.row × (1 ≤ few) × (few ≤ 16) × AreShaped first.now }
+        requires { IsSync G.row × IsSync R.row × (1 ≤ workers_ahead) × (workers_ahead ≤ 16) × AreShaped first.now }
         ensures { (result ≤ length first.entry.now) × AreProvedTo first.entry.now result × (ahead.entry.now.count ≤ ahead.exit.now.count) × (ahead.exit.now.count ≤ ahead.entry.now.count + length first.entry.now) }
     {
-        let workers = Workers::of(few);
+        let workers = Workers::of(workers_ahead);
         let parallel = Parallel {
             rt,
             alloc,
@@ -123,7 +123,7 @@ pub(crate) fn add_all_verifying<G: Gate + Sync, R: Threads + Sync>(
         };
         verify_ahead(&parallel, first, ahead, checkers)
     };
-    let mut add = || -> Added
+    let mut add = || -> AddOutcome
         requires { AreShaped statements.now × (tables.now.frames.statements ≡ tables.now.rules.statements) }
         ensures { IsAdded tables.entry.now tables.exit.now statements.entry.now result × (calling.entry.now.count ≤ calling.exit.now.count) × (calling.exit.now.count ≤ calling.entry.now.count + length statements.entry.now) }
     { add_all(statements, tables, calling) };
@@ -133,12 +133,13 @@ pub(crate) fn add_all_verifying<G: Gate + Sync, R: Threads + Sync>(
 }
 
 /// Returns the length of the part that is judged ahead: the shortest prefix with more than about five sixteenths of the
-/// statements (five for each full sixteen), and more than `MANY`, at whose end no block is open; 0 if there is none.
+/// statements (five for each full sixteen), and more than `AHEAD_THRESHOLD`, at whose end no block is open; 0 if there is
+/// none.
 fn count_ahead(statements: &[Stmt]) -> usize
     ensures { result ≤ length statements.now }
 {
     // The part has more statements than this.
-    let near = (statements.len() / 16 * 5).max(MANY);
+    let threshold = (statements.len() / 16 * 5).max(AHEAD_THRESHOLD);
     let mut open = 0usize;
     for (index, statement) in statements.iter().enumerate() {
         match statement {
@@ -146,7 +147,7 @@ fn count_ahead(statements: &[Stmt]) -> usize
             Stmt::Close => open = open.saturating_sub(1),
             _ => {}
         }
-        if index >= near && open == 0 {
+        if index >= threshold && open == 0 {
             return index + 1;
         }
     }
@@ -178,10 +179,10 @@ fn verify_ahead<G: Gate + Sync, R: Threads + Sync>(
     let Ok(None) = added.broken else {
         return 0;
     };
-    let least = |proofs: &Proofs<'_>, checkers: &mut Checkers| {
+    let first_wrong = |proofs: &Proofs<'_>, checkers: &mut Checkers| {
         judge_all(rt, checkers, proofs, workers, gate)
     };
-    match least_unproved(&least, &tables.frames, statements, 0, checkers) {
+    match least_unproved(&first_wrong, &tables.frames, statements, 0, checkers) {
         Ok(None) => statements.len(),
         _ => 0,
     }

@@ -1,14 +1,15 @@
-//! The authors that a charter names, by their numbers.
+//! The authors that a charter lists, by their numbers.
 ghost use Rattle.std.specs.Prelude.{◌≡◌, IfOk, MatchOption};
-ghost use Rattle.library.specs.Charters.{AreNames, is_rising, names_author};
+ghost use Rattle.library.specs.Charters.{AreNames, is_rising, lists_author};
 
 use std::alloc::AllocError;
 use std::marker::Model;
 
-/// The largest number of authors that a charter may name.
-pub const MOST_NAMES: usize = 64;
+/// The largest number of authors that a charter may list.
+pub const MAX_NAMES: usize = 64;
 
-/// The authors that a charter names: 1 to 64 strictly increasing numbers. Contracts see the list.
+/// The authors that a charter lists: 1 to 64 strictly increasing numbers. While the charter is in force, these authors alone
+/// may declare constants and axioms. Contracts see the list of numbers.
 #[derive(Drop)]
 pub struct Names {
     numbers: Vec<u64>,
@@ -33,7 +34,7 @@ impl Names {
         ensures { MatchOption result (AreNames numbers.items → ⊥) (λ names. names ≡ numbers.items) }
     {
         let count = numbers.len();
-        if count == 0 || count > MOST_NAMES || !is_rising(&numbers) {
+        if count == 0 || count > MAX_NAMES || !is_rising(&numbers) {
             return None;
         }
         Some(Names { numbers })
@@ -47,14 +48,14 @@ impl Names {
         self.numbers.as_slice()
     }
 
-    /// Returns whether the author is named.
+    /// Returns whether the author is among them.
     pub fn has(&self, author: u64) -> bool
-        ensures { result ≡ names_author self.now author }
+        ensures { result ≡ lists_author self.now author }
     {
         self.numbers.contains(&author)
     }
 
-    /// Copies the names.
+    /// Copies the list.
     ///
     /// Errors: an allocation fails.
     pub fn copy(&self) -> Result<Names, AllocError>

@@ -1,16 +1,16 @@
-//! Good statements, with the tables that judge later ones.
+//! Good statements (each obeys the rules, all blocks close, and each `$p` is proved), with the tables that judge later ones.
 ghost use Rattle.std.specs.Prelude.{◌≡◌, ◌+◌, ◌-◌, ◌*◌, ◌≤◌, ◌++◌, [], length, take, drop, Ok, Some, None, IfOk, OnOk, OnErr};
 ghost use Rattle.frame.specs.AtPosition.{HasLabelsOnce};
 ghost use Rattle.library.specs.Added.{Adds, IsAddedAfter, count_of};
 ghost use Rattle.library.specs.Good.{Good};
 ghost use Rattle.library.specs.Judging.{Extends, IsChecked, IsJudged, IsKnown};
-ghost use Rattle.library.specs.Unproved.{FindsLeast};
+ghost use Rattle.library.specs.ProofJobs.{FindsFirstWrong};
 ghost use Rattle.mm_read.specs.Statements.{AreShaped};
 ghost use Rattle.scope.specs.Active.{bares, stmt_at};
 ghost use Rattle.scope.specs.Legal.{first_broken};
 
-use crate::adding::{Added, StepCounts, Tables};
-use crate::unproved::{Proofs, least_unproved};
+use crate::adding::{AddOutcome, StepCounts, Tables};
+use crate::proof_jobs::{Proofs, least_unproved};
 use crate::verdict::Cause;
 use entries::give_back;
 use frame::Frames;
@@ -106,49 +106,57 @@ impl CheckedDatabase {
         &self.tables.frames
     }
 
-    /// Returns the allocator of all that is kept and returned.
+    /// Returns the allocator of the statements and tables.
     pub(crate) fn alloc(&self) -> Global {
         self.checkers.alloc()
     }
 
-    /// Appends the statements if the whole list is then good; otherwise appends none and returns the cause.
+    /// Appends the statements if the whole list is then good; otherwise appends none and returns the cause. `add` adds
+    /// statements to the tables, and `first_wrong` returns the index of the first proof that is not right, or `None`.
     ///
-    /// Errors: an allocation fails; nothing is added then. Cost: that of the statements added, at most two steps each;
-    /// that of their proofs; and that of `Checkers::repeat_searches`. Rolling back cannot fail. Most of the memory that
-    /// only refused statements needed is given back, if smaller blocks can be allocated.
+    /// Errors: an allocation fails; nothing is added then. Cost: that of the statements added, each of which `steps`
+    /// counts at most twice; that of their proofs; and that of `Checkers::repeat_searches`. Rolling back cannot fail.
+    /// Most of the memory that only refused statements needed is given back, if smaller blocks can be allocated.
     pub(crate) fn extend<
-        E: Fn(&[Stmt], &mut Tables, &mut StepCounts, &mut Checkers) -> Added,
+        E: Fn(&[Stmt], &mut Tables, &mut StepCounts, &mut Checkers) -> AddOutcome,
         F: Fn(&Proofs<'_>, &mut Checkers) -> Result<Option<usize>, AllocError>,
     >(
         &mut self,
         more: Vec<Stmt>,
         steps: &mut StepCounts,
         add: &E,
-        least: &F,
+        first_wrong: &F,
     ) -> Result<Option<Cause>, AllocError>
         requires shaped { AreShaped more.items }
         requires adds { Adds (E.pre add.now) (E.post add.now) }
-        requires finds { FindsLeast (F.pre least.now) (F.post least.now) }
+        requires finds { FindsFirstWrong (F.pre first_wrong.now) (F.post first_wrong.now) }
         ensures judged { IfOk result (λ found. Extends self.old more.items found self.new) }
         ensures same { OnErr result (self.new ≡ self.old) }
         ensures rises { count_of steps.old ≤ count_of steps.new }
         ensures counted { count_of steps.new ≤ count_of steps.old + 2 * length more.items }
     {
-        let front = self.statements.len();
+        let start = self.statements.len();
         append_all(&mut self.statements, more)?;
         let statements = self.statements.as_slice();
         let tables = &mut self.tables;
         let checkers = &mut self.checkers;
-        let added = add_after(statements, front, tables, steps, checkers, add);
-        let found = judge(added, &tables.frames, statements, front, checkers, least);
+        let added = add_after(statements, start, tables, steps, checkers, add);
+        let found = judge(
+            added,
+            &tables.frames,
+            statements,
+            start,
+            checkers,
+            first_wrong,
+        );
         checkers.shrink();
         if let Ok(None) = found {
             tables.rules.mark();
             return Ok(None);
         }
         tables.rules.back();
-        tables.frames.shorten(front);
-        self.statements.truncate(front);
+        tables.frames.shorten(start);
+        self.statements.truncate(start);
         tables.rules.shrink();
         tables.frames.shrink();
         give_back(&mut self.statements);
@@ -171,56 +179,56 @@ fn append_all(statements: &mut Vec<Stmt>, mut more: Vec<Stmt>) -> Result<(), All
     Ok(())
 }
 
-/// Adds the statements after the first `front` to the tables, which have taken these first ones. Before that, the
+/// Adds the statements after the first `start` to the tables, which have taken these first ones. Before that, the
 /// frames repeat long searches that the checkers made for the text before, and keep the answers.
 ///
 /// Cost: that of `add`, and that of `Checkers::repeat_searches`.
-fn add_after<E: Fn(&[Stmt], &mut Tables, &mut StepCounts, &mut Checkers) -> Added>(
+fn add_after<E: Fn(&[Stmt], &mut Tables, &mut StepCounts, &mut Checkers) -> AddOutcome>(
     statements: &[Stmt],
-    front: usize,
+    start: usize,
     tables: &mut Tables,
     steps: &mut StepCounts,
     checkers: &mut Checkers,
     add: &E,
-) -> Added
+) -> AddOutcome
     requires adds { Adds (E.pre add.now) (E.post add.now) }
-    requires within { front ≤ length statements.now }
-    requires checked { IsChecked (take front statements.now) tables.old }
-    requires shaped { AreShaped (drop front statements.now) }
-    ensures added { IsAddedAfter statements.now front tables.new result }
+    requires within { start ≤ length statements.now }
+    requires checked { IsChecked (take start statements.now) tables.old }
+    requires shaped { AreShaped (drop start statements.now) }
+    ensures added { IsAddedAfter statements.now start tables.new result }
     ensures rises { count_of steps.old ≤ count_of steps.new }
-    ensures counted { count_of steps.new ≤ count_of steps.old + 2 * (length statements.now - front) }
+    ensures counted { count_of steps.new ≤ count_of steps.old + 2 * (length statements.now - start) }
 {
     checkers.repeat_searches(&mut tables.frames);
-    add(&statements[front..], tables, steps, checkers)
+    add(&statements[start..], tables, steps, checkers)
 }
 
-/// Returns why the statements after the first `front` are refused, given the outcome of adding them; `None` if they
+/// Returns why the statements after the first `start` are refused, given the outcome of adding them; `None` if they
 /// are good there.
 ///
 /// Errors: an allocation fails. Cost: that of the proofs, and one pass over these statements.
 fn judge<F: Fn(&Proofs<'_>, &mut Checkers) -> Result<Option<usize>, AllocError>>(
-    added: Added,
+    added: AddOutcome,
     frames: &Frames,
     statements: &[Stmt],
-    front: usize,
+    start: usize,
     checkers: &mut Checkers,
-    least: &F,
+    first_wrong: &F,
 ) -> Result<Option<Cause>, AllocError>
-    requires finds { FindsLeast (F.pre least.now) (F.post least.now) }
-    requires broken { IfOk added.broken (λ broken. broken ≡ first_broken 1 (take front statements.now) (drop front statements.now)) }
+    requires finds { FindsFirstWrong (F.pre first_wrong.now) (F.post first_wrong.now) }
+    requires broken { IfOk added.broken (λ broken. broken ≡ first_broken 1 (take start statements.now) (drop start statements.now)) }
     requires frames { added.broken ≡ Ok None → frames.now.statements ≡ bares statements.now }
-    requires known { IsKnown statements.now front added.known }
-    ensures judged { IfOk result (IsJudged (take front statements.now) (drop front statements.now)) }
+    requires known { IsKnown statements.now start added.known }
+    ensures judged { IfOk result (IsJudged (take start statements.now) (drop start statements.now)) }
     ensures added { result ≡ Ok None → added.broken ≡ Ok None }
 {
     if let Some((statement, rule)) = added.broken? {
         return Ok(Some(Cause::Rule { statement, rule }));
     }
-    let Some(at) = least_unproved(least, frames, statements, added.known, checkers)? else {
+    let Some(at) = least_unproved(first_wrong, frames, statements, added.known, checkers)? else {
         return Ok(None);
     };
-    let statement = at - front;
+    let statement = at - start;
     let Stmt::Prove { proof, .. } = &statements[at - 1] else {
         unreachable!();
     };

@@ -135,7 +135,7 @@ impl Search {
 
 /// Returns whether one of the numbers cites a marked statement. Puts into `label_marks` a flag for each mandatory
 /// hypothesis and then for each listed label: whether its statement is marked. A label that is listed is usually cited,
-/// so the numbers are searched at the first marked one, and after the last label only if that found nothing.
+/// so the numbers are searched once the first marked label is found, and again after the last label if nothing was found.
 fn numbers_cite_marked(
     frames: &Frames,
     heading: Heading<'_>,
@@ -146,26 +146,26 @@ fn numbers_cite_marked(
 ) -> Result<bool, AllocError>
     requires once { HasLabelsOnce frames.now.statements }
     requires listed { heading.count ≤ length heading.words }
-    ensures { IfOk result (λ found. (front : List Name) → AreLabelMarks frames.now.statements front marks.now (map (λ position. is_marked marks.now (Some position)) mandatory.now)
-        → found ≡ true ↔ ItemsCiteMarked frames.now.statements (items_of (front ++ take heading.entry.count heading.entry.words) numbers.now) marks.now) }
+    ensures { IfOk result (λ found. (mandatory_labels : List Name) → AreLabelMarks frames.now.statements mandatory_labels marks.now (map (λ position. is_marked marks.now (Some position)) mandatory.now)
+        → found ≡ true ↔ ItemsCiteMarked frames.now.statements (items_of (mandatory_labels ++ take heading.entry.count heading.entry.words) numbers.now) marks.now) }
 {
     label_marks.clear();
     for position in mandatory {
         label_marks.push(is_marked(marks, Some(*position as usize)))?;
     }
     let mut words = heading.words;
-    let mut tried = false;
+    let mut searched = false;
     for _ in 0..heading.count {
         let Some(label) = words.next() else {
             unreachable!();
         };
         let marked = is_marked(marks, frames.position(label));
         label_marks.push(marked)?;
-        if marked && !tried {
+        if marked && !searched {
             if has_marked(numbers, label_marks) {
                 return Ok(true);
             }
-            tried = true;
+            searched = true;
         }
     }
     Ok(has_marked(numbers, label_marks))
@@ -183,8 +183,8 @@ fn numbers_cite_marked_by_view(
 ) -> Result<bool, AllocError>
     requires once { HasLabelsOnce frames.now.statements }
     requires listed { heading.count ≤ length heading.words }
-    ensures { IfOk result (λ found. (front : List Name) → AreLabelMarks frames.now.statements front marks.now (map (λ position. is_marked marks.now (Some position)) view.now)
-        → found ≡ true ↔ ItemsCiteMarked frames.now.statements (items_of (front ++ take heading.entry.count heading.entry.words) numbers.now) marks.now) }
+    ensures { IfOk result (λ found. (mandatory_labels : List Name) → AreLabelMarks frames.now.statements mandatory_labels marks.now (map (λ position. is_marked marks.now (Some position)) view.now)
+        → found ≡ true ↔ ItemsCiteMarked frames.now.statements (items_of (mandatory_labels ++ take heading.entry.count heading.entry.words) numbers.now) marks.now) }
 {
     label_marks.clear();
     let mut words = heading.words;
@@ -218,14 +218,14 @@ fn is_marked_number(
 ) -> bool
     ensures { result ≡ is_marked (map (λ position. is_marked marks.now (Some position)) view.now ++ label_marks.now) (Some number) }
 {
-    let many = view.len();
+    let mandatory_count = view.len();
     if number == 0 {
         return false;
     }
-    if number <= many {
+    if number <= mandatory_count {
         return is_marked(marks, Some(view.get(number - 1) as usize));
     }
-    is_marked(label_marks, Some(number - many))
+    is_marked(label_marks, Some(number - mandatory_count))
 }
 
 /// Returns whether one of the positions is marked.

@@ -1,7 +1,7 @@
 //! The state of an entry, and the list of verdicts in the order of the log. Only contracts see that list.
 ghost use Rattle.std.specs.Prelude.{◌≡◌, ◌++◌, ◌∷◌, [], List};
 ghost use Rattle.std.specs.Borrow.{ftrue};
-ghost use Rattle.library.specs.LibraryOf.{Decided};
+ghost use Rattle.library.specs.LibraryOf.{EntryVerdict};
 ghost use Rattle.library.specs.LibraryState.{verdict_of};
 
 use crate::verdict::Cause;
@@ -28,7 +28,7 @@ pub struct DecidedEntry {
 /// The verdicts so far, in the order of the log. Its size is zero: only contracts see the entries.
 #[derive(Drop)]
 pub struct DecidedEntries {
-    pub ghost entries: { List Decided },
+    pub ghost entries: { List EntryVerdict },
 }
 
 impl Model for DecidedEntries {

@@ -41,7 +41,7 @@ impl Entry {
         }
     }
 
-    /// Returns the number of bytes of the text, or 8 for each author that a charter names.
+    /// Returns the number of bytes of the text, or 8 for each author that a charter lists.
     pub fn size(&self) -> usize
         ensures { result ≡ size_of self.now }
     {
@@ -51,7 +51,7 @@ impl Entry {
         }
     }
 
-    /// Copies the entry. A text is shared; the names are copied.
+    /// Copies the entry. A text is shared; the authors of a charter are copied.
     ///
     /// Errors: an allocation fails.
     pub fn copy(&self) -> Result<Entry, AllocError>

@@ -5,12 +5,12 @@ ghost use Rattle.library.specs.Judging.{IsReading, ReadsTexts};
 ghost use Rattle.std.specs.Fn.{FnReturnsAt};
 
 use crate::charter::Names;
-use crate::submission::{MOST_BYTES, Submission};
+use crate::submission::{MAX_BYTES, Submission};
 use crate::verdict::Cause;
 use mm_read::{ReadFault, Stmt};
 use std::alloc::AllocError;
 
-/// Returns the statements of the text if it has at most `MOST_BYTES` bytes, it reads as statements, and the charter
+/// Returns the statements of the text if it has at most `MAX_BYTES` bytes, it reads as statements, and the charter
 /// forbids its author none of these. Otherwise returns the cause of its refusal, which does not depend on the
 /// statements of the library. `read` returns the statements that a text writes.
 ///
@@ -24,7 +24,7 @@ pub(crate) fn read_text<T: Fn(&[u8]) -> Result<Vec<Stmt>, ReadFault>>(
     ensures { IfOk result (IsReading charter.now submission.now) }
 {
     let text = submission.text.as_slice();
-    if text.len() > MOST_BYTES {
+    if text.len() > MAX_BYTES {
         return Ok(Err(Cause::TooLong));
     }
     match read(text) {

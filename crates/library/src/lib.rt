@@ -1,11 +1,11 @@
 //! One replica of the library: applies entries of the log, and keeps their verdicts and the statements that they validly add.
 //!
-//! The main contract, which `world` uses: applying an entry makes the step of `specs/LibraryOf` and returns its verdict; if an
-//! allocation fails, nothing is decided.
+//! The main contract, which `world` uses: applying an entry changes the replica as `Applies` of `specs/LibraryOf` defines, and
+//! returns the verdict; if an allocation fails, nothing is decided.
 //!
 //! Reading order: `submission`, `charter`, `entry` (the entries of a log), `verdict`; `library`, `decided`;
 //! `entry_text` (reads a text under the charter in force), `checked_database` (all or nothing), `adding` (the rules),
-//! `unproved` (the first proof that is not right); `queries` (questions on a label), `axioms_used`, `cited_by`;
+//! `proof_jobs` (the first proof that is not right); `queries` (questions on a label), `axioms_used`, `cited_by`;
 //! `listed` (the assertions); `laws`. The README explains the words: charter, good, right, heavy, gate.
 #![tactic(auto)]
 
@@ -20,12 +20,12 @@ mod entry_text;
 mod laws;
 mod library;
 mod listed;
+mod proof_jobs;
 mod queries;
 mod submission;
-mod unproved;
 mod verdict;
 
-pub use charter::{MOST_NAMES, Names};
+pub use charter::{MAX_NAMES, Names};
 pub use entry::Entry;
 pub use laws::{
     libraries_are_good, libraries_grow, one_library, one_verdict, plain_without_charters,
@@ -33,5 +33,5 @@ pub use laws::{
 pub use library::Library;
 pub use listed::Listed;
 pub use queries::AskFault;
-pub use submission::{MOST_BYTES, Submission};
+pub use submission::{MAX_BYTES, Submission};
 pub use verdict::{Cause, Verdict};

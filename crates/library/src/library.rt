@@ -5,18 +5,18 @@ ghost use Rattle.library.specs.Good.{Good};
 ghost use Rattle.library.specs.Judging.{ReadsTexts};
 ghost use Rattle.library.specs.LibraryOf.{Applies, empty, holding, status};
 ghost use Rattle.library.specs.LibraryState.{IsDecision, HasFewSteps, verdict_of};
-ghost use Rattle.library.specs.Unproved.{FindsLeast};
+ghost use Rattle.library.specs.ProofJobs.{FindsFirstWrong};
 ghost use Rattle.mm_read.specs.Statements.{AreShaped};
 ghost use Rattle.scope.specs.Active.{bares};
 ghost use Rattle.std.specs.Fn.{FnReturnsAt};
 
-use crate::adding::{Added, Parallel, StepCounts, Tables, add_all, add_all_verifying};
+use crate::adding::{AddOutcome, Parallel, StepCounts, Tables, add_all, add_all_verifying};
 use crate::charter::Names;
 use crate::checked_database::CheckedDatabase;
 use crate::decided::{DecidedEntries, DecidedEntry, EntryState};
 use crate::entry::Entry;
 use crate::entry_text::{may_declare, read_text};
-use crate::unproved::Proofs;
+use crate::proof_jobs::Proofs;
 use crate::verdict::{Cause, Verdict};
 use frame::Frames;
 use mm_read::{ReadFault, Stmt, read};
@@ -29,7 +29,7 @@ use std::thread::Threads;
 use verify_pool::{Checkers, Gate, Workers, judge_all, judge_here};
 
 /// The statements added, the state of each entry by its author and serial number, and the charter in force. Contracts
-/// see a replica (`Replica` of `specs/LibraryOf`, with the verdicts in the order of the log), and a count of steps: of
+/// see a replica (`ReplicaState` of `specs/LibraryOf`, with the verdicts in the order of the log), and a count of steps: of
 /// the statements that were given to the rules and frames.
 ///
 /// Authors choose the numbers, so the table is an ordered map: no choice makes a look-up cost more than the logarithm of the
@@ -101,16 +101,16 @@ impl Library {
     ///
     /// Errors: an allocation fails; the entry stays undecided, and statements, verdicts and charter are as before.
     /// Cost: that of reading the entry's text and of judging its statements and proofs, whatever was added before and
-    /// whoever submitted it, with the exceptions of `docs/COSTS.md`; the logarithm of the count of entries; and the
-    /// searches of the text before that the frames repeat (`Checkers::repeat_searches`).
+    /// whoever submitted it, with the exceptions of `docs/COSTS.md`; the logarithm of the count of entries; and that of
+    /// the searches made for the text before, which the frames repeat (`Checkers::repeat_searches`).
     pub fn apply(&mut self, next: Option<&Entry>) -> Result<Verdict, AllocError>
-        ensures step { IfOk result (λ verdict. Applies self.old.replica (option_map (λ e. e.now) next.entry) verdict self.new.replica) }
+        ensures applies { IfOk result (λ verdict. Applies self.old.replica (option_map (λ e. e.now) next.entry) verdict self.new.replica) }
         ensures same { OnErr result (self.new.replica ≡ self.old.replica) }
         ensures rises { self.old.steps ≤ self.new.steps }
         ensures counted { HasFewSteps self.old.replica (option_map (λ e. e.now) next.entry) self.old.steps self.new.steps }
     {
         let alloc = self.database.alloc();
-        let add = |statements: &[Stmt], tables: &mut Tables, steps: &mut StepCounts, _checkers: &mut Checkers| -> Added
+        let add = |statements: &[Stmt], tables: &mut Tables, steps: &mut StepCounts, _checkers: &mut Checkers| -> AddOutcome
             requires { AreShaped statements.now × (tables.now.frames.statements ≡ tables.now.rules.statements) }
         { add_all(statements, tables, &mut steps.calling) };
         self.apply_by(
@@ -141,7 +141,7 @@ impl Library {
         workers: Workers,
         gate: &G,
     ) -> Result<Verdict, AllocError>
-        ensures step { IfOk result (λ verdict. Applies self.old.replica (option_map (λ e. e.now) next.entry) verdict self.new.replica) }
+        ensures applies { IfOk result (λ verdict. Applies self.old.replica (option_map (λ e. e.now) next.entry) verdict self.new.replica) }
         ensures same { OnErr result (self.new.replica ≡ self.old.replica) }
         ensures rises { self.old.steps ≤ self.new.steps }
         ensures counted { HasFewSteps self.old.replica (option_map (λ e. e.now) next.entry) self.old.steps self.new.steps }
@@ -154,7 +154,7 @@ impl Library {
             gate,
         };
         let count = workers.count();
-        let add = |statements: &[Stmt], tables: &mut Tables, steps: &mut StepCounts, checkers: &mut Checkers| -> Added
+        let add = |statements: &[Stmt], tables: &mut Tables, steps: &mut StepCounts, checkers: &mut Checkers| -> AddOutcome
             requires { AreShaped statements.now × (tables.now.frames.statements ≡ tables.now.rules.statements) }
         { add_all_verifying(&parallel, statements, tables, steps, checkers) };
         self.apply_by(
@@ -168,17 +168,24 @@ impl Library {
     }
 
     /// Applies the next entry, where `read` returns the statements that a text writes, `add` adds statements to the
-    /// tables, and `least` returns the index of the first proof that is not right, or `None`. The statements of a text
-    /// are added if the whole list is good with them; a charter that is added is in force from now on.
+    /// tables, and `first_wrong` returns the index of the first proof that is not right, or `None` if each is right.
+    /// The statements of a text are added if the whole list is good with them; a charter that is added is in force from
+    /// now on.
     fn apply_by<
         T: Fn(&[u8]) -> Result<Vec<Stmt>, ReadFault>,
-        E: Fn(&[Stmt], &mut Tables, &mut StepCounts, &mut Checkers) -> Added,
+        E: Fn(&[Stmt], &mut Tables, &mut StepCounts, &mut Checkers) -> AddOutcome,
         F: Fn(&Proofs<'_>, &mut Checkers) -> Result<Option<usize>, AllocError>,
-    >(&mut self, next: Option<&Entry>, read: &T, add: &E, least: &F) -> Result<Verdict, AllocError>
+    >(
+        &mut self,
+        next: Option<&Entry>,
+        read: &T,
+        add: &E,
+        first_wrong: &F,
+    ) -> Result<Verdict, AllocError>
         requires reads { T.IsAlwaysCallable read.now × ReadsTexts (FnReturnsAt T.Fn read.now) }
         requires adds { Adds (E.pre add.now) (E.post add.now) }
-        requires finds { FindsLeast (F.pre least.now) (F.post least.now) }
-        ensures step { IfOk result (λ verdict. Applies self.old.replica (option_map (λ e. e.now) next.entry) verdict self.new.replica) }
+        requires finds { FindsFirstWrong (F.pre first_wrong.now) (F.post first_wrong.now) }
+        ensures applies { IfOk result (λ verdict. Applies self.old.replica (option_map (λ e. e.now) next.entry) verdict self.new.replica) }
         ensures same { OnErr result (self.new.replica ≡ self.old.replica) }
         ensures rises { self.old.steps ≤ self.new.steps }
         ensures counted { HasFewSteps self.old.replica (option_map (λ e. e.now) next.entry) self.old.steps self.new.steps }
@@ -197,7 +204,7 @@ impl Library {
             Entry::Text(submission) => match read_text(&self.charter, submission, read)? {
                 Ok(statements) => self
                     .database
-                    .extend(statements, &mut self.steps, add, least)?,
+                    .extend(statements, &mut self.steps, add, first_wrong)?,
                 Err(cause) => Some(cause),
             },
             Entry::Charter { author, names, .. } => {

@@ -3,7 +3,7 @@
 ghost use Rattle.std.specs.Prelude.{◌≡◌, ◌≢◌, ◌↔◌, ◌⊎◌, Ok, Err, IfOk, MatchResult};
 ghost use Rattle.frame.specs.AtPosition.{HasLabelsOnce};
 ghost use Rattle.library.specs.Good.{Good};
-ghost use Rattle.library.specs.Queries.{HasNoLabel, NamesProof, NamesNoProof, IsTrace, IsUsage, IsProofOf, IsTreeOf, IsNoProof};
+ghost use Rattle.library.specs.Queries.{HasNoLabel, NamesProvable, NamesNoProvable, IsTrace, IsUsage, IsProofOf, IsTreeOf, IsNoProvable};
 ghost use Rattle.scope.specs.Active.{bares, is_provable};
 ghost use Rattle.verify.specs.Derivations.{Derivation, derivation_of};
 ghost use Rattle.verify.specs.Right.{IsSmall};
@@ -52,10 +52,10 @@ impl Library {
     pub fn trace(&self, label: &[u8]) -> Result<Vec<Word>, AskFault>
         ensures labels { IfOk result (λ labels. IsTrace self.now.replica.statements label.now labels.items) }
         ensures no_label { (result ≡ Err AskFault.NoLabel) ↔ HasNoLabel self.now.replica.statements label.now }
-        ensures not_provable { (result ≡ Err AskFault.NotProvable) ↔ NamesNoProof self.now.replica.statements label.now }
-        ensures small { result ≢ Err AskFault.TooLarge }
+        ensures not_provable { (result ≡ Err AskFault.NotProvable) ↔ NamesNoProvable self.now.replica.statements label.now }
+        ensures never_too_large { result ≢ Err AskFault.TooLarge }
     {
-        let at = proof_at(self.database(), label)?;
+        let at = provable_position(self.database(), label)?;
         Ok(axioms_used(self.database(), at)?)
     }
 
@@ -70,7 +70,7 @@ impl Library {
         ensures labels { IfOk result (λ labels. IsUsage self.now.replica.statements label.now all labels.items) }
         ensures no_label { (result ≡ Err AskFault.NoLabel) ↔ HasNoLabel self.now.replica.statements label.now }
         ensures any_kind { result ≢ Err AskFault.NotProvable }
-        ensures small { result ≢ Err AskFault.TooLarge }
+        ensures never_too_large { result ≢ Err AskFault.TooLarge }
     {
         let database = self.database();
         match database.frames().position(label) {
@@ -85,10 +85,10 @@ impl Library {
     pub fn items(&self, label: &[u8]) -> Result<(usize, Items), AskFault>
         ensures items { IfOk result (λ found. IsProofOf self.now.replica.statements label.now found.0 found.1) }
         ensures no_label { (result ≡ Err AskFault.NoLabel) ↔ HasNoLabel self.now.replica.statements label.now }
-        ensures not_provable { (result ≡ Err AskFault.NotProvable) ↔ NamesNoProof self.now.replica.statements label.now }
-        ensures small { result ≢ Err AskFault.TooLarge }
+        ensures not_provable { (result ≡ Err AskFault.NotProvable) ↔ NamesNoProvable self.now.replica.statements label.now }
+        ensures never_too_large { result ≢ Err AskFault.TooLarge }
     {
-        let at = proof_at(self.database(), label)?;
+        let at = provable_position(self.database(), label)?;
         match items_of(self.database(), at)? {
             Some(items) => Ok((at, items)),
             None => unreachable!(),
@@ -110,9 +110,9 @@ impl Library {
     /// Source: Metamath, 4.2.6 and appendix B.
     pub fn tree(&self, label: &[u8]) -> Result<Tree, AskFault>
         ensures tree { IfOk result (λ tree. IsTreeOf self.now.replica.statements label.now (derivation_of tree)) }
-        ensures small { IfOk result (λ tree. IsSmall (derivation_of tree)) }
+        ensures within_limits { IfOk result (λ tree. IsSmall (derivation_of tree)) }
         ensures no_label { (result ≡ Err AskFault.NoLabel) ↔ HasNoLabel self.now.replica.statements label.now }
-        ensures not_provable { (result ≡ Err AskFault.NotProvable) ↔ NamesNoProof self.now.replica.statements label.now }
+        ensures not_provable { (result ≡ Err AskFault.NotProvable) ↔ NamesNoProvable self.now.replica.statements label.now }
         ensures large { (t : Derivation) → IsTreeOf self.now.replica.statements label.now t → ¬ IsSmall t
             → (result ≡ Err AskFault.TooLarge) ⊎ (result ≡ Err AskFault.Memory) }
         ensures only_large { result ≡ Err AskFault.TooLarge → (t : Derivation) × IsTreeOf self.now.replica.statements label.now t × (¬ IsSmall t) }
@@ -132,14 +132,16 @@ impl Library {
 }
 
 /// Returns the position of the `$p` with the label.
-fn proof_at(database: &CheckedDatabase, label: &[u8]) -> Result<usize, AskFault>
-    ensures found { MatchResult result (λ at. NamesProof database.now label.now at × (¬ NamesNoProof database.now label.now)) (IsNoProof database.now label.now) }
+///
+/// Errors: `NoLabel` if no statement has the label, `NotProvable` if it is no `$p`.
+fn provable_position(database: &CheckedDatabase, label: &[u8]) -> Result<usize, AskFault>
+    ensures found { MatchResult result (λ at. NamesProvable database.now label.now at × (¬ NamesNoProvable database.now label.now)) (IsNoProvable database.now label.now) }
     ensures good { Good database.now }
 {
     let Some(at) = database.frames().position(label) else {
         return Err(AskFault::NoLabel);
     };
-    if is_proof(database.statement(at)) {
+    if is_provable(database.statement(at)) {
         Ok(at)
     } else {
         Err(AskFault::NotProvable)
@@ -147,7 +149,7 @@ fn proof_at(database: &CheckedDatabase, label: &[u8]) -> Result<usize, AskFault>
 }
 
 /// Returns whether the statement is a `$p`.
-pub(crate) fn is_proof(statement: &Stmt) -> bool
+pub(crate) fn is_provable(statement: &Stmt) -> bool
     ensures { result ≡ is_provable statement.now }
 {
     matches!(statement, Stmt::Prove { .. })

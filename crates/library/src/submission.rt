@@ -5,7 +5,7 @@ use bytes::Bytes;
 use std::alloc::AllocError;
 
 /// The largest number of bytes of a text.
-pub const MOST_BYTES: usize = 67_108_864;
+pub const MAX_BYTES: usize = 67_108_864;
 
 /// A text with its author. Each author numbers his texts and charters. If several entries of the log have the same
 /// author and number, only the first is decided.

@@ -8,7 +8,7 @@ use crate::refused_texts::{print_outline_reason, print_refusal};
 use crate::streams::{print, read_text};
 use bytes::Bytes;
 use commands::{DatabaseQuestion, Question};
-use library::{Cause, Entry, Library, MOST_BYTES, Submission, Verdict};
+use library::{Cause, Entry, Library, MAX_BYTES, Submission, Verdict};
 use printed::outline_text;
 use std::alloc::{AllocError, Global};
 use std::io::{Read, Write};
@@ -30,7 +30,7 @@ pub fn print_outline<I: Read, O: Write, F: Write>(
         name,
         bytes: text.as_slice(),
     };
-    if text.bytes.len() > MOST_BYTES {
+    if text.bytes.len() > MAX_BYTES {
         return print_refusal(alloc, text, Cause::TooLong, output, faults);
     }
     let lines = outline_text(alloc, text.bytes)?;

@@ -10,7 +10,7 @@ use crate::named_text::NamedText;
 use crate::streams::print;
 use commands::{DatabaseQuestion, Question};
 use explanation::{TextTokens, explain_unproved};
-use library::{MOST_BYTES, Verdict};
+use library::{MAX_BYTES, Verdict};
 use memchr::memchr2_iter;
 use mm_read::ReadFault;
 use printed::push_verdict;
@@ -73,7 +73,7 @@ pub fn read_legal_database<R: AllocGlobal + Threads + Sync>(
     rt: &R,
     text: NamedText<'_>,
 ) -> Result<Option<LegalDatabase>, AllocError> {
-    if text.bytes.len() > MOST_BYTES {
+    if text.bytes.len() > MAX_BYTES {
         return Ok(None);
     }
     match read_in_parts(rt, rt.alloc(), text.bytes, Workers::offered(rt).count()) {

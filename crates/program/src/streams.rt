@@ -1,6 +1,6 @@
 //! Reading the input and printing.
 use crate::fault::Fault;
-use library::MOST_BYTES;
+use library::MAX_BYTES;
 use std::alloc::Global;
 use std::io::{ErrorKind, Read, Write};
 
@@ -9,7 +9,7 @@ const BUFFER_SIZE: usize = 65_536;
 
 /// Reads a database: the whole input, or its first bytes, one more than a text may have.
 pub fn read_text<I: Read>(alloc: Global, input: &mut I) -> Result<Vec<u8>, Fault> {
-    read_at_most(alloc, input, MOST_BYTES + 1)
+    read_at_most(alloc, input, MAX_BYTES + 1)
 }
 
 /// Reads the whole input, or its first `most` bytes.
@@ -18,7 +18,7 @@ pub fn read_text<I: Read>(alloc: Global, input: &mut I) -> Result<Vec<u8>, Fault
 /// later; pages of memory that stay unused cost nothing.
 pub fn read_at_most<I: Read>(alloc: Global, input: &mut I, most: usize) -> Result<Vec<u8>, Fault> {
     let mut text = Vec::new(alloc);
-    let _ = text.reserve(most.min(MOST_BYTES));
+    let _ = text.reserve(most.min(MAX_BYTES));
     let mut buffer = vec![in alloc; 0u8; BUFFER_SIZE]?;
     for _ in 0..u64::MAX {
         let wanted = most.saturating_sub(text.len()).min(buffer.len());

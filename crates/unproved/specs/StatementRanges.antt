@@ -7,14 +7,14 @@ use Rattle.library.specs.Words.{Database, bares}
 use Rattle.library.specs.Judging.{IsProvedIfProvable}
 use Rattle.verify_pool.specs.Least.{IsLeast}
 
--- statements, the names that their frames number, and the range of them after position `start`, up to `end`
+-- statements, the list of names to which their frames give numbers, and the range after position `start`, up to `end`
 pub record RangeView : Type 0 where
   pub statements : Database
   pub names : List Name
   pub start : ℕ
   pub end : ℕ
 
--- these positions are in order, and the frames are those of the statements
+-- `start` is at most `end`, which is at most the number of statements, and the frames are those of the statements
 pub record IsRange (frames S : Database) (start end : ℕ) : Type 0 where
   pub same : frames ≡ bares S
   pub order : start ≤ end

@@ -13,10 +13,10 @@ use std::thread::Threads;
 use verify_pool::{Checkers, OpenGate, Workers, judge_all, judge_here};
 
 /// The largest number of statements in a range. The proofs of a range are judged in parallel.
-const MOST_IN_RANGE: usize = 2_048;
+const MAX_IN_RANGE: usize = 2_048;
 
 /// Fewer statements than this are judged on the calling thread: starting threads would cost more.
-const FEWEST_FOR_THREADS: usize = 32;
+const MIN_FOR_THREADS: usize = 32;
 
 /// Statements with their frames, and the workers that judge them.
 #[derive(Drop)]
@@ -51,19 +51,19 @@ pub(crate) fn find_unproved<R: Threads + Sync>(
 }
 
 /// Returns the position of the last statement of the next range: that of the first `$p` with an
-/// unfinished proof, or else `start + MOST_IN_RANGE`, but at most that of the last statement of all.
+/// unfinished proof, or else `start + MAX_IN_RANGE`, but at most that of the last statement of all.
 fn range_end(statements: &[Stmt], start: usize) -> usize
     requires { start < length statements.now }
     ensures later { start < result }
     ensures within { result ≤ length statements.now }
 {
-    let most = (statements.len() - start).min(MOST_IN_RANGE);
-    for (index, statement) in statements[start..start + most].iter().enumerate() {
+    let count = (statements.len() - start).min(MAX_IN_RANGE);
+    for (index, statement) in statements[start..start + count].iter().enumerate() {
         if is_unfinished_proof(statement) {
             return start + index + 1;
         }
     }
-    start + most
+    start + count
 }
 
 /// Returns whether a statement is a `$p` with an unfinished proof.
@@ -119,7 +119,7 @@ fn first_unproved<R: Threads + Sync>(
         start,
         end,
     };
-    if end - start < FEWEST_FOR_THREADS {
+    if end - start < MIN_FOR_THREADS {
         judge_here(checkers, &range)
     } else {
         judge_all(search.rt, checkers, &range, workers, &OpenGate)

@@ -7,7 +7,7 @@ use verify::{Answer, Checker};
 use verify_pool::Work;
 
 /// The statements after the first `start`, up to `end`, as jobs in order. Contracts see all
-/// statements, the names that their frames number, `start` and `end`.
+/// statements, the list of names to which their frames give numbers, `start` and `end`.
 #[derive(Drop)]
 pub(crate) struct StatementRange<'a> {
     pub(crate) frames: &'a Frames,

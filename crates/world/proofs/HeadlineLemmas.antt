@@ -1,5 +1,5 @@
 -- The headline: logs of entries agree, the library of a log is a prefix of that of a longer one, and each library of a log is good.
-use Rattle.world.proofs.Words.{◌≡◌, ℕ, zero, suc, true, false, List, [], ◌∷◌, take, Option, Result, Ok, Err, inl, inr, refl, ap, sym, subst, IsOk, Entry, Replica, IsLibraryOf, library-begins, library-good, Carried, StepFault, World, log, IsPrefixOf, Agree, History, world_of, Agreement, carried_size, entries_of, Headline, HeadlineHolds, then_begins, beginnings_agree, agreement_of}
+use Rattle.world.proofs.Words.{◌≡◌, ℕ, zero, suc, true, false, List, [], ◌∷◌, take, Option, Result, Ok, Err, inl, inr, refl, ap, sym, subst, IsOk, Entry, ReplicaState, IsLibraryOf, library-begins, library-good, Carried, StepFault, World, log, IsPrefixOf, Agree, History, world_of, Agreement, carried_size, entries_of, Headline, HeadlineHolds, then_begins, beginnings_agree, agreement_of}
 use Rattle.world.proofs.EntryLogs.{entries_agree}
 
 -- the first n elements of a list are a prefix of it
@@ -14,7 +14,7 @@ takes_agree m n xs ys (inl h) = beginnings_agree (take m xs) (take n ys) ys (the
 takes_agree m n xs ys (inr h) = beginnings_agree (take m xs) (take n ys) xs (take_begins m xs) (then_begins (take n ys) ys xs (take_begins n ys) h)
 
 -- if two logs agree, the statements of their libraries do
-statements_agree : (xs ys : List (Option Entry)) (one other : Replica) → Agree xs ys → IsLibraryOf xs one → IsLibraryOf ys other → Agree one.statements other.statements
+statements_agree : (xs ys : List (Option Entry)) (one other : ReplicaState) → Agree xs ys → IsLibraryOf xs one → IsLibraryOf ys other → Agree one.statements other.statements
 statements_agree xs ys one other (inl h) p q =
     let more = library-begins xs h.0 one other p (subst (λ (es : List (Option Entry)). IsLibraryOf es other) (sym h.1) q) in inl (more.0, sym more.1)
 statements_agree xs ys one other (inr h) p q =

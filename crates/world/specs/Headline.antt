@@ -3,12 +3,12 @@
 -- Source: Lamport, Paxos Made Simple, section 3; Megill and Wheeler, Metamath, 2nd ed. 2019, 4.2.
 -- No code computes this; it follows from agreement and from the definition of the library of a log.
 use Rattle.std.specs.Prelude.{◌≡◌, ℕ, Some, IsOk, take}
-use Rattle.world.specs.Words.{Stmt, Database, bares, stmt_at, expr_of, Derivation, Concludes, IsProvable, Replica, IsLibraryOf, Good, World, log, Agree, History, world_of, IsMoment, Agreement}
+use Rattle.world.specs.Words.{Stmt, Database, bares, stmt_at, expr_of, Derivation, Concludes, IsProvable, ReplicaState, IsLibraryOf, Good, World, log, Agree, History, world_of, IsMoment, Agreement}
 use Rattle.world.specs.declared.carried.Carried.{Carried}
 use Rattle.world.specs.Carried.{carried_size, entries_of}
 
 -- a library of the history: at some moment, that of some number of first entries of a node's log
-pub record IsLibraryIn (history : History Carried) (library : Replica) : Type 0 where
+pub record IsLibraryIn (history : History Carried) (library : ReplicaState) : Type 0 where
   pub world : World Carried
   pub moment : IsMoment carried_size history world
   pub node : ℕ
@@ -27,10 +27,10 @@ pub record Headline (history : History Carried) : Type 0 where
   -- agreement on the logs
   pub agreement : Agreement carried_size history
   -- the statements of one of any two libraries of the history are a prefix of the other's
-  pub libraries_agree : (one other : Replica) → IsLibraryIn history one → IsLibraryIn history other → Agree one.statements other.statements
+  pub libraries_agree : (one other : ReplicaState) → IsLibraryIn history one → IsLibraryIn history other → Agree one.statements other.statements
   -- each of them is good, and each of its provable assertions has a derivation
-  pub libraries_good : (library : Replica) → IsLibraryIn history library → Good library.statements
-  pub derived : (library : Replica) → IsLibraryIn history library → (at : ℕ) (stmt : Stmt) → IsProvable library.statements at stmt → HasDerivation library.statements at
+  pub libraries_good : (library : ReplicaState) → IsLibraryIn history library → Good library.statements
+  pub derived : (library : ReplicaState) → IsLibraryIn history library → (at : ℕ) (stmt : Stmt) → IsProvable library.statements at stmt → HasDerivation library.statements at
 
 -- the headline holds of every history that is taken
 abbrev pub HeadlineHolds : Type 0

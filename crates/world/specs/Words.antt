@@ -1,6 +1,6 @@
 -- The definitions of the layers below that this crate's definitions use, re-exported.
 pub use Rattle.library.specs.Good.{Good}
-pub use Rattle.library.specs.LibraryOf.{Applies, IsLibraryOf, Replica, empty, size_of}
+pub use Rattle.library.specs.LibraryOf.{Applies, IsLibraryOf, ReplicaState, empty, size_of}
 pub use Rattle.library.specs.declared.entry.Entry.{Entry}
 pub use Rattle.library.specs.declared.verdict.Verdict.{Verdict}
 pub use Rattle.mm_read.specs.Statements.{Database}

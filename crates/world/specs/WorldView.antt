@@ -3,14 +3,14 @@
 -- The code has the nodes and packets too; by an invariant of its type (`AreLibrariesOfLogs`), each library is that of the
 -- first entries of its node's log.
 use Rattle.std.specs.Prelude.{◌≡◌, ◌+◌, ◌≤◌, ℕ, List, [], Option, Some, None, Result, Ok, Err, length, take, replicate, slice_get, slice_set}
-use Rattle.world.specs.Words.{Entry, Verdict, Replica, empty, Applies, IsLibraryOf, Event, StepFault, Memory, Offer, Begin, Deliver, Restart, log_after, History, world_of, with_event}
+use Rattle.world.specs.Words.{Entry, Verdict, ReplicaState, empty, Applies, IsLibraryOf, Event, StepFault, Memory, Offer, Begin, Deliver, Restart, log_after, History, world_of, with_event}
 use Rattle.world.specs.declared.carried.Carried.{Carried}
 use Rattle.world.specs.Carried.{carried_size, entries_of}
 
 -- a node's library, and the number of entries of its log that were applied to it
 pub record NodeLibrary : Type 0 where
   pub applied : ℕ
-  pub library : Replica
+  pub library : ReplicaState
 
 -- what contracts see of a world
 pub record WorldView : Type 0 where
@@ -72,7 +72,7 @@ next_entry w k = next_of (log_entries w.history k) (slice_get w.libraries k)
 -- the entry is applied to the library of node k, with this verdict, and nothing else changes
 pub record IsApplied (old : WorldView) (k : ℕ) (entry : Option Entry) (verdict : Verdict) (new : WorldView) : Type 0 where
   pub before : NodeLibrary
-  pub library : Replica
+  pub library : ReplicaState
   pub was : slice_get old.libraries k ≡ Some before
   pub applies : Applies before.library entry verdict library
   pub becomes : new ≡ record { history = old.history; libraries = slice_set old.libraries k (record { applied = before.applied + 1; library = library }) }

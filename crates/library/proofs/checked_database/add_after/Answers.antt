@@ -6,14 +6,14 @@ pub returns-clause-added : goal.returns-clause-added
 returns-clause-added g c =
     let told = c.requires.adds.1 _ _ _ _ _ _ _ _ c.add.ensures in
     let old = c.requires.checked in
-    let checked : IsChecked (take c.args.front c.args.statements.now) (record { rules = c.args.tables.now.rules; frames = c.repeat_searches.new.frames }) = record {
+    let checked : IsChecked (take c.args.start c.args.statements.now) (record { rules = c.args.tables.now.rules; frames = c.repeat_searches.new.frames }) = record {
       shaped = old.shaped;
       good = old.good;
       rules_are = old.rules_are;
       marked_is = old.marked_is;
       frames_are = ap (λ f. f.statements) c.repeat_searches.ensures ∙ old.frames_are;
     } in
-    added-after c.args.statements.now c.args.front checked c.requires.within c.add.result told.0
+    added-after c.args.statements.now c.args.start checked c.requires.within c.add.result told.0
 
 pub returns-clause-rises : goal.returns-clause-rises
 returns-clause-rises g c = (c.requires.adds.1 _ _ _ _ _ _ _ _ c.add.ensures).1.0
@@ -21,5 +21,5 @@ returns-clause-rises g c = (c.requires.adds.1 _ _ _ _ _ _ _ _ c.add.ensures).1.0
 pub returns-clause-counted : goal.returns-clause-counted
 returns-clause-counted g c =
     let told = c.requires.adds.1 _ _ _ _ _ _ _ _ c.add.ensures in
-    let most = rw (take_rest c.args.statements.now c.args.front) at told.1.1 in
-    omega (arith, most, length-drop c.args.front c.args.statements.now)
+    let most = rw (take_rest c.args.statements.now c.args.start) at told.1.1 in
+    omega (arith, most, length-drop c.args.start c.args.statements.now)

@@ -1,4 +1,4 @@
-use Rattle.library.proofs.Words.{◌≡◌, ℕ, ◌+◌, ◌*◌, ◌≤◌, List, length, Option, Some, None, refl, subst, ap, sym, ◌∙◌, arith, Database, Submission, Text, Cause, TooLong, BadText, Shape, NotChartered, IsAllowed, IsFault, IsCause, IsReading, Extends, Decides, Replica, status, decided_with, count_of, author_of, serial_of, HasFewStepsText, HasFewStepsEntry, verdict_of}
+use Rattle.library.proofs.Words.{◌≡◌, ℕ, ◌+◌, ◌*◌, ◌≤◌, List, length, Option, Some, None, refl, subst, ap, sym, ◌∙◌, arith, Database, Submission, Text, Cause, TooLong, BadText, Shape, NotChartered, IsAllowed, IsFault, IsCause, IsReading, Extends, Decides, ReplicaState, status, decided_with, count_of, author_of, serial_of, HasFewStepsText, HasFewStepsEntry, verdict_of}
 use Rattle.library.proofs.CausesLemmas.{one-reading}
 use Rattle.library.proofs.DecidedLemmas.{opened, settled as settled-table}
 use Rattle.library.proofs.library.Library.apply_by.Goals as goal
@@ -13,7 +13,7 @@ fault-cause L T charter submission (NotChartered n) allowed fault = absurd fault
 fault-cause L T charter submission cause allowed fault = (T, allowed, fault)
 
 -- an allowed text is decided as its statements were judged
-text-decided : (old : Replica) (L T : Database) (submission : Submission) (found : Option Cause) → IsAllowed old.charter submission T → Extends old.statements T found L
+text-decided : (old : ReplicaState) (L T : Database) (submission : Submission) (found : Option Cause) → IsAllowed old.charter submission T → Extends old.statements T found L
     → Decides old (Text submission) (verdict_of found) (record old { statements = L; decided = decided_with old (Text submission) (verdict_of found) })
 text-decided old L T submission None allowed e = (T, allowed, e.0, ap (λ S. record old { statements = S; decided = decided_with old (Text submission) (verdict_of None) }) e.1)
 text-decided old L T submission (Some cause) allowed e =
@@ -47,7 +47,7 @@ invariant_of-self-in_err-copy-in-Charter g c =
 
 -- for each kind of entry: its verdict is decided, and the table has the entry as undecided
 settled : (g : Rattle.library.proofs.library.Library.apply_by.Given.Over) (c : goal.After-verdict_of g) → let V = c.self.inside in
-    let old : Replica = record { statements = V.database; decided = V.decided.entries; charter = V.charter } in let entry = c.in-Some.entry.now in let verdict = verdict_of c.match-entry.cause in
+    let old : ReplicaState = record { statements = V.database; decided = V.decided.entries; charter = V.charter } in let entry = c.in-Some.entry.now in let verdict = verdict_of c.match-entry.cause in
     Decides old entry verdict (record { statements = c.match-entry.self-inside.database; decided = decided_with old entry verdict; charter = c.match-entry.self-inside.charter })
     × (c.match-entry.self-inside.decided.entries ≡ V.decided.entries) × (c.match-entry.self-inside.entry_states ≡ c.insert.new.self)
     × HasFewStepsEntry c.in-Some.entry.now (count_of V.steps) (count_of c.match-entry.self-inside.steps) × (count_of V.steps ≤ count_of c.match-entry.self-inside.steps)
@@ -84,8 +84,8 @@ invariant_of-self-2 g c =
     let after = settled-table V.decided.entries c.insert.new.self c.insert-2.new.self _ _ c.match-entry.cause before none (rw (told.2, c.author-2.ensures, c.serial-2.ensures) at c.in-Ok-insert.ensures.updates) in
     rw (c.after-self-inside.ensures, told.1, c.author-2.ensures, c.serial-2.ensures) after
 
-pub returns-clause-step : goal.returns-clause-step
-returns-clause-step g c =
+pub returns-clause-applies : goal.returns-clause-applies
+returns-clause-applies g c =
     let told = settled g c in
     let new : status c.args.self.now.replica.decided (author_of c.in-Some.entry.now) (serial_of c.in-Some.entry.now) ≡ None = sym (rw (c.author.ensures, c.serial.ensures) at c.in-None.ensures.first) in
     rw (c.in-Some.is, new, ← c.self.view_is, c.verdict_of.ensures.is, c.after-self-inside.ensures, told.1, c.author-2.ensures, c.serial-2.ensures) told.0

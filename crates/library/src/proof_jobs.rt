@@ -1,10 +1,10 @@
 //! The least `$p` of a text that is not proved. (The crate `unproved` finds all of a database.)
 ghost use Rattle.std.specs.Prelude.{◌≡◌, ◌≤◌, length, IfOk};
 ghost use Rattle.library.specs.Judging.{IsLeastUnproved};
-ghost use Rattle.library.specs.Unproved.{FindsLeast};
+ghost use Rattle.library.specs.ProofJobs.{FindsFirstWrong};
 ghost use Rattle.scope.specs.Active.{bares};
 
-use crate::queries::is_proof;
+use crate::queries::is_provable;
 use frame::Frames;
 use mm_read::Stmt;
 use std::alloc::AllocError;
@@ -13,7 +13,7 @@ use verify::{Answer, Checker};
 use verify_pool::{Checkers, Work};
 
 /// The `$p` to be judged, by position, as jobs for a pool of workers. Contracts see all statements, the list of names
-/// that the frames give numbers, and positions among the statements.
+/// to which the frames give numbers, and the positions of these `$p`.
 #[derive(Drop)]
 pub(crate) struct Proofs<'a> {
     frames: &'a Frames,
@@ -22,7 +22,7 @@ pub(crate) struct Proofs<'a> {
 }
 
 impl<'a> Model for Proofs<'a> {
-    ghost use Rattle.library.specs.Unproved.{ProofsAt, AreProofs};
+    ghost use Rattle.library.specs.ProofJobs.{ProofsAt, AreProofs};
 
     ghost Value = { ProofsAt };
 
@@ -33,7 +33,7 @@ impl<'a> Model for Proofs<'a> {
 
 impl<'a> Work for Proofs<'a> {
     ghost use Rattle.std.specs.Prelude.{length};
-    ghost use Rattle.library.specs.Unproved.{IsRightProof};
+    ghost use Rattle.library.specs.ProofJobs.{IsRightProof};
     ghost use Rattle.scope.specs.Active.{bares};
     ghost use Rattle.verify.specs.KeptLists.{IsCacheFor};
 
@@ -60,27 +60,27 @@ impl<'a> Work for Proofs<'a> {
     }
 }
 
-/// Returns the position of the first `$p` after the first `front` statements that is not proved, where `least` returns the
-/// index of the first proof that is not right, or `None`.
+/// Returns the position of the first `$p` after the first `start` statements that is not proved, or `None` if each is
+/// proved. `first_wrong` returns the index of the first proof that is not right, or `None`.
 ///
 /// Errors: an allocation fails. Cost: that of the proofs, and one pass over these statements.
 pub(crate) fn least_unproved<
     F: Fn(&Proofs<'_>, &mut Checkers) -> Result<Option<usize>, AllocError>,
 >(
-    least: &F,
+    first_wrong: &F,
     frames: &Frames,
     statements: &[Stmt],
-    front: usize,
+    start: usize,
     checkers: &mut Checkers,
 ) -> Result<Option<usize>, AllocError>
-    requires finds { FindsLeast (F.pre least.now) (F.post least.now) }
+    requires finds { FindsFirstWrong (F.pre first_wrong.now) (F.post first_wrong.now) }
     requires same { frames.now.statements ≡ bares statements.now }
-    requires within { front ≤ length statements.now }
-    ensures { IfOk result (IsLeastUnproved statements.now front) }
+    requires within { start ≤ length statements.now }
+    ensures { IfOk result (IsLeastUnproved statements.now start) }
 {
     let mut positions = Vec::new(checkers.alloc());
-    for index in front..statements.len() {
-        if is_proof(&statements[index]) {
+    for index in start..statements.len() {
+        if is_provable(&statements[index]) {
             positions.push(index + 1)?;
         }
     }
@@ -89,7 +89,7 @@ pub(crate) fn least_unproved<
         statements,
         positions,
     };
-    match least(&proofs, checkers)? {
+    match first_wrong(&proofs, checkers)? {
         Some(index) => Ok(Some(proofs.positions[index])),
         None => Ok(None),
     }

@@ -2,7 +2,7 @@ use Rattle.library.proofs.Words.{bares, ◌∙◌, ◌<◌, ap, get_or, length, 
 use Rattle.library.proofs.ProvingLemmas.{judged-stands, not-there}
 use Rattle.library.proofs.UnprovedLemmas.{proof-at, proof-stands}
 use Rattle.library.proofs.CitedByLemmas.{not-provable}
-use Rattle.library.proofs.unproved.ProofsWork.judge.Goals as goal
+use Rattle.library.proofs.proof_jobs.ProofsWork.judge.Goals as goal
 
 pub prove-requires-clause-provable : goal.prove-requires-clause-provable
 prove-requires-clause-provable c =

@@ -1,5 +1,5 @@
 use Rattle.verify.proofs.KeptListsLemmas.{kept_none}
-use Rattle.library.proofs.unproved.ProofsWork.begin.Goals as goal
+use Rattle.library.proofs.proof_jobs.ProofsWork.begin.Goals as goal
 
 pub returns : goal.returns
 returns c = kept_none _ _ _ c.begin.ensures.lists c.begin.ensures.facts
