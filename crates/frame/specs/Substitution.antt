@@ -7,10 +7,11 @@ abbrev pub image_by : {A : Type 0} → (A → A → Bool) → List (A × List A)
 image_by same [] x = x ∷ []
 image_by same (p ∷ σ) x = if same x p.0 then p.1 else image_by same σ x
 
+-- the expression with all images substituted at once
 abbrev pub apply_by : {A : Type 0} → (A → A → Bool) → List (A × List A) → List A → List A
 apply_by same σ e = flat_map (image_by same σ) e
 
--- over names
+-- images over names
 abbrev pub Images : Type 0
 Images = List (Name × Expr)
 
@@ -20,7 +21,7 @@ image σ x = image_by name_eq σ x
 abbrev pub apply : Images → Expr → Expr
 apply σ e = apply_by name_eq σ e
 
--- over numbers
+-- images over numbers
 abbrev pub CodeImages : Type 0
 CodeImages = List (ℕ × List ℕ)
 

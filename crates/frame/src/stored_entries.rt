@@ -10,13 +10,16 @@ use entries::{
 use std::alloc::{AllocError, Global};
 use std::marker::Model;
 
-/// The least number of symbols of a long expression, whose symbols' places are kept.
+/// An expression is long if it has at least this many symbols. Where each of its symbols stands is
+/// kept.
 pub const LONG_EXPRESSION: usize = 128;
 
 /// The statements as numbers, with the places of the symbols of long expressions. Contracts see the list of the statements.
 #[derive(Drop)]
 pub struct StoredEntries {
+    /// The statements as numbers.
     list: Entries,
+    /// Where the symbols of long expressions stand.
     long: LongExpressions,
 }
 
@@ -78,7 +81,8 @@ impl StoredEntries {
         self.list.hypotheses(index)
     }
 
-    /// Returns whether the parts of the assertion at an index are whole.
+    /// Returns whether all mandatory hypotheses and groups of the assertion at an index are kept
+    /// with it.
     #[inline(always)]
     pub fn is_whole(&self, index: usize) -> bool
         requires { index < length self.now }
@@ -87,7 +91,7 @@ impl StoredEntries {
         self.list.is_whole(index)
     }
 
-    /// Returns the parts of the assertion at an index, or `None` if they are not whole.
+    /// Returns the parts of the assertion at an index, or `None` if not all of them are kept.
     #[inline(always)]
     pub fn kept_view(&self, index: usize) -> Option<AssertionView<'_>>
         requires { index < length self.now }

@@ -22,6 +22,7 @@ end_of b S = end_from 0 (b + 2) (drop (suc b) S)
 abbrev pub AreBlockEnds : List ℕ → Database → Type 0
 AreBlockEnds ends S = (b : ℕ) (s : Stmt) → slice_get S b ≡ Some s → is_open s ≡ true → get_or ends b 0 ≡ end_of b S
 
+-- there is an item for each statement, which for a `${` is the position at which its block ends
 pub record AreEnds (ends : List ℕ) (S : Database) : Type 0 where
   pub count : length ends ≡ length S
   pub tell : AreBlockEnds ends S

@@ -15,6 +15,7 @@ use Rattle.frame.specs.Stored.Whole.{AreStored}
 abbrev pub first_of : ℕ → Database → Numbered
 first_of n S = record { statements = take n S; names = symbols_of (take n S) }
 
+-- the facts are true of the first `count` statements
 pub record AreKeptFacts (S : Database) (f : KeptFacts) : Type 0 where
   pub within : f.count ≤ length S
   pub each : AreFacts (first_of f.count S) f.facts

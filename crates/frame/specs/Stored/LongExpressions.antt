@@ -8,5 +8,6 @@ use Rattle.frame.specs.Words.{All, Entry, ArePlacesOf, SymbolGroups, without_flo
 abbrev pub IsLongIn : List Entry → ℕ × SymbolGroups → Type 0
 IsLongIn es p = (e : Entry) × (slice_get es p.0 ≡ Some e) × ArePlacesOf e.symbols p.1 × (p.1.constants ≡ without_float e.assertion.required p.1.symbols)
 
+-- this holds for all places that are stored
 pub record AreLongIn (es : List Entry) (long : List (ℕ × SymbolGroups)) : Type 0 where
   pub each : All (IsLongIn es) long
