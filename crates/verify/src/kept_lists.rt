@@ -91,7 +91,7 @@ impl AssertionLists {
         })
     }
 
-    /// Returns a view of the assertion, given its expression.
+    /// Returns the parts of the assertion for a citation, given its expression.
     pub fn cited<'a>(&'a self, conclusion: &'a [u32]) -> AssertionView<'a>
         ensures typecodes { result.typecodes.now ≡ self.now.typecodes }
         ensures required { result.hypotheses ≡ self.now.required }
@@ -195,7 +195,7 @@ fn is_one_covered(groups: &Groups<'_>, group: &[u32], index: usize, pairs: &Pair
     true
 }
 
-/// Returns whether two variables are at a place.
+/// Returns whether two variables stand at a place.
 fn are_at(groups: &Groups<'_>, place: PairPlace, x: u32, y: u32) -> bool
     ensures { result ≡ true → list_any (has_both x y) groups.now ≡ true }
 {
@@ -207,7 +207,7 @@ fn are_at(groups: &Groups<'_>, place: PairPlace, x: u32, y: u32) -> bool
     stands_at(group, place.first, x) && stands_at(group, place.second, y)
 }
 
-/// Returns whether a variable is at an index of a group.
+/// Returns whether a variable stands at an index of a group.
 fn stands_at(group: &[u32], index: u32, x: u32) -> bool
     ensures { result ≡ true → list_any (λ c. c == x) group.now ≡ true }
 {
@@ -221,6 +221,7 @@ fn stands_at(group: &[u32], index: u32, x: u32) -> bool
 /// not when lists were made. Contracts see both.
 #[derive(Drop)]
 pub struct KeptLists {
+    /// Where lists are allocated.
     alloc: Global,
     /// The number of citations of the assertion at a position, counted until its lists are kept.
     counts: BTreeMap<usize, usize>,
@@ -228,8 +229,11 @@ pub struct KeptLists {
     size: usize,
     /// The index of the lists of the assertion at a position. It is only a guess: the lists at the index are checked.
     indexes: BTreeMap<usize, usize>,
+    /// A buffer for the places of pairs in the lists that are being made.
     pairs: PairPlaces,
+    /// The lists that are kept.
     lists: Vec<AssertionLists>,
+    /// The answers of long searches for pairs.
     facts: PairFacts,
 }
 
