@@ -15,7 +15,7 @@ pub trait Work {
     /// The job of this index is right.
     ghost right: { Self → ℕ → Type 0 };
 
-    /// The results that a checker caches are right for these jobs.
+    /// The lists and facts that a checker keeps are right for these jobs.
     ghost fits: { Self → CheckerCache → Type 0 };
 
     /// Returns the number of jobs.
@@ -24,6 +24,8 @@ pub trait Work {
         ensures few { result < 2 ^ 63 };
 
     /// Prepares a checker for these jobs, whatever jobs it judged before.
+    ///
+    /// Cost: that of `Checker::begin`.
     fn begin(&self, checker: &mut Checker)
         ensures { fits self.now checker.new };
 

@@ -13,6 +13,7 @@ pub const MOST_WORKERS: usize = 16;
 /// The number of threads that check the proofs of one text, 1 to 16. Contracts see that number.
 #[derive(Clone, Copy, Debug)]
 pub struct Workers {
+    /// Their number.
     count: usize,
 }
 
