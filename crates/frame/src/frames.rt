@@ -28,10 +28,11 @@ use std::marker::Model;
 /// `mandatory_view` leaves to a list.
 const MOST_WITHOUT_VIEW: usize = 64;
 
-/// The statements of a database by position, without their proofs, with their symbols as numbers.
+/// The statements of a database by position, counted from 1, without their proofs, with their
+/// symbols as numbers.
 ///
-/// Contracts see the list of the statements, each legal after the earlier ones, and the names of the numbers, in
-/// order of first declaration.
+/// Contracts see the list of the statements, each legal after the earlier ones, and the names of
+/// the numbers, in order of first declaration.
 #[derive(Drop)]
 pub struct Frames {
     pub(crate) alloc: Global,

@@ -18,11 +18,11 @@ use frame::{Frames, Pairs};
 use std::alloc::{AllocError, Global};
 use std::marker::Model;
 
-/// A cache of facts about the variables of one proof: which symbols are variables, which variables were found to be disjoint,
-/// and the variables of long results.
+/// A cache of facts about the variables of one proof: which symbols are variables, which variables
+/// were found to be disjoint, and the variables of long results.
 ///
-/// Contracts see the statements and names that it is for, and the symbols of the buffer when facts were last recorded. Its
-/// memory serves one proof after another.
+/// Contracts see the statements and names that it is for (`about`), and the symbols of the buffer
+/// when facts were last recorded (`over`). Its memory serves one proof after another.
 #[derive(Drop)]
 pub struct DisjointCache {
     /// What the recorded facts are about; only contracts see it.

@@ -35,7 +35,7 @@ use subst::{
 };
 
 /// The results of a proof so far, with their symbols in one buffer, and the images that were read
-/// from the last of them.
+/// from the last of them. In the code the `place` of a result is its range in the buffer.
 #[derive(Drop)]
 pub struct Results {
     /// The symbols of all results.

@@ -28,7 +28,7 @@ impl Model for Workers {
 }
 
 impl Workers {
-    /// Returns `count` workers, given that `count` is 1 to 16.
+    /// Returns `count` workers, where `count` is 1 to 16.
     pub fn of(count: usize) -> Workers
         requires { (1 ≤ count) × (count ≤ MOST_WORKERS) }
         ensures { result ≡ count }
