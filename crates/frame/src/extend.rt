@@ -292,8 +292,8 @@ impl Frames {
         accepted.map_err(|_| Rule::Memory)
     }
 
-    /// Truncates to the first `len` statements. Facts on pairs of variables that are about a
-    /// removed statement are discarded.
+    /// Truncates to the first `len` statements. If the kept facts on pairs of variables are about
+    /// more statements than these, all of them are discarded.
     ///
     /// Cannot fail. Gives back only the room of stacks of which little is left; `shrink` gives back
     /// the rest. Cost: the size of the statements that are removed, and the number of facts that

@@ -25,7 +25,7 @@ use std::marker::Model;
 /// when facts were last recorded (`over`). Its memory serves one proof after another.
 #[derive(Drop)]
 pub struct DisjointCache {
-    /// What the recorded facts are about; only contracts see it.
+    /// The statements, names and symbols that the facts are about; only contracts see them.
     subject: Subject,
     /// The recorded facts.
     tables: DisjointTables,

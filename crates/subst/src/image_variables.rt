@@ -383,9 +383,11 @@ impl ImageVariables {
         Ok(())
     }
 
-    /// Returns the range of the words of a symbol's image, which is read first if it was not read before.
+    /// Returns the range of the words of a symbol's image, which is read first if it was not read
+    /// before.
     ///
-    /// Errors: an allocation fails. Cost: the symbols of the image, once in a citation; constant for a long one.
+    /// Errors: an allocation fails. Cost: that of reading the image, once in a citation; log n for
+    /// one of n long images that were recorded.
     #[inline(always)]
     pub fn image_of(
         &mut self,

@@ -43,7 +43,7 @@ pub struct Checker {
     table: Vec<LabelEntry>,
     /// A buffer for the positions of the mandatory hypotheses of the theorem.
     mandatory: Vec<u32>,
-    /// What the run over the items of a proof needs, and the lists and facts that are kept.
+    /// The buffers of the run over the items of a proof, and the lists and facts that are kept.
     buffers: Buffers,
 }
 

@@ -1,11 +1,11 @@
 //! Gates, which threads pass before a job or an entry.
 
-/// What a thread is about to do when it passes a gate.
+/// An action of a thread, before which it passes a gate.
 #[derive(Clone, Copy, Debug, PartialEq, Eq)]
 pub enum Place {
-    /// To judge the job of this index, from 0.
+    /// It judges the job of this index, from 0.
     Job(usize),
-    /// To apply the next entry of the log at the node of this number.
+    /// It applies the next entry of the log at the node of this number.
     Apply(u8),
 }
 

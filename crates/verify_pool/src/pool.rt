@@ -24,7 +24,7 @@ use verify::{Answer, Checker};
 /// the calling thread judges all jobs again.
 ///
 /// Errors: an allocation fails for the calling thread when it judges alone. If the gate admits no
-/// heavy proofs, also if an allocation fails beside, or if a heavy proof has to be judged. Cost:
+/// heavy proofs, also if one fails while workers judge, or if a heavy proof has to be judged. Cost:
 /// that of the jobs, divided among the workers, and once more if jobs are judged again.
 pub fn judge_all<W: Work + Sync, G: Gate + Sync, R: Threads + Sync>(
     rt: &R,

@@ -24,8 +24,6 @@ pub trait Work {
         ensures few { result < 2 ^ 63 };
 
     /// Prepares a checker for these jobs, whatever jobs it judged before.
-    ///
-    /// Cost: that of `Checker::begin`.
     fn begin(&self, checker: &mut Checker)
         ensures { fits self.now checker.new };
 
