@@ -14,7 +14,9 @@ use std::marker::Model;
 /// The image of a variable, borrowed from a result.
 #[derive(Clone, Copy, Drop)]
 pub struct Image<'a> {
+    /// The number of the variable.
     pub variable: u32,
+    /// The symbols of its image.
     pub symbols: &'a [u32],
 }
 

@@ -31,7 +31,9 @@ pub enum CodeBreak {
 /// `)`.
 #[derive(Clone, Copy, Debug, Drop)]
 pub struct LetterBreak {
+    /// The index of the letter.
     pub letter: usize,
+    /// The fault there.
     pub fault: LetterFault,
 }
 

@@ -246,9 +246,9 @@ impl Frames {
     /// the state of the rules after the same statements; it judges the statement by the numbering
     /// of the frames, and accepts it too.
     ///
-    /// Errors: the least rule that the statement breaks, or `Memory` if it breaks none and an
-    /// allocation fails; everything is then as before. Cost: that of `Rules::broken_rule` and of
-    /// `push`; one step is counted, whatever the outcome.
+    /// Errors: the least rule that the statement breaks, or `Memory` if it breaks none; everything
+    /// is then as before. Cost: that of `Rules::broken_rule` and of `push`; one step is counted,
+    /// whatever the outcome.
     pub fn add(&mut self, rules: &mut Rules, stmt: &Stmt, steps: &mut Steps) -> Result<(), Rule>
         requires same { rules.old.statements ≡ self.old.statements }
         ensures added { OnOk result (self.new.statements ≡ self.old.statements ++ bare stmt.now ∷ []) }

@@ -14,6 +14,7 @@ use std::marker::Model;
 #[derive(Drop)]
 pub struct Row<'a> {
     storage: &'a Storage,
+    /// The positions of the `$d` that are left.
     stack: PositionStack<'a>,
 }
 

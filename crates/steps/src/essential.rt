@@ -1,4 +1,5 @@
-//! Selects the essential steps: the last, and those that an essential step takes for a `$e`.
+//! Selects the essential steps: the last, and those that an essential step takes for a `$e`. A mark
+//! here is that of an essential step, not the mark `Z` of a compressed proof.
 ghost use Rattle.std.specs.Prelude.{◌≡◌, suc, ◌<◌, ◌≤◌, [], IfOk, OnOk, length, map, get_or};
 ghost use Rattle.frame.specs.Below.{AreBelow};
 ghost use Rattle.steps.specs.Rows.{no_row, steps_of, AreRows};

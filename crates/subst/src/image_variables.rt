@@ -26,7 +26,7 @@ pub const LONG_RESULT: usize = 1024;
 /// would cost about as much to read them as to read the result, and they would need about as much memory.
 const SYMBOLS_PER_WORD: usize = 8;
 
-/// A range of a list of words.
+/// A range of a list of words: from `start` up to, and not including, `end`.
 #[derive(Clone, Copy, Drop)]
 pub struct WordRange {
     start: usize,

@@ -134,7 +134,9 @@ pub fn grow(
 /// The number of nodes of a derivation and its depth, each counted no further than one above its limit.
 #[derive(Clone, Copy, Drop)]
 pub struct Extent {
+    /// The number of nodes.
     pub nodes: usize,
+    /// The depth.
     pub depth: usize,
 }
 

@@ -51,7 +51,9 @@ pub fn check_all<G: Gate + Sync, R: Threads + Sync>(
 /// Jobs, with the frames under which they are checked.
 #[derive(Drop)]
 struct Jobs<'a> {
+    /// The frames.
     frames: &'a Frames,
+    /// The jobs.
     jobs: &'a [Job],
 }
 
