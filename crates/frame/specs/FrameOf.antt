@@ -30,7 +30,7 @@ together groups x y = not (name_eq x y) && list_any (λ names. has_name x names 
 abbrev pub groups : Database → List (List Name)
 groups S = map (λ p. disjoint_names p.1) (active S)
 
--- x and y are different and stand together in an active `$d`
+-- x and y are different and both occur in one active `$d`
 abbrev pub is_pair : Database → Name → Name → Bool
 is_pair S x y = together (groups S) x y
 

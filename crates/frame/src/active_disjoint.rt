@@ -6,7 +6,7 @@ use crate::pairs::{Pairs, contains};
 
 impl<'a> Pairs<'a> {
     /// Returns whether every variable of one list and every variable of the other are different and
-    /// stand together in an active `$d`.
+    /// both occur in one active `$d`.
     ///
     /// A repetition of a variable in its list is skipped. Does not allocate. Cost: that of `has`
     /// for each pair of a variable from each list, and for each variable the symbols before it in

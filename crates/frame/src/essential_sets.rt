@@ -168,7 +168,7 @@ impl EssentialSets {
         }
     }
 
-    /// Gives back the room of removed sets, if it is much more than that of the remaining ones.
+    /// Frees unused capacity, as `entries::give_back` does.
     pub fn shrink(&mut self)
         ensures sets { self.new.sets ≡ self.old.sets }
         ensures kept { self.new.kept ≡ self.old.kept }

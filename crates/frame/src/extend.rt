@@ -182,8 +182,7 @@ fn roll_back(storage: &mut Storage, names: usize, replaced: usize)
     storage.essentials.truncate(last);
 }
 
-/// Gives back the room of the removed contents of the storage, if it is much more than that of the
-/// remaining contents.
+/// Frees unused capacity of the lists of the storage, as `entries::give_back` does.
 ///
 /// Cost: that of `Numbering::shrink`, and the number of symbols removed.
 fn shrink_lists(alloc: Global, storage: &mut Storage)
@@ -295,9 +294,9 @@ impl Frames {
     /// Truncates to the first `len` statements. If the kept facts on pairs of variables are about
     /// more statements than these, all of them are discarded.
     ///
-    /// Cannot fail. Gives back only the room of stacks of which little is left; `shrink` gives back
-    /// the rest. Cost: the size of the statements that are removed, and the number of facts that
-    /// are discarded.
+    /// Cannot fail. Frees the capacity only of stacks of which little is left; `shrink` frees the
+    /// rest. Cost: the size of the statements that are removed, and the number of facts that are
+    /// discarded.
     pub fn shorten(&mut self, len: usize)
         ensures statements { self.new.statements ≡ take len self.old.statements }
         ensures names { Extends self.new.names self.old.names }
@@ -308,10 +307,10 @@ impl Frames {
         self.kept_facts.truncate(len);
     }
 
-    /// Gives back the room of removed statements, if it is much more than that of the remaining
-    /// ones.
+    /// Frees unused capacity: that of each list whose capacity is more than four times its length,
+    /// and that of the buffers for the next statement.
     ///
-    /// Cost: a constant; if room is given back, the size of the remaining contents, which is less
+    /// Cost: a constant; if capacity is freed, the size of the remaining contents, which is less
     /// than that of what was removed.
     pub fn shrink(&mut self)
         ensures { self.new ≡ self.old }

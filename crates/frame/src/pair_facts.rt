@@ -29,7 +29,7 @@ pub(crate) const MOST_UNLISTED: usize = 256;
 /// `$d` left, itself included.
 const STRIDE: usize = 64;
 
-/// A fact: whether two variables stand together in a `$d` that is active right after the `$d` at a position.
+/// A fact: whether two variables both occur in a `$d` that is active right after the `$d` at a position.
 #[derive(Clone, Copy, Drop)]
 pub struct PairFact {
     /// The position of a `$d`.
@@ -38,7 +38,7 @@ pub struct PairFact {
     pub x: u32,
     /// The number of the other variable.
     pub y: u32,
-    /// Whether they stand together.
+    /// Whether there is such a `$d`.
     pub found: bool,
 }
 

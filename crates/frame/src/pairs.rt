@@ -36,7 +36,7 @@ impl<'a> Model for Pairs<'a> {
 }
 
 impl<'a> Pairs<'a> {
-    /// Returns whether x and y are different and stand together in an active `$d`.
+    /// Returns whether x and y are different and both occur in one active `$d`.
     ///
     /// Cost: the number of active `$d` that have x, or of those that have y if they are fewer,
     /// times a binary search.
@@ -56,7 +56,7 @@ impl<'a> Pairs<'a> {
         }
     }
 
-    /// Returns whether x and y are different and stand together in an active `$d`, with a memo of
+    /// Returns whether x and y are different and both occur in one active `$d`, with a memo of
     /// the pairs that long searches found. If an allocation fails, the pair is not recorded.
     ///
     /// Cost: that of `has`, or less in two cases. If the memo has the pair and the `$d` in which it

@@ -10,7 +10,7 @@ use entries::{
 use std::alloc::{AllocError, Global};
 use std::marker::Model;
 
-/// An expression is long if it has at least this many symbols. Where each of its symbols stands is
+/// An expression is long if it has at least this many symbols. Where each of its symbols occurs is
 /// kept.
 pub const LONG_EXPRESSION: usize = 128;
 
@@ -19,7 +19,7 @@ pub const LONG_EXPRESSION: usize = 128;
 pub struct StoredEntries {
     /// The statements as numbers.
     list: Entries,
-    /// Where the symbols of long expressions stand.
+    /// Where the symbols of long expressions occur.
     long: LongExpressions,
 }
 
@@ -101,7 +101,7 @@ impl StoredEntries {
         self.list.kept_view(index)
     }
 
-    /// Returns where each symbol of the expression at an index stands, if the expression is long. Its constants are the symbols
+    /// Returns where each symbol of the expression at an index occurs, if the expression is long. Its constants are the symbols
     /// that are the variable of no `$f` among the hypotheses that are kept with it.
     ///
     /// Cost: log n for n long expressions.
@@ -112,7 +112,7 @@ impl StoredEntries {
         self.long.get(index)
     }
 
-    /// Appends a statement, and records where its symbols stand if it has a long expression.
+    /// Appends a statement, and records where its symbols occur if it has a long expression.
     ///
     /// Errors: an allocation fails; the list is as before.
     /// Cost: its size; n log n for n symbols of a long expression.
@@ -151,7 +151,7 @@ impl StoredEntries {
         self.long.truncate(len);
     }
 
-    /// Gives back the room of removed statements, if it is more than that of the remaining ones.
+    /// Frees unused capacity, as `entries::give_back` does.
     pub fn shrink(&mut self)
         ensures { self.new ≡ self.old }
     {

@@ -22,7 +22,7 @@ use std::alloc::{AllocError, Global};
 use std::collections::BTreeMap;
 use std::marker::Model;
 
-/// The number of citations of an assertion in which its long lists are made anew. After these they are kept.
+/// The number of citations of an assertion in which its long lists are made each time. After these they are kept.
 const CITATIONS_BEFORE_KEEPING: usize = 4;
 
 /// The most numbers that are kept.
@@ -195,7 +195,7 @@ fn is_one_covered(groups: &Groups<'_>, group: &[u32], index: usize, pairs: &Pair
     true
 }
 
-/// Returns whether two variables stand at a place.
+/// Returns whether two variables are at a place.
 fn are_at(groups: &Groups<'_>, place: PairPlace, x: u32, y: u32) -> bool
     ensures { result ≡ true → list_any (has_both x y) groups.now ≡ true }
 {
@@ -207,7 +207,7 @@ fn are_at(groups: &Groups<'_>, place: PairPlace, x: u32, y: u32) -> bool
     stands_at(group, place.first, x) && stands_at(group, place.second, y)
 }
 
-/// Returns whether a variable stands at an index of a group.
+/// Returns whether a variable is at an index of a group.
 fn stands_at(group: &[u32], index: u32, x: u32) -> bool
     ensures { result ≡ true → list_any (λ c. c == x) group.now ≡ true }
 {

@@ -73,7 +73,7 @@ impl Checkers {
         }
     }
 
-    /// Gives back memory that large proofs needed, as `Checker::shrink` does.
+    /// Frees memory that large proofs needed, as `Checker::shrink` does.
     ///
     /// Does not allocate. Cost: a constant for each worker.
     pub fn shrink(&mut self) {

@@ -1,5 +1,5 @@
 -- Which entries have a label.
--- The code's own form: no public clause cites it.
+-- Internal to the code: no public clause cites it.
 use Rattle.std.specs.Prelude.{Bool, true, false}
 use Rattle.frame.specs.Words.{Kind, Float, Ess, Axiom, Prove}
 

@@ -1,5 +1,5 @@
 -- The frame of one assertion, collected from the active statements.
--- The code's own form: no public clause cites it.
+-- Internal to the code: no public clause cites it.
 use Rattle.std.specs.Prelude.{◌≡◌, ℕ, Bool, true, false, ◌&&◌, ◌||◌, List, map, filter}
 use Rattle.frame.specs.Words.{Name, has_name, Stmt, Expr, Database, disjoint_names, expr_of, is_essential, is_variable, FrameStatement}
 use Rattle.mm_read.specs.declared.stmt.Stmt.TheVariants.{Float, Ess}
