@@ -75,7 +75,7 @@ impl DisjointTables {
         self.found.release(alloc);
     }
 
-    /// Has the frames make long searches for pairs again, as `PairMemo::repeat_searches`.
+    /// Has the frames make long searches for pairs again, as `PairMemo::repeat_searches` does.
     pub fn repeat_searches(&mut self, frames: &mut Frames)
         ensures tables { self.new ≡ self.old }
         ensures frames { frames.new ≡ frames.old }

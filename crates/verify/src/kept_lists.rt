@@ -276,7 +276,8 @@ impl KeptLists {
         self.facts.clear();
     }
 
-    /// Has the frames make long searches for pairs again that were made since `begin`, so that they keep the answers.
+    /// Has the frames make again long searches for pairs that were made since `begin`, so that the
+    /// frames keep the answers.
     ///
     /// Cost: that of `PairFacts::repeat_searches`.
     pub fn repeat_searches(&mut self, frames: &mut Frames)

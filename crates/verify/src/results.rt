@@ -89,7 +89,8 @@ impl Results {
         self.symbols_limit = symbols_limit;
     }
 
-    /// Has the frames make long searches for pairs again that proofs made, so that they keep the answers.
+    /// Has the frames make again long searches for pairs that proofs made, so that the frames keep
+    /// the answers.
     ///
     /// Cost: that of `DisjointCache::repeat_searches`.
     pub fn repeat_searches(&mut self, frames: &mut Frames)
