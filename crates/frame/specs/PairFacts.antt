@@ -7,7 +7,8 @@ use Rattle.frame.specs.declared.pair_facts.PairFact.{PairFact}
 use Rattle.frame.specs.FrameOf.{is_pair}
 use Rattle.frame.specs.Parts.{Numbered}
 
--- the fact is true: it says whether its variables both occur in a `$d` that is active right after its position
+-- the fact is true: it says whether its variables both occur in a `$d` that is active right after
+-- its position
 pub record IsFact (v : Numbered) (f : PairFact) : Type 0 where
   pub above : 1 ≤ f.position
   pub within : f.position ≤ length v.statements

@@ -148,8 +148,8 @@ impl Frames {
         }
     }
 
-    /// Returns where each symbol of the expression of the statement at a position occurs, or `None` if the statement has no
-    /// expression or one of fewer than `LONG_EXPRESSION` symbols.
+    /// Returns where each symbol of the expression of the statement at a position occurs, or `None`
+    /// if the statement has no expression or one of fewer than `LONG_EXPRESSION` symbols.
     ///
     /// Cost: log n for n such expressions.
     pub fn places(&self, at: usize) -> Option<&SymbolPlaces>

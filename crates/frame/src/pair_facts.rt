@@ -29,7 +29,8 @@ pub(crate) const MOST_UNLISTED: usize = 256;
 /// `$d` left, itself included.
 const STRIDE: usize = 64;
 
-/// A fact: whether two variables both occur in a `$d` that is active right after the `$d` at a position.
+/// A fact: whether two variables both occur in a `$d` that is active right after the `$d` at a
+/// position.
 #[derive(Clone, Copy, Drop)]
 pub struct PairFact {
     /// The position of a `$d`.

@@ -101,8 +101,9 @@ impl StoredEntries {
         self.list.kept_view(index)
     }
 
-    /// Returns where each symbol of the expression at an index occurs, if the expression is long. Its constants are the symbols
-    /// that are the variable of no `$f` among the hypotheses that are kept with it.
+    /// Returns where each symbol of the expression at an index occurs, if the expression is long.
+    /// Its constants are the symbols that are the variable of no `$f` among the hypotheses that are
+    /// kept with it.
     ///
     /// Cost: log n for n long expressions.
     pub fn places(&self, index: usize) -> Option<&SymbolPlaces>

@@ -1,6 +1,7 @@
 -- Laws of substitution and of disjoint images.
 -- Source: Metamath, 4.1 (substitution, and the two conditions on the images of disjoint variables).
--- The code substitutes over numbers, and has one test for both conditions: each two variables, one from each image, are a pair.
+-- The code substitutes over numbers, and has one test for both conditions: each two variables, one
+-- from each image, are a pair.
 use Rattle.std.specs.Prelude.{◌≡◌, ℕ, ◌↔◌, ◌&&◌, List, IsTrue}
 use Rattle.subst.specs.Words.{list_any, Name, has_name, Expr, Database, is_variable, decode, AreCodes, AreDistinct, groups, together, CodeImages, Images, image, apply, code_apply, images_of_names, are_groups_disjoint}
 

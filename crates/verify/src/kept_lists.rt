@@ -22,7 +22,8 @@ use std::alloc::{AllocError, Global};
 use std::collections::BTreeMap;
 use std::marker::Model;
 
-/// The number of citations of an assertion in which its long lists are made each time. After these they are kept.
+/// The number of citations of an assertion in which its long lists are made each time. After these
+/// they are kept.
 const CITATIONS_BEFORE_KEEPING: usize = 4;
 
 /// The most numbers that are kept.

@@ -1,4 +1,5 @@
--- The parts of an assertion, by numbers. Internal to the code: no public clause cites it.
+-- The parts of an assertion, by numbers.
+-- Internal to the code: no public clause cites it.
 use Rattle.std.specs.Prelude.{◌≡◌, ℕ, ◌-◌, ◌==◌, Bool, true, false, if◌then◌else◌, List, [], ◌∷◌, map, filter, get_or, slice_get, Option, Some, None}
 use Rattle.frame.specs.Words.{has_name, Stmt, Expr, Database, expr_of, active, is_essential, Hypothesis, Kind, Float, Ess, Axiom, Prove, Entry, Assertion, list_any}
 use Rattle.mm_read.specs.declared.stmt.Stmt.TheVariants as stmt

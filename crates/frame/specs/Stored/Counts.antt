@@ -1,4 +1,5 @@
--- Numbers that stand for names, and what one more entry changes. Internal to the code: no public clause cites it.
+-- Numbers that stand for names, and what one more entry changes.
+-- Internal to the code: no public clause cites it.
 use Rattle.std.specs.Prelude.{◌≡◌, ℕ, ◌<◌, ◌^◌, ◌==◌, true, false, if◌then◌else◌, List, [], ◌∷◌, ◌++◌, length, map, take, Option, Some, None}
 use Rattle.frame.specs.Words.{list_any, Name, Stmt, is_open, is_close, symbols_of, labels_of, LastActive, Kind, Open, Close, Const, Var, Disj, Float, Ess, Axiom, Prove, Entry, Extends}
 use Rattle.mm_read.specs.declared.stmt.Stmt.TheVariants as stmt

@@ -1,4 +1,5 @@
--- Where blocks end (Metamath, 4.2.8), kept for each `${` by its index. Internal to the code: no public clause cites it.
+-- Where blocks end (Metamath, 4.2.8), kept for each `${` by its index.
+-- Internal to the code: no public clause cites it.
 use Rattle.std.specs.Prelude.{◌≡◌, ℕ, zero, suc, ◌+◌, true, List, [], ◌∷◌, length, take, drop, get_or, slice_get, slice_set, Some}
 use Rattle.frame.specs.Words.{Stmt, Database, is_open, Entry, Kind, Close}
 use Rattle.mm_read.specs.declared.stmt.Stmt.TheVariants as stmt

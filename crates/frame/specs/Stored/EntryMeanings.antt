@@ -1,4 +1,5 @@
--- The meaning of an entry, and of the entries for the number of a symbol. Internal to the code: no public clause cites it.
+-- The meaning of an entry, and of the entries for the number of a symbol.
+-- Internal to the code: no public clause cites it.
 use Rattle.std.specs.Prelude.{◌≡◌, ℕ, ◌+◌, ◌<◌, ◌==◌, Bool, true, false, ◌&&◌, if◌then◌else◌, List, [], ◌∷◌, ◌++◌, length, map, slice_get, Option, Some, None}
 use Rattle.frame.specs.Words.{list_any, Name, Stmt, Expr, Database, stmt_at, before, label_of, declared_symbols, declared_labels, name_at, decode, Kind, Open, Close, Const, Var, Disj, Float, Ess, Axiom, Prove, Entry, IsLegal}
 use Rattle.mm_read.specs.declared.stmt.Stmt.TheVariants as stmt

@@ -1,4 +1,6 @@
--- How the mandatory hypotheses are found: the active `$e`, and the `$f` of the symbols of these and of the assertion. Internal to the code: no public clause cites it.
+-- How the mandatory hypotheses are found: the active `$e`, and the `$f` of the symbols of these and
+-- of the assertion.
+-- Internal to the code: no public clause cites it.
 use Rattle.std.specs.Prelude.{◌≡◌, ℕ, ◌+◌, ◌-◌, ◌≤◌, ◌==◌, ◌⊎◌, Bool, true, false, List, [], ◌∷◌, length, map, slice_get, Option, Some, None}
 use Rattle.frame.specs.Words.{Database, is_active, is_essential, Kind, Float, Ess, Entry, Assertion, list_any, Ascends}
 use Rattle.frame.specs.LastActive.{actives, is_disj}

@@ -1,4 +1,5 @@
--- Facts about pairs of variables that are kept with the statements. Internal to the code: no public clause cites it.
+-- Facts about pairs of variables that are kept with the statements.
+-- Internal to the code: no public clause cites it.
 -- They are about the first `count` statements, so they stay true as others are added.
 use Rattle.std.specs.Prelude.{ℕ, ◌≤◌, length, take}
 use Rattle.frame.specs.Words.{Database, symbols_of}

@@ -1,4 +1,5 @@
--- The sets of positions that some of the statements keep. Internal to the code: no public clause cites it.
+-- The sets of positions that some of the statements keep.
+-- Internal to the code: no public clause cites it.
 use Rattle.std.specs.Prelude.{ℕ, zero, suc, List, Option, Some, None}
 use Rattle.frame.specs.declared.kept_sets.KeptSet.{KeptSet}
 use Rattle.frame.specs.Stored.Sparse.{AreAmongBy, item_by}

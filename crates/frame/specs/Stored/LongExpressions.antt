@@ -1,4 +1,5 @@
--- Where the symbols of long expressions occur, stored beside the statements. Internal to the code: no public clause cites it.
+-- Where the symbols of long expressions occur, stored beside the statements.
+-- Internal to the code: no public clause cites it.
 -- Metamath, 4.2.6: an image may be empty, and then its variable is removed.
 -- The code keeps the places of the symbols of an expression with 128 symbols or more.
 use Rattle.std.specs.Prelude.{◌≡◌, ℕ, List, Some, slice_get}

@@ -1,4 +1,5 @@
--- The names that statements declare, each with its kind. Internal to the code: no public clause cites it.
+-- The names that statements declare, each with its kind.
+-- Internal to the code: no public clause cites it.
 use Rattle.std.specs.Prelude.{Bool, ◌||◌, [], ◌∷◌, Option}
 use Rattle.frame.specs.Words.{Database, Declared, is_constant_kind, is_variable_kind, declared_with, NameKind}
 

@@ -1,4 +1,5 @@
--- The search for an active `$d` that has two variables. Internal to the code: no public clause cites it.
+-- The search for an active `$d` that has two variables.
+-- Internal to the code: no public clause cites it.
 -- Metamath, 4.2.4: two variables are disjoint if they both occur in one active `$d`.
 -- The code goes through the `$d` of one of the variables, from the last one back.
 use Rattle.std.specs.Prelude.{◌≡◌, ℕ, ◌<◌, ◌≤◌, ◌==◌, Bool, false, List, length, take}

@@ -1,4 +1,5 @@
--- For each symbol, by its number, the active `$d`, `$v` and long `$e` that have it. Internal to the code: no public clause cites it.
+-- For each symbol, by its number, the active `$d`, `$v` and long `$e` that have it.
+-- Internal to the code: no public clause cites it.
 -- Metamath, 4.2.8: after a `$}` the statements that were active before its `${` are active again.
 use Rattle.std.specs.Prelude.{◌≡◌, ℕ, zero, suc, ◌+◌, ◌-◌, ◌≤◌, ◌==◌, Bool, true, nat_le, if◌then◌else◌, List, [], ◌∷◌, length, map, take, slice_get, Some}
 use Rattle.frame.specs.Words.{list_any, StackVersion, AreUntil, history, kept_until, stack_at, Stmt, Database, Entry, is_essential, LastActive, Kind, Close, Disj, Ess, Var}
