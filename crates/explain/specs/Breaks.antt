@@ -43,6 +43,7 @@ abbrev pub IsEndOrMark : List ℕ → Type 0
 IsEndOrMark [] = Unit {0}
 IsEndOrMark (letter ∷ letters) = letter ≡ 90
 
+-- the letters begin with one for which P holds
 abbrev pub BeginsWith : (ℕ → Type 0) → List ℕ → Type 0
 BeginsWith P [] = ⊥
 BeginsWith P (letter ∷ letters) = P letter

@@ -33,6 +33,7 @@ abbrev pub HasOtherTypecode : Name → Expr → Type 0
 HasOtherTypecode constant [] = Unit {0}
 HasOtherTypecode constant (x ∷ e) = x ≢ constant
 
+-- the statement is a `$f`, and the expression does not begin with its constant
 abbrev pub HasOtherTypecodeThan : Option Stmt → Expr → Type 0
 HasOtherTypecodeThan (Some (stmt.Float label constant variable)) e = HasOtherTypecode constant e
 HasOtherTypecodeThan s e = ⊥
@@ -52,6 +53,7 @@ abbrev pub HasOtherTypecodeNumber : ℕ → List ℕ → Type 0
 HasOtherTypecodeNumber typecode [] = Unit {0}
 HasOtherTypecodeNumber typecode (x ∷ e) = x ≢ typecode
 
+-- a `$f`
 abbrev pub IsFloat : Hypothesis → Type 0
 IsFloat (hypothesis.Float x) = Unit {0}
 IsFloat (hypothesis.Essential p) = ⊥

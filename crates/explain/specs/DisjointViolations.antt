@@ -35,14 +35,14 @@ pub record IsViolation (S : Database) (names : List Name) (σ : Images) (groups 
   pub together : IsTrue (together groups (name_at names c.first) (name_at names c.second))
   pub unpaired : AreUnpairedIn S (name_at names c.in_first_image) (name_at names c.in_second_image) (image σ (name_at names c.first)) (image σ (name_at names c.second))
 
--- .. in this group, the first of them being x
+-- two variables of this group, the first of them x, with unpaired variables of their images
 pub record IsViolationWith (S : Database) (names : List Name) (σ : Images) (x : Name) (group : List Name) (c : DisjointViolation) : Type 0 where
   pub first : name_at names c.first ≡ x
   pub second : IsTrue (has_name (name_at names c.second) group)
   pub differ : IsFalse (name_eq x (name_at names c.second))
   pub unpaired : AreUnpairedIn S (name_at names c.in_first_image) (name_at names c.in_second_image) (image σ x) (image σ (name_at names c.second))
 
--- .. both in this group
+-- two variables of this group, with unpaired variables of their images
 pub record IsViolationIn (S : Database) (names : List Name) (σ : Images) (group : List Name) (c : DisjointViolation) : Type 0 where
   pub first : IsTrue (has_name (name_at names c.first) group)
   pub second : IsViolationWith S names σ (name_at names c.first) group c

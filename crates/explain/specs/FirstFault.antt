@@ -38,21 +38,25 @@ IsCitationFault S names at h i s (NotDisjoint b x y u v) = AreWrong S names at h
 IsCitationFault S names at h i s TooManySymbols = ExceedsLimit S at h i s
 IsCitationFault S names at h i s fault = ⊥
 
--- the fault of an item: a label that no statement has; the fault of a citation of its statement; a recall of a result that
--- is not marked, or with which the lengths of all results exceed the limit; a mark without a result
+-- the fault of a citation of a label: no statement has it, or a citation of its statement has the
+-- fault
 abbrev pub IsCiteFault : Database → List Name → ℕ → State → Name → Fault → Type 0
 IsCiteFault S names at h label UnknownLabel = (i : ℕ) (s : Stmt) → Carries S i s label → ⊥
 IsCiteFault S names at h label fault = (i : ℕ) × (s : Stmt) × Carries S i s label × IsCitationFault S names at h i s fault
 
+-- the fault of a recall: no result is marked with the number, or the lengths of all results would
+-- exceed the limit
 abbrev pub IsRecallFault : State → ℕ → Fault → Type 0
 IsRecallFault h k NoMarkedResult = (e : Expr) → IsSaved h.saved k e → ⊥
 IsRecallFault h k TooManySymbols = (e : Expr) × IsSaved h.saved k e × (SYMBOLS_LIMIT < h.weight + length e)
 IsRecallFault h k fault = ⊥
 
+-- the fault of a mark: there is no result
 abbrev pub IsMarkFault : State → Fault → Type 0
 IsMarkFault h NoMarkedResult = h.stack ≡ []
 IsMarkFault h fault = ⊥
 
+-- the fault of an item
 abbrev pub IsItemFault : Database → List Name → ℕ → State → Item → Fault → Type 0
 IsItemFault S names at h (Cite label) fault = IsCiteFault S names at h label fault
 IsItemFault S names at h (Recall k) fault = IsRecallFault h k fault

@@ -16,11 +16,12 @@ images_read S [] rs = []
 images_read S (p ∷ ps) [] = []
 images_read S (p ∷ ps) (e ∷ rs) = image_at (stmt_at S p) e ++ images_read S ps rs
 
--- the image that a result gives, and the images that all results give, by number
+-- the image that a result gives, by number
 abbrev pub code_image_at : Hypothesis → List ℕ → CodeImages
 code_image_at (Float x) e = (x, drop 1 e) ∷ []
 code_image_at (Essential q) e = []
 
+-- the images that the results give, by number
 abbrev pub code_images_read : List Hypothesis → List (List ℕ) → CodeImages
 code_images_read [] es = []
 code_images_read (h ∷ hs) [] = []

@@ -12,7 +12,7 @@ pub record AreVariablesOf (S : Database) (names : List Name) (expr list : List �
   pub each : (v : Name) → IsTrue (has_name v (decode names expr)) → IsTrue (is_variable S v) → IsTrue (has_name v (decode names list))
   pub only : (v : Name) → IsTrue (has_name v (decode names list)) → IsTrue (has_name v (decode names expr))
 
--- .. one list for each image
+-- there is such a list for each image
 abbrev pub AreListsOf : Database → List Name → List Image → List (Vec ℕ) → Type 0
 AreListsOf S names [] [] = Unit {0}
 AreListsOf S names (image ∷ images) (list ∷ lists) = AreVariablesOf S names image.symbols.now list.items × AreListsOf S names images lists

@@ -20,7 +20,10 @@ pub(crate) struct LetterState {
     begin: usize,
 }
 
-/// Returns the rule that the letters break, given the number of labels before them; `None` if they write items.
+/// Returns the rule that the letters break, given the number of labels before them; `None` if they
+/// write items.
+///
+/// Cost: the letters.
 pub(crate) fn letter_break(letters: &[u8], labels: usize) -> Option<LetterBreak>
     requires { 5 * (labels + length letters.now) + 200 < 2 ^ 64 }
     ensures { (names : List Name) → length names ≡ labels → MatchOption result ((items : List Item) × WritesRow names letters.now items)

@@ -168,7 +168,11 @@ fn results_fault(
     Ok(None)
 }
 
-/// Returns the fault of the first hypothesis whose result is not the one that it requires, if there is one.
+/// Returns the fault of the first hypothesis whose result is not the one that it requires, if there
+/// is one.
+///
+/// Errors: an allocation fails, or the expression that the hypothesis requires has more than
+/// `SYMBOLS_LIMIT` symbols.
 fn first_mismatch(
     alloc: Global,
     frames: &Frames,

@@ -25,9 +25,11 @@ pub(crate) enum TokenFault {
     NotListable,
 }
 
-/// Returns the rule of proof code that the tokens break. They must write no items under these mandatory labels.
+/// Returns the rule of proof code that the tokens break. They must write no items under these
+/// mandatory labels.
 ///
-/// Errors: an allocation fails, or there are more than `MOST_LETTERS` tokens, mandatory labels or letters.
+/// Errors: an allocation fails, or there are more than `MOST_LETTERS` tokens, mandatory labels or
+/// letters. Cost: the tokens, times a logarithm of the number of mandatory labels.
 pub(crate) fn code_break(
     alloc: Global,
     tokens: &Words,
@@ -162,6 +164,8 @@ fn has_fault(
 }
 
 /// Returns the letters of the tokens, joined.
+///
+/// Errors: an allocation fails.
 fn join(alloc: Global, words: &mut WordIter<'_>) -> Result<Vec<u8>, AllocError>
     ensures { IfOk result (λ letters. letters.items ≡ joined words.old) }
 {

@@ -1,4 +1,4 @@
-//! The substitution that the results for `$f` give, as an image for each variable, and its application to an expression.
+//! The images that the results for `$f` give to variables, and their substitution in an expression.
 ghost use Rattle.std.specs.Prelude.{◌≡◌, ℕ, ◌<◌, ◌≤◌, ◌+◌, ◌^◌, ◌∷◌, ◌++◌, ◌↔◌, [], List, length, drop, IfOk, IfNone, IfSome, IsTrue, MatchOption};
 ghost use Rattle.frame.specs.Below.{AreBelow};
 ghost use Rattle.frame.specs.Substitution.{code_image, code_apply};
@@ -11,17 +11,21 @@ use std::alloc::{AllocError, Global};
 use std::collections::BTreeMap;
 use std::marker::Model;
 
-/// The image of a variable under the substitution, borrowed from a result.
+/// The image of a variable, borrowed from a result.
 #[derive(Clone, Copy, Drop)]
 pub struct Image<'a> {
+    /// The number of the variable.
     pub variable: u32,
+    /// The symbols of its image.
     pub symbols: &'a [u32],
 }
 
 /// The images of variables, with an index of the first one for each variable. Contracts see the list of the images.
 #[derive(Drop)]
 pub struct Images<'a> {
+    /// The images.
     list: Vec<Image<'a>>,
+    /// For each variable the index of its first image.
     indexes: BTreeMap<u32, usize>,
 }
 
@@ -40,7 +44,7 @@ impl<'a> Model for Images<'a> {
 }
 
 impl<'a> Images<'a> {
-    /// Indexes the images.
+    /// Returns these images with an index.
     ///
     /// Errors: an allocation fails. Cost: n log n for n images.
     pub fn new(alloc: Global, list: Vec<Image<'a>>) -> Result<Images<'a>, AllocError>
@@ -69,7 +73,10 @@ impl<'a> Images<'a> {
     }
 }
 
-/// Returns the images that the results give: the result for a `$f`, without its typecode, is the image of its variable.
+/// Returns the images that the results give: the result for a `$f`, without its typecode, is the
+/// image of its variable. `kinds` are the hypotheses.
+///
+/// Errors: an allocation fails. Cost: n log n for n hypotheses.
 pub fn read_images<'a>(
     alloc: Global,
     kinds: &Hypotheses<'_>,
@@ -84,6 +91,8 @@ pub fn read_images<'a>(
 }
 
 /// Returns the images that the results give, as a list.
+///
+/// Errors: an allocation fails.
 fn list_images<'a>(
     alloc: Global,
     kinds: &Hypotheses<'_>,
@@ -125,7 +134,11 @@ pub fn image_or<'a>(images: &'a Images<'_>, symbol: u32, alone: &'a [u32]) -> &'
     }
 }
 
-/// Returns the expression with the images substituted, or `None` if it would have more than `limit` symbols.
+/// Returns the expression with the images substituted, or `None` if it would have more than `limit`
+/// symbols.
+///
+/// Errors: an allocation fails. Cost: log n for each symbol of the expression and n images, and the
+/// symbols of the result.
 pub fn apply(
     alloc: Global,
     images: &Images<'_>,

@@ -1,11 +1,16 @@
 //! Why a proof is refused.
 //!
-//! `explain` returns the reason why the tokens of a `$p` do not prove it: the rule of proof code that they break, or the first
-//! fault of the run over the items that they write. It is called only after a refusal. `first_fault` runs the verifier over
-//! the items, and derives the fault of the item at which the run stops from the results at that point.
+//! `explain` returns the reason why the tokens of a `$p` do not prove it: the rule of proof code
+//! that they break, or the first fault of the run over the items that they write. Proof code is
+//! what the tokens of a proof are written in, normal or compressed (`proof_code`); the items are
+//! its citations, marks and recalls. `explain` is called only after a refusal. `first_fault` runs
+//! the verifier over the items, and derives the fault of the item at which the run stops from the
+//! results at that point.
 //!
-//! Reading order: `why`, `proof_fault`, `code`, `broken_letters`; then `reason`, `images`, `variable_lists`,
-//! `disjoint_pairs`, `violation`, `citation`, `run`.
+//! In clauses, codes are the numbers of symbols.
+//!
+//! Reading order: `why`, `proof_fault`, `code`, `broken_letters`; then `reason`, `images`,
+//! `variable_lists`, `disjoint_pairs`, `violation`, `citation`, `run`.
 #![tactic(auto)]
 
 mod broken_letters;

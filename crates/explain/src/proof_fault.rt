@@ -40,6 +40,8 @@ pub fn explain(
 }
 
 /// Returns why the tokens do not prove the `$p`, given that they do not.
+///
+/// Errors: those of `explain`.
 fn explain_wrong(
     alloc: Global,
     frames: &Frames,
@@ -60,7 +62,10 @@ fn explain_wrong(
     }
 }
 
-/// Returns the items that the tokens write under these mandatory labels, or `None` if they write none.
+/// Returns the items that the tokens write under these mandatory labels, or `None` if they write
+/// none.
+///
+/// Errors: an allocation fails.
 fn items_of(alloc: Global, tokens: &Words, mandatory: &Words) -> Result<Option<Items>, AllocError>
     ensures { IfOk result (λ items. MatchOption items ((other : List Item) → ¬ Writes tokens.now mandatory.now other)
         (λ items. Writes tokens.now mandatory.now items)) }
@@ -74,7 +79,7 @@ fn items_of(alloc: Global, tokens: &Words, mandatory: &Words) -> Result<Option<I
 
 /// Returns the labels of the mandatory hypotheses of the `$p` at a position, in order.
 ///
-/// A label that is not a word is reported as out of memory; no parsed statement has one.
+/// Errors: an allocation fails, or a label is not a word; no parsed statement has such a label.
 fn labels_of(alloc: Global, frames: &Frames, at: usize) -> Result<Words, AllocError>
     requires { (s : Statement) × IsProvable frames.now.statements at s }
     ensures { IfOk result (λ labels. (s : Statement) → IsProvable frames.now.statements at s → labels ≡ mandatory_labels frames.now.statements at s) }
@@ -98,6 +103,7 @@ fn is_word(bytes: &[u8]) -> bool
     !bytes.is_empty() && are_visible(bytes)
 }
 
+/// Returns whether each byte is a visible character of ASCII.
 fn are_visible(bytes: &[u8]) -> bool
     ensures { result ≡ list_all is_visible bytes.now }
 {

@@ -5,7 +5,7 @@
 pub enum Reason {
     /// An item, counted from 0, has a fault.
     Item { item: usize, fault: Fault },
-    /// The number of results on the stack at the end is not 1.
+    /// The number of results on the stack at the end is `count`, and not 1.
     ResultCount { count: usize },
     /// The only result at the end is not the theorem's expression.
     OtherTheorem { proved: Vec<u32> },
@@ -30,13 +30,14 @@ pub enum Fault {
         required: usize,
         present: usize,
     },
-    /// The result for a `$f` has another typecode than the `$f`.
+    /// The result for a `$f` does not begin with the typecode of the `$f`.
     OtherTypecode {
         assertion: usize,
         hypothesis: usize,
         result: Vec<u32>,
     },
-    /// The result is not the hypothesis under the substitution.
+    /// The result is not the expression that the hypothesis requires: that of the hypothesis under
+    /// the substitution.
     OtherExpression {
         assertion: usize,
         hypothesis: usize,
@@ -52,7 +53,8 @@ pub enum Fault {
         in_first_image: u32,
         in_second_image: u32,
     },
-    /// The lengths of all results, with that of the result of this item, add up to more than the limit.
+    /// The lengths of all results, with that of the result of this item, add up to more than the
+    /// limit of a proof's weight.
     TooManySymbols,
     /// There is no result to mark, or none marked with this number.
     NoMarkedResult,

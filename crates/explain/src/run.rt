@@ -16,11 +16,13 @@ use proof_code::Items;
 use std::alloc::{AllocError, Global};
 use verify::{Failure, Results, first_failure};
 
-/// Returns the first fault of the run over the items of a proof of the `$p` at a position, or `None` if they are a
-/// correct proof of it.
+/// Returns the first fault of the run over the items of a proof of the `$p` at a position, or
+/// `None` if they are a right proof of it.
 ///
-/// Errors: an allocation fails, or the expression that a hypothesis requires has more than `SYMBOLS_LIMIT` symbols.
-/// Cost: that of `verify::check`, and that of the one citation that fails: the lengths of the results that it takes, and a
+/// Errors: an allocation fails, or the expression that a hypothesis requires has more than
+/// `SYMBOLS_LIMIT` symbols.
+/// Cost: that of `verify::check`, and that of the one citation that fails: the lengths of the
+/// results that it takes, with a logarithm for each symbol that an image is put in for, and a
 /// comparison of the images of each two variables that must be disjoint.
 pub fn first_fault(
     alloc: Global,

@@ -12,14 +12,16 @@ use frame::Pairs;
 use std::alloc::{AllocError, Global};
 use std::collections::BTreeSet;
 
-/// The size of the table of recent variables. A variable is found without a search if it was the last one added among those
-/// whose numbers are the same modulo this size.
+/// The size of the table of recent variables. A variable is found without a search if, among the
+/// variables whose numbers are the same modulo this size, it was added last.
 const RECENT: usize = 256;
 
 /// Distinct variables, in the order of their first occurrences.
 #[derive(Drop)]
 pub struct VariableList {
+    /// The variables.
     list: Vec<u32>,
+    /// The same variables as a set.
     seen: BTreeSet<u32>,
     /// For each number modulo `RECENT`, the index in the list of the variable that was added last.
     recent: [usize; RECENT],

@@ -18,7 +18,8 @@ use entries::Groups;
 use frame::Pairs;
 use std::alloc::{AllocError, Global};
 
-/// Two variables of an assertion, and a variable in the image of each; these are the same, or no active `$d` has both.
+/// Two variables of an assertion, `first` and `second`, and a variable in the image of each. These
+/// two are the same, or no active `$d` has both.
 #[derive(Clone, Copy, Drop)]
 pub struct DisjointViolation {
     pub first: u32,
@@ -177,10 +178,11 @@ fn violation_with(
     None
 }
 
-/// Returns a variable of the image of `first` and one of the image of `second` that are the same or that no active `$d` has
-/// together; `None` if the images are disjoint, and then records the pair.
+/// Returns a variable of the image of `first` and one of the image of `second` that are the same or
+/// that no active `$d` has together. Returns `None` if the images are disjoint, and then records
+/// the pair.
 ///
-/// Cost: a look-up of the pair; if it is not recorded, also the cost of `unpaired_variables`.
+/// Cost: a look-up of the pair; if it is not recorded, also that of `unpaired_variables`.
 fn unpaired_in_images(
     pairs: &Pairs<'_>,
     images: &Images<'_>,

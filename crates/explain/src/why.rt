@@ -31,7 +31,9 @@ pub enum CodeBreak {
 /// `)`.
 #[derive(Clone, Copy, Debug, Drop)]
 pub struct LetterBreak {
+    /// The index of the letter.
     pub letter: usize,
+    /// The fault there.
     pub fault: LetterFault,
 }
 
@@ -43,7 +45,7 @@ pub enum LetterFault {
     NotLetter,
     /// No letter A to T ends the letters U to Y that begin here.
     NotEnded,
-    /// A mark stands before any number.
+    /// A mark comes before any number.
     EarlyMark,
     /// The number of the letter group that begins here is greater than the count of labels and marks so far.
     TooGreat,

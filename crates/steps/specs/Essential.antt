@@ -6,7 +6,7 @@ use Rattle.steps.specs.Words.{IsStrictlyIncreasing, Stmt, Database, stmt_at, bef
 use Rattle.steps.specs.StepTable.{Step}
 use Rattle.steps.specs.Rows.{Row, no_row, steps_of}
 
--- a `$e`
+-- there is a statement, and it is a `$e`
 abbrev pub is_premise : Option Stmt → Bool
 is_premise None = false
 is_premise (Some s) = is_essential s
@@ -17,6 +17,7 @@ for_premises S [] taken = []
 for_premises S (p ∷ ps) [] = []
 for_premises S (p ∷ ps) (k ∷ taken) = if is_premise (stmt_at S p) then k ∷ for_premises S ps taken else for_premises S ps taken
 
+-- the mandatory hypotheses of the assertion at a, if there is one
 abbrev pub mandatory : Database → ℕ → Option Stmt → List ℕ
 mandatory S a None = []
 mandatory S a (Some s) = hypotheses (before S a) s

@@ -11,12 +11,15 @@ pub record Row : Type 0 where
   pub step : Step
   pub expr : List ℕ
 
+-- a row by its parts
 abbrev pub row : ℕ → List ℕ → List ℕ → Row
 row position taken expr = record { step = record { position = position; taken = taken }; expr = expr }
 
+-- stands for the row at a place that no row has
 abbrev pub no_row : Row
 no_row = record { step = record { position = 0; taken = [] }; expr = [] }
 
+-- the steps of the rows
 abbrev pub steps_of : List Row → List Step
 steps_of rows = map (λ r. r.step) rows
 
@@ -36,5 +39,6 @@ pub record IsRow (S : Database) (at : ℕ) (names : List Name) (rows : List Row)
   pub follows : Follows S at names rows row
   pub named : AreBelow (length names) row.expr
 
+-- each row takes earlier rows, follows from them, and its symbols have names
 abbrev pub AreRows : Database → ℕ → List Name → List Row → Type 0
 AreRows S at names rows = (k : ℕ) (row : Row) → slice_get rows k ≡ Some row → IsRow S at names rows k row

@@ -15,6 +15,7 @@ pub record Progress : Type 0 where
   pub stack : List ℕ
   pub saved : List ℕ
 
+-- progress by its parts
 abbrev pub progress : List Step → List ℕ → List ℕ → Progress
 progress steps stack saved = record { steps = steps; stack = stack; saved = saved }
 
@@ -42,6 +43,7 @@ RecordsItem S at old (Cite label) new =
 RecordsItem S at old (Recall k) new = (n : ℕ) × IsMarked old.saved k n × (new ≡ progress old.steps (old.stack ++ n ∷ []) old.saved)
 RecordsItem S at old Mark new = (below : List ℕ) × (n : ℕ) × (old.stack ≡ below ++ n ∷ []) × (new ≡ progress old.steps old.stack (old.saved ++ n ∷ []))
 
+-- the effect of items, one after the other
 abbrev pub RecordsItems : Database → ℕ → Progress → List Item → Progress → Type 0
 RecordsItems S at old [] new = old ≡ new
 RecordsItems S at old (item ∷ items) new = (next : Progress) × RecordsItem S at old item next × RecordsItems S at next items new

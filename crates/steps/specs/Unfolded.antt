@@ -5,6 +5,7 @@ use Rattle.std.specs.Prelude.{Bool, false, if◌then◌else◌, List, [], ◌∷
 use Rattle.steps.specs.Words.{Stmt, Database, stmt_at, is_assertion, Derivation, hyp, apply, from_list, pick}
 use Rattle.steps.specs.StepTable.{Step}
 
+-- there is a statement, and it is an assertion
 abbrev pub has_assertion : Option Stmt → Bool
 has_assertion None = false
 has_assertion (Some s) = is_assertion s
@@ -18,6 +19,7 @@ abbrev pub unfolded_after : Database → List Derivation → List Step → List 
 unfolded_after S ts [] = ts
 unfolded_after S ts (step ∷ steps) = unfolded_after S (ts ++ citation_over S ts step ∷ []) steps
 
+-- the derivations of all steps
 abbrev pub unfolded : Database → List Step → List Derivation
 unfolded S steps = unfolded_after S [] steps
 

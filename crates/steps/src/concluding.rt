@@ -34,11 +34,13 @@ fn shortened<'a>(
     }
 }
 
-/// Appends to the buffer the conclusion of the assertion from the results in these ranges, and returns its range.
-/// `symbol_places` has the places of the symbols in the assertion's expression.
+/// Appends to the buffer the conclusion of the assertion from the results in the ranges `places`,
+/// and returns its range. `symbol_places` has the places of the symbols in the assertion's
+/// expression.
 ///
-/// Errors: an allocation fails, or the expressions exceed `SYMBOLS_LIMIT` symbols. Cost: one look at each result, the symbols
-/// written, and the symbols of the expression, or only its distinct ones if `symbol_places` is given.
+/// Errors: an allocation fails, or the expressions exceed `SYMBOLS_LIMIT` symbols. Cost: a step for
+/// each result, the symbols written, and the symbols of the expression, or only its distinct ones
+/// if `symbol_places` is given.
 pub fn conclude(
     symbols: &mut Buffer,
     images: &mut ImageRanges,

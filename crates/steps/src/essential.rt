@@ -1,4 +1,5 @@
-//! Selects the essential steps: the last, and those that an essential step takes for a `$e`.
+//! Selects the essential steps: the last, and those that an essential step takes for a `$e`. A mark
+//! here is that of an essential step, not the mark `Z` of a compressed proof.
 ghost use Rattle.std.specs.Prelude.{◌≡◌, suc, ◌<◌, ◌≤◌, [], IfOk, OnOk, length, map, get_or};
 ghost use Rattle.frame.specs.Below.{AreBelow};
 ghost use Rattle.steps.specs.Rows.{no_row, steps_of, AreRows};
@@ -13,6 +14,8 @@ use frame::{Frames, Meaning};
 use std::alloc::{AllocError, Global};
 
 /// Returns those of the taken places that are taken for a `$e`.
+///
+/// Errors: an allocation fails.
 fn premises_among(
     alloc: Global,
     hypotheses: &Hypotheses<'_>,
@@ -147,10 +150,11 @@ fn renumbered(alloc: Global, list: &[usize], numbers: &[usize]) -> Result<Vec<us
     Ok(taken)
 }
 
-/// Returns the essential steps of a table of the `$p` at a position: the last, and each step that a kept step takes for a
-/// `$e`. They are renumbered, and each row takes only kept steps.
+/// Returns the essential steps of a table of the `$p` at a position: the last, and each step that a
+/// kept step takes for a `$e`. They are renumbered, and each row takes only kept steps.
 ///
-/// Errors: an allocation fails. Cost: the size of the table; long lists of a cited assertion are made twice.
+/// Errors: an allocation fails. Cost: the size of the table; the long lists of a cited assertion
+/// are made twice.
 /// Source: Metamath, 4.2.6.
 pub fn essential_table(
     alloc: Global,
@@ -168,7 +172,10 @@ pub fn essential_table(
     Ok(kept)
 }
 
-/// Returns the table of the marked steps.
+/// Appends the marked steps to an empty table, each with only those places that it takes for a
+/// `$e`, renumbered.
+///
+/// Errors: an allocation fails.
 fn keep_marked(
     alloc: Global,
     frames: &Frames,

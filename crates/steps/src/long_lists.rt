@@ -21,7 +21,7 @@ pub struct HypothesisList {
     position: usize,
     /// The typecode of each hypothesis.
     typecodes: Vec<u32>,
-    /// Each hypothesis as one number.
+    /// Each hypothesis as one number: the variable of a `$f`, or the position of a `$e`.
     required: Vec<u32>,
 }
 
@@ -89,11 +89,13 @@ fn copy_hypotheses(hypotheses: &Hypotheses<'_>, required: &mut Vec<u32>) -> Resu
 /// that a right proof cites have at most as many hypotheses as the proof has items.
 #[derive(Drop)]
 pub struct LongLists {
+    /// Where lists are allocated.
     alloc: Global,
     /// Buffers for the frame of the assertion that is being listed.
     buffers: FrameBuffers,
     /// The index of the list of the assertion at a position. It is only a hint: `find` checks the list at that index.
     indexes: BTreeMap<usize, usize>,
+    /// The lists, in the order in which they were made.
     pub lists: Vec<HypothesisList>,
 }
 
@@ -142,10 +144,11 @@ impl LongLists {
         Ok(index)
     }
 
-    /// Returns the index of the list of the assertion at a position, which is made if there is none yet; any index if
-    /// `are_few`.
+    /// Returns the index of the list of the assertion at a position, which is made if there is none
+    /// yet. If `are_few`, no list is needed, and the index is not used.
     ///
-    /// Errors: an allocation fails. Cost: log n for n lists, and once for each assertion that of `Frames::fill_buffers`.
+    /// Errors: an allocation fails. Cost: log n for n lists, and once for each assertion that of
+    /// `Frames::fill_buffers`.
     pub fn index_of(
         &mut self,
         frames: &Frames,

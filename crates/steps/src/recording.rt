@@ -15,6 +15,8 @@ use frame::{Frames, Meaning};
 use std::alloc::{AllocError, Global};
 
 /// Marks the last result.
+///
+/// Errors: an allocation fails.
 fn mark(frames: &Frames, at: usize, draft: &mut TableDraft) -> Result<(), AllocError>
     requires draft { IsDraft frames.now.statements at frames.now.names draft.old }
     requires can { CanDo frames.now.statements at frames.now.names draft.old Mark }
@@ -71,7 +73,10 @@ fn cite(
     }
 }
 
-/// Records the effect of an item, by its number.
+/// Records the effect of an item, by its number: 0 is a mark, the next numbers are the labels,
+/// whose `positions` are given, and those after them the marked results.
+///
+/// Errors: an allocation fails.
 pub fn record_item(
     alloc: Global,
     frames: &Frames,

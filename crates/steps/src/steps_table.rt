@@ -19,7 +19,9 @@ use subst::{Buffer, SYMBOLS_LIMIT, range_between, symbols_at};
 /// The steps of a proof without duplicates, each after the steps that it takes. Contracts see the list of rows.
 #[derive(Drop)]
 pub struct ProofTable {
+    /// The steps, each with the range of its expression.
     placed: Vec<PlacedStep>,
+    /// The symbols of all expressions.
     symbols: Buffer,
 }
 
@@ -47,6 +49,8 @@ impl ProofTable {
     }
 
     /// Appends a step with its expression.
+    ///
+    /// Errors: an allocation fails, or the expressions exceed `SYMBOLS_LIMIT` symbols.
     pub(crate) fn push(
         &mut self,
         position: usize,
@@ -76,7 +80,8 @@ impl ProofTable {
         self.placed.len()
     }
 
-    /// Returns the position of the statement that the step at a place cites; places count from 0.
+    /// Returns the position of the statement that the step at a place cites. A place is the index
+    /// of a step in the table, from 0.
     pub fn position(&self, place: usize) -> usize
         requires { place < length self.now }
         ensures { result ≡ (get_or self.now place no_row).step.position }

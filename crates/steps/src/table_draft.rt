@@ -27,9 +27,10 @@ pub struct PlacedStep {
     pub place: SymbolRange,
 }
 
-/// The steps so far, with the stack, the marked results and buffers.
+/// The steps so far, with the stack of results, the marked results, and buffers.
 #[derive(Drop)]
 pub struct TableDraft {
+    /// The steps.
     pub placed: Vec<PlacedStep>,
     /// The expressions of the steps, one after another.
     pub symbols: Buffer,
@@ -39,8 +40,12 @@ pub struct TableDraft {
     pub saved: Vec<usize>,
     /// The place of a step, by the position that it cites and the places that it takes.
     pub known: BTreeMap<Vec<usize>, usize>,
+    /// A buffer for the images of a citation.
     pub images: ImageRanges,
+    /// A buffer for the symbols that are left of a long expression without those whose images are
+    /// empty.
     pub remaining: Remaining,
+    /// A buffer for the ranges of the results that a citation takes.
     pub places: Vec<SymbolRange>,
 }
 
@@ -63,7 +68,7 @@ impl TableDraft {
     }
 }
 
-/// Appends a step that is not there yet, and pushes its result.
+/// Appends a step that is not in the table yet, and pushes its result.
 fn add_step(draft: &mut TableDraft, key: Vec<usize>, step: PlacedStep) -> Result<(), AllocError>
     requires { key.items ≡ step.position ∷ step.taken.items }
     ensures { OnOk result (Adds draft.old draft.new step) }
@@ -75,7 +80,10 @@ fn add_step(draft: &mut TableDraft, key: Vec<usize>, step: PlacedStep) -> Result
     Ok(())
 }
 
-/// Cites a hypothesis.
+/// Cites a hypothesis: pushes its result, and makes its step if there is none yet.
+///
+/// Errors: an allocation fails, or the expressions exceed `SYMBOLS_LIMIT` symbols. Cost: a look-up
+/// among the steps; for a new one its expression.
 pub fn cite_hypothesis(
     alloc: Global,
     draft: &mut TableDraft,
@@ -131,7 +139,12 @@ fn fill_ranges(
     Ok(())
 }
 
-/// Cites an assertion, given a view of it and, if they are known, the places of the symbols in its expression.
+/// Cites an assertion, given a view of it and, if they are known, the places of the symbols in its
+/// expression: pops the results for its hypotheses and pushes its own, and makes its step if there
+/// is none yet.
+///
+/// Errors: an allocation fails, or the expressions exceed `SYMBOLS_LIMIT` symbols. Cost: a look-up
+/// among the steps; for a new one that of `conclude`.
 pub fn cite_parts(
     alloc: Global,
     draft: &mut TableDraft,

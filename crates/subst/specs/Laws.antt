@@ -1,6 +1,7 @@
 -- Laws of substitution and of disjoint images.
 -- Source: Metamath, 4.1 (substitution, and the two conditions on the images of disjoint variables).
--- The code substitutes over numbers, and tests all symbols of two images against each other at once.
+-- The code substitutes over numbers, and has one test for both conditions: each two variables, one
+-- from each image, are a pair.
 use Rattle.std.specs.Prelude.{◌≡◌, ℕ, ◌↔◌, ◌&&◌, List, IsTrue}
 use Rattle.subst.specs.Words.{list_any, Name, has_name, Expr, Database, is_variable, decode, AreCodes, AreDistinct, groups, together, CodeImages, Images, image, apply, code_apply, images_of_names, are_groups_disjoint}
 
@@ -18,7 +19,8 @@ pub record AreImagesDisjoint (S : Database) (e f : Expr) : Type 0 where
       (u v : Name) → IsTrue (is_variable S u) → IsTrue (is_variable S v) → IsTrue (has_name u e) → IsTrue (has_name v f)
       → IsTrue (list_any (λ names. has_name u names && has_name v names) (groups S))
 
--- the test of a citation succeeds if and only if the images of each pair of variables in one of its lists meet both
+-- the test of a citation succeeds if and only if the images of each pair of variables in one of its
+-- lists meet both conditions
 abbrev pub DisjointConditionLaw : Type 0
 DisjointConditionLaw =
     (S : Database) (σ : Images) (lists : List (List Name)) → IsTrue (are_groups_disjoint S σ lists)

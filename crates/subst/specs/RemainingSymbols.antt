@@ -1,8 +1,9 @@
 -- The symbols of an expression whose images are not empty.
--- Metamath, 4.2.6: an image may be the empty sequence of symbols, and then nothing replaces the variable.
--- The code goes over the distinct symbols of an expression, each with the group of the indexes at which it stands, and
--- skips those with an empty image; or it takes only the groups of the constants and of symbols that were listed for the
--- expression.
+-- Metamath, 4.2.6: an image may be the empty sequence of symbols, and then nothing replaces the
+-- variable.
+-- The code goes over the distinct symbols of an expression, each with the group of the indexes at
+-- which it occurs, and skips those with an empty image; or it takes only the groups of the
+-- constants and of symbols that were listed for the expression.
 use Rattle.std.specs.Prelude.{◌≡◌, ◌<◌, ◌^◌, ◌==◌, ℕ, Bool, true, false, nat_eq, nat_lt, List, [], Option, Some, None, slice_get, option_and_then, if◌then◌else◌}
 use Rattle.subst.specs.Words.{filter, list_any, lookup, code_apply}
 use Rattle.entries.specs.Stored.Keys.{key_of}

@@ -5,6 +5,7 @@ use Rattle.std.specs.Prelude.{◌≡◌, ℕ, ◌≤◌, nat_eq, List, [], ◌�
 use Rattle.subst.specs.Words.{lookup, CodeImages}
 use Rattle.subst.specs.declared.symbol_range.SymbolRange.{SymbolRange}
 
+-- the symbols in a range
 abbrev pub symbols_in : List ℕ → SymbolRange → List ℕ
 symbols_in symbols p = slice_range symbols p.start p.end
 

@@ -64,10 +64,11 @@ impl Buffer {
         &self.symbols[..self.len]
     }
 
-    /// Returns whether the symbols in a range are the expression with all images substituted. The images are ranges of this
-    /// buffer too.
+    /// Returns whether the symbols in the range `whole` are the expression with all images
+    /// substituted. The images are ranges of this buffer too.
     ///
-    /// Cost: the symbols that agree, each once; nothing is written.
+    /// Cost: a look-up for each symbol of the expression, and the symbols that agree, each once;
+    /// nothing is written.
     #[inline(always)]
     pub fn matches(&self, images: &ImageRanges, expr: &[u32], whole: SymbolRange) -> bool
         requires inside { AreInside (length self.now) images.now }
@@ -79,7 +80,8 @@ impl Buffer {
 
     /// Appends symbols.
     ///
-    /// Errors: an allocation fails; the buffer is unchanged. Cost: the symbols.
+    /// Errors: an allocation fails; the buffer is unchanged. Cost: the symbols that are appended; a
+    /// copy of the buffer if it has to grow.
     pub fn extend(&mut self, more: &[u32]) -> Result<(), AllocError>
         requires { length self.old + length more.now ≤ SYMBOLS_LIMIT }
         ensures added { OnOk result (self.new ≡ self.old ++ more.now) }
@@ -100,11 +102,12 @@ impl Buffer {
         self.len = self.len.min(len);
     }
 
-    /// Appends the expression with all images substituted at once, or returns `false` if that has more symbols than the
-    /// limit. The images are ranges of this buffer.
+    /// Appends the expression with all images substituted at once, or returns `false` if that has
+    /// more symbols than the limit. The images are ranges of this buffer.
     ///
     /// Errors: an allocation fails; the buffer is unchanged.
-    /// Cost: the symbols read and written, each once; twice if the buffer has to grow.
+    /// Cost: the symbols read and written, each once; twice, and a copy of the buffer, if it has to
+    /// grow.
     #[inline(always)]
     pub fn add_applied(
         &mut self,

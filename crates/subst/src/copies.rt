@@ -25,7 +25,8 @@ fn copy_run(symbols: &mut [u32], from: usize, len: usize, at: usize)
     }
 }
 
-/// Copies the symbols in a range to `at`, and returns where the copy ends, or `None` if that is after `last`.
+/// Copies the symbols in the range `place` to `at`, and returns where the copy ends, or `None` if
+/// that is after `last`.
 #[inline(always)]
 pub fn copy_range(symbols: &mut [u32], at: usize, last: usize, place: SymbolRange) -> Option<usize>
     requires place { (place.start ≤ place.end) × (place.end ≤ at) }
@@ -45,7 +46,7 @@ pub fn copy_range(symbols: &mut [u32], at: usize, last: usize, place: SymbolRang
     Some(at + len)
 }
 
-/// Writes a symbol at `at`, and returns where it ends.
+/// Writes a symbol at `at`, and returns the index after it.
 #[inline(always)]
 pub fn put_symbol(symbols: &mut [u32], at: usize, symbol: u32) -> usize
     requires { at < length symbols.old }

@@ -18,14 +18,16 @@ use frame::{Frames, Pairs};
 use std::alloc::{AllocError, Global};
 use std::marker::Model;
 
-/// A cache of facts about the variables of one proof: which symbols are variables, which variables were found to be disjoint,
-/// and the variables of long results.
+/// A cache of facts about the variables of one proof: which symbols are variables, which variables
+/// were found to be disjoint, and the variables of long results.
 ///
-/// Contracts see the statements and names that it is for, and the symbols of the buffer when facts were last recorded. Its
-/// memory serves one proof after another.
+/// Contracts see the statements and names that it is for (`about`), and the symbols of the buffer
+/// when facts were last recorded (`over`). Its memory serves one proof after another.
 #[derive(Drop)]
 pub struct DisjointCache {
+    /// The statements, names and symbols that the facts are about; only contracts see them.
     subject: Subject,
+    /// The recorded facts.
     tables: DisjointTables,
 }
 
@@ -51,7 +53,8 @@ impl DisjointCache {
         }
     }
 
-    /// Begins a proof under the pairs that are active at its statement. Keeps the memory.
+    /// Begins a proof: empties the cache, which from then on is for the pairs that are active at
+    /// the statement of the proof. Keeps the memory.
     ///
     /// Cost: a step for each pair of images that was recorded in the previous proof.
     pub fn begin(&mut self, pairs: &Pairs<'_>)
@@ -61,8 +64,9 @@ impl DisjointCache {
         self.subject = Subject::of(pairs);
     }
 
-    /// Empties the cache, and frees the memory of long results and of pairs of images, but not that of tables indexed by
-    /// symbol.
+    /// Empties the cache, and frees the memory of images, of pairs of images and of marks of
+    /// symbols. Keeps the other tables that are indexed by symbol, and the pairs that long searches
+    /// found.
     ///
     /// Does not allocate.
     pub fn release(&mut self, alloc: Global)
@@ -72,7 +76,8 @@ impl DisjointCache {
         self.subject = Subject::none();
     }
 
-    /// Has the frames make long searches for pairs again that proofs made, so that they keep the answers.
+    /// Has the frames make again long searches for pairs that proofs made, so that the frames keep
+    /// the answers.
     ///
     /// Cost: that of `PairMemo::repeat_searches`.
     pub fn repeat_searches(&mut self, frames: &mut Frames)
@@ -82,13 +87,18 @@ impl DisjointCache {
         self.tables.repeat_searches(frames);
     }
 
-    /// Returns whether the images of each two variables of each group are disjoint at the statement of the pairs: no variable
-    /// is in both, and each pair of variables, one from each, is in an active `$d`. The images are ranges of the buffer.
+    /// Returns whether the images of each two variables of each group are disjoint at the statement
+    /// of the pairs: no variable is in both, and each pair of variables, one from each, is in an
+    /// active `$d`. The images are ranges of the buffer, which begins with the symbols that it had
+    /// when facts were last recorded.
     ///
     /// Errors: an allocation fails.
-    /// Cost: the number of variables in the groups; each image once, or the number of its variables if it is long; for two
-    /// images the product of their numbers of variables, over 64 if all these pairs are known, else times the cost of
-    /// `Pairs::has`. If that product is large, it is paid once in a proof, and later costs a look-up.
+    /// Cost: the number of variables in the groups; each image once, or up to twice if a variable
+    /// of it is beyond the first 64 of the proof, or only the number of its variables if they were
+    /// recorded with a long result. For two images, the product of their numbers of variables: over
+    /// 64 if all these pairs are known, else times the cost of `Pairs::has_by_memo`. If that
+    /// product is large, it is paid once in a proof for up to 1,048,576 pairs of images, and later
+    /// costs a look-up.
     /// Source: Metamath, 4.2.6.
     #[inline(always)]
     pub fn are_groups_disjoint(
@@ -114,7 +124,7 @@ impl DisjointCache {
         self.decide_groups(pairs, &groups.copy(), symbols, images)
     }
 
-    /// Returns the answer of `are_groups_disjoint`, given that there are groups.
+    /// Returns the answer of `are_groups_disjoint`, for groups that are not an empty list.
     #[inline(always)]
     fn decide_groups(
         &mut self,
@@ -139,11 +149,14 @@ impl DisjointCache {
             .are_groups_disjoint(pairs, groups, symbols, images)
     }
 
-    /// Records the variables of a result, which is an expression with all images substituted, if it has more than
-    /// `LONG_RESULT` symbols. The result and the images are ranges of the buffer.
+    /// Records the variables of a result, which is an expression with all images substituted, if it
+    /// has more than `LONG_RESULT` symbols. The result, in the range `place`, and the images are
+    /// ranges of the buffer. Nothing is recorded if the first symbol of the expression has an
+    /// image, or if the variables would take more than one word of bits for every 8 symbols.
     ///
-    /// Errors: an allocation fails. Cost: the symbols of the expression and of its images, or the number of variables of an
-    /// image that is long; the result is not read.
+    /// Errors: an allocation fails. Cost: a constant if the result is not long; else the symbols of
+    /// the expression and of its images, or the number of variables of an image that was recorded
+    /// itself. The result is not read.
     #[inline(always)]
     pub fn record_result(
         &mut self,
@@ -172,10 +185,12 @@ impl DisjointCache {
             .record_result(pairs, symbols, images, expr, place)
     }
 
-    /// Records the variables of a result that is an expression as it is, if it has more than `LONG_RESULT` symbols. The result
+    /// Records the variables of a result that is an expression as it is, such as that of a
+    /// hypothesis, under the same conditions as `record_result`. The result, in the range `place`,
     /// is a range of the buffer.
     ///
-    /// Errors: an allocation fails. Cost: the symbols of the expression.
+    /// Errors: an allocation fails. Cost: a constant if the result is not long, else the symbols of
+    /// the expression.
     #[inline(always)]
     pub fn record_expr(
         &mut self,

@@ -13,6 +13,7 @@ use std::alloc::{AllocError, Global};
 /// Looks for one active `$d` that has all variables of two images, by marking its symbols.
 #[derive(Drop)]
 pub(crate) struct DisjointListSearch {
+    /// Whether a symbol is marked, by its number.
     marks: Vec<bool>,
 }
 
@@ -29,11 +30,11 @@ impl DisjointListSearch {
         self.marks = Vec::new(alloc);
     }
 
-    /// Returns `true` only if one active `$d` has the variables at all places of `words` and of `others`, and no variable is
-    /// at places of both. `false` says nothing.
+    /// Returns `true` only if one active `$d` has the variables at all places of `words` and of
+    /// `others`, and no variable is at places of both. `false` says nothing.
     ///
-    /// Reads the `$d` that have the variable at the first place, from the last one back, as long as these and the marks for
-    /// them take at most `steps` steps.
+    /// Reads the `$d` that have the variable at the first place, from the last one back, as long as
+    /// reading and marking them takes at most `steps` steps.
     ///
     /// Errors: an allocation fails. Cost: linear in `steps`.
     pub(crate) fn are_in_one(

@@ -23,11 +23,15 @@ const READ_LISTS: usize = 16;
 /// The most symbols of a `$d` that is read.
 const READ_SYMBOLS: usize = 16;
 
-/// Some of 64 places, whose variables were found to be disjoint from the variable at one place.
+/// Some of 64 places, whose variables were found to be disjoint from the variable at one place. A
+/// place is the index of a variable in `VariablePlaces`.
 #[derive(Clone, Copy, Drop)]
 pub struct RowWord {
+    /// The one place.
     place: u32,
+    /// The 64 places are those from 64 times this on.
     index: u32,
+    /// One bit for each of the 64 places.
     bits: u64,
 }
 
@@ -37,12 +41,15 @@ pub struct RowWord {
 /// A hint says where in the list a word may be. At most 24 MB are used: variables beyond the first 8,192 are not recorded.
 #[derive(Drop)]
 pub struct DisjointRows {
+    /// The index that a word may have in `words`.
     hints: Hints,
+    /// The facts.
     words: Vec<RowWord>,
-    /// Whether the last active `$d` were read.
+    /// Whether the last active `$d` were read in this proof.
     has_read_active: bool,
-    /// The pairs that long searches found, in all proofs.
+    /// The pairs that long searches found, in all proofs. It is not cleared.
     memo: PairMemo,
+    /// Looks for one `$d` that has all variables of two images.
     disjoint_list_search: DisjointListSearch,
 }
 
@@ -86,7 +93,7 @@ impl DisjointRows {
         self.disjoint_list_search.release(alloc);
     }
 
-    /// Has the frames make long searches for pairs again, as `PairMemo::repeat_searches`.
+    /// Has the frames make long searches for pairs again, as `PairMemo::repeat_searches` does.
     pub fn repeat_searches(&mut self, frames: &mut Frames)
         ensures facts { self.new ≡ self.old }
         ensures frames { frames.new ≡ frames.old }
@@ -94,7 +101,8 @@ impl DisjointRows {
         self.memo.repeat_searches(frames);
     }
 
-    /// Returns the position of the word for a place and for the 64 other places of an index, if there is one.
+    /// Returns the index of the word for a place and for the 64 places from 64 times `index` on, if
+    /// there is one.
     #[inline(always)]
     fn find(&self, place: usize, index: u32) -> Option<usize>
         ensures { IfSome result (IsRowAt self.now place index) }
@@ -106,7 +114,8 @@ impl DisjointRows {
         }
     }
 
-    /// Returns, as bits, those of the 64 places of an index that were found to be disjoint from a place.
+    /// Returns, as bits, those of the 64 places from 64 times `index` on that were found to be
+    /// disjoint from a place.
     #[inline(always)]
     fn bits(&self, place: usize, index: u32) -> u64
         ensures { (b : ℕ) → bit_at result b ≡ 1 → HasFact self.now place (64 * index + b) }
@@ -117,7 +126,8 @@ impl DisjointRows {
         }
     }
 
-    /// Records that the places of a word are disjoint from a place.
+    /// Records that the places of a word are disjoint from a place, unless a place is beyond the
+    /// first `RECORDED_PLACES`.
     #[inline(always)]
     fn record_word(&mut self, place: usize, word: PlaceWord) -> Result<(), AllocError>
         ensures { RecordsWord self.old self.new place word }
@@ -140,9 +150,11 @@ impl DisjointRows {
         Ok(())
     }
 
-    /// Reads the last active `$d`, once in a proof, and records that the variables of each are disjoint.
+    /// Reads the last active `$d`, once in a proof, and records that the variables of each are
+    /// disjoint, as far as their places are below 64.
     ///
-    /// Errors: an allocation fails. Cost: a constant: at most 16 `$d` of at most 16 symbols are read.
+    /// Errors: an allocation fails. Cost: a constant: at most 16 `$d` of at most 16 symbols are
+    /// read.
     #[inline(always)]
     pub fn read_active(
         &mut self,
@@ -408,8 +420,8 @@ fn are_pairs(
     true
 }
 
-/// Returns the number of the hint for a place and the 64 other places of an index. It is unique for places below
-/// `RECORDED_PLACES`.
+/// Returns the number of the hint for the word of a place and an index. It is unique for places
+/// below `RECORDED_PLACES`.
 #[inline(always)]
 fn hint_number(place: usize, index: u32) -> u32 {
     RECORDED_PLACES * (index % (RECORDED_PLACES / 64)) + (place % RECORDED_PLACES as usize) as u32

@@ -26,11 +26,15 @@ use std::alloc::{AllocError, Global};
 /// The variables of one proof, those of its images, and the pairs of variables and of images that were found to be disjoint.
 #[derive(Drop)]
 pub struct DisjointTables {
+    /// The place of each variable that was met in the proof.
     variables: VariablePlaces,
+    /// The variables of the images that were read.
     images: ImageVariables,
+    /// The pairs of variables that were found to be disjoint.
     rows: DisjointRows,
     /// The variables of the earlier images of a group.
     before: PlaceSet,
+    /// The pairs of images that were found to be disjoint.
     found: ImagePairs,
 }
 
@@ -60,7 +64,8 @@ impl DisjointTables {
         self.found.clear();
     }
 
-    /// Empties the tables, and frees the memory of long images and of pairs of images.
+    /// Empties the tables, and frees the memory of images, of pairs of images and of the marks of
+    /// `DisjointListSearch`.
     pub fn release(&mut self, alloc: Global)
         ensures { (v : Numbered) → AreTables v [] self.new }
     {
@@ -70,7 +75,7 @@ impl DisjointTables {
         self.found.release(alloc);
     }
 
-    /// Has the frames make long searches for pairs again, as `PairMemo::repeat_searches`.
+    /// Has the frames make long searches for pairs again, as `PairMemo::repeat_searches` does.
     pub fn repeat_searches(&mut self, frames: &mut Frames)
         ensures tables { self.new ≡ self.old }
         ensures frames { frames.new ≡ frames.old }
@@ -114,9 +119,12 @@ impl DisjointTables {
             .are_many_disjoint(pairs, &self.variables, words, others)
     }
 
-    /// Returns whether the images of two variables are disjoint. If they are, and both are ranges, records it for the proof.
+    /// Returns whether the images of two variables are disjoint. A recorded pair of images is not
+    /// compared again; a pair that is found to be disjoint is recorded for the proof, if both
+    /// images are ranges.
     ///
-    /// Errors: an allocation fails. Cost: log n for n recorded pairs; that of `are_disjoint` if this one is not recorded.
+    /// Errors: an allocation fails. Cost: log n for n recorded pairs; that of `are_disjoint` if
+    /// this one is not recorded.
     fn are_found_disjoint(
         &mut self,
         pairs: &Pairs<'_>,
@@ -188,8 +196,9 @@ impl DisjointTables {
 
     /// Returns whether the images of each two variables of a group are disjoint.
     ///
-    /// Compares each image with the variables of all images before it; if that costs much, with each of these images in turn.
-    /// Whether a variable is in the group twice is looked up only if its image is not disjoint from the earlier ones.
+    /// Compares each image with the variables of all images before it at once; if that costs much,
+    /// with each of these images in turn. Whether a variable is in the group twice is looked up
+    /// only if its image is not disjoint from the earlier ones.
     #[cold]
     #[inline(never)]
     fn is_group_disjoint(
@@ -362,8 +371,9 @@ impl DisjointTables {
     }
 }
 
-/// Returns whether it costs much to compare the variables at the places of words with those at the places of `others` other
-/// words, which are those of `images` images: at least 256 steps, and 64 for each image.
+/// Returns whether it takes many steps to compare the variables at the places of `words` with those
+/// at the places of `others` other words, which belong to `images` images: at least 256 steps, and
+/// at least 64 for each of these images.
 ///
 /// Cost: the words, if there are many of both.
 fn is_costly(words: &[PlaceWord], others: usize, images: usize) -> bool {

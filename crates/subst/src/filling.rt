@@ -10,8 +10,10 @@ use crate::copies::{LANES, copy_range, put_symbol};
 use crate::image_ranges::ImageRanges;
 use std::alloc::AllocError;
 
-/// Writes, from `at` on, the expression with all images substituted, and returns where the result ends, or `None` if the room
-/// after `at` is too small for the result, as many symbols as the expression has, and those that copies overwrite.
+/// Writes, from `at` on, the expression with all images substituted, and returns where the result
+/// ends. Returns `None` if the symbols after `at` are too few: they must have room for the result,
+/// for as many further symbols as the expression has, and for the `LANES` symbols that a copy may
+/// overwrite.
 #[inline(always)]
 pub fn fill(symbols: &mut [u32], at: usize, images: &ImageRanges, expr: &[u32]) -> Option<usize>
     requires within { AreInside at images.now }
@@ -36,7 +38,10 @@ pub fn fill(symbols: &mut [u32], at: usize, images: &ImageRanges, expr: &[u32]) 
     Some(end)
 }
 
-/// Returns the number of symbols of the expression with all images substituted, or `None` if it is more than `room`.
+/// Returns the number of symbols of the expression with all images substituted, or `None` if it is
+/// more than `room`.
+///
+/// Cost: a look-up for each symbol of the expression.
 pub fn filled_len(symbols: &[u32], images: &ImageRanges, expr: &[u32], room: usize) -> Option<usize>
     requires { AreInside (length symbols.now) images.now }
     ensures some { IfSome result (λ len. (len ≡ length (code_apply (images_at symbols.now images.now) expr.now)) × (len ≤ room)) }
@@ -60,7 +65,8 @@ pub fn filled_len(symbols: &[u32], images: &ImageRanges, expr: &[u32], room: usi
 /// Makes room for `more` symbols after the first `len`, and for those that copies overwrite.
 ///
 /// Errors: an allocation fails; the first `len` symbols are unchanged.
-/// Cost: the buffer doubles; near the bound of a buffer it grows only up to that, or by a sixteenth.
+/// Cost: a copy of the buffer, which about doubles; near `SYMBOLS_LIMIT` it grows only up to that,
+/// or by a sixteenth.
 #[cold]
 #[inline(never)]
 pub fn make_room(buffer: &mut Vec<u32>, len: usize, more: usize) -> Result<(), AllocError>
@@ -75,7 +81,7 @@ pub fn make_room(buffer: &mut Vec<u32>, len: usize, more: usize) -> Result<(), A
     Ok(())
 }
 
-/// Returns the size to which a buffer with `len` symbols grows if at least `needed` is wanted.
+/// Returns the size to which a buffer with `len` symbols grows if it needs at least `needed`.
 fn grown_size(len: usize, needed: usize) -> usize
     requires { (len < 2 ^ 62) × (needed < 2 ^ 63) }
     ensures { needed ≤ result }

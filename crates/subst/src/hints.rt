@@ -3,8 +3,9 @@ ghost use Rattle.std.specs.Prelude.{◌<◌, ◌^◌};
 
 use std::alloc::{AllocError, Global};
 
-/// Guesses, by number, at the position of an item in a list. A guess may be wrong, so the list is always checked, and guesses
-/// are never cleared.
+/// Guesses, by number, at the position of an item in a list. A guess may be wrong, so the caller
+/// always checks the list. So guesses need not be cleared with the list, which is then emptied in
+/// constant time.
 #[derive(Drop)]
 pub(crate) struct Hints {
     guesses: Vec<u32>,

@@ -37,7 +37,9 @@ impl ImagePair {
 /// The map from the starts of two images to an index is only a guess; the pair at that index decides.
 #[derive(Drop)]
 pub struct ImagePairs {
+    /// By the starts of two images, the index in `pairs` that they may have.
     places: BTreeMap<u64, u32>,
+    /// The pairs, in the order in which they were recorded.
     pairs: Vec<ImagePair>,
 }
 
@@ -95,7 +97,10 @@ impl ImagePairs {
         }
     }
 
-    /// Records that two images are disjoint, unless `MOST_PAIRS` are recorded or an allocation fails.
+    /// Records that two images are disjoint, unless `MOST_PAIRS` are recorded or an allocation
+    /// fails. Does not look whether they are recorded: the caller does (`has`).
+    ///
+    /// Cost: log n for n pairs.
     pub fn record_if_new(&mut self, pair: ImagePair)
         ensures { RecordsPair self.old self.new pair }
     {

@@ -7,17 +7,17 @@ use crate::symbol_range::SymbolRange;
 use std::alloc::{AllocError, Global};
 use std::marker::Model;
 
-/// The round in which no image is set.
+/// The round of a symbol whose image was never set. `ImageRanges` counts rounds from 1.
 const NO_ROUND: u32 = 0;
 
 /// The range of a symbol that has no image.
 const NO_PLACE: SymbolRange = SymbolRange { start: 0, end: 0 };
 
-/// A table that grows to have an index becomes twice as long and this much longer, so that it usually has those of constants
-/// too.
+/// A table that grows to have an index gets twice that length and this many more, so that it
+/// usually has the indexes of constants too.
 const SPARE: usize = 1024;
 
-/// A read-only view of the tables of images, which a loop keeps in registers.
+/// A read-only view of the lists of an `ImageRanges`, which a loop keeps in registers.
 #[derive(Drop)]
 pub(crate) struct ImageTable<'a> {
     rounds: &'a [u32],
@@ -49,16 +49,22 @@ impl<'a> ImageTable<'a> {
     }
 }
 
-/// A table of the images of symbols, each a range of a buffer that is kept elsewhere. Contracts see the symbols with their
-/// ranges. Rounds and ranges are two lists, since most look-ups are of constants, which need the round alone.
+/// A table of the images of symbols, each a range of a buffer that is kept elsewhere. Contracts see
+/// the symbols with their ranges.
 ///
-/// Cost: finding an image and removing all take constant time; so does setting one, unless the table grows. The table is about
-/// twice as long as the greatest symbol number that was set.
+/// Removing all images begins a new round: an image counts only if it was set in the current round.
+/// Rounds and ranges are two lists, since most look-ups are of constants, which need the round
+/// alone.
+///
+/// Cost: finding an image and removing all take constant time; so does setting one, unless the
+/// table grows. The table is about twice as long as the greatest symbol number that was set.
 #[derive(Drop)]
 pub struct ImageRanges {
     /// The round in which the image of a symbol was set, by its number.
     rounds: Vec<u32>,
+    /// The range of the image of a symbol, by its number.
     places: Vec<SymbolRange>,
+    /// The current round.
     round: u32,
 }
 
@@ -100,7 +106,8 @@ impl ImageRanges {
 
     /// Sets the range of a symbol's image, and replaces an earlier one.
     ///
-    /// Errors: an allocation fails; all images are unchanged.
+    /// Errors: an allocation fails; all images are unchanged. Cost: constant; a copy of the table
+    /// if it has to grow.
     #[inline(always)]
     pub fn set(&mut self, symbol: u32, place: SymbolRange) -> Result<(), AllocError>
         ensures ok { OnOk result ((x : ℕ) → lookup (nat_eq x) self.new ≡ (if x == symbol then Some place else lookup (nat_eq x) self.old)) }
@@ -153,7 +160,7 @@ fn put(
     places[index] = place;
 }
 
-/// Makes both tables longer than an index, and about twice as long.
+/// Makes both lists longer than an index, and about twice as long as that.
 ///
 /// Errors: an allocation fails; the rounds are unchanged.
 #[cold]

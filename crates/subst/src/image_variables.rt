@@ -26,7 +26,7 @@ pub const LONG_RESULT: usize = 1024;
 /// would cost about as much to read them as to read the result, and they would need about as much memory.
 const SYMBOLS_PER_WORD: usize = 8;
 
-/// A range of a list of words.
+/// A range of a list of words: from `start` up to, and not including, `end`.
 #[derive(Clone, Copy, Drop)]
 pub struct WordRange {
     start: usize,
@@ -53,15 +53,16 @@ pub struct LongImage {
 /// A hint gives the index that a symbol may have among those read, so no table by symbol is cleared.
 #[derive(Drop)]
 pub struct ImageVariables {
-    /// The first `kept` words are those of long images.
+    /// The words of all images that were read. The first `kept` of them are those of long images.
     words: Vec<PlaceWord>,
     kept: usize,
     /// The words of the image that is being read.
     list: PlaceSet,
     /// The images that were read in this citation.
     read: Vec<ReadImage>,
+    /// The index that a symbol may have in `read`.
     hints: Hints,
-    /// In ascending order of their starts.
+    /// The long images that were recorded in this proof, in ascending order of their starts.
     long: Vec<LongImage>,
 }
 
@@ -89,7 +90,7 @@ impl ImageVariables {
         }
     }
 
-    /// Removes all images, in constant time. Keeps the memory.
+    /// Removes the long images, in constant time; `begin` removes the others. Keeps the memory.
     pub fn clear(&mut self)
         ensures kept { self.new.kept ≡ 0 }
         ensures long { self.new.long ≡ [] }
@@ -128,7 +129,8 @@ impl ImageVariables {
         &self.words[range.start..range.end]
     }
 
-    /// Returns the places in a range as bits, if the range is one word of places below 64.
+    /// Returns the places of the words in a range as bits, if the range is one word of places below
+    /// 64.
     #[inline(always)]
     pub fn near_bits(&self, range: WordRange) -> Option<u64>
         requires { (range.start ≤ range.end) × (range.end ≤ length self.now.words) }
@@ -189,6 +191,8 @@ impl ImageVariables {
     }
 
     /// Adds the places of the variables among the symbols to the list.
+    ///
+    /// Errors: an allocation fails. Cost: a step for each symbol.
     pub fn add_symbols(
         &mut self,
         pairs: &Pairs<'_>,
@@ -289,7 +293,8 @@ impl ImageVariables {
 
     /// Reads the places of the variables of an image, and returns the range of their words.
     ///
-    /// Errors: an allocation fails. Cost: a step for each symbol, or two if a place is not below 64.
+    /// Errors: an allocation fails. Cost: a step for each symbol; if a place is not below 64, also
+    /// a step for each symbol up to the first such one.
     #[inline(always)]
     fn read(
         &mut self,
@@ -378,9 +383,11 @@ impl ImageVariables {
         Ok(())
     }
 
-    /// Returns the range of the words of a symbol's image, which is read first if it was not read before.
+    /// Returns the range of the words of a symbol's image, which is read first if it was not read
+    /// before.
     ///
-    /// Errors: an allocation fails. Cost: the symbols of the image, once in a citation; constant for a long one.
+    /// Errors: an allocation fails. Cost: that of reading the image, once in a citation; log n for
+    /// one of n long images that were recorded.
     #[inline(always)]
     pub fn image_of(
         &mut self,

@@ -17,7 +17,9 @@ use std::marker::Model;
 /// Source: Metamath, 4.1.
 #[derive(Drop)]
 pub struct Subst {
+    /// The symbols of all images.
     symbols: Buffer,
+    /// The range of each image.
     images: ImageRanges,
 }
 
@@ -45,8 +47,9 @@ impl Subst {
 
     /// Sets the image of a symbol, and replaces an earlier one.
     ///
-    /// Errors: an allocation fails, or the images that were set, including those replaced, would have more than
-    /// `SYMBOLS_LIMIT` symbols together. All images are then unchanged.
+    /// Errors: an allocation fails, or the images that were set, including those replaced, would
+    /// have more than `SYMBOLS_LIMIT` symbols together. All images are then unchanged.
+    /// Cost: the symbols of the image; a copy of the table or of the buffer that has to grow.
     pub fn set(&mut self, symbol: u32, image: &[u32]) -> Result<(), AllocError>
         ensures ok { OnOk result ((x : ℕ) → code_image self.new x ≡ (if x == symbol then image.now else code_image self.old x)) }
         ensures same { OnErr result (self.new ≡ self.old) }

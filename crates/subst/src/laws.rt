@@ -6,7 +6,8 @@ pub fn substitution_over_names()
     ensures { SubstitutionOverNames }
 {}
 
-/// The disjoint variable condition holds if and only if the book's two sentences do.
+/// The disjoint variable condition holds if and only if, for each two variables that it is about,
+/// their images meet the two conditions of the Metamath book.
 pub fn disjoint_condition_law()
     ensures { DisjointConditionLaw }
 {}

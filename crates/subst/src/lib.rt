@@ -6,6 +6,9 @@
 //! substitution over the names that they stand for is a law. `DisjointCache` decides whether images meet the disjoint
 //! variable condition.
 //!
+//! In the code the `place` of an image or a result is its range, and the place of a variable is its
+//! index in `VariablePlaces`.
+//!
 //! Reading order: `symbol_range`, `image_ranges`, `copies`, `filling`, `matching`, `buffer`, `remaining_symbols`, `images`,
 //! `disjoint_condition`; `hints`, `variable_places`, `place_words`, `place_set`, `disjoint_list_search`, `disjoint_rows`,
 //! `image_variables`, `image_pairs`, `disjoint_tables`, `subject`, `disjoint_cache`; `laws`.

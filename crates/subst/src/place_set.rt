@@ -16,6 +16,7 @@ use std::marker::Model;
 /// A hint says where in the list the word for 64 places may be, so a set is cleared in constant time.
 #[derive(Drop)]
 pub struct PlaceSet {
+    /// The index that a word may have in `words`.
     hints: Hints,
     words: Vec<PlaceWord>,
 }

@@ -12,16 +12,19 @@ use entries::SymbolPlaces;
 use std::alloc::{AllocError, Global};
 use std::marker::Model;
 
-/// The symbols that are left are few if they are at most one in this many. With more, reading the whole expression costs about
-/// as much.
+/// The symbols that are left are few if they are at most the number of symbols of the expression
+/// over this. With more, reading the whole expression costs about as much.
 const FEW_LEFT_DIVISOR: usize = 4;
 
 /// A key is a position times this, plus a symbol.
 const KEY_BASE: u64 = 4_294_967_296;
 
-/// The symbols that are left of an expression without those whose images are empty, and a list of symbols, each for the
-/// statement at a position, that `find_listed` leaves in its expression. Contracts see the listed pairs of a position and a
-/// symbol, each as one number, as `keys`, and the symbols that were found last as `left`.
+/// Finds the symbols that are left of a long expression without those whose images are empty, so
+/// that a citation need not read all of it.
+///
+/// It also has a list of pairs: a symbol is listed for the statement at a position, and
+/// `find_listed` leaves it in the expression of that statement. Contracts see the listed pairs,
+/// each as one number, as `keys`, and the symbols that were found last as `left`.
 #[derive(Drop)]
 pub struct Remaining {
     /// The indexes of the symbols that are left of the expression.
@@ -53,7 +56,7 @@ impl Remaining {
         }
     }
 
-    /// Empties the list of positions and symbols.
+    /// Empties the list of positions and symbols. Keeps the memory.
     pub fn clear_listed(&mut self)
         ensures { self.new.keys ≡ [] }
     {
@@ -62,7 +65,7 @@ impl Remaining {
 
     /// Lists a symbol for the statement at a position.
     ///
-    /// Errors: an allocation fails.
+    /// Errors: an allocation fails. Cost: constant, unless the list grows.
     pub fn add_listed(&mut self, position: u32, symbol: u32) -> Result<(), AllocError>
         ensures { OnOk result (self.new.keys ≡ self.old.keys ++ key_of position symbol ∷ []) }
     {
@@ -70,9 +73,10 @@ impl Remaining {
         Ok(())
     }
 
-    /// Sorts the list by positions and symbols, and removes repeated pairs.
+    /// Sorts the list by positions and symbols, and removes repeated pairs. `find_listed` requires
+    /// a sorted list.
     ///
-    /// Cost: n log n for n symbols.
+    /// Cost: n log n for n pairs.
     pub fn sort_listed(&mut self)
         ensures { AreThose (λ k. In k self.old.keys) self.new.keys }
     {
@@ -80,12 +84,14 @@ impl Remaining {
         self.keys.dedup();
     }
 
-    /// Finds the occurrences of those symbols of an expression that are constants or are listed for the statement at a
-    /// position, in order, or returns `false` if they are more than a quarter of the expression. Contracts say only that these
-    /// are among the symbols that are found, and that all occurrences of each symbol are found or none.
+    /// Finds the occurrences of those symbols of an expression that are constants or are listed for
+    /// the statement at a position, in order, or returns `false` if they are more than a quarter of
+    /// the expression. Contracts say only that these symbols are among those that are found, and
+    /// that of each symbol all occurrences are found or none.
     ///
     /// Errors: an allocation fails.
-    /// Cost: the occurrences that are found, times a logarithm.
+    /// Cost: log n for n listed pairs, a look-up for each constant and listed symbol, and t log t
+    /// for the t occurrences that are found.
     pub fn find_listed(
         &mut self,
         position: u32,
@@ -147,7 +153,7 @@ impl Remaining {
     }
 }
 
-/// Returns whether the image of a symbol is not empty.
+/// Returns whether the image of a symbol is not empty. Cost: constant.
 pub fn is_image_nonempty(images: &ImageRanges, symbol: u32) -> bool
     ensures { result ≡ has_nonempty_image images.now symbol }
 {
@@ -217,7 +223,7 @@ fn collect(
     Ok(true)
 }
 
-/// Puts indexes in ascending order, each once.
+/// Sorts indexes in ascending order, and removes repetitions.
 fn order(indexes: &mut Vec<u32>)
     ensures { AreThose (λ i. In i indexes.old.items) indexes.new.items }
 {
@@ -225,7 +231,7 @@ fn order(indexes: &mut Vec<u32>)
     indexes.dedup();
 }
 
-/// Reads the symbols at these indexes.
+/// Replaces `symbols` by the symbols at these indexes.
 fn read(symbols: &mut Vec<u32>, expr: &[u32], indexes: &[u32]) -> Result<(), AllocError>
     ensures { OnOk result (symbols.new.items ≡ filter_map (slice_get expr.now) indexes.now) }
 {
@@ -260,7 +266,7 @@ fn add_groups(
     Ok(true)
 }
 
-/// Reads the symbol of each key.
+/// Replaces `symbols` by the symbol of each key.
 fn read_symbols(symbols: &mut Vec<u32>, keys: &[u64]) -> Result<(), AllocError>
     ensures { OnOk result (symbols.new.items ≡ map index_of keys.now) }
 {

@@ -7,7 +7,8 @@ use crate::buffer::Buffer;
 use frame::Pairs;
 use std::marker::Model;
 
-/// The statements and names that a cache is for, and the symbols of the buffer when facts were last recorded. It has no bytes.
+/// The statements and names that a cache is for (`about`), and the symbols of the buffer when facts
+/// were last recorded (`over`). It takes no memory.
 #[derive(Drop)]
 pub struct Subject {
     pub ghost about: { Numbered },
@@ -18,7 +19,7 @@ impl Model for Subject {
     ghost also_owns = { λ _. ftrue };
 }
 
-// It owns nothing.
+// It owns nothing that another thread could read or write.
 unsafe impl Send for Subject {}
 
 impl Subject {
@@ -29,14 +30,14 @@ impl Subject {
         Subject {}
     }
 
-    /// Returns the statements and names of the pairs, over no symbols.
+    /// Returns the statements and names of the pairs, and no symbols.
     pub fn of(_pairs: &Pairs<'_>) -> Subject
         ensures { result ≡ record { about = _pairs.now; over = [] } }
     {
         Subject {}
     }
 
-    /// Returns the same statements and names over other symbols.
+    /// Returns the same statements and names, and the symbols of the buffer.
     pub fn grown(_before: &Subject, _symbols: &Buffer) -> Subject
         ensures { result ≡ record { about = _before.now.about; over = _symbols.now } }
     {

@@ -11,7 +11,7 @@ pub struct SymbolRange {
     pub end: u32,
 }
 
-/// Returns the symbols in a range.
+/// Returns the symbols in the range `place`.
 pub fn symbols_at(symbols: &[u32], place: SymbolRange) -> &[u32]
     requires { (place.start ≤ place.end) × (place.end ≤ length symbols.now) }
     ensures { result.now ≡ symbols_in symbols.now place }
@@ -19,7 +19,8 @@ pub fn symbols_at(symbols: &[u32], place: SymbolRange) -> &[u32]
     &symbols[place.start as usize..place.end as usize]
 }
 
-/// Returns the range between two indexes within the bound of a buffer.
+/// Returns the range from `start` up to, and not including, `end`, which are within the bound of a
+/// buffer.
 pub fn range_between(start: usize, end: usize) -> SymbolRange
     requires { (start ≤ SYMBOLS_LIMIT) × (end ≤ SYMBOLS_LIMIT) }
     ensures { (result.start ≡ start) × (result.end ≡ end) }

@@ -16,8 +16,9 @@ use std::marker::Model;
 /// A symbol that was met in an image.
 #[derive(Clone, Copy, Drop)]
 pub struct MetSymbol {
+    /// The number of the symbol.
     number: u32,
-    /// Its place among the variables, if it is one.
+    /// Its place, or `None` if it is no variable.
     place: Option<u32>,
 }
 
@@ -26,8 +27,11 @@ pub struct MetSymbol {
 /// A hint gives the index that a symbol may have among those met, so no table by symbol is cleared between proofs.
 #[derive(Drop)]
 pub struct VariablePlaces {
+    /// The index that a symbol may have in `symbols`.
     hints: Hints,
+    /// The symbols that were met, variables or not.
     symbols: Vec<MetSymbol>,
+    /// The numbers of the variables, each at its place.
     variables: Vec<u32>,
 }
 

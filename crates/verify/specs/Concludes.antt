@@ -13,6 +13,7 @@ abbrev mutual
   Concludes S at (apply a children) e =
       (s : Stmt) × (σ : Images) × IsInstance S at a s σ × ConcludeAll S at children (premises S a s σ) × (e ≡ applied σ (expr_of s))
 
+  -- the derivations conclude these expressions, in order
   pub ConcludeAll : Database → ℕ → Derivations → List Expr → Type 0
   ConcludeAll S at none [] = Unit {0}
   ConcludeAll S at none (e ∷ es) = ⊥

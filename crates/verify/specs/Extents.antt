@@ -5,5 +5,6 @@ use Rattle.std.specs.Prelude.{min}
 use Rattle.verify.specs.declared.plan.Extent.{Extent}
 use Rattle.verify.specs.Derivations.{Derivation, node_count, depth}
 
+-- the number of nodes and the depth, each at most one above its limit
 abbrev pub extent_of : Derivation → Extent
 extent_of t = record { nodes = min (node_count t) 65537; depth = min (depth t) 1025 }

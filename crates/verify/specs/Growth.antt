@@ -11,6 +11,7 @@ pub record Trees : Type 0 where
   pub stack : List Derivation
   pub saved : List Derivation
 
+-- a stack and marked derivations
 abbrev pub trees : List Derivation → List Derivation → Trees
 trees stack saved = record { stack = stack; saved = saved }
 
@@ -25,11 +26,13 @@ abbrev pub IsSavedTree : List Derivation → ℕ → Derivation → Type 0
 IsSavedTree saved zero t = ⊥
 IsSavedTree saved (suc k) t = slice_get saved k ≡ Some t
 
+-- the item takes the derivations st to st'
 abbrev pub Grows : Database → ℕ → Trees → Item → Trees → Type 0
 Grows S at st (Cite label) st' = (below : List Derivation) × (t : Derivation) × Builds S at label st.stack below t × (st' ≡ trees (below ++ t ∷ []) st.saved)
 Grows S at st (Recall k) st' = (t : Derivation) × IsSavedTree st.saved k t × (st' ≡ trees (st.stack ++ t ∷ []) st.saved)
 Grows S at st Mark st' = (below : List Derivation) × (t : Derivation) × (st.stack ≡ below ++ t ∷ []) × (st' ≡ trees st.stack (st.saved ++ t ∷ []))
 
+-- so do the items, one after the other
 abbrev pub GrowsBy : Database → ℕ → Trees → List Item → Trees → Type 0
 GrowsBy S at st [] st' = st ≡ st'
 GrowsBy S at st (item ∷ items) st' = (next : Trees) × Grows S at st item next × GrowsBy S at next items st'

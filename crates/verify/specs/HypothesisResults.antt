@@ -23,11 +23,12 @@ abbrev pub IsPresent : Database → Hypothesis → Type 0
 IsPresent S (Float x) = Unit {0}
 IsPresent S (Essential p) = (s : Stmt) × (stmt_at S p ≡ Some s)
 
+-- so is there for each of the hypotheses
 abbrev pub ArePresent : Database → List Hypothesis → Type 0
 ArePresent S [] = Unit {0}
 ArePresent S (h ∷ hs) = IsPresent S h × ArePresent S hs
 
--- the statement is at the position, and the codes stand for its expression
+-- the statement is at the position, and the codes (the numbers of symbols) stand for its expression
 pub record IsExprAt (S : Database) (names : List Name) (at : ℕ) (codes : List ℕ) (s : Stmt) : Type 0 where
   pub stands : stmt_at S at ≡ Some s
   pub same : decode names codes ≡ expr_of s

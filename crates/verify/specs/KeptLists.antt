@@ -51,6 +51,7 @@ pub record AreListsOf (S : Database) (names : List Name) (l : CitationLists) (s 
   pub disjoint : (D : Database) (σ : Images) → are_groups_disjoint D σ (map (decode names) l.groups) ≡ are_groups_disjoint D σ (mandatory_groups (before S l.position) s)
   pub below_names : AllBelow (length names) l.groups
 
+-- each of the lists is right for citations of its assertion
 abbrev pub AreKeptLists : Database → List Name → List CitationLists → Type 0
 AreKeptLists S names [] = Unit {0}
 AreKeptLists S names (l ∷ ls) = ((s : Stmt) → stmt_at S l.position ≡ Some s → AreListsOf S names l s) × AreKeptLists S names ls

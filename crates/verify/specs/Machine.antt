@@ -10,10 +10,11 @@ pub record Results (A : Type 0) : Type 0 where
   pub saved : List (List A)
   pub weight : ℕ
 
--- over names
+-- results over names
 abbrev pub State : Type 0
 State = Results Name
 
+-- no results
 abbrev pub start : State
 start = record { stack = []; saved = []; weight = 0 }
 
@@ -28,17 +29,21 @@ abbrev pub IsSaved : {A : Type 0} → List (List A) → ℕ → List A → Type 
 IsSaved saved zero e = ⊥
 IsSaved saved (suc k) e = slice_get saved k ≡ Some e
 
+-- e was pushed onto the results `below`
 abbrev pub with_result : {A : Type 0} → Results A → List (List A) → List A → Results A
 with_result st below e = record { stack = below ++ e ∷ []; saved = st.saved; weight = st.weight + length e }
 
+-- e was marked
 abbrev pub with_mark : {A : Type 0} → Results A → List A → Results A
 with_mark st e = record { stack = st.stack; saved = st.saved ++ e ∷ []; weight = st.weight }
 
+-- the item takes the results st to st'
 abbrev pub Steps : Database → ℕ → State → Item → State → Type 0
 Steps S at st (Cite label) st' = (below : List Expr) × (e : Expr) × Cites S at label st.stack below e × (st' ≡ with_result st below e)
 Steps S at st (Recall k) st' = (e : Expr) × IsSaved st.saved k e × (st' ≡ with_result st st.stack e)
 Steps S at st Mark st' = (below : List Expr) × (e : Expr) × (st.stack ≡ below ++ e ∷ []) × (st' ≡ with_mark st e)
 
+-- so do the items, one after the other
 abbrev pub Runs : Database → ℕ → State → List Item → State → Type 0
 Runs S at st [] st' = st ≡ st'
 Runs S at st (item ∷ items) st' = (next : State) × Steps S at st item next × Runs S at next items st'

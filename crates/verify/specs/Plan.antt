@@ -23,6 +23,7 @@ abbrev pub built_from : List Derivation → List Node → List Derivation
 built_from ts [] = ts
 built_from ts (n ∷ ns) = built_from (ts ++ derive ts n ∷ []) ns
 
+-- the derivations of all nodes
 abbrev pub built : List Node → List Derivation
 built ns = built_from [] ns
 

@@ -16,6 +16,7 @@ pub record HeldResults : Type 0 where
 abbrev pub seen : List ℕ → List SymbolRange → List SymbolRange → ℕ → Results ℕ
 seen symbols stack saved weight = record { stack = map (symbols_in symbols) stack; saved = map (symbols_in symbols) saved; weight = weight }
 
+-- the results and images in these ranges, and what they are about
 abbrev pub held : List ℕ → List (ℕ × SymbolRange) → List SymbolRange → List SymbolRange → ℕ → Numbered → HeldResults
 held symbols images stack saved weight about = record { results = seen symbols stack saved weight; images = images_at symbols images; about = about }
 
@@ -32,9 +33,11 @@ pub record AreHeld (over symbols : List ℕ) (images : List (ℕ × SymbolRange)
   pub kept : AreResultRanges symbols images stack saved weight
   pub recorded : (more : List ℕ) × (symbols ≡ over ++ more)
 
+-- the stack without its last r results
 abbrev pub below : {A : Type 0} → ℕ → List A → List A
 below r stack = take (length stack - r) stack
 
+-- the last r results of the stack
 abbrev pub top : {A : Type 0} → ℕ → List A → List A
 top r stack = drop (length stack - r) stack
 

@@ -9,13 +9,15 @@ use Rattle.verify.specs.Derivations.{Derivation, node_count, depth}
 use Rattle.verify.specs.Concludes.{Concludes}
 use Rattle.verify.specs.Spells.{Spells}
 
+-- the greatest weight of a right proof
 abbrev pub weight_limit : ℕ
 weight_limit = 67108864
 
--- the most nodes of a derivation that is returned, and its greatest depth
+-- the most nodes of a derivation that is returned
 abbrev pub most_nodes : ℕ
 most_nodes = 65536
 
+-- the greatest depth of a derivation that is returned
 abbrev pub most_depth : ℕ
 most_depth = 1024
 
@@ -34,6 +36,7 @@ pub record Derives (S : Database) (at : ℕ) (items : List Item) (t : Derivation
   pub concludes : Concludes S at t (expr_of stmt)
   pub light : weight ≤ weight_limit
 
+-- the items are a right proof: they spell a derivation of the statement at `at`
 abbrev pub IsRight : Database → ℕ → List Item → Type 0
 IsRight S at items = (t : Derivation) × Derives S at items t
 
@@ -42,5 +45,6 @@ abbrev pub IsAnswerTo : Answer → Type 0 → Type 0
 IsAnswerTo Proved P = P
 IsAnswerTo Wrong P = ¬ P
 
+-- the derivation is small enough to be returned
 abbrev pub IsSmall : Derivation → Type 0
 IsSmall t = (node_count t ≤ most_nodes) × (depth t ≤ most_depth)

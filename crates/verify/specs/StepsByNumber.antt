@@ -1,6 +1,6 @@
 -- The effect of one item on results of numbers, stated over the names that they stand for.
 -- Metamath, 4.2.6 and appendix B; `Machine` over names.
--- The code knows only numbers; each has a name.
+-- The program knows only the numbers of symbols, here called codes; each has a name.
 use Rattle.std.specs.Prelude.{◌≡◌, ℕ, ◌<◌, ◌≤◌, Bool, true, false, IsTrue, List, [], length, map, drop, get_or}
 use Rattle.verify.specs.Words.{Name, Stmt, Expr, Database, before, AllBelow, Item, Cite, decode, AreLegal, HasAssertion, Numbered}
 use Rattle.verify.specs.declared.label_table.LabelEntry.{LabelEntry}
@@ -38,10 +38,12 @@ without_cached n st = record { stack = st.stack; saved = drop n st.saved; weight
 abbrev pub IsCached : Database → ℕ → List Name → LabelEntry → List ℕ → Type 0
 IsCached S at names entry e = 0 < length e → (label : Name) → IsEntry S at label entry → (stack : List Expr) → Cites S at label stack stack (decode names e)
 
+-- the first saved results are the cached ones, one for each label of the table
 pub record AreCached (S : Database) (at : ℕ) (names : List Name) (table : List LabelEntry) (saved : List (List ℕ)) : Type 0 where
   pub enough : length table ≤ length saved
   pub each : (k : ℕ) → k < length table → IsCached S at names (get_or table k Nothing) (get_or saved k [])
 
+-- the codes have names, and the cached results are right
 pub record AreKnown (S : Database) (at : ℕ) (names : List Name) (table : List LabelEntry) (st : Results ℕ) : Type 0 where
   pub are_named : AreNamed names st
   pub cached : AreCached S at names table st.saved

@@ -32,13 +32,18 @@ const KEPT_SIZE: usize = 262_144;
 /// of variables that it found to be disjoint or not.
 #[derive(Drop)]
 pub struct Checker {
+    /// Where its buffers are allocated.
     alloc: Global,
     /// The size of the largest proof since memory was last freed: its weight, or the bytes of its tokens or the number of
     /// its items, as it was given, whichever is greater.
     largest: usize,
+    /// Reads the tokens of compressed proofs.
     reader: Reader,
+    /// A buffer for the meanings of the labels of a proof.
     table: Vec<LabelEntry>,
+    /// A buffer for the positions of the mandatory hypotheses of the theorem.
     mandatory: Vec<u32>,
+    /// The buffers of the run over the items of a proof, and the lists and facts that are kept.
     buffers: Buffers,
 }
 
@@ -82,8 +87,9 @@ impl Checker {
         self.buffers.kept.begin();
     }
 
-    /// Has the frames make long searches for pairs of disjoint variables again that were made since `begin`. They keep
-    /// the answers, so that later searches for these pairs, by any checker, are short.
+    /// Has the frames make again long searches for pairs of disjoint variables that were made since
+    /// `begin`. They keep the answers, so that later searches for these pairs, by any checker, are
+    /// short.
     ///
     /// Cost: that of the searches, of which there are at most 128.
     pub fn repeat_searches(&mut self, frames: &mut Frames)
@@ -100,8 +106,9 @@ impl Checker {
         self.buffers.results.limit(symbols);
     }
 
-    /// Frees the memory that large proofs needed, and keeps that of ordinary ones. Keeps the tables indexed by symbol, so
-    /// that their cost does not recur.
+    /// Frees the buffers for tokens, labels and results if a proof was large since they were last
+    /// freed. Keeps those of ordinary proofs, the kept lists and facts, and the tables of images
+    /// and variables, which are indexed by symbol and would have to be made again.
     ///
     /// Does not allocate. Cost: a constant.
     pub fn shrink(&mut self) {
@@ -126,9 +133,10 @@ impl Checker {
     /// Returns whether the items are a right proof of the `$p` at that position.
     ///
     /// Errors: an allocation fails, or the results would exceed the limit set by `limit`.
-    /// Cost: each label is looked up once; a recall and a mark are one step; a citation costs the lengths of its result and
-    /// of those that it compares with a `$e`, that of the disjoint variable condition, and if the assertion's lists are
-    /// long that of `Frames::fill_for_citing`. Source: Metamath, 4.2.6 and appendix B.
+    /// Cost: each label is looked up once; a recall and a mark are one step; a citation costs the
+    /// lengths of its result and of those that it compares with a `$e`, and that of the disjoint
+    /// variable condition; as long as the long lists of an assertion are not kept, also that of
+    /// `Frames::fill_for_citing`. Source: Metamath, 4.2.6 and appendix B.
     pub fn check(&mut self, frames: &Frames, at: usize, items: &Items) -> Result<Answer, AllocError>
         requires provable { (s : Statement) × IsProvable frames.now.statements at s }
         requires kept { IsCacheFor frames.now.statements frames.now.names self.old }

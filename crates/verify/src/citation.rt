@@ -24,18 +24,24 @@ use subst::Remaining;
 /// The statement to be proved: the `$p` at a position, and the pairs of disjoint variables that are active there.
 #[derive(Drop)]
 pub struct Claim<'a> {
+    /// The statements.
     pub frames: &'a Frames,
+    /// The position of the `$p`.
     pub at: usize,
+    /// The pairs of disjoint variables there.
     pub pairs: Pairs<'a>,
 }
 
-/// The buffers of a run over the items of a proof: for the long lists of a cited assertion, for such lists that are kept, for
-/// shortened expressions, and for the results.
+/// The buffers of a run over the items of a proof.
 #[derive(Drop)]
 pub struct Buffers {
+    /// For the long lists of a cited assertion, if they are not kept.
     pub frame_buffers: FrameBuffers,
+    /// The long lists that are kept, and facts on pairs of variables.
     pub kept: KeptLists,
+    /// For the symbols that are left of a long expression without those whose images are empty.
     pub remaining: Remaining,
+    /// The results of the proof so far.
     pub results: Results,
 }
 
@@ -166,7 +172,10 @@ fn cite_long(claim: &Claim<'_>, position: usize, buffers: &mut Buffers) -> Resul
     }
 }
 
-/// Cites an assertion: pops the results for its hypotheses and pushes its result. Returns `false` if it cannot be cited.
+/// Cites an assertion: pops the results for its hypotheses and pushes its result. Returns `false`
+/// if it cannot be cited.
+///
+/// Errors: an allocation fails.
 #[inline(never)]
 fn cite(claim: &Claim<'_>, position: usize, buffers: &mut Buffers) -> Result<bool, AllocError>
     requires may { MayCite claim.now position buffers.old.results.about buffers.old.results.results }
@@ -185,6 +194,8 @@ fn cite(claim: &Claim<'_>, position: usize, buffers: &mut Buffers) -> Result<boo
 }
 
 /// Cites a label by its meaning. Returns `false` if it cannot be cited.
+///
+/// Errors: an allocation fails.
 #[inline(always)]
 fn cite_entry(
     claim: &Claim<'_>,
@@ -207,8 +218,9 @@ fn cite_entry(
     }
 }
 
-/// Runs one item, by its number, and returns whether it can be done. Caches the result of a citation that pops no results,
-/// for its label.
+/// Runs one item, by its number, and returns whether it can be done. 0 is a mark; the numbers from
+/// 1 on are the labels of the table, and those after them the results that were marked. Caches the
+/// result of a citation that pops no results, for its label.
 ///
 /// Errors: an allocation fails.
 #[inline(always)]
@@ -243,8 +255,8 @@ pub fn step(
     Ok(done)
 }
 
-/// Runs one item, by its number, and returns whether it can be done. If there is a view of the mandatory hypotheses, the first
-/// numbers are theirs.
+/// Runs one item, by its number, and returns whether it can be done. If there is a view of the
+/// mandatory hypotheses, the first numbers are theirs, and those of the table follow.
 ///
 /// Errors: an allocation fails.
 #[inline(always)]

@@ -22,7 +22,8 @@ use std::alloc::{AllocError, Global};
 use std::collections::BTreeMap;
 use std::marker::Model;
 
-/// The number of citations of an assertion in which its long lists are made anew. After these they are kept.
+/// The number of citations of an assertion in which its long lists are made each time. After these
+/// they are kept.
 const CITATIONS_BEFORE_KEEPING: usize = 4;
 
 /// The most numbers that are kept.
@@ -91,7 +92,7 @@ impl AssertionLists {
         })
     }
 
-    /// Returns a view of the assertion, given its expression.
+    /// Returns the parts of the assertion for a citation, given its expression.
     pub fn cited<'a>(&'a self, conclusion: &'a [u32]) -> AssertionView<'a>
         ensures typecodes { result.typecodes.now ≡ self.now.typecodes }
         ensures required { result.hypotheses ≡ self.now.required }
@@ -221,6 +222,7 @@ fn stands_at(group: &[u32], index: u32, x: u32) -> bool
 /// not when lists were made. Contracts see both.
 #[derive(Drop)]
 pub struct KeptLists {
+    /// Where lists are allocated.
     alloc: Global,
     /// The number of citations of the assertion at a position, counted until its lists are kept.
     counts: BTreeMap<usize, usize>,
@@ -228,8 +230,11 @@ pub struct KeptLists {
     size: usize,
     /// The index of the lists of the assertion at a position. It is only a guess: the lists at the index are checked.
     indexes: BTreeMap<usize, usize>,
+    /// A buffer for the places of pairs in the lists that are being made.
     pairs: PairPlaces,
+    /// The lists that are kept.
     lists: Vec<AssertionLists>,
+    /// The answers of long searches for pairs.
     facts: PairFacts,
 }
 
@@ -272,7 +277,8 @@ impl KeptLists {
         self.facts.clear();
     }
 
-    /// Has the frames make long searches for pairs again that were made since `begin`, so that they keep the answers.
+    /// Has the frames make again long searches for pairs that were made since `begin`, so that the
+    /// frames keep the answers.
     ///
     /// Cost: that of `PairFacts::repeat_searches`.
     pub fn repeat_searches(&mut self, frames: &mut Frames)

@@ -65,9 +65,10 @@ pub fn fill_table(
     Ok(())
 }
 
-/// Fills the list and the table with the mandatory hypotheses of the `$p` at that position.
+/// Fills the list with the positions of the mandatory hypotheses of the `$p` at that position, and
+/// the table with their meanings.
 ///
-/// Errors: an allocation fails.
+/// Errors: an allocation fails. Cost: that of `Frames::mandatory`.
 pub fn fill_mandatory(
     frames: &Frames,
     at: usize,

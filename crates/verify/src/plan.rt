@@ -39,17 +39,22 @@ pub enum Node {
     Apply(usize, Vec<usize>),
 }
 
-/// The derivations of a proof so far: nodes, and the numbers of those on the stack and of those that were marked.
+/// The derivations of a proof so far, as nodes.
 #[derive(Drop)]
 pub struct TreePlan {
+    /// The nodes, each after its children; the number of a node is its index.
     pub nodes: Vec<Node>,
+    /// The numbers of the nodes on the stack.
     pub stack: Vec<usize>,
+    /// The numbers of the nodes that were marked.
     pub saved: Vec<usize>,
     /// A buffer for the mandatory hypotheses of a cited assertion.
     pub mandatory: Vec<u32>,
 }
 
 /// Appends a node, and pushes its number onto the stack.
+///
+/// Errors: an allocation fails.
 fn add(plan: &mut TreePlan, node: Node) -> Result<(), AllocError>
     requires plan { IsPlan plan.old }
     requires after { IsAfter (length plan.old.nodes.items) node }
@@ -92,6 +97,8 @@ fn cite(frames: &Frames, entry: LabelEntry, plan: &mut TreePlan) -> Result<bool,
 }
 
 /// Runs one item, by its number, and returns whether it can be done.
+///
+/// Errors: an allocation fails.
 pub fn grow(
     frames: &Frames,
     table: &[LabelEntry],
@@ -127,11 +134,13 @@ pub fn grow(
 /// The number of nodes of a derivation and its depth, each counted no further than one above its limit.
 #[derive(Clone, Copy, Drop)]
 pub struct Extent {
+    /// The number of nodes.
     pub nodes: usize,
+    /// The depth.
     pub depth: usize,
 }
 
-/// Returns the extent with that number.
+/// Returns the extent of the node with that number.
 fn extent_with_number(extents: &[Extent], number: usize) -> Extent
     requires { number < length extents.now }
     ensures { slice_get extents.now number ≡ Some result }
@@ -158,7 +167,9 @@ fn extent_at(node: &Node, extents: &[Extent]) -> Extent
     Extent { nodes, depth }
 }
 
-/// Returns the extent of each derivation.
+/// Returns the extent of the derivation of each node.
+///
+/// Errors: an allocation fails. Cost: a step for each child of each node.
 pub fn measure(alloc: Global, nodes: &[Node]) -> Result<Vec<Extent>, AllocError>
     requires { AreOrdered 0 nodes.now }
     ensures { IfOk result (λ extents. extents.items ≡ map extent_of (built nodes.now)) }
@@ -180,9 +191,11 @@ pub fn is_small(extent: Extent) -> bool
 
 /// Returns the derivation that the items of a right proof of the `$p` at that position spell.
 ///
-/// Errors: `Wrong` if they are no right proof; `TooLarge` if the derivation has more than 65,536 nodes or a depth above
-/// 1,024, for which it is measured before it is made; `Memory` if an allocation fails, even if one of the others applies.
-/// Cost: a check, a node for each citation, and the tree. Source: Metamath, 4.2.6 and appendix B.
+/// Errors: `Wrong` if they are no right proof; `TooLarge` if the derivation has more than 65,536
+/// nodes or a depth above 1,024, for which it is measured before it is made; `Memory` if an
+/// allocation fails, even if one of the others applies.
+/// Cost: a check, the mandatory hypotheses of the assertion of each citation, and the tree. Source:
+/// Metamath, 4.2.6 and appendix B.
 pub fn derivation(
     alloc: Global,
     frames: &Frames,
@@ -234,7 +247,10 @@ fn plan_of(alloc: Global, frames: &Frames, at: usize, items: &Items) -> Result<T
     Ok(plan)
 }
 
-/// Makes the derivation with that number, with a copy of a node for each time that it occurs in it.
+/// Returns the derivation with that number as a tree: a node that occurs in it several times is
+/// copied each time.
+///
+/// Errors: an allocation fails. Cost: the nodes of the tree.
 fn expand(alloc: Global, nodes: &[Node], number: usize) -> Result<Tree, AllocError>
     requires ordered { AreOrdered 0 nodes.now }
     requires there { number < length nodes.now }

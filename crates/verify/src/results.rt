@@ -34,16 +34,21 @@ use subst::{
     range_between, symbols_at,
 };
 
-/// The results of a proof so far, with their symbols in one buffer, and the images that were read from the last of them.
-///
-/// The result of a label whose citation pops no results is written once, at its first citation: `saved` begins with a
-/// range for each label, which is empty until then, and continues with the results that were marked.
+/// The results of a proof so far, with their symbols in one buffer, and the images that were read
+/// from the last of them. In the code the `place` of a result is its range in the buffer.
 #[derive(Drop)]
 pub struct Results {
+    /// The symbols of all results.
     symbols: Buffer,
+    /// The images that were read last.
     images: ImageRanges,
+    /// The results on the stack, the last on top.
     stack: Vec<SymbolRange>,
+    /// First a range for each label: its result if it was cited and pops no results, else an empty
+    /// range. Such a result is written once, at the first citation of its label. Then the results
+    /// that were marked.
     saved: Vec<SymbolRange>,
+    /// The symbols of all results, counted again for each recall.
     weight: usize,
     /// How many symbols the buffer may hold.
     symbols_limit: usize,
@@ -84,7 +89,8 @@ impl Results {
         self.symbols_limit = symbols_limit;
     }
 
-    /// Has the frames make long searches for pairs again that proofs made, so that they keep the answers.
+    /// Has the frames make again long searches for pairs that proofs made, so that the frames keep
+    /// the answers.
     ///
     /// Cost: that of `DisjointCache::repeat_searches`.
     pub fn repeat_searches(&mut self, frames: &mut Frames)
@@ -94,10 +100,10 @@ impl Results {
         self.cache.repeat_searches(frames);
     }
 
-    /// Begins a proof under the pairs that are active at its statement: removes all results and images, and adds an empty
-    /// saved result for each of `labels` labels. Keeps the buffers.
+    /// Begins a proof under the pairs that are active at its statement: removes all results and
+    /// images, and adds an empty saved result for each of `labels` labels. Keeps the memory.
     ///
-    /// Errors: an allocation fails. Cost: the number of labels.
+    /// Errors: an allocation fails. Cost: the number of labels, and that of `DisjointCache::begin`.
     pub fn start(&mut self, pairs: &Pairs<'_>, labels: usize) -> Result<(), AllocError>
         ensures about { self.new.about ≡ pairs.now }
         ensures results { OnOk result (self.new.results ≡ record { stack = []; saved = replicate labels []; weight = 0 }) }
@@ -114,7 +120,8 @@ impl Results {
 
     /// Pushes an expression as a result, or returns `false` if the proof would be too heavy.
     ///
-    /// Errors: an allocation fails. Cost: its symbols.
+    /// Errors: an allocation fails, or the buffer would exceed the limit set by `limit`. Cost: its
+    /// symbols.
     #[inline(never)]
     pub fn add(&mut self, pairs: &Pairs<'_>, expr: &[u32]) -> Result<bool, AllocError>
         requires about { self.old.about ≡ pairs.now }
@@ -138,7 +145,7 @@ impl Results {
         Ok(true)
     }
 
-    /// Saves the last result for the label with that number.
+    /// Saves the last result for the label with that number, from 0.
     pub fn cache_last(&mut self, label: usize)
         requires { label < length self.old.results.saved }
         ensures about { self.new.about ≡ self.old.about }
@@ -150,6 +157,8 @@ impl Results {
     }
 
     /// Marks the last result, or returns `false` if there is none.
+    ///
+    /// Errors: an allocation fails.
     #[inline(always)]
     pub fn mark(&mut self) -> Result<bool, AllocError>
         ensures about { self.new.about ≡ self.old.about }
@@ -329,7 +338,7 @@ impl Results {
         self.shorten(frames, position, expr, remaining)
     }
 
-    /// Returns the symbols whose images are not empty, if these are few.
+    /// Returns the answer of `shortened` for a long expression.
     #[cold]
     #[inline(never)]
     fn shorten<'a>(
@@ -377,10 +386,11 @@ impl Results {
             .are_groups_disjoint(pairs, groups, &self.symbols, &self.images)
     }
 
-    /// Pops the last `r` results and pushes the expression with the images substituted, or returns `false` if the proof
-    /// would be too heavy.
+    /// Pops the last `r` results and pushes the expression with the images substituted, or returns
+    /// `false` if the proof would be too heavy.
     ///
-    /// Errors: an allocation fails. Cost: the symbols read and written.
+    /// Errors: an allocation fails, or the buffer would exceed the limit set by `limit`. Cost: the
+    /// symbols read and written, and that of `DisjointCache::record_result`.
     #[inline(always)]
     pub fn apply(&mut self, pairs: &Pairs<'_>, r: usize, expr: &[u32]) -> Result<bool, AllocError>
         requires about { self.old.about ≡ pairs.now }
@@ -409,7 +419,8 @@ impl Results {
         Ok(true)
     }
 
-    /// Removes all results and images, and frees the memory of the results, but not that of tables indexed by symbol.
+    /// Removes all results and images. Frees the memory of the results, and that of the cache as
+    /// `DisjointCache::release` does, but not that of the table of images.
     ///
     /// Does not allocate.
     pub fn release(&mut self, alloc: Global)
@@ -453,7 +464,7 @@ impl Results {
         self.saved.len()
     }
 
-    /// Returns whether the expression is the only result.
+    /// Returns whether the expression is the only result on the stack.
     pub fn is_only(&self, expr: &[u32]) -> bool
         ensures only { IsTrue result ↔ (self.now.results.stack ≡ expr.now ∷ []) }
         ensures light { self.now.results.weight ≤ weight_limit }
@@ -587,7 +598,7 @@ fn essential_matches(
     symbols.matches(images, remaining.left(), place)
 }
 
-/// Truncates to the first `keep` ranges and appends one, usually by overwriting another.
+/// Truncates to the first `keep` ranges and appends one. Usually this overwrites the next range.
 #[inline(always)]
 fn truncate_and_push(
     stack: &mut Vec<SymbolRange>,
@@ -607,7 +618,8 @@ fn truncate_and_push(
     Ok(())
 }
 
-/// Sets the image of a variable to a result without its first symbol, or returns `false` if this is not the typecode.
+/// Sets the image of a variable to the result in the range `place` without its first symbol, or
+/// returns `false` if its first symbol is not the typecode.
 #[inline(always)]
 fn read_float(
     images: &mut ImageRanges,

@@ -1,6 +1,6 @@
 //! Derivations as trees.
 
-/// A derivation.
+/// A derivation as a tree.
 #[derive(Drop)]
 pub enum Tree {
     /// A hypothesis, by position.

@@ -20,6 +20,7 @@ pub record JobList : Type 0 where
   pub names : List Name
   pub jobs : List Job
 
+-- so is there for each of the jobs
 abbrev pub AreJobs : Database → List Job → Type 0
 AreJobs S jobs = (k : ℕ) (job : Job) → slice_get jobs k ≡ Some job → IsJob S job
 

@@ -1,5 +1,5 @@
 -- Laws of the least bad job.
--- Source: this project's profile.
+-- Source: this project; the Metamath book has no parallel check.
 -- These are sentences on the definitions alone.
 use Rattle.std.specs.Prelude.{◌≡◌, ℕ, List, Option}
 use Rattle.mm_read.specs.Statements.{Database}

@@ -1,5 +1,5 @@
 -- The least of a number of jobs that is not right.
--- Source: this project's profile.
+-- Source: this project; the Metamath book has no parallel check.
 -- The code deals the jobs out to workers; here they are judged in order.
 use Rattle.std.specs.Prelude.{ℕ, ◌<◌, Option, Some, None, IfSome, ⊤}
 

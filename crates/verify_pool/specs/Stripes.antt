@@ -1,5 +1,5 @@
 -- The stripe of a worker: every `step`-th job, from the job `first` on.
--- Source: this project's profile.
+-- Source: this project; the Metamath book has no parallel check.
 -- The code goes from job to job by adding `step`; here the jobs are numbered by their turn, from 0.
 use Rattle.std.specs.Prelude.{◌≡◌, ◌⊎◌, ℕ, ◌+◌, ◌*◌, ◌<◌, List, length, slice_get, slice_index_or, Option, Some, IfOk, IfSome}
 use Rattle.verify_pool.specs.declared.checkers.Worker.{Worker}

@@ -5,13 +5,14 @@ use frame::Frames;
 use std::alloc::{AllocError, Global};
 use verify::Checker;
 
-/// The largest number of symbols of the results of a proof that a worker checks (4 MiB). Heavier proofs are left to the
-/// calling thread.
+/// The largest number of symbols that the buffer of results of a worker holds (4 MiB). A proof that
+/// needs more is heavy, and is left to the calling thread.
 pub const MOST_WORKER_SYMBOLS: usize = 1_048_576;
 
 /// A worker's checker, and the outcome of the worker's jobs.
 #[derive(Drop)]
 pub struct Worker {
+    /// The checker of the worker.
     pub checker: Checker,
     /// The least index of a job that was judged and is not right.
     pub least: Result<Option<usize>, AllocError>,
@@ -19,14 +20,18 @@ pub struct Worker {
     pub deferred: Vec<usize>,
 }
 
-/// The checker of the calling thread, and those of the workers, which are made when first needed and kept, with their buffers,
-/// until memory runs out. Only that of the calling thread takes the heaviest proofs, so their room is needed once.
+/// The checker of the calling thread, and those of the workers, which are made when first needed
+/// and kept, with their buffers, until memory runs out. Only that of the calling thread takes heavy
+/// proofs, so their room is needed once.
 ///
-/// `Work::begin` prepares each of them, whatever it judged before, so contracts see nothing of them.
+/// `Work::begin` prepares each of them, whatever it judged before, so contracts see nothing of
+/// them.
 #[derive(Drop)]
 pub struct Checkers {
     alloc: Global,
+    /// The checker of the calling thread.
     pub(crate) calling: Checker,
+    /// The workers.
     pub(crate) workers: Vec<Worker>,
 }
 
@@ -45,7 +50,7 @@ impl Checkers {
         self.alloc
     }
 
-    /// Sets whether the checker of the calling thread takes proofs that are too heavy for a worker.
+    /// Sets whether the checker of the calling thread takes heavy proofs.
     pub(crate) fn admit_heavy(&mut self, are_admitted: bool) {
         self.calling.limit(if are_admitted {
             usize::MAX
@@ -54,8 +59,9 @@ impl Checkers {
         });
     }
 
-    /// Has the frames make long searches for pairs of disjoint variables again that the checkers made for the last jobs.
-    /// They keep the answers, so that later searches for these pairs are short.
+    /// Has the frames make again long searches for pairs of disjoint variables that the checkers
+    /// made for the last jobs. They keep the answers, so that later searches for these pairs are
+    /// short.
     ///
     /// Cost: that of the searches, of which there are at most 128 for each checker.
     pub fn repeat_searches(&mut self, frames: &mut Frames)
@@ -67,7 +73,7 @@ impl Checkers {
         }
     }
 
-    /// Gives back the memory that large proofs needed.
+    /// Frees memory that large proofs needed, as `Checker::shrink` does.
     ///
     /// Does not allocate. Cost: a constant for each worker.
     pub fn shrink(&mut self) {
@@ -83,7 +89,7 @@ impl Checkers {
         self.workers.clear();
     }
 
-    /// Creates checkers until there is one for each of this number of workers.
+    /// Creates checkers until there are at least `count` workers.
     ///
     /// Errors: an allocation fails. Cost: a constant for each worker.
     pub(crate) fn add_workers(&mut self, count: usize) -> Result<(), AllocError>

@@ -1,23 +1,25 @@
 //! Gates, which threads pass before a job or an entry.
 
-/// A place before which a thread passes a gate.
+/// An action of a thread, before which it passes a gate.
 #[derive(Clone, Copy, Debug, PartialEq, Eq)]
 pub enum Place {
-    /// The job of this index, from 0.
+    /// It judges the job of this index, from 0.
     Job(usize),
-    /// The next entry of the node of this number.
+    /// It applies the next entry of the log at the node of this number.
     Apply(u8),
 }
 
-/// A gate that a thread passes before each job that it checks, and before each entry that it applies.
+/// A gate that a thread passes before each job that it judges, and before each entry of the log
+/// that it applies.
 ///
-/// It may watch the threads or hold them back, and it may keep heavy proofs out. No answer depends on it, except an `AllocError`.
+/// It may watch the threads or hold them back, and it may keep heavy proofs out. No answer depends
+/// on it, except whether it is an `AllocError`.
 pub trait Gate {
     /// Returns when the thread may go on.
     fn pass(&self, place: Place);
 
-    /// Returns whether the calling thread may judge proofs that are too heavy for a worker. If not, the result for such
-    /// a proof is `AllocError`.
+    /// Returns whether the calling thread may judge heavy proofs, which need more memory than a
+    /// worker has. If not, judging such a proof gives an `AllocError`.
     fn admits_heavy(&self) -> bool {
         true
     }
@@ -34,6 +36,7 @@ impl Gate for OpenGate {
 /// A gate that lets each thread pass as another gate does, and keeps heavy proofs out.
 #[derive(Clone, Copy)]
 pub struct LightGate<'a, G: Gate> {
+    /// The other gate.
     pub gate: &'a G,
 }
 

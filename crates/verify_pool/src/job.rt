@@ -48,10 +48,12 @@ pub fn check_all<G: Gate + Sync, R: Threads + Sync>(
     judge_all(rt, &mut checkers, &Jobs { frames, jobs }, workers, gate)
 }
 
-/// Jobs with the frames that they are checked against.
+/// Jobs, with the frames under which they are checked.
 #[derive(Drop)]
 struct Jobs<'a> {
+    /// The frames.
     frames: &'a Frames,
+    /// The jobs.
     jobs: &'a [Job],
 }
 

@@ -15,14 +15,17 @@ use verify::{Answer, Checker};
 
 /// Returns the least index, from 0, of a job that is not right; `None` if each is right.
 ///
-/// The jobs are dealt out in turn to the workers, of whom no more take part than there are jobs. Each worker has a checker
-/// of its own, runs on a thread of its own if one can be started, and passes `Place::Job(index)` of the gate before the job
-/// of that index. A worker stops at its first job that is not right, and puts off those that need more memory than it has:
-/// the calling thread judges these after all workers have ended. If this runs out of memory and the gate admits heavy proofs, the
-/// checkers of the workers are dropped, and the calling thread judges all jobs again.
+/// The jobs are dealt out in turn to the workers, of whom no more take part than there are jobs.
+/// Each worker has a checker of its own, runs on a thread of its own if one can be started, and
+/// passes `Place::Job(index)` of the gate before the job of that index. A worker stops at its first
+/// job that is not right, and puts off those that need more memory than it has: the calling thread
+/// judges these after all workers have ended. If an allocation fails for a worker or for the
+/// calling thread, and the gate admits heavy proofs, the checkers of the workers are dropped, and
+/// the calling thread judges all jobs again.
 ///
-/// Errors: an allocation fails for the calling thread; if the gate admits no heavy proofs, also if one fails for a worker or
-/// a proof is heavy. Cost: that of the jobs, divided among the workers, and once more if jobs are judged again.
+/// Errors: an allocation fails for the calling thread when it judges alone. If the gate admits no
+/// heavy proofs, also if one fails while workers judge, or if a heavy proof has to be judged. Cost:
+/// that of the jobs, divided among the workers, and once more if jobs are judged again.
 pub fn judge_all<W: Work + Sync, G: Gate + Sync, R: Threads + Sync>(
     rt: &R,
     checkers: &mut Checkers,
@@ -148,7 +151,8 @@ fn earlier(a: Option<usize>, b: Option<usize>) -> Option<usize>
     }
 }
 
-/// Judges the jobs `first`, `first + step` and so on, up to the first that is not right.
+/// Judges the stripe of a worker: the jobs `first`, `first + step` and so on, up to the first that
+/// is not right.
 fn judge_stripe<W: Work, G: Gate>(
     work: &W,
     first: usize,
@@ -220,7 +224,8 @@ fn is_wrong<W: Work>(
     }
 }
 
-/// Judges the jobs that a worker put off, and returns the least index of a job of its stripe that is not right.
+/// Judges the jobs that a worker put off, as far as they are before `least`, the least index that
+/// it found not to be right. Returns the least index of a job of its stripe that is not right.
 ///
 /// Errors: an allocation fails. Cost: that of these jobs.
 fn settle<W: Work>(

@@ -15,7 +15,7 @@ pub trait Work {
     /// The job of this index is right.
     ghost right: { Self → ℕ → Type 0 };
 
-    /// The results that a checker caches are right for these jobs.
+    /// The lists and facts that a checker keeps are right for these jobs.
     ghost fits: { Self → CheckerCache → Type 0 };
 
     /// Returns the number of jobs.

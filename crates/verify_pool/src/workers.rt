@@ -13,6 +13,7 @@ pub const MOST_WORKERS: usize = 16;
 /// The number of threads that check the proofs of one text, 1 to 16. Contracts see that number.
 #[derive(Clone, Copy, Debug)]
 pub struct Workers {
+    /// Their number.
     count: usize,
 }
 
@@ -27,7 +28,7 @@ impl Model for Workers {
 }
 
 impl Workers {
-    /// Returns `count` workers, given that `count` is 1 to 16.
+    /// Returns `count` workers, where `count` is 1 to 16.
     pub fn of(count: usize) -> Workers
         requires { (1 ≤ count) × (count ≤ MOST_WORKERS) }
         ensures { result ≡ count }

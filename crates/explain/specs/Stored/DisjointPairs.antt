@@ -9,7 +9,7 @@ use Rattle.explain.specs.declared.disjoint_pairs.VariablePair.{VariablePair}
 abbrev pub IsDisjointPair : Database → List Name → Images → ℕ → ℕ → Type 0
 IsDisjointPair S names σ x y = are_disjoint S (image σ (name_at names x)) (image σ (name_at names y)) ≡ true
 
--- .. for each pair
+-- the images of the two variables of each pair are disjoint
 abbrev pub AreDisjointPairs : Database → List Name → Images → List VariablePair → Type 0
 AreDisjointPairs S names σ [] = Unit {0}
 AreDisjointPairs S names σ (p ∷ ps) = IsDisjointPair S names σ p.first p.second × AreDisjointPairs S names σ ps

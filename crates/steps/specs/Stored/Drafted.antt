@@ -10,9 +10,11 @@ use Rattle.steps.specs.Rows.{Row, no_row, steps_of, expr_in, AreRows}
 
 -- ---- finding equal steps
 
+-- the key of a step in the map: the position that it cites, and the places that it takes
 abbrev pub key_of : Step → List ℕ
 key_of step = step.position ∷ step.taken
 
+-- the place that the map has for a key
 abbrev pub place_of : BTreeMap (Vec ℕ Global) ℕ → List ℕ → Option ℕ
 place_of known key = get_by (λ k. slice_cmp nat_cmp key k.items) known
 
@@ -23,19 +25,24 @@ pub record AreKnown (known : BTreeMap (Vec ℕ Global) ℕ) (steps : List Step) 
 
 -- ---- rows in one buffer
 
+-- the row of a step, whose expression is a range of the buffer
 abbrev pub row_of : List ℕ → PlacedStep → Row
 row_of symbols p = record { step = record { position = p.position; taken = p.taken.items }; expr = symbols_in symbols p.place }
 
+-- the rows of a draft
 abbrev pub rows_of : TableDraft → List Row
 rows_of d = map (row_of d.symbols) d.placed.items
 
+-- the ranges of the expressions lie within the first n symbols
 abbrev pub AreInBuffer : ℕ → List PlacedStep → Type 0
 AreInBuffer n [] = Unit {0}
 AreInBuffer n (p ∷ ps) = (p.place.start ≤ p.place.end) × (p.place.end ≤ n) × AreInBuffer n ps
 
+-- the steps of a draft, with its stack and its marked results
 abbrev pub progress_of : TableDraft → Progress
 progress_of d = progress (steps_of (rows_of d)) d.stack.items d.saved.items
 
+-- the rows are right, the map finds them, and the stack and the marked results are places of rows
 pub record IsDraft (S : Database) (at : ℕ) (names : List Name) (d : TableDraft) : Type 0 where
   pub inside : AreInBuffer (length d.symbols) d.placed.items
   pub rows : AreRows S at names (rows_of d)
@@ -66,6 +73,7 @@ range_in [] k = record { start = 0; end = 0 }
 range_in (p ∷ ps) zero = p.place
 range_in (p ∷ ps) (suc k) = range_in ps k
 
+-- the expressions lie in the buffer, and the stack has places of rows
 pub record IsWellFormed (d : TableDraft) : Type 0 where
   pub inside : AreInBuffer (length d.symbols) d.placed.items
   pub stack_below : AreBelow (length d.placed.items) d.stack.items
@@ -106,6 +114,7 @@ pub record Makes (old new : TableDraft) (step : Step) (below e : List ℕ) : Typ
   pub own : place_of new.known (key_of step) ≡ Some (length old.placed.items)
   pub others : (x : List ℕ) → x ≢ key_of step → place_of new.known x ≡ place_of old.known x
 
+-- a hypothesis takes no results
 abbrev pub GivesHypothesis : TableDraft → TableDraft → ℕ → List ℕ → Type 0
 GivesHypothesis old new position e =
     let step : Step = record { position = position; taken = [] } in Finds old new step old.stack.items ⊎ Makes old new step old.stack.items e

@@ -6,6 +6,7 @@ use Rattle.steps.specs.Words.{Name, Stmt, Database, stmt_at, before, decode, Hyp
 
 -- ---- views whose groups may be missing
 
+-- the view with other groups
 abbrev pub with_groups : AssertionView → List (List ℕ) → AssertionView
 with_groups c groups = record { typecodes = c.typecodes; hypotheses = c.hypotheses; conclusion = c.conclusion; groups = groups }
 
@@ -34,6 +35,7 @@ pub record AreListsOf (S : Database) (names : List Name) (l : ListedHypotheses) 
   pub are_groups : map (decode names) groups ≡ mandatory_groups (before S l.position) s
   pub below_names : AllBelow (length names) groups
 
+-- each of the lists has the hypotheses of its assertion
 abbrev pub AreKept : Database → List Name → List ListedHypotheses → Type 0
 AreKept S names [] = Unit {0}
 AreKept S names (l ∷ ls) = ((s : Stmt) → stmt_at S l.position ≡ Some s → AreListsOf S names l s) × AreKept S names ls

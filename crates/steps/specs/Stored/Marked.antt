@@ -16,6 +16,7 @@ taken_by (Essential p ∷ hs) (k ∷ taken) = k ∷ taken_by hs taken
 
 -- ---- marks
 
+-- the step at place k is marked
 abbrev pub HasMark : List Bool → ℕ → Type 0
 HasMark marks k = get_or marks k false ≡ true
 

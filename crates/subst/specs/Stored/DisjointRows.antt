@@ -8,15 +8,17 @@ use Rattle.subst.specs.declared.place_words.PlaceWord.{PlaceWord}
 use Rattle.subst.specs.Stored.PlaceSets.{HasBit, HasPlace}
 use Rattle.subst.specs.Stored.VariablePlaces.{Places, are_places_disjoint, IsAmong}
 
+-- stands for the word at an index that no word has
 abbrev pub no_row : RowWord
 no_row = record { place = 0; index = 0; bits = 0 }
 
+-- the word at index k is that of a place and an index
 pub record IsRowAt (ws : List RowWord) (place index k : ℕ) : Type 0 where
   pub there : k < length ws
   pub place_same : (get_or ws k no_row).place ≡ place
   pub index_same : (get_or ws k no_row).index ≡ index
 
--- q is recorded to be disjoint from p
+-- it is recorded that the variables at p and q are disjoint
 pub record HasFact (ws : List RowWord) (p q : ℕ) : Type 0 where
   pub word : ℕ
   pub there : word < length ws
@@ -25,6 +27,7 @@ pub record HasFact (ws : List RowWord) (p q : ℕ) : Type 0 where
   pub place : q ≡ 64 * (get_or ws word no_row).index + bit
   pub set : bit_at (get_or ws word no_row).bits bit ≡ 1
 
+-- the variables at p and q are disjoint
 pub record IsFact (v : Numbered) (f : Places) (p q : ℕ) : Type 0 where
   pub row : p < length f.variables
   pub place : q < length f.variables
@@ -49,14 +52,18 @@ abbrev pub DecidesWord : Numbered → Places → ℕ → PlaceWord → Bool → 
 DecidesWord v f p w true = (q : ℕ) → HasBit w q → are_places_disjoint v f p q ≡ true
 DecidesWord v f p w false = (q : ℕ) × HasBit w q × (are_places_disjoint v f p q ≡ false)
 
+-- whether the variable at p is disjoint from each of those at the places of the words
 abbrev pub DecidesAll : Numbered → Places → ℕ → List PlaceWord → Bool → Type 0
 DecidesAll v f p ws true = (q : ℕ) → HasPlace ws q → are_places_disjoint v f p q ≡ true
 DecidesAll v f p ws false = (q : ℕ) × HasPlace ws q × (are_places_disjoint v f p q ≡ false)
 
+-- whether each variable at the places of w is disjoint from each of those at the places of the
+-- words
 abbrev pub DecidesBits : Numbered → Places → PlaceWord → List PlaceWord → Bool → Type 0
 DecidesBits v f w ws true = (p q : ℕ) → HasBit w p → HasPlace ws q → are_places_disjoint v f p q ≡ true
 DecidesBits v f w ws false = (p : ℕ) × (q : ℕ) × HasBit w p × HasPlace ws q × (are_places_disjoint v f p q ≡ false)
 
+-- whether each variable at the places of `own` is disjoint from each of those at the places of `ws`
 abbrev pub DecidesEach : Numbered → Places → List PlaceWord → List PlaceWord → Bool → Type 0
 DecidesEach v f own ws true = (p q : ℕ) → HasPlace own p → HasPlace ws q → are_places_disjoint v f p q ≡ true
 DecidesEach v f own ws false = (p : ℕ) × (q : ℕ) × HasPlace own p × HasPlace ws q × (are_places_disjoint v f p q ≡ false)

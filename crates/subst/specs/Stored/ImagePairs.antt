@@ -7,6 +7,7 @@ use Rattle.subst.specs.SymbolRanges.{symbols_in}
 use Rattle.subst.specs.declared.symbol_range.SymbolRange.{SymbolRange}
 use Rattle.subst.specs.declared.image_pairs.ImagePair.{ImagePair}
 
+-- the range lies within the symbols
 pub record IsInside (symbols : List ℕ) (p : SymbolRange) : Type 0 where
   pub low : p.start ≤ p.end
   pub high : p.end ≤ length symbols

@@ -42,11 +42,12 @@ pub record IsLong (v : Numbered) (f : Places) (symbols : List ℕ) (words : List
   pub within : e.words.end ≤ kept
   pub range : IsRangeOf v f words e.words (symbols_in symbols e.image)
 
+-- the records of all long images are true
 pub record AreImagesRecorded (v : Numbered) (f : Places) (symbols : List ℕ) (n : RecordedImages) : Type 0 where
   pub kept : n.kept ≤ length n.words
   pub long : All (IsLong v f symbols n.words n.kept) n.long
 
--- all that was recorded in this citation is true
+-- the records of all images that were read in this citation are true
 pub record AreRead (v : Numbered) (f : Places) (symbols : List ℕ) (images : List (ℕ × SymbolRange)) (n : RecordedImages) : Type 0 where
   pub each : All (λ (e : ReadImage). IsRangeOf v f n.words e.words (code_image (images_at symbols images) e.symbol)) n.read
 

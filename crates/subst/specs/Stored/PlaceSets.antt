@@ -6,6 +6,7 @@ use Rattle.subst.specs.Words.{bit_at, Numbered}
 use Rattle.subst.specs.declared.place_words.PlaceWord.{PlaceWord}
 use Rattle.subst.specs.Stored.VariablePlaces.{Places, IsAt, HasVariable, IsAmong}
 
+-- stands for the word at an index that no word has
 abbrev pub no_word : PlaceWord
 no_word = record { index = 0; bits = 0 }
 
@@ -29,6 +30,7 @@ pub record HasAmong (n : ℕ) (ws : List PlaceWord) (j : ℕ) : Type 0 where
 abbrev pub HasPlace : List PlaceWord → ℕ → Type 0
 HasPlace ws j = HasAmong (length ws) ws j
 
+-- each place of the words is below n
 abbrev pub ArePlacesBelow : ℕ → List PlaceWord → Type 0
 ArePlacesBelow n ws = (j : ℕ) → HasPlace ws j → j < n
 
@@ -44,6 +46,7 @@ pub record AddsFirst (old new : List PlaceWord) (n : ℕ) (ws : List PlaceWord) 
   pub added : (j : ℕ) → HasAmong n ws j → HasPlace new j
   pub only : (j : ℕ) → HasPlace new j → HasPlace old j ⊎ HasAmong n ws j
 
+-- the places of all words of a list are added
 abbrev pub AddsWords : List PlaceWord → List PlaceWord → List PlaceWord → Type 0
 AddsWords old new ws = AddsFirst old new (length ws) ws
 

@@ -6,6 +6,7 @@ use Rattle.subst.specs.declared.place_words.PlaceWord.{PlaceWord}
 use Rattle.subst.specs.Stored.PlaceSets.{HasPlace}
 use Rattle.subst.specs.Stored.VariablePlaces.{Places, IsAmong}
 
+-- the symbol x is marked
 abbrev pub IsMarked : List Bool → ℕ → Type 0
 IsMarked marks x = get_or marks x false ≡ true
 

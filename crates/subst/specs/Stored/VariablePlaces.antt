@@ -10,6 +10,7 @@ pub record Places : Type 0 where
   pub symbols : List MetSymbol
   pub variables : List ℕ
 
+-- the name of the variable at place j
 abbrev pub variable_name : Numbered → Places → ℕ → Name
 variable_name v f j = name_at v.names (get_or f.variables j 0)
 
@@ -35,10 +36,12 @@ IsPlace v f x None = is_variable v.statements (name_at v.names x) ≡ false
 abbrev pub IsListed : Places → ℕ → Option ℕ → Type 0
 IsListed f x place = Contains f.symbols (record { number = x; place = place })
 
+-- x is the number of a variable
 pub record IsVariable (v : Numbered) (x : ℕ) : Type 0 where
   pub named : x < length v.names
   pub variable : is_variable v.statements (name_at v.names x) ≡ true
 
+-- each symbol that was met has its place, and only variables have places
 pub record ArePlaced (v : Numbered) (f : Places) : Type 0 where
   pub symbols : All (λ s. IsPlace v f s.number s.place) f.symbols
   pub variables : All (IsVariable v) f.variables
