@@ -21,9 +21,7 @@ use std::alloc::{AllocError, Global};
 /// they are few, they are collected by a walk over the `$e`.
 #[derive(Drop)]
 pub struct EssentialSets {
-    /// Where lists are allocated.
     pub alloc: Global,
-    /// The sets, by number. Set 0 stands for none.
     pub sets: PositionSets,
     /// Which statements keep one of the sets.
     pub kept: KeptSets,
@@ -56,11 +54,9 @@ impl EssentialSets {
         self.sets.len(set)
     }
 
-    /// Appends the `$e` that are active at `at` and the `$f` of their variables, sorts the list,
-    /// and removes repetitions.
+    /// Appends the `$e` that are active at `at`, and the `$f` that are kept with them, and sorts the list.
     ///
-    /// Errors: an allocation fails. Cost: n log n for n of them; if they are few, a walk over the
-    /// `$e`.
+    /// Cost: n log n for n of them; if they are few, a walk over the `$e`.
     pub fn add(&self, storage: &Storage, at: usize, list: &mut Vec<u32>) -> Result<(), AllocError>
         requires stored { AreStored storage.now }
         requires sets { AreEssentialSets self.now storage.now.entries (statements_of storage.now) }
@@ -168,7 +164,7 @@ impl EssentialSets {
         }
     }
 
-    /// Frees unused capacity, as `entries::give_back` does.
+    /// Gives back the room of removed sets, if it is more than that of the remaining ones.
     pub fn shrink(&mut self)
         ensures sets { self.new.sets ≡ self.old.sets }
         ensures kept { self.new.kept ≡ self.old.kept }

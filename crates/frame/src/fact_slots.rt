@@ -3,7 +3,7 @@
 use std::alloc::Global;
 use std::collections::BTreeMap;
 
-/// The number of slots of the table that belong to a hash.
+/// The number of slots in which a guess is looked for.
 pub(crate) const PROBES: usize = 8;
 
 /// The smallest number of slots of a table that is not empty: a power of two.
@@ -84,8 +84,7 @@ impl FactSlots {
         let _recorded = self.crowded.insert(pair_key(key), index);
     }
 
-    /// Puts a guess into the slot with number `probe` of a hash, if that slot is empty, and returns
-    /// whether it was.
+    /// Fills a slot, if it is empty, and returns whether it was.
     fn take(&mut self, hash: usize, probe: usize, guess: u32) -> bool {
         let slot = self.slot(hash, probe);
         let Some(place) = self.slots.get_mut(slot) else {
@@ -98,8 +97,7 @@ impl FactSlots {
         is_empty
     }
 
-    /// Empties the slots that have the guess for a fact. A look-up ends at an empty slot, so the
-    /// caller removes all facts, not single ones.
+    /// Empties the slots that have the guess for a fact. A look-up ends at an empty slot, so facts are removed all together.
     pub(crate) fn remove(&mut self, key: FactKey, index: usize) {
         let hash = hash_of(key);
         let guess = u32::try_from(index.saturating_add(1)).unwrap_or(0);

@@ -8,21 +8,18 @@ use scope::Stack;
 use std::alloc::{AllocError, Global};
 use std::marker::Model;
 
-/// The mandatory hypotheses and groups of an assertion, in buffers that are reused for one
-/// assertion after another.
+/// The mandatory hypotheses and groups of an assertion, in buffers that are reused for one assertion after another.
 ///
-/// Contracts see them in the form in which the parts of an assertion are kept (`Assertion` of
-/// `entries`).
+/// Contracts see them in the form in which the parts of an assertion are kept.
 #[derive(Drop)]
 pub struct FrameBuffers {
     /// Whether the parts are whole, as `AssertionParts` says; not set if the groups are made pair by pair.
     pub(crate) whole: bool,
-    /// The symbols whose `$f` were looked up; later the variables of the hypotheses. A buffer only:
-    /// contracts do not see it.
+    /// The symbols whose `$f` were looked up; later the variables of the hypotheses.
     pub(crate) recorded: Stack,
     /// The positions of the hypotheses, in order.
     pub(crate) hypotheses: Vec<u32>,
-    /// Each hypothesis as one number: the variable of a `$f`, or the position of a `$e`.
+    /// Each hypothesis as one number.
     pub(crate) required: Vec<u32>,
     /// The typecode of each hypothesis.
     pub(crate) typecodes: Vec<u32>,
@@ -44,7 +41,7 @@ impl Model for FrameBuffers {
 }
 
 impl FrameBuffers {
-    /// Returns empty buffers. Does not allocate.
+    /// Returns empty buffers.
     pub fn new(alloc: Global) -> FrameBuffers {
         FrameBuffers {
             whole: false,
@@ -76,8 +73,7 @@ impl FrameBuffers {
         }
     }
 
-    /// Returns how many numbers the parts take when they are kept: three for a hypothesis, two for
-    /// a group, and one for each variable of a group.
+    /// Returns how many numbers the parts have when they are kept.
     pub(crate) fn size(&self) -> usize {
         let hypotheses = self.hypotheses.len().saturating_mul(3);
         let groups = self.groups.len().saturating_mul(2);

@@ -5,8 +5,7 @@ use std::alloc::Global;
 /// The largest number of searches in a list.
 const MOST_SEARCHES: usize = 64;
 
-/// A search for an active `$d` that has two variables: it goes through the active `$d` of one of
-/// them.
+/// A search for the `$d` of one variable that has another one, too.
 #[derive(Clone, Copy, Drop)]
 pub struct LongSearch {
     /// The position at which the `$d` are active.

@@ -15,8 +15,7 @@ use mm_read::Stmt;
 use scope::{Stack, SymbolNumbers};
 use std::alloc::AllocError;
 
-/// Returns the typecode of an expression, which is its first symbol, or `NO_TYPECODE` if it is
-/// empty.
+/// Returns the typecode of an expression, its first symbol.
 fn typecode(codes: &[u32]) -> u32
     ensures { result ≡ typecode_of codes.now }
 {
@@ -72,7 +71,7 @@ fn record_variable(hypothesis: Hypothesis, found: &mut Stack) -> Result<(), Allo
     found.push(variable)
 }
 
-/// Records the variables of the hypotheses, and no others.
+/// Records the variables of the hypotheses.
 fn record_variables(hypotheses: &Hypotheses<'_>, found: &mut Stack) -> Result<(), AllocError>
     ensures { OnOk result ((c : ℕ) → list_any (λ n. n == c) found.new ≡ is_typed hypotheses.now c) }
 {
@@ -84,8 +83,6 @@ fn record_variables(hypotheses: &Hypotheses<'_>, found: &mut Stack) -> Result<()
 }
 
 /// Appends a group of those symbols that are among the variables, if they are two or more.
-///
-/// Errors: an allocation fails.
 fn add_group(
     variables: &Stack,
     codes: &[u32],
@@ -112,11 +109,7 @@ fn add_group(
     Ok(())
 }
 
-/// Appends, for the positions in `buffers` of the mandatory hypotheses of an assertion at `at`,
-/// each hypothesis as one number, its typecode, and the groups: for each active `$d` its mandatory
-/// variables, if they are two or more.
-///
-/// Errors: an allocation fails. Cost: the hypotheses, and the symbols of the active `$d`.
+/// Appends the hypotheses of an assertion at `at`, each as one number, and its groups.
 pub fn fill_from_hypotheses(
     storage: &Storage,
     at: usize,
@@ -151,11 +144,8 @@ pub fn fill_from_hypotheses(
     Ok(())
 }
 
-/// Finds the parts of an assertion or `$e` that is appended to the statements, by the numbers of
-/// its symbols: all mandatory hypotheses and groups of an assertion if these are few; else, and for
-/// a `$e`, the `$f` of its own variables. Other statements have none.
-///
-/// Errors: an allocation fails.
+/// Finds the parts of an assertion or `$e` that is appended to the statements, by the numbers of its symbols: all mandatory
+/// hypotheses and groups of an assertion if these are few, else the `$f` of its own variables. Other statements have none.
 pub fn fill_parts(
     storage: &Storage,
     essential_sets: &EssentialSets,
@@ -218,6 +208,5 @@ fn fill_own(storage: &Storage, buffers: &mut FrameBuffers, codes: &[u32]) -> Res
     )
 }
 
-/// The parts of an assertion are kept whole only if they take at most this many numbers
-/// (`FrameBuffers::size`).
+/// The largest number of numbers of parts that are kept whole with an assertion.
 const MOST_KEPT: usize = 128;

@@ -16,8 +16,7 @@ pub fn sort_unique(list: &mut Vec<u32>)
     list.dedup();
 }
 
-/// Appends the position of the active `$f` of a symbol, if one is active after all statements and
-/// the symbol was not looked up before.
+/// Appends the position of the active `$f` of a symbol, if there is one after all statements and it is not in the list yet.
 fn add_float(
     storage: &Storage,
     looked: &mut Stack,
@@ -100,18 +99,15 @@ pub fn add_essentials(storage: &Storage, at: usize, list: &mut Vec<u32>) -> Resu
     Ok(())
 }
 
-/// The largest number of active `$d` for which the parts of an assertion may be few; together they
-/// then have at most twice as many symbols. No more `$d` or `$e` than this are read to decide it. A
-/// list of fewer positions is short (`add_new`).
+/// The largest number of active `$d` whose groups are kept with an assertion; together they have at most twice as many symbols.
+/// A list of fewer positions is short.
 const FEW: usize = 64;
 
 /// The largest number of mandatory hypotheses, brought along by the active `$e`, that are not kept as a set.
 pub const MOST_WITHOUT_SET: usize = 48;
 
-/// Returns how many mandatory hypotheses the active `$e` bring along, counting a `$f` once for each
-/// `$e` that has its variable. Counting stops above `MOST_WITHOUT_SET`.
-///
-/// Cost: a constant.
+/// Returns how many mandatory hypotheses the active `$e` bring along, counting a `$f` once for each `$e` that has its
+/// variable. Counting stops above `MOST_WITHOUT_SET`.
 pub fn given_count(storage: &Storage) -> usize {
     let mut essential = storage.last_active.essential as usize;
     let mut count = 0usize;

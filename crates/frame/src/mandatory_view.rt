@@ -13,11 +13,8 @@ use std::marker::Model;
 /// assertion's own variables that are not in the set.
 #[derive(Drop)]
 pub struct MandatoryView<'a> {
-    /// All sets of the frames.
     pub(crate) sets: &'a PositionSets,
-    /// The number of the set that the active `$e` bring along.
     pub(crate) set: u32,
-    /// The `$f` of the assertion's own variables that are not in the set, by position, in order.
     pub(crate) own: Vec<u32>,
 }
 
@@ -73,7 +70,7 @@ impl<'a> MandatoryView<'a> {
     }
 }
 
-/// Returns the index, among all hypotheses, of the `$f` at index `at` of `own`.
+/// Returns the index of one of the assertion's own `$f` among all hypotheses.
 fn place(sets: &PositionSets, set: u32, own: &[u32], at: usize) -> usize
     requires { at < length own.now }
     ensures { result ≡ count_below (get_or own.now at 0) (set_at sets.now set) + at }
@@ -81,8 +78,7 @@ fn place(sets: &PositionSets, set: u32, own: &[u32], at: usize) -> usize
     sets.rank(set, own[at]) + at
 }
 
-/// Returns how many of the `$f` in `own` have a smaller index among all hypotheses than `index`, by
-/// binary search.
+/// Returns how many of the assertion's own `$f` have a smaller index among all hypotheses, by binary search.
 fn own_before(sets: &PositionSets, set: u32, own: &[u32], index: usize) -> usize
     ensures within { result ≤ length own.now }
     ensures before { (k : ℕ) → suc k ≡ result → count_below (get_or own.now k 0) (set_at sets.now set) + k < index }

@@ -108,7 +108,6 @@ fn is_required(used: &NameTable, stmt: &Stmt) -> bool
     }
 }
 
-/// Returns whether a name is one of the used variables.
 fn has(used: &NameTable, name: &[u8]) -> bool
     ensures { result ≡ has_name name.now used.now }
 {
