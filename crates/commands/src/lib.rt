@@ -51,4 +51,4 @@ pub use script_help::{SERVE_LINES, expected_form, first_word};
 pub use serve_line::ServeLine;
 pub use session_line::SessionLine;
 pub use session_texts::{TextEnd, text_end};
-pub use weights::{MOST_WORKERS, WorkerCount};
+pub use weights::{MAX_WORKERS, WorkerCount};

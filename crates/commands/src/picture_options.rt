@@ -3,7 +3,7 @@ use crate::command_line::{invalid_value, number};
 use crate::request::{CommandLineFault, PicturedSteps};
 use clap::ArgMatches;
 use std::alloc::Global;
-use timelines::MOST_ROWS;
+use timelines::MAX_ROWS;
 
 /// Returns which steps a picture shows, if one is asked for.
 pub(crate) fn pictured_steps(
@@ -35,7 +35,7 @@ fn step_count(alloc: Global, options: &ArgMatches) -> Result<Option<u64>, Comman
         return Ok(None);
     }
     match number(options, "events") {
-        Some(count) if 1 <= count && count <= MOST_ROWS => Ok(Some(count)),
+        Some(count) if 1 <= count && count <= MAX_ROWS => Ok(Some(count)),
         _ => Err(invalid_value(alloc, "--events is a number from 1 to 200")),
     }
 }

@@ -1,30 +1,30 @@
 //! The weights of nodes and the count of workers, as a command line gives them.
 ghost use Rattle.std.specs.Prelude.{◌≡◌, ◌≤◌, ◌<◌, ◌⊎◌, MatchOption};
-ghost use Rattle.commands.specs.declared.weights.TheConstants.{MOST_WORKERS};
+ghost use Rattle.commands.specs.declared.weights.TheConstants.{MAX_WORKERS};
 
 use crate::pieces::split_first_piece;
 use numbers::parse_number;
 use synod::{MAX_NODES, Weights};
 
 /// The greatest count of workers.
-pub const MOST_WORKERS: usize = 16;
+pub const MAX_WORKERS: usize = 16;
 
 /// How many threads read one text and check its proofs: 1 to 16.
 #[derive(Clone, Copy, Debug)]
 pub struct WorkerCount {
     pub count: usize,
     ghost positive: { 1 ≤ count },
-    ghost bounded: { count ≤ MOST_WORKERS },
+    ghost bounded: { count ≤ MAX_WORKERS },
 }
 
 impl WorkerCount {
     /// Returns a count of workers, or `None` if it is not 1 to 16.
     pub fn new(count: u64) -> Option<WorkerCount>
         ensures { MatchOption result
-            ((count ≡ 0) ⊎ (MOST_WORKERS < count))
+            ((count ≡ 0) ⊎ (MAX_WORKERS < count))
             (λ workers. workers.count ≡ count) }
     {
-        if count == 0 || count > MOST_WORKERS as u64 {
+        if count == 0 || count > MAX_WORKERS as u64 {
             return None;
         }
         Some(WorkerCount {

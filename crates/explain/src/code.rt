@@ -10,7 +10,7 @@ ghost use Rattle.explain.specs.Breaks.{IsFirst, IsBreak, has_fault, joined};
 use crate::broken_letters::letter_break;
 use crate::why::CodeBreak;
 use mm_lex::{WordIter, Words, is_label};
-use proof_code::{MOST_LETTERS, is_compressed, names_of};
+use proof_code::{MAX_LETTERS, is_compressed, names_of};
 use std::alloc::{AllocError, Global};
 use std::collections::BTreeSet;
 
@@ -28,7 +28,7 @@ pub(crate) enum TokenFault {
 /// Returns the rule of proof code that the tokens break. They must write no items under these
 /// mandatory labels.
 ///
-/// Errors: an allocation fails, or there are more than `MOST_LETTERS` tokens, mandatory labels or
+/// Errors: an allocation fails, or there are more than `MAX_LETTERS` tokens, mandatory labels or
 /// letters. Cost: the tokens, times a logarithm of the number of mandatory labels.
 pub(crate) fn code_break(
     alloc: Global,
@@ -38,7 +38,7 @@ pub(crate) fn code_break(
     requires { (items : List Item) → ¬ Writes tokens.now mandatory.now items }
     ensures { IfOk result (IsBreak tokens.now mandatory.now) }
 {
-    if tokens.len() > MOST_LETTERS {
+    if tokens.len() > MAX_LETTERS {
         return Err(AllocError);
     }
     if let Some((token, _)) = first_with_fault(
@@ -90,7 +90,7 @@ fn listed_break(
     requires named { AreNames names.now mandatory.now }
     ensures { IfOk result (IsBreak tokens.now mandatory.now) }
 {
-    if mandatory.len() > MOST_LETTERS {
+    if mandatory.len() > MAX_LETTERS {
         return Err(AllocError);
     }
     let mut words = tokens.iter();
@@ -105,7 +105,7 @@ fn listed_break(
     };
     if word == b")".as_slice() {
         let letters = join(alloc, &mut words)?;
-        if letters.len() > MOST_LETTERS {
+        if letters.len() > MAX_LETTERS {
             return Err(AllocError);
         }
         return match letter_break(letters.as_slice(), mandatory.len() + listed) {

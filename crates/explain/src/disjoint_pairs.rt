@@ -9,7 +9,7 @@ use std::alloc::Global;
 use std::collections::BTreeMap;
 
 /// The most pairs that are recorded; a full cache is cleared before the next pair is recorded.
-const MOST_PAIRS: usize = 65_536;
+const MAX_PAIRS: usize = 65_536;
 
 /// Two variables of an assertion.
 #[derive(Clone, Copy, Drop)]
@@ -58,7 +58,7 @@ impl DisjointPairs {
         ensures { (S : Database) (names : List Name) (σ : NamedImages) → AreDisjointPairs S names σ self.old.pairs.items → IsDisjointPair S names σ first second
             → AreDisjointPairs S names σ self.new.pairs.items }
     {
-        if self.pairs.len() >= MOST_PAIRS {
+        if self.pairs.len() >= MAX_PAIRS {
             self.pairs.clear();
             self.indexes.clear();
         }

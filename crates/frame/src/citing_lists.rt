@@ -21,7 +21,7 @@ use std::alloc::{AllocError, Global};
 const PAIR_COST: usize = 2;
 
 /// The largest number of attempts to search for all pairs, each up to four times as long as the one before it.
-const MOST_TRIES: usize = 16;
+const MAX_TRIES: usize = 16;
 
 /// Appends, for the positions in `buffers` of the mandatory hypotheses of an assertion at `at`, each hypothesis as one
 /// number, its typecode, and groups that have the pairs of disjoint variables: one for each pair if that costs less, else
@@ -147,7 +147,7 @@ fn find_pairs(
     }
     let counts = counts(alloc, storage, at, variables)?;
     facts.make_room();
-    for _ in 0..MOST_TRIES {
+    for _ in 0..MAX_TRIES {
         facts.set_budget(most);
         if add_pairs(storage, kept, at, facts, buffers, variables, &counts)? {
             return Ok(true);

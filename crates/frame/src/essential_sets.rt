@@ -12,7 +12,7 @@ ghost use Rattle.frame.specs.Stored.Whole.{AreStored};
 
 use crate::at_position::last_active_at;
 use crate::kept_sets::{KeptSet, KeptSets};
-use crate::mandatory::{MOST_WITHOUT_SET, add_essentials, given_count, sort_unique};
+use crate::mandatory::{MAX_WITHOUT_SET, add_essentials, given_count, sort_unique};
 use crate::storage::Storage;
 use entries::{Kind, PositionSets};
 use std::alloc::{AllocError, Global};
@@ -147,7 +147,7 @@ impl EssentialSets {
         ensures more { Extends self.old.sets self.new.sets }
         ensures kept { self.new.kept ≡ self.old.kept }
     {
-        if given_count(storage) <= MOST_WITHOUT_SET {
+        if given_count(storage) <= MAX_WITHOUT_SET {
             return Ok(0);
         }
         let mut list = Vec::new(self.alloc);

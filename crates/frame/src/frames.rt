@@ -25,7 +25,7 @@ use std::alloc::{AllocError, Global};
 use std::marker::Model;
 
 /// The largest number of mandatory hypotheses, brought along by the active `$e`, for which no view is made.
-const MOST_WITHOUT_VIEW: usize = 64;
+const MAX_WITHOUT_VIEW: usize = 64;
 
 /// The statements of a database by position, without their proofs, with their symbols as numbers.
 ///
@@ -317,7 +317,7 @@ impl Frames {
         let set = self
             .essential_sets
             .set(last_active_at(&self.storage, a).essential);
-        if set == 0 || self.essential_sets.count(set) <= MOST_WITHOUT_VIEW {
+        if set == 0 || self.essential_sets.count(set) <= MAX_WITHOUT_VIEW {
             return Ok(None);
         }
         let sets = &self.essential_sets.sets;

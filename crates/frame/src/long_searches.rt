@@ -3,7 +3,7 @@
 use std::alloc::Global;
 
 /// The largest number of searches in a list.
-const MOST_SEARCHES: usize = 64;
+const MAX_SEARCHES: usize = 64;
 
 /// A search for the `$d` of one variable that has another one, too.
 #[derive(Clone, Copy, Drop)]
@@ -33,7 +33,7 @@ impl LongSearches {
 
     /// Adds a search, unless the list is full or an allocation fails.
     pub(crate) fn add(&mut self, search: LongSearch) {
-        if self.list.len() < MOST_SEARCHES {
+        if self.list.len() < MAX_SEARCHES {
             let _added = self.list.push(search);
         }
     }

@@ -181,7 +181,7 @@ pub fn fill_parts(
     let at = storage.entries.len() + 1;
     add_essentials(storage, at, &mut buffers.hypotheses)?;
     fill_from_hypotheses(storage, at, buffers)?;
-    if buffers.size() <= MOST_KEPT {
+    if buffers.size() <= MAX_KEPT {
         return Ok(());
     }
     fill_own(storage, buffers, codes)
@@ -209,4 +209,4 @@ fn fill_own(storage: &Storage, buffers: &mut FrameBuffers, codes: &[u32]) -> Res
 }
 
 /// The largest number of numbers of parts that are kept whole with an assertion.
-const MOST_KEPT: usize = 128;
+const MAX_KEPT: usize = 128;

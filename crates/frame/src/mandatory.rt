@@ -104,15 +104,15 @@ pub fn add_essentials(storage: &Storage, at: usize, list: &mut Vec<u32>) -> Resu
 const FEW: usize = 64;
 
 /// The largest number of mandatory hypotheses, brought along by the active `$e`, that are not kept as a set.
-pub const MOST_WITHOUT_SET: usize = 48;
+pub const MAX_WITHOUT_SET: usize = 48;
 
 /// Returns how many mandatory hypotheses the active `$e` bring along, counting a `$f` once for each `$e` that has its
-/// variable. Counting stops above `MOST_WITHOUT_SET`.
+/// variable. Counting stops above `MAX_WITHOUT_SET`.
 pub fn given_count(storage: &Storage) -> usize {
     let mut essential = storage.last_active.essential as usize;
     let mut count = 0usize;
     for _ in 0..FEW {
-        if essential == 0 || essential > storage.entries.len() || count > MOST_WITHOUT_SET {
+        if essential == 0 || essential > storage.entries.len() || count > MAX_WITHOUT_SET {
             break;
         }
         let floats = storage.entries.hypotheses(essential - 1).len();
@@ -138,7 +138,7 @@ pub fn are_few(storage: &Storage, essential_sets: &EssentialSets, own: usize) ->
     } else {
         essential_sets.count(set)
     };
-    if own > MOST_WITHOUT_SET || count > MOST_WITHOUT_SET {
+    if own > MAX_WITHOUT_SET || count > MAX_WITHOUT_SET {
         return false;
     }
     let mut disjoint = storage.last_active.disjoint as usize;

@@ -15,16 +15,16 @@ use std::alloc::Global;
 use std::marker::Model;
 
 /// The largest number of facts in a table.
-const MOST_FACTS: usize = 262_144;
+const MAX_FACTS: usize = 262_144;
 
 /// The largest number of `$d` that a search passes without recording facts. A search that passes more is long.
-const MOST_UNRECORDED: usize = 16;
+const MAX_UNRECORDED: usize = 16;
 
 /// The largest number of `$d` that a search passes without being listed. `repeat_searches` makes the listed searches again, and
 /// their answers are kept with the statements.
-pub(crate) const MOST_UNLISTED: usize = 256;
+pub(crate) const MAX_UNLISTED: usize = 256;
 
-/// A search looks up a fact at each of its first `MOST_UNRECORDED` `$d`, and at each `$d` that has a multiple of this many
+/// A search looks up a fact at each of its first `MAX_UNRECORDED` `$d`, and at each `$d` that has a multiple of this many
 /// `$d` left, itself included.
 const STRIDE: usize = 64;
 
@@ -131,7 +131,7 @@ impl PairFacts {
     fn record(&mut self, fact: PairFact)
         ensures { (v : Numbered) → AreFacts v self.old → IsFact v fact → AreFacts v self.new }
     {
-        if self.facts.len() < MOST_FACTS {
+        if self.facts.len() < MAX_FACTS {
             self.add(fact);
         }
     }
@@ -164,16 +164,16 @@ impl PairFacts {
     pub(crate) fn make_room(&mut self)
         ensures { (v : Numbered) → AreFacts v self.old → AreFacts v self.new }
     {
-        if self.facts.len() > MOST_FACTS / 2 {
+        if self.facts.len() > MAX_FACTS / 2 {
             self.remove_facts();
         }
     }
 
-    /// Lists a search, if it passed more than `MOST_UNLISTED` `$d`.
+    /// Lists a search, if it passed more than `MAX_UNLISTED` `$d`.
     fn record_search(&mut self, passed: usize, search: LongSearch)
         ensures { self.new ≡ self.old }
     {
-        if passed > MOST_UNLISTED {
+        if passed > MAX_UNLISTED {
             self.searches.add(search);
         }
     }
@@ -287,7 +287,7 @@ pub(crate) fn search_row(
     let walked = walk(storage, kept, facts, storage.disjoints.stack(x, at), x, y);
     facts.spend(walked.passed);
     facts.record_search(walked.passed, LongSearch { at, x, y });
-    if walked.passed > MOST_UNRECORDED {
+    if walked.passed > MAX_UNRECORDED {
         let row = storage.disjoints.stack(x, at);
         record_passed(storage, facts, row, x, y, walked);
     }
@@ -393,9 +393,9 @@ fn record_passed(
 }
 
 /// Returns whether a search looks up a fact at a `$d`, having passed `passed` others and with `below` more to go after it.
-/// No fact is recorded at the last `MOST_UNRECORDED` ones.
+/// No fact is recorded at the last `MAX_UNRECORDED` ones.
 pub(crate) fn is_looked_up(passed: usize, below: usize) -> bool {
-    below >= MOST_UNRECORDED && (passed < MOST_UNRECORDED || below % STRIDE == STRIDE - 1)
+    below >= MAX_UNRECORDED && (passed < MAX_UNRECORDED || below % STRIDE == STRIDE - 1)
 }
 
 /// Returns whether a long search that began with `top` `$d` to go records its answer at the `$d` with `height` to go,

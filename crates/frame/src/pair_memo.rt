@@ -6,7 +6,7 @@ ghost use Rattle.frame.specs.Stored.PairSearch.{AreSearched, IsLeft, are_pair};
 
 use crate::at_position::is_active_at;
 use crate::long_searches::{LongSearch, LongSearches};
-use crate::pair_facts::{MOST_UNLISTED, PairFacts, is_looked_up};
+use crate::pair_facts::{MAX_UNLISTED, PairFacts, is_looked_up};
 use crate::pairs::has_symbol;
 use crate::storage::Storage;
 use entries::{Kind, PositionStack};
@@ -14,10 +14,10 @@ use std::alloc::Global;
 use std::collections::BTreeMap;
 
 /// The largest number of pairs in a memo.
-const MOST_PAIRS: usize = 65_536;
+const MAX_PAIRS: usize = 65_536;
 
 /// The number of `$d` that a search goes through before it looks the pair up in the memo.
-const MOST_BEFORE_MEMO: usize = 16;
+const MAX_BEFORE_MEMO: usize = 16;
 
 /// The positions of the `$d` in which long searches found pairs of variables; and the first 64 of the other searches, which
 /// found none or were ended by a fact, that passed more than 256 `$d` after the first 16.
@@ -48,15 +48,15 @@ impl PairMemo {
 
     /// Records the position of a `$d` that has both variables, unless an allocation fails. A full memo is cleared first.
     fn record(&mut self, x: u32, y: u32, position: u32) {
-        if self.found.len() >= MOST_PAIRS {
+        if self.found.len() >= MAX_PAIRS {
             self.found.clear();
         }
         let _recorded = self.found.insert(key(x, y), position);
     }
 
-    /// Lists a search, if it passed more than `MOST_UNLISTED` `$d`.
+    /// Lists a search, if it passed more than `MAX_UNLISTED` `$d`.
     fn record_search(&mut self, passed: usize, search: LongSearch) {
-        if passed > MOST_UNLISTED {
+        if passed > MAX_UNLISTED {
             self.searches.add(search);
         }
     }
@@ -70,7 +70,7 @@ fn key(x: u32, y: u32) -> u64 {
 /// Returns whether two variables are disjoint, given the `$d` that are left to search, all of which have the first variable.
 ///
 /// Cost: the number of these `$d`, times a binary search; if the memo has an active `$d` for the pair, the first
-/// `MOST_BEFORE_MEMO` of them, and log n for n pairs in the memo; if facts tell the answer, only the `$d` up to the first such
+/// `MAX_BEFORE_MEMO` of them, and log n for n pairs in the memo; if facts tell the answer, only the `$d` up to the first such
 /// fact.
 pub fn search(
     storage: &Storage,
@@ -85,7 +85,7 @@ pub fn search(
     requires facts { AreFacts (numbered storage.now) facts.now }
     ensures { result ≡ are_pair storage.now at x y }
 {
-    for _ in 0..MOST_BEFORE_MEMO {
+    for _ in 0..MAX_BEFORE_MEMO {
         let Some(position) = left.pop() else {
             return false;
         };
@@ -96,7 +96,7 @@ pub fn search(
     search_on(storage, facts, at, memo, left, x, y)
 }
 
-/// Continues a search after its first `MOST_BEFORE_MEMO` `$d`: first by the memo, then through the other `$d`.
+/// Continues a search after its first `MAX_BEFORE_MEMO` `$d`: first by the memo, then through the other `$d`.
 #[cold]
 #[inline(never)]
 fn search_on(

@@ -133,7 +133,7 @@ impl<'a> Pairs<'a> {
 }
 
 /// The largest number of symbols of a `$d` that is searched in order; a longer one is looked up in the stack of the symbol.
-const MOST_SCANNED: usize = 8;
+const MAX_SCANNED: usize = 8;
 
 /// Returns whether one of the `$d` at these positions has the symbol.
 ///
@@ -158,7 +158,7 @@ pub(crate) fn has_symbol(storage: &Storage, at: u32, code: u32) -> bool
     ensures { result ≡ has_code storage.now.entries code at }
 {
     let symbols = storage.entries.entry(at as usize - 1).symbols;
-    if symbols.len() <= MOST_SCANNED {
+    if symbols.len() <= MAX_SCANNED {
         return contains(symbols, code);
     }
     match storage.disjoints.stack(code, at as usize + 1).last() {

@@ -130,7 +130,7 @@ impl Library {
     /// on the number of workers; whether an allocation fails may.
     ///
     /// Errors: those of `apply`; `AllocError` may also be returned if a proof is heavy, that is, if its results have
-    /// more symbols than a worker holds (`MOST_WORKER_SYMBOLS`), and the gate keeps such proofs out
+    /// more symbols than a worker holds (`MAX_WORKER_SYMBOLS`), and the gate keeps such proofs out
     /// (`Gate::admits_heavy`).
     /// Cost: that of `apply`; reading a large text and judging its proofs are divided among the workers. Statements
     /// that are added again, and proofs that are judged again, cost twice.

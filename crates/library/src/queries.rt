@@ -26,7 +26,7 @@ pub enum AskFault {
     NoLabel,
     /// The statement with the label is no `$p`.
     NotProvable,
-    /// The derivation has more than 65,536 nodes (`MOST_NODES` of `verify`) or a depth above 1,024 (`MOST_DEPTH`).
+    /// The derivation has more than 65,536 nodes (`MAX_NODES` of `verify`) or a depth above 1,024 (`MAX_DEPTH`).
     TooLarge,
     /// An allocation failed.
     Memory,

@@ -14,13 +14,13 @@ use verify_pool::Gate;
 use world::Carried;
 
 /// The greatest number of times that an entry is submitted.
-const MOST_TRIES: u32 = 17;
+const MAX_TRIES: u32 = 17;
 
 /// The least number of turns (calls of `yield_now`) to wait after the first try; it doubles with each further try.
 const FIRST_WAIT: u64 = 1024;
 
 /// The greatest number of times that the wait doubles. So all waits together have fewer than 10,000,000 turns.
-const MOST_DOUBLINGS: u32 = 9;
+const MAX_DOUBLINGS: u32 = 9;
 
 /// The number of turns from one query for the outcome to the next. Each query takes the lock that the node's thread needs.
 const TURNS_PER_QUERY: u64 = 64;
@@ -47,7 +47,7 @@ impl<G: Gate, K: Keep<Carried>> Desk<G, K> {
         ensures no_node { self.now ≤ k → IsErr result }
         ensures refused { IfErr result (IsAddFault k entry.now) }
     {
-        for attempt in 0..MOST_TRIES {
+        for attempt in 0..MAX_TRIES {
             self.submit_again(rt, k, entry)?;
             let known = self.outcome(rt, k, entry)?;
             if known.is_some() {
@@ -118,9 +118,9 @@ impl<G: Gate, K: Keep<Carried>> Desk<G, K> {
 }
 
 /// Returns the number of turns that node `k` waits after attempt `attempt`, from 0: `FIRST_WAIT`, doubled for
-/// each try up to `MOST_DOUBLINGS` times, plus a fraction of that, drawn for the node and the try.
+/// each try up to `MAX_DOUBLINGS` times, plus a fraction of that, drawn for the node and the try.
 fn wait_after(k: u8, attempt: u32) -> u64 {
-    let least = FIRST_WAIT << attempt.min(MOST_DOUBLINGS);
+    let least = FIRST_WAIT << attempt.min(MAX_DOUBLINGS);
     let drawn = (u64::from(attempt) * 256 + u64::from(k) + 1).wrapping_mul(GOLDEN) >> 32;
     least.saturating_add(drawn.saturating_mul(least) >> 32)
 }

@@ -11,9 +11,9 @@ use verify_pool::Gate;
 use world::Carried;
 
 /// The largest number of hints that a node takes at once: each lock is taken once for all of them.
-const MOST_HINTS: usize = 32;
+const MAX_HINTS: usize = 32;
 
-/// Takes the waiting hints, up to `MOST_HINTS` at once, until the channel is closed.
+/// Takes the waiting hints, up to `MAX_HINTS` at once, until the channel is closed.
 pub(crate) fn run_node<
     G: Gate + Sync + Drop,
     K: Keep<Carried> + Drop,
@@ -26,10 +26,7 @@ pub(crate) fn run_node<
             break;
         };
         packets.clear();
-        for number in iter::once(first)
-            .chain(hints.try_iter(&rt))
-            .take(MOST_HINTS)
-        {
+        for number in iter::once(first).chain(hints.try_iter(&rt)).take(MAX_HINTS) {
             // A hint for which an allocation fails is a lost packet.
             match weather.turn(number) {
                 Fate::Pass => {

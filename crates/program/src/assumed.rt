@@ -16,10 +16,10 @@ use unproved::LegalDatabase;
 use verify_pool::Workers;
 
 /// The greatest count of labels that are printed.
-const MOST_NAMED: usize = 10;
+const MAX_NAMED: usize = 10;
 
 /// Prints the answer about the statements of a text, each `$p` that is not proved taken as a `$a`;
-/// returns the exit status. The count of these `$p` and the labels of the first `MOST_NAMED` go to
+/// returns the exit status. The count of these `$p` and the labels of the first `MAX_NAMED` go to
 /// `faults`.
 ///
 /// The library is leaked: the end of the process frees all of it at once.
@@ -45,7 +45,7 @@ pub fn answer_assuming<R: AllocGlobal + Threads + Sync, O: Write, F: Write>(
 }
 
 /// Returns a library of the statements of a text, each `$p` that is not proved taken as a `$a`. The
-/// count of these `$p` and the labels of the first `MOST_NAMED` go to `faults`.
+/// count of these `$p` and the labels of the first `MAX_NAMED` go to `faults`.
 pub fn assume_unproved<R: AllocGlobal + Threads + Sync, F: Write>(
     rt: &R,
     database: LegalDatabase,
@@ -56,7 +56,7 @@ pub fn assume_unproved<R: AllocGlobal + Threads + Sync, F: Write>(
     database.assume(unproved.as_slice())
 }
 
-/// Prints how many theorems are taken as axioms and the labels of the first `MOST_NAMED`, if there
+/// Prints how many theorems are taken as axioms and the labels of the first `MAX_NAMED`, if there
 /// are any and if allocation succeeds.
 fn print_assumed<F: Write>(
     alloc: Global,
@@ -73,7 +73,7 @@ fn print_assumed<F: Write>(
 }
 
 /// Returns the line that says how many theorems are taken as axioms, with the labels of the first
-/// `MOST_NAMED`.
+/// `MAX_NAMED`.
 fn assumed_line(
     alloc: Global,
     database: &LegalDatabase,
@@ -86,13 +86,13 @@ fn assumed_line(
     } else {
         b" theorems have no right proof and are taken as axioms:".as_slice()
     })?;
-    for at in unproved.iter().take(MOST_NAMED) {
+    for at in unproved.iter().take(MAX_NAMED) {
         line.extend_from_slice(b" ")?;
         line.extend_from_slice(label_at(database.statements(), *at))?;
     }
-    if unproved.len() > MOST_NAMED {
+    if unproved.len() > MAX_NAMED {
         line.extend_from_slice(b" and ")?;
-        push_number(&mut line, (unproved.len() - MOST_NAMED) as u64)?;
+        push_number(&mut line, (unproved.len() - MAX_NAMED) as u64)?;
         line.extend_from_slice(b" more")?;
     }
     line.extend_from_slice(b"\n")?;

@@ -23,7 +23,7 @@ use unproved::LegalDatabase;
 use verify_pool::Workers;
 
 /// The greatest count of lines that are explained.
-const MOST_EXPLAINED: usize = 100;
+const MAX_EXPLAINED: usize = 100;
 
 /// Returns whether a question is answered even if some `$p` are not proved.
 pub fn allows_unproved(request: &DatabaseQuestion<'_>) -> bool {
@@ -84,7 +84,7 @@ pub fn read_legal_database<R: AllocGlobal + Threads + Sync>(
 }
 
 /// Prints a line for each `$p` of a text that is not proved and the count of those that are, and
-/// explains the first `MOST_EXPLAINED` lines on `faults`; returns the exit status.
+/// explains the first `MAX_EXPLAINED` lines on `faults`; returns the exit status.
 ///
 /// The statements are leaked: the end of the process frees all of them at once.
 fn print_each<R: AllocGlobal + Threads + Sync, O: Write, F: Write>(
@@ -135,7 +135,7 @@ fn unproved_lines(
     Ok(lines)
 }
 
-/// Explains the first `MOST_EXPLAINED` lines, if allocation succeeds.
+/// Explains the first `MAX_EXPLAINED` lines, if allocation succeeds.
 fn explain_each<F: Write>(
     alloc: Global,
     text: NamedText<'_>,
@@ -146,7 +146,7 @@ fn explain_each<F: Write>(
     let Ok(tokens) = TextTokens::new(alloc, text.bytes) else {
         return;
     };
-    for at in unproved.iter().take(MOST_EXPLAINED) {
+    for at in unproved.iter().take(MAX_EXPLAINED) {
         let Ok(lines) = explain_unproved(alloc, text.name, &tokens, database, *at) else {
             return;
         };

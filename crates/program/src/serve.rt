@@ -26,7 +26,7 @@ use std::thread;
 use std::thread::Threads;
 
 /// The greatest number of turns that `settle` waits.
-const MOST_TURNS: u32 = 10_000_000;
+const MAX_TURNS: u32 = 10_000_000;
 
 /// `settle` asks once in this many turns, since each ask takes the lock that the node needs.
 const TURNS_PER_QUERY: u32 = 64;
@@ -195,7 +195,7 @@ fn status<R: Wait>(
     desk.status(rt, entry_id.node, entry_id.author, entry_id.serial)
 }
 
-/// Returns the verdict as soon as it is known, or `None` if it is not known after `MOST_TURNS`
+/// Returns the verdict as soon as it is known, or `None` if it is not known after `MAX_TURNS`
 /// turns.
 fn wait_for_verdict<R: Wait>(
     rt: &R,
@@ -206,7 +206,7 @@ fn wait_for_verdict<R: Wait>(
     ensures no_node { desk.now ≤ entry_id.node → result ≡ Err NoNode }
     ensures only_apart { entry_id.node < desk.now → IsOkUnless result Apart }
 {
-    for turn in 0..MOST_TURNS {
+    for turn in 0..MAX_TURNS {
         if turn % TURNS_PER_QUERY == 0 {
             let verdict = status(rt, desk, entry_id)?;
             if verdict.is_some() {

@@ -17,7 +17,7 @@ use verify_pool::{OpenGate, Workers};
 use world::Carried;
 
 /// How often at most a cluster is asked again to stop after a failed allocation.
-const MOST_RETRIES: u32 = 1000;
+const MAX_RETRIES: u32 = 1000;
 
 /// The nodes of one process, each with a keep in memory.
 pub type Nodes = Cluster<OpenGate, MemoryKeep<Carried>>;
@@ -79,7 +79,7 @@ fn keeps(alloc: Global, count: u8) -> Result<Vec<MemoryKeep<Carried>>, AllocErro
 pub fn stop_nodes<R: Threads + Wait>(rt: &R, nodes: &mut Nodes) -> Result<(), StepFault>
     ensures { nodes.new ≡ nodes.old }
 {
-    for _retry in 0..MOST_RETRIES {
+    for _retry in 0..MAX_RETRIES {
         match nodes.stop(rt) {
             Err(StepFault::Memory) => {}
             Ok(_report) => return Ok(()),

@@ -26,4 +26,4 @@ pub use item::Item;
 pub use items::{Items, Parts};
 pub use laws::{numbers_by_formula, one_answer, one_list_of_items};
 pub use normal_proof::normal;
-pub use reader::{Heading, MOST_LETTERS, Reader};
+pub use reader::{Heading, MAX_LETTERS, Reader};

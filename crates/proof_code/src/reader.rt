@@ -13,7 +13,7 @@ use std::alloc::{AllocError, Global};
 use std::marker::Model;
 
 /// The largest number of labels and of letters of one proof; more are reported as a failed allocation.
-pub const MOST_LETTERS: usize = 1 << 30;
+pub const MAX_LETTERS: usize = 1 << 30;
 
 /// Reads compressed proofs, one after another. Contracts see the numbers of the last one.
 #[derive(Drop)]
@@ -65,7 +65,7 @@ impl Reader {
     /// keeps the numbers of its items; returns `None` if it writes no items, whatever the mandatory labels are.
     ///
     /// The proof writes these items only if no listed label is a mandatory one, which the caller has to test.
-    /// Errors: an allocation fails, or there are more than `MOST_LETTERS` labels or letters; the numbers are then unchanged.
+    /// Errors: an allocation fails, or there are more than `MAX_LETTERS` labels or letters; the numbers are then unchanged.
     /// Cost: the size of the tokens. Source: Metamath, appendix B.
     pub fn read<'a>(
         &mut self,
@@ -78,7 +78,7 @@ impl Reader {
             (λ heading. IsHeading tokens.now mandatory heading.words heading.count self.new)) }
         ensures same { OnErr result (self.new ≡ self.old) }
     {
-        if mandatory > MOST_LETTERS {
+        if mandatory > MAX_LETTERS {
             return Err(AllocError);
         }
         let Some((heading, kept)) = self.read_or_check(tokens, mandatory) else {
@@ -137,7 +137,7 @@ fn make_room(buffer: &mut Vec<u32>, labels: usize, letters: usize) -> Result<(),
     ensures few { OnOk result (labels + letters < 2 ^ 32) }
     ensures same { OnErr result (buffer.new.items ≡ buffer.old.items) }
 {
-    if labels > MOST_LETTERS || letters > MOST_LETTERS {
+    if labels > MAX_LETTERS || letters > MAX_LETTERS {
         return Err(AllocError);
     }
     if buffer.len() < letters {

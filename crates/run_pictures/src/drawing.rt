@@ -1,6 +1,6 @@
 //! Draws the marks of a run as a picture.
 ghost use Rattle.std.specs.Prelude.{◌≡◌, ◌<◌, ◌≤◌, Err, length, IsOkUnless};
-ghost use Rattle.timelines.specs.declared.grid.TheConstants.{MOST_ROWS};
+ghost use Rattle.timelines.specs.declared.grid.TheConstants.{MAX_ROWS};
 ghost use Rattle.run_pictures.specs.Marks.{shown_of};
 ghost use Rattle.run_pictures.specs.declared.drawing.PictureFault.TheVariants.{Memory, TooManySteps};
 
@@ -12,13 +12,13 @@ use crate::step::{Act, Step};
 use library::Verdict;
 use std::alloc::{AllocError, Global};
 use synod::Weights;
-use timelines::{GridPoint, MOST_ROWS, PointStyle, Timeline};
+use timelines::{GridPoint, MAX_ROWS, PointStyle, Timeline};
 use world::World;
 
 /// Why a run has no picture.
 #[derive(Clone, Copy, Debug, PartialEq, Eq)]
 pub enum PictureFault {
-    /// More than `MOST_ROWS` steps are to be shown.
+    /// More than `MAX_ROWS` steps are to be shown.
     TooManySteps,
     /// An allocation failed.
     Memory,
@@ -44,16 +44,16 @@ struct ShownSteps<'a> {
 /// Returns a picture, in SVG, of the marks of a part of a run. `weights` are those with which the run was
 /// made.
 ///
-/// Errors: `TooManySteps` if more than `MOST_ROWS` steps are to be shown, else `Memory` if an allocation
+/// Errors: `TooManySteps` if more than `MAX_ROWS` steps are to be shown, else `Memory` if an allocation
 /// fails. Cost: that of `Run::marks`, and the size of the picture.
 pub fn draw(alloc: Global, weights: Weights, run: &Run, part: Part) -> Result<Vec<u8>, PictureFault>
-    ensures too_many_steps { MOST_ROWS < length (shown_of run.now.steps part.from part.count)
+    ensures too_many_steps { MAX_ROWS < length (shown_of run.now.steps part.from part.count)
         → result ≡ Err TooManySteps }
-    ensures only_memory { length (shown_of run.now.steps part.from part.count) ≤ MOST_ROWS
+    ensures only_memory { length (shown_of run.now.steps part.from part.count) ≤ MAX_ROWS
         → IsOkUnless result Memory }
 {
     let shown = run.shown(part);
-    if shown.len() as u64 > MOST_ROWS {
+    if shown.len() as u64 > MAX_ROWS {
         return Err(PictureFault::TooManySteps);
     }
     let steps = ShownSteps {

@@ -13,7 +13,7 @@ use synod::Packet;
 use world::{Carried, World};
 
 /// The greatest number of bytes that a label shows of a packet's printed form or of an offered text.
-const MOST_SHOWN: usize = 48;
+const MAX_SHOWN: usize = 48;
 
 /// The byte that replaces one that is not printable ASCII.
 const REPLACEMENT: u8 = b'?';
@@ -67,12 +67,12 @@ fn push_numbered(label: &mut Vec<u8>, before: &[u8], number: u64) -> Result<(), 
     push_number(label, number)
 }
 
-/// Appends at most `MOST_SHOWN` bytes, with `?` for each that is not printable ASCII, and ` ..` if there are more.
+/// Appends at most `MAX_SHOWN` bytes, with `?` for each that is not printable ASCII, and ` ..` if there are more.
 fn push_start(label: &mut Vec<u8>, bytes: &[u8]) -> Result<(), AllocError> {
-    for byte in bytes.iter().take(MOST_SHOWN) {
+    for byte in bytes.iter().take(MAX_SHOWN) {
         label.push(printable(*byte))?;
     }
-    if bytes.len() > MOST_SHOWN {
+    if bytes.len() > MAX_SHOWN {
         label.extend_from_slice(b" ..")?;
     }
     Ok(())

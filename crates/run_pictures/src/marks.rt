@@ -1,7 +1,7 @@
 //! The marks of the steps that are shown.
 ghost use Rattle.std.specs.Prelude.{◌≡◌, ◌≤◌, ◌+◌, ◌++◌, [], ◌∷◌, length, slice_get, IfOk, OnOk};
 ghost use Rattle.std.specs.List.{list_any, position_from};
-ghost use Rattle.timelines.specs.declared.grid.TheConstants.{MOST_ROWS};
+ghost use Rattle.timelines.specs.declared.grid.TheConstants.{MAX_ROWS};
 ghost use Rattle.run_pictures.specs.Marks.{arrow, arrow_marks, break_marks, delivers, delivers_act, learned_marks, marks_from, marks_of};
 ghost use Rattle.run_pictures.specs.Marks.{point_marks, posts, step_point, step_marks, stump, stump_marks, stump_at};
 ghost use Rattle.run_pictures.specs.RunView.{packets_of};
@@ -9,7 +9,7 @@ ghost use Rattle.run_pictures.specs.RunView.{packets_of};
 use crate::mark::{ArrowStart, Mark, StepPoint};
 use crate::step::{Act, Step};
 use std::alloc::{AllocError, Global};
-use timelines::MOST_ROWS;
+use timelines::MAX_ROWS;
 use world::World;
 
 /// Returns the marks of the shown steps, row by row.
@@ -18,7 +18,7 @@ pub(crate) fn collect_marks(
     world: &World,
     shown: &[Step],
 ) -> Result<Vec<Mark>, AllocError>
-    requires { length shown.now ≤ MOST_ROWS }
+    requires { length shown.now ≤ MAX_ROWS }
     ensures { IfOk result (λ marks. marks.items ≡ marks_of (packets_of world.now) shown.now) }
 {
     let mut marks = Vec::new(alloc);
@@ -34,7 +34,7 @@ fn push_rows(
     row: usize,
     rest: &[Step],
 ) -> Result<(), AllocError>
-    requires { row + length rest.now ≤ MOST_ROWS }
+    requires { row + length rest.now ≤ MAX_ROWS }
     ensures { OnOk result (marks.new.items
         ≡ marks.old.items ++ marks_from (packets_of world.now) shown.now row rest.now) }
 {

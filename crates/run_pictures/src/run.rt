@@ -5,7 +5,7 @@ ghost use Rattle.net.specs.World.{packets_after};
 ghost use Rattle.net.specs.declared.fault.StepFault.TheVariants.{Memory};
 ghost use Rattle.world.specs.Carried.{value_event, carried_size};
 ghost use Rattle.world.specs.WorldView.{new_world};
-ghost use Rattle.timelines.specs.declared.grid.TheConstants.{MOST_ROWS};
+ghost use Rattle.timelines.specs.declared.grid.TheConstants.{MAX_ROWS};
 ghost use Rattle.run_pictures.specs.Steps.{act_of, step_start_of, is_event, learned_by, node_of_event, receiver_of, steps_of};
 
 use crate::mark::Mark;
@@ -118,7 +118,7 @@ impl Run {
     /// Errors: an allocation fails. Cost: a scan of the shown steps for each packet that one of them posts
     /// or delivers.
     pub fn marks(&self, alloc: Global, part: Part) -> Result<Vec<Mark>, AllocError>
-        requires { length (shown_of self.now.steps part.from part.count) ≤ MOST_ROWS }
+        requires { length (shown_of self.now.steps part.from part.count) ≤ MAX_ROWS }
         ensures marks { IfOk result (λ marks. marks.items ≡ marks_of
             (packets_of self.now.world) (shown_of self.now.steps part.from part.count)) }
         ensures events { filter is_event self.now.steps ≡ steps_of self.now.world.history }

@@ -11,7 +11,7 @@ use std::collections::BTreeMap;
 use std::marker::Model;
 
 /// The most pairs that are recorded in a proof.
-const MOST_PAIRS: usize = 1_048_576;
+const MAX_PAIRS: usize = 1_048_576;
 
 /// The ranges of two images.
 #[derive(Clone, Copy, Drop)]
@@ -97,7 +97,7 @@ impl ImagePairs {
         }
     }
 
-    /// Records that two images are disjoint, unless `MOST_PAIRS` are recorded or an allocation
+    /// Records that two images are disjoint, unless `MAX_PAIRS` are recorded or an allocation
     /// fails. Does not look whether they are recorded: the caller does (`has`).
     ///
     /// Cost: log n for n pairs.
@@ -105,7 +105,7 @@ impl ImagePairs {
         ensures { RecordsPair self.old self.new pair }
     {
         let place = self.pairs.len();
-        if place >= MOST_PAIRS || self.pairs.push(pair).is_err() {
+        if place >= MAX_PAIRS || self.pairs.push(pair).is_err() {
             return;
         }
         let _recorded = self.places.insert(key(pair), place as u32);

@@ -2,7 +2,7 @@
 ghost use Rattle.std.specs.Prelude.{◌≡◌, ◌≤◌, ◌+◌, ◌*◌, ◌^◌};
 
 /// The most rows that a caller may show; a `Timeline` does not enforce it.
-pub const MOST_ROWS: u64 = 200;
+pub const MAX_ROWS: u64 = 200;
 
 /// The x coordinate of the first column.
 const FIRST_COLUMN_X: u64 = 80;

@@ -13,5 +13,5 @@ mod parts;
 mod style;
 mod timeline;
 
-pub use grid::{GridPoint, MOST_ROWS};
+pub use grid::{GridPoint, MAX_ROWS};
 pub use timeline::{PointStyle, Timeline};

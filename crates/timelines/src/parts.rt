@@ -7,7 +7,7 @@ use std::alloc::AllocError;
 const LOOP_WIDTH: u64 = 30;
 
 /// How many characters fit below a stump without covering those of the next stump.
-const MOST_CHARACTERS: usize = 8;
+const MAX_CHARACTERS: usize = 8;
 
 /// Appends some text and a number.
 pub(crate) fn push_numbered(
@@ -97,7 +97,7 @@ pub(crate) fn push_stump_numbers(
         from.y() + STUMP_DEPTH + 9,
     )?;
     text.extend_from_slice(b"\">")?;
-    if numbers.len() <= MOST_CHARACTERS {
+    if numbers.len() <= MAX_CHARACTERS {
         text.extend_from_slice(numbers)?;
     } else {
         text.extend_from_slice(first_numbers(numbers))?;
@@ -111,7 +111,7 @@ pub(crate) fn push_stump_numbers(
 fn first_numbers(numbers: &[u8]) -> &[u8] {
     let mut len = 0usize;
     for (end, byte) in numbers.iter().enumerate() {
-        if *byte == b',' && (len == 0 || end + b"..".len() <= MOST_CHARACTERS) {
+        if *byte == b',' && (len == 0 || end + b"..".len() <= MAX_CHARACTERS) {
             len = end;
         }
     }

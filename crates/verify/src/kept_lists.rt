@@ -27,7 +27,7 @@ use std::marker::Model;
 const CITATIONS_BEFORE_KEEPING: usize = 4;
 
 /// The most numbers that are kept.
-const MOST_NUMBERS: usize = 1_048_576;
+const MAX_NUMBERS: usize = 1_048_576;
 
 /// The size, in numbers, of the count of an assertion's citations.
 const COUNT_SIZE: usize = 8;
@@ -372,7 +372,7 @@ impl KeptLists {
     fn make_room(&mut self, size: usize)
         ensures { (S : Database) (names : List Name) → IsCacheFor S names self.old → IsCacheFor S names self.new }
     {
-        if self.size.saturating_add(size) > MOST_NUMBERS {
+        if self.size.saturating_add(size) > MAX_NUMBERS {
             self.begin();
         }
         self.size = self.size.saturating_add(size);

@@ -23,6 +23,6 @@ mod tree;
 pub use answer::{Answer, TreeFault};
 pub use checker::{Checker, check};
 pub use failure::{Failure, first_failure};
-pub use plan::{MOST_DEPTH, MOST_NODES, derivation};
+pub use plan::{MAX_DEPTH, MAX_NODES, derivation};
 pub use results::{Results, read_off};
 pub use tree::Tree;

@@ -5,10 +5,10 @@ use std::alloc::{AllocError, Global};
 use std::collections::BTreeMap;
 
 /// The most mandatory hypotheses of an assertion whose pairs are recorded.
-const MOST_HYPOTHESES: usize = 512;
+const MAX_HYPOTHESES: usize = 512;
 
 /// The most variables of a list whose pairs are recorded.
-const MOST_LISTED: usize = 256;
+const MAX_LISTED: usize = 256;
 
 /// A place of two variables: the index of a list that has both, and their indexes in it.
 #[derive(Clone, Copy, Drop)]
@@ -54,7 +54,7 @@ impl PairPlaces {
     pub fn begin(&mut self, hypotheses: &Hypotheses<'_>) -> Result<(), AllocError> {
         self.variables.clear();
         self.places.clear();
-        if hypotheses.len() > MOST_HYPOTHESES {
+        if hypotheses.len() > MAX_HYPOTHESES {
             return Ok(());
         }
         for index in 0..hypotheses.len() {
@@ -73,7 +73,7 @@ impl PairPlaces {
     /// Errors: an allocation fails. Cost: the list, times a logarithm.
     pub fn look_up(&mut self, list: &[u32]) -> Result<bool, AllocError> {
         self.listed.clear();
-        if list.len() > MOST_LISTED {
+        if list.len() > MAX_LISTED {
             return Ok(false);
         }
         for variable in list {

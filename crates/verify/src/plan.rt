@@ -25,10 +25,10 @@ use proof_code::Items;
 use std::alloc::{AllocError, Global};
 
 /// The most nodes of a derivation that is returned.
-pub const MOST_NODES: usize = 65_536;
+pub const MAX_NODES: usize = 65_536;
 
 /// The greatest depth of a derivation that is returned; a lone node has depth 1.
-pub const MOST_DEPTH: usize = 1_024;
+pub const MAX_DEPTH: usize = 1_024;
 
 /// A node of a plan.
 #[derive(Drop)]
@@ -161,8 +161,8 @@ fn extent_at(node: &Node, extents: &[Extent]) -> Extent
     let mut depth = 1;
     for child in children {
         let extent = extent_with_number(extents, *child);
-        nodes = (nodes + extent.nodes).min(MOST_NODES + 1);
-        depth = depth.max((extent.depth + 1).min(MOST_DEPTH + 1));
+        nodes = (nodes + extent.nodes).min(MAX_NODES + 1);
+        depth = depth.max((extent.depth + 1).min(MAX_DEPTH + 1));
     }
     Extent { nodes, depth }
 }
@@ -186,7 +186,7 @@ pub fn measure(alloc: Global, nodes: &[Node]) -> Result<Vec<Extent>, AllocError>
 pub fn is_small(extent: Extent) -> bool
     ensures { IsTrue result ↔ ((extent.nodes ≤ most_nodes) × (extent.depth ≤ most_depth)) }
 {
-    extent.nodes <= MOST_NODES && extent.depth <= MOST_DEPTH
+    extent.nodes <= MAX_NODES && extent.depth <= MAX_DEPTH
 }
 
 /// Returns the derivation that the items of a right proof of the `$p` at that position spell.

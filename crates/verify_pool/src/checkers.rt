@@ -7,7 +7,7 @@ use verify::Checker;
 
 /// The largest number of symbols that the buffer of results of a worker holds (4 MiB). A proof that
 /// needs more is heavy, and is left to the calling thread.
-pub const MOST_WORKER_SYMBOLS: usize = 1_048_576;
+pub const MAX_WORKER_SYMBOLS: usize = 1_048_576;
 
 /// A worker's checker, and the outcome of the worker's jobs.
 #[derive(Drop)]
@@ -55,7 +55,7 @@ impl Checkers {
         self.calling.limit(if are_admitted {
             usize::MAX
         } else {
-            MOST_WORKER_SYMBOLS
+            MAX_WORKER_SYMBOLS
         });
     }
 
@@ -97,7 +97,7 @@ impl Checkers {
     {
         while self.workers.len() < count {
             let mut checker = Checker::new(self.alloc);
-            checker.limit(MOST_WORKER_SYMBOLS);
+            checker.limit(MAX_WORKER_SYMBOLS);
             self.workers.push(Worker {
                 checker,
                 least: Ok(None),

@@ -21,4 +21,4 @@ pub use gate::{Gate, LightGate, OpenGate, Place};
 pub use job::{Job, check_all};
 pub use pool::{judge_all, judge_here};
 pub use work::Work;
-pub use workers::{MOST_WORKERS, Workers};
+pub use workers::{MAX_WORKERS, Workers};

@@ -1,14 +1,14 @@
 //! The number of threads that judge in parallel.
 
 ghost use Rattle.std.specs.Prelude.{◌≡◌, ℕ, ◌≤◌};
-ghost use Rattle.verify_pool.specs.declared.workers.TheConstants.{MOST_WORKERS};
+ghost use Rattle.verify_pool.specs.declared.workers.TheConstants.{MAX_WORKERS};
 
 use std::marker::Model;
 use std::thread;
 use std::thread::Threads;
 
 /// The largest number of workers.
-pub const MOST_WORKERS: usize = 16;
+pub const MAX_WORKERS: usize = 16;
 
 /// The number of threads that check the proofs of one text, 1 to 16. Contracts see that number.
 #[derive(Clone, Copy, Debug)]
@@ -22,7 +22,7 @@ impl Model for Workers {
 
     ghost view = { λ w. w.count };
 
-    ghost invariant = { λ w. (1 ≤ w.count) × (w.count ≤ MOST_WORKERS) };
+    ghost invariant = { λ w. (1 ≤ w.count) × (w.count ≤ MAX_WORKERS) };
 
     ghost inverse = { λ n. record { count = n } };
 }
@@ -30,7 +30,7 @@ impl Model for Workers {
 impl Workers {
     /// Returns `count` workers, where `count` is 1 to 16.
     pub fn of(count: usize) -> Workers
-        requires { (1 ≤ count) × (count ≤ MOST_WORKERS) }
+        requires { (1 ≤ count) × (count ≤ MAX_WORKERS) }
         ensures { result ≡ count }
     {
         Workers { count }
@@ -43,7 +43,7 @@ impl Workers {
         if threads < 2 {
             return Workers { count: 1 };
         }
-        let count = 2 * threads.min(MOST_WORKERS / 2);
+        let count = 2 * threads.min(MAX_WORKERS / 2);
         Workers { count }
     }
 
@@ -51,7 +51,7 @@ impl Workers {
     pub fn count(self) -> usize
         ensures value { result ≡ self }
         ensures some { 1 ≤ result }
-        ensures few { result ≤ MOST_WORKERS }
+        ensures few { result ≤ MAX_WORKERS }
     {
         self.count
     }

@@ -61,9 +61,9 @@ fill_from_hypotheses-requires-clause-hypotheses c =
     subst (AreHypotheses k.entries) (sym (all w list (collected-from k.entries S (take (c.len-at.result + 1 - 1) S) c.in-Some.codes.now c.find_floats.new.list.items list before c.in_ok-find_floats.ensures c.in_ok-add_essentials.ensures)))
     (hypotheses-are (names_in k) (labels_in k) k.entries (bare c.args.stmt.now))
 
-pub returns-then-size-le-MOST_KEPT : goal.returns-then-size-le-MOST_KEPT
-returns-then-size-le-MOST_KEPT c =
-    let w = (goal.at.returns-then-size-le-MOST_KEPT c).In-Some in
+pub returns-then-size-le-MAX_KEPT : goal.returns-then-size-le-MAX_KEPT
+returns-then-size-le-MAX_KEPT c =
+    let w = (goal.at.returns-then-size-le-MAX_KEPT c).In-Some in
     let k = c.args.storage.now in
     let S = statements_of k in
     let s = bare c.args.stmt.now in

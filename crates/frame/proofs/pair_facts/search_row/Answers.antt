@@ -10,14 +10,14 @@ walk-walked-requires-clause-sought c = sought-row c.args.storage.now c.args.at c
 pub record_passed-requires-clause-sought : goal.record_passed-requires-clause-sought
 record_passed-requires-clause-sought c = sought-row c.args.storage.now c.args.at c.args.x c.args.y c.stack-row.result c.requires.sought c.stack-row.ensures
 
-pub returns-then-walked-gt-MOST_UNRECORDED-clause-found : goal.returns-then-walked-gt-MOST_UNRECORDED-clause-found
-returns-then-walked-gt-MOST_UNRECORDED-clause-found c = sym (c.walk-walked.ensures 0 (omega arith)) ∙ row-answer c.args.storage.now c.args.at c.args.x c.args.y c.stack.result c.requires.sought c.stack.ensures
+pub returns-then-walked-gt-MAX_UNRECORDED-clause-found : goal.returns-then-walked-gt-MAX_UNRECORDED-clause-found
+returns-then-walked-gt-MAX_UNRECORDED-clause-found c = sym (c.walk-walked.ensures 0 (omega arith)) ∙ row-answer c.args.storage.now c.args.at c.args.x c.args.y c.stack.result c.requires.sought c.stack.ensures
 
-pub returns-else-walked-gt-MOST_UNRECORDED-clause-found : goal.returns-else-walked-gt-MOST_UNRECORDED-clause-found
-returns-else-walked-gt-MOST_UNRECORDED-clause-found c = sym (c.walk-walked.ensures 0 (omega arith)) ∙ row-answer c.args.storage.now c.args.at c.args.x c.args.y c.stack.result c.requires.sought c.stack.ensures
+pub returns-else-walked-gt-MAX_UNRECORDED-clause-found : goal.returns-else-walked-gt-MAX_UNRECORDED-clause-found
+returns-else-walked-gt-MAX_UNRECORDED-clause-found c = sym (c.walk-walked.ensures 0 (omega arith)) ∙ row-answer c.args.storage.now c.args.at c.args.x c.args.y c.stack.result c.requires.sought c.stack.ensures
 
 pub record_passed-requires-clause-facts : goal.record_passed-requires-clause-facts
 record_passed-requires-clause-facts c = subst (AreFacts (numbered c.args.storage.now)) (sym (c.record_search.ensures ∙ c.spend.ensures)) c.requires.facts
 
-pub returns-else-walked-gt-MOST_UNRECORDED-clause-facts : goal.returns-else-walked-gt-MOST_UNRECORDED-clause-facts
-returns-else-walked-gt-MOST_UNRECORDED-clause-facts c = subst (AreFacts (numbered c.args.storage.now)) (sym (c.record_search.ensures ∙ c.spend.ensures)) c.requires.facts
+pub returns-else-walked-gt-MAX_UNRECORDED-clause-facts : goal.returns-else-walked-gt-MAX_UNRECORDED-clause-facts
+returns-else-walked-gt-MAX_UNRECORDED-clause-facts c = subst (AreFacts (numbered c.args.storage.now)) (sym (c.record_search.ensures ∙ c.spend.ensures)) c.requires.facts
