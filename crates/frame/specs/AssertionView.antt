@@ -31,6 +31,7 @@ pub record IsNumberedHypothesis (S : Database) (names : List Name) (p typecode :
   pub first : IsTypecode names typecode (expr_of stmt)
   pub is : IsStatementOf names p stmt h
 
+-- the hypotheses at these positions, by their typecodes and their numbers
 abbrev pub AreNumberedHypotheses : Database → List Name → List ℕ → List ℕ → List Hypothesis → Type 0
 AreNumberedHypotheses S names [] [] [] = Unit {0}
 AreNumberedHypotheses S names (p ∷ ps) (typecode ∷ typecodes) (h ∷ hs) = IsNumberedHypothesis S names p typecode h × AreNumberedHypotheses S names ps typecodes hs
@@ -42,6 +43,7 @@ pub record AreListsOf (S : Database) (names : List Name) (a : ℕ) (g : Assertio
   pub groups : map (decode names) g.groups ≡ mandatory_groups (before S a) s
   pub groups_below : AllBelow (length names) g.groups
 
+-- these lists describe the assertion at a
 abbrev pub AreBuffersOf : Database → List Name → ℕ → Assertion → Type 0
 AreBuffersOf S names a g = (s : Stmt) → stmt_at S a ≡ Some s → AreListsOf S names a g s
 
@@ -71,6 +73,7 @@ pub record AreCitingListsOf (S : Database) (names : List Name) (a : ℕ) (g : As
   pub pairs : AreMandatoryPairs S names a s g.groups
   pub groups_below : AllBelow (length names) g.groups
 
+-- the assertion at a can be cited by these lists
 abbrev pub AreCitingLists : Database → List Name → ℕ → Assertion → Type 0
 AreCitingLists S names a g = (s : Stmt) → stmt_at S a ≡ Some s → AreCitingListsOf S names a g s
 

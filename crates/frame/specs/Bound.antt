@@ -15,13 +15,14 @@ pub record HasFloat (S : Database) (ps : List ℕ) (x : Name) : Type 0 where
   pub listed : slice_get ps place ≡ Some position
   pub stands : stmt_at S position ≡ Some (Float label constant x)
 
--- the first symbol is not a variable
+-- the first symbol, if there is one, is not a variable
 abbrev pub IsFirstFixed : Database → Expr → Type 0
 IsFirstFixed S [] = Unit {0}
 IsFirstFixed S (x ∷ e) = is_variable S x ≡ false
 
--- each variable of the expression, of the mandatory `$e` and of the groups of the assertion s at a is that of exactly one
--- mandatory `$f`; what is a variable at a mandatory `$e` is one at the assertion
+-- each variable of the expression, of the mandatory `$e` and of the groups of the assertion s at a
+-- is that of exactly one mandatory `$f`; a variable at a mandatory `$e` is still a variable at the
+-- assertion
 pub record IsBound (S : Database) (a : ℕ) (s : Stmt) : Type 0 where
   pub own : (x : Name) → has_name x (expr_of s) ≡ true → is_variable (before S a) x ≡ true → HasFloat S (hypotheses (before S a) s) x
   pub essential : (k p : ℕ) (label : Name) (e : Expr) (x : Name) → slice_get (hypotheses (before S a) s) k ≡ Some p → stmt_at S p ≡ Some (Ess label e) → has_name x e ≡ true → is_variable (before S a) x ≡ true → HasFloat S (hypotheses (before S a) s) x

@@ -25,7 +25,7 @@ pub record IsHypothesis (S : Database) (at i : ℕ) (s : Stmt) : Type 0 where
   pub kind : IsTrue (is_hypothesis_kind s)
   pub active : IsTrue (is_active S i at)
 
--- the images are all of variables
+-- each name that has an image is a variable at a
 abbrev pub OfVariables : Database → ℕ → Images → Type 0
 OfVariables S a σ = IsTrue (list_all (λ p. is_variable (before S a) p.0) σ)
 
@@ -37,11 +37,12 @@ pub record IsInstance (S : Database) (at a : ℕ) (s : Stmt) (σ : Images) : Typ
   pub of_variables : OfVariables S a σ
   pub disjoint : IsTrue (are_groups_disjoint (before S at) σ (mandatory_groups (before S a) s))
 
--- the expression of the statement at i
+-- the expression of a statement, or nothing if there is none
 abbrev pub option_expr : Option Stmt → Expr
 option_expr None = []
 option_expr (Some s) = expr_of s
 
+-- the expression of the statement at i
 abbrev pub expr_at : Database → ℕ → Expr
 expr_at S i = option_expr (stmt_at S i)
 

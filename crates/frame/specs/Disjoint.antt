@@ -14,6 +14,7 @@ abbrev pub is_group_disjoint : Database → Images → List Name → Bool
 is_group_disjoint S σ names =
     list_all (λ x. list_all (λ y. name_eq x y || are_disjoint S (image σ x) (image σ y)) names) names
 
+-- this holds for each of the lists
 abbrev pub are_groups_disjoint : Database → Images → List (List Name) → Bool
 are_groups_disjoint S σ groups = list_all (is_group_disjoint S σ) groups
 

@@ -8,6 +8,7 @@ use Rattle.frame.specs.Parts.{FrameParts}
 abbrev pub is_used : Database → Stmt → Name → Bool
 is_used S s x = has_name x (expr_of s) || list_any (λ p. is_essential p.1 && has_name x (expr_of p.1)) (active S)
 
+-- a variable that is used
 abbrev pub is_mandatory : Database → Stmt → Name → Bool
 is_mandatory S s x = is_variable S x && is_used S s x
 
@@ -29,10 +30,11 @@ together groups x y = not (name_eq x y) && list_any (λ names. has_name x names 
 abbrev pub groups : Database → List (List Name)
 groups S = map (λ p. disjoint_names p.1) (active S)
 
--- x and y are different and stand together in an active `$d`
+-- x and y are different and both occur in one active `$d`
 abbrev pub is_pair : Database → Name → Name → Bool
 is_pair S x y = together (groups S) x y
 
+-- a pair of mandatory variables
 abbrev pub is_mandatory_pair : Database → Stmt → Name → Name → Bool
 is_mandatory_pair S s x y = is_pair S x y && is_mandatory S s x && is_mandatory S s y
 
@@ -46,6 +48,7 @@ has_two_or_more (x ∷ y ∷ names) = true
 abbrev pub mandatory_groups : Database → Stmt → List (List Name)
 mandatory_groups S s = filter has_two_or_more (map (filter (is_mandatory S s)) (groups S))
 
+-- the frame of the assertion s
 abbrev pub frame_of : Database → Stmt → FrameParts
 frame_of S s = record { hypotheses = hypotheses S s; groups = mandatory_groups S s; conclusion = expr_of s }
 

@@ -1,5 +1,5 @@
 -- Facts about pairs of variables: the answers of searches.
--- Metamath, 4.2.4: two variables are disjoint if they stand together in an active `$d`.
+-- Metamath, 4.2.4: two variables are disjoint if they both occur in one active `$d`.
 -- The code records them so that a later search need not go through the same `$d`.
 use Rattle.std.specs.Prelude.{◌≡◌, ◌+◌, ◌<◌, ◌≤◌, List, [], ◌∷◌, length}
 use Rattle.frame.specs.Words.{name_at, before}
@@ -7,7 +7,8 @@ use Rattle.frame.specs.declared.pair_facts.PairFact.{PairFact}
 use Rattle.frame.specs.FrameOf.{is_pair}
 use Rattle.frame.specs.Parts.{Numbered}
 
--- the fact is true: it says whether its variables stand together in a `$d` that is active right after its position
+-- the fact is true: it says whether its variables both occur in a `$d` that is active right after
+-- its position
 pub record IsFact (v : Numbered) (f : PairFact) : Type 0 where
   pub above : 1 ≤ f.position
   pub within : f.position ≤ length v.statements

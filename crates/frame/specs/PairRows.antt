@@ -10,6 +10,6 @@ use Rattle.frame.specs.Parts.{Numbered}
 abbrev pub have_both : List (List ℕ) → ℕ → ℕ → Bool
 have_both lists a b = list_any (λ list. list_any (λ c. a == c) list && list_any (λ c. b == c) list) lists
 
--- every two symbols of one list stand together in an active `$d`
+-- every two symbols of one list both occur in one active `$d`
 pub record AreTogether (v : Numbered) (lists : List (List ℕ)) : Type 0 where
   pub each : (a b : ℕ) → a < length v.names → b < length v.names → (a == b) ≡ false → have_both lists a b ≡ true → is_pair v.statements (name_at v.names a) (name_at v.names b) ≡ true

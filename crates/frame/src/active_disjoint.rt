@@ -5,11 +5,12 @@ ghost use Rattle.{names.specs.Codes.decode, frame.specs.Below.AreBelow, frame.sp
 use crate::pairs::{Pairs, contains};
 
 impl<'a> Pairs<'a> {
-    /// Returns whether every variable of one list and every variable of the other are different and stand together in an
-    /// active `$d`.
+    /// Returns whether every variable of one list and every variable of the other are different and
+    /// both occur in one active `$d`.
     ///
-    /// A repetition of a variable in its list is skipped. Does not allocate. Cost: that of `has` for each pair of a variable
-    /// from each list, and the symbols before each variable in its list.
+    /// A repetition of a variable in its list is skipped. Does not allocate. Cost: that of `has`
+    /// for each pair of a variable from each list, and for each variable the symbols before it in
+    /// its list.
     pub fn are_disjoint(&self, left: &[u32], right: &[u32]) -> bool
         requires left { AreBelow (length self.now.names) left.now }
         requires right { AreBelow (length self.now.names) right.now }

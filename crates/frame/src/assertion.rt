@@ -11,8 +11,11 @@ use std::marker::Model;
 /// conclusion.
 #[derive(Drop)]
 pub struct Frame {
+    /// The positions of the mandatory hypotheses.
     pub(crate) hypotheses: SmallVec<usize, 8>,
+    /// For each active `$d` its mandatory variables, if they are two or more.
     pub(crate) groups: Vec<Words>,
+    /// The expression of the assertion.
     pub(crate) conclusion: Words,
 }
 

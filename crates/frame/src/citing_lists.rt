@@ -23,9 +23,9 @@ const PAIR_COST: usize = 2;
 /// The largest number of attempts to search for all pairs, each up to four times as long as the one before it.
 const MAX_TRIES: usize = 16;
 
-/// Appends, for the positions in `buffers` of the mandatory hypotheses of an assertion at `at`, each hypothesis as one
-/// number, its typecode, and groups that have the pairs of disjoint variables: one for each pair if that costs less, else
-/// one for each `$d`.
+/// Appends, for the positions in `buffers` of the mandatory hypotheses of an assertion at `at`,
+/// each hypothesis as one number, its typecode, and groups that have exactly the pairs of disjoint
+/// variables: one group for each pair if that costs less, else one for each `$d`.
 ///
 /// Errors: an allocation fails.
 pub fn fill_citing_lists(
@@ -118,8 +118,12 @@ fn count_at(counts: &[usize], index: usize) -> usize {
     }
 }
 
-/// Appends a group for each two of the variables that are disjoint, and returns `true`, if that takes no longer than going
-/// through the active `$d`; else appends none, and returns `false`.
+/// Appends a group for each two of the variables that are disjoint, and returns `true`, if that
+/// takes no longer than going through the active `$d`; else appends none, and returns `false`.
+///
+/// Together the searches may pass a budget of `$d`. If that does not suffice, and the active `$d`
+/// have more symbols than four times the budget, all pairs are searched for again with that budget;
+/// the facts that were recorded make this shorter.
 ///
 /// Errors: an allocation fails. Cost: at most a constant times that of the cheaper of the two.
 fn find_pairs(
@@ -161,8 +165,8 @@ fn find_pairs(
     Ok(false)
 }
 
-/// Returns how many symbols of `$d` take about as long to go through as the searches for all pairs of the variables, if these
-/// have known facts.
+/// Returns how many symbols of `$d` take about as long to go through as the searches for all pairs
+/// of the variables, if facts tell their answers.
 fn first_budget(variables: &[u32]) -> usize {
     let squared = variables.len().saturating_mul(variables.len());
     squared.saturating_mul(PAIR_COST)
@@ -206,8 +210,9 @@ fn encode_all_hypotheses(storage: &Storage, buffers: &mut FrameBuffers) -> Resul
     )
 }
 
-/// Appends a group for each two of the variables that are disjoint, until the searches have passed as many `$d` as they may.
-/// Returns whether all were searched for.
+/// Appends a group for each two of the variables that are disjoint, until the budget of `facts` is
+/// spent: the number of `$d` that the searches may pass. Returns whether all pairs were searched
+/// for.
 fn add_pairs(
     storage: &Storage,
     kept: &PairFacts,
@@ -234,8 +239,8 @@ fn add_pairs(
     Ok(true)
 }
 
-/// Appends a group of two for a variable and each of some others from which it is disjoint, until the searches have passed as
-/// many `$d` as they may. Returns whether all were searched for.
+/// Appends a group of two for a variable and each of some others from which it is disjoint, until
+/// the budget of `facts` is spent. Returns whether all were searched for.
 fn add_pairs_of(
     storage: &Storage,
     kept: &PairFacts,

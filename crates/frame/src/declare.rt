@@ -1,5 +1,5 @@
-//! Makes and undoes the changes by one more statement: the names and the last declarations of symbols, where blocks end, and
-//! what is active after it.
+//! Makes and undoes the changes that one more statement makes: in the names and the last
+//! declarations of symbols, in where blocks end, and in what is active after it.
 ghost use Rattle.std.specs.Prelude.{◌≡◌, ℕ, ◌+◌, ◌≤◌, ◌==◌, ◌++◌, ◌∷◌, [], Some, length, slice_get, OnOk, if◌then◌else◌, map, take};
 ghost use Rattle.{std.specs.List.list_any, mm_read.specs.declared.stmt.Stmt.Stmt as Statement, scope.specs.Active.label_of, scope.specs.Declares.IsRecordedBy, scope.specs.Declares.MayDeclare, scope.specs.Declares.declared_with, entries.specs.Stored.Spans.Extends, frame.specs.Below.AreBelow, frame.specs.LastActive.last_active_of, frame.specs.declared.storage.LastDeclarations.LastDeclarations as Declared, frame.specs.Stored.Whole.AreStored, frame.specs.Stored.EntryMeanings.option_position, frame.specs.Stored.EntryMeanings.statements_of, frame.specs.Stored.EntryMeanings.declared_by, frame.specs.Stored.EntryMeanings.last_of, frame.specs.Stored.EntryMeanings.with_last, frame.specs.Stored.EntryMeanings.ReadsAs, frame.specs.Stored.EntryMeanings.replaced_of, frame.specs.Stored.EntryMeanings.last_declarations_of, frame.specs.Stored.Counts.HasMoreNames, frame.specs.Stored.Counts.HasRoom, frame.specs.Stored.Counts.kind_of, frame.specs.Stored.Counts.next_last_active, frame.specs.Stored.Counts.HasTwo, frame.specs.Stored.Ends.with_end, frame.specs.Stored.Ends.AreBlockEnds};
 
@@ -11,11 +11,13 @@ use mm_read::Stmt;
 use scope::{SymbolNumbers, declare_names};
 use std::alloc::{AllocError, Global};
 
-/// There are fewer symbols than this, so numbers fit in 32 bits.
+/// There are fewer symbols than this, so their numbers fit in 32 bits.
 const SYMBOL_NUMBERS_LIMIT: usize = 2147483648;
 
-/// Declares the names of the next statement, and appends its position if it has a label. Records the numbers of the
-/// symbols of a `$c` or `$v`.
+/// Declares the names of the next statement, and appends its position if it has a label. Records
+/// the numbers of the symbols of a `$c` or `$v`.
+///
+/// Errors: an allocation fails, or there are too many symbols; some changes may have been made.
 pub fn declare_next(
     alloc: Global,
     storage: &mut Storage,
@@ -84,7 +86,8 @@ fn last_active_with(last_active: LastActive, kind: Kind, at: u32) -> LastActive
     last_active
 }
 
-/// Returns the symbols that a statement of this kind with these symbols declares.
+/// Returns the symbols whose last declaration changes with a statement of this kind with these
+/// symbols: the variable of a `$f`, and all symbols of a `$v`.
 pub fn declared(kind: Kind, codes: &[u32]) -> &[u32]
     requires { HasTwo kind codes.now }
     ensures declared { result.now ≡ declared_by kind codes.now }
@@ -107,7 +110,8 @@ fn last_declaration(symbol: LastDeclarations, kind: Kind) -> usize
     }
 }
 
-/// Records the last declarations that a statement of this kind with these symbols replaces.
+/// Appends the last declarations that a statement of this kind with these declared symbols
+/// replaces, so that they can be restored.
 pub fn record_replaced(
     symbols: &[LastDeclarations],
     kind: Kind,

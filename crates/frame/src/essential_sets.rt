@@ -12,7 +12,7 @@ ghost use Rattle.frame.specs.Stored.Whole.{AreStored};
 
 use crate::at_position::last_active_at;
 use crate::kept_sets::{KeptSet, KeptSets};
-use crate::mandatory::{MAX_WITHOUT_SET, add_essentials, given_count, sort_unique};
+use crate::mandatory::{MAX_WITHOUT_SET, add_essentials, brought_count, sort_unique};
 use crate::storage::Storage;
 use entries::{Kind, PositionSets};
 use std::alloc::{AllocError, Global};
@@ -21,7 +21,9 @@ use std::alloc::{AllocError, Global};
 /// they are few, they are collected by a walk over the `$e`.
 #[derive(Drop)]
 pub struct EssentialSets {
+    /// Where lists are allocated.
     pub alloc: Global,
+    /// The sets, by number. Set 0 stands for none.
     pub sets: PositionSets,
     /// Which statements keep one of the sets.
     pub kept: KeptSets,
@@ -54,9 +56,11 @@ impl EssentialSets {
         self.sets.len(set)
     }
 
-    /// Appends the `$e` that are active at `at`, and the `$f` that are kept with them, and sorts the list.
+    /// Appends the `$e` that are active at `at` and the `$f` of their variables, sorts the list,
+    /// and removes repetitions.
     ///
-    /// Cost: n log n for n of them; if they are few, a walk over the `$e`.
+    /// Errors: an allocation fails. Cost: n log n for n of them; if they are few, a walk over the
+    /// `$e`.
     pub fn add(&self, storage: &Storage, at: usize, list: &mut Vec<u32>) -> Result<(), AllocError>
         requires stored { AreStored storage.now }
         requires sets { AreEssentialSets self.now storage.now.entries (statements_of storage.now) }
@@ -147,7 +151,7 @@ impl EssentialSets {
         ensures more { Extends self.old.sets self.new.sets }
         ensures kept { self.new.kept ≡ self.old.kept }
     {
-        if given_count(storage) <= MAX_WITHOUT_SET {
+        if brought_count(storage) <= MAX_WITHOUT_SET {
             return Ok(0);
         }
         let mut list = Vec::new(self.alloc);
@@ -164,7 +168,7 @@ impl EssentialSets {
         }
     }
 
-    /// Gives back the room of removed sets, if it is more than that of the remaining ones.
+    /// Frees unused capacity, as `entries::give_back` does.
     pub fn shrink(&mut self)
         ensures sets { self.new.sets ≡ self.old.sets }
         ensures kept { self.new.kept ≡ self.old.kept }

@@ -20,8 +20,9 @@ use mm_read::Stmt;
 use scope::{Rule, Rules, Scope, Steps, SymbolNumbers};
 use std::alloc::{AllocError, Global};
 
-/// Appends the statement, by the recorded numbers of its symbols if there are any. If an allocation fails,
-/// some of it may remain after the earlier contents.
+/// Appends the statement. Looks up the numbers of its symbols if they are not recorded.
+///
+/// Errors: an allocation fails; then some of the statement may remain after the earlier contents.
 fn extend(
     alloc: Global,
     storage: &mut Storage,
@@ -80,9 +81,9 @@ fn extend(
     Ok(())
 }
 
-/// Appends the statement, by the recorded numbers of its symbols if there are any.
+/// Appends the statement as a whole, or leaves everything as before.
 ///
-/// If an allocation fails, everything is as before.
+/// Errors: an allocation fails.
 fn extend_whole(
     alloc: Global,
     storage: &mut Storage,
@@ -112,7 +113,7 @@ fn extend_whole(
 
 /// Appends the statement, and records the mandatory hypotheses that its active `$e` bring along.
 ///
-/// If an allocation fails, the storage is as before.
+/// Errors: an allocation fails; everything is as before.
 fn extend_with_sets(
     alloc: Global,
     storage: &mut Storage,
@@ -181,7 +182,7 @@ fn roll_back(storage: &mut Storage, names: usize, replaced: usize)
     storage.essentials.truncate(last);
 }
 
-/// Gives back the room of the removed contents of the storage, if it is more than that of the remaining contents.
+/// Frees unused capacity of the lists of the storage, as `entries::give_back` does.
 ///
 /// Cost: that of `Numbering::shrink`, and the number of symbols removed.
 fn shrink_lists(alloc: Global, storage: &mut Storage)
@@ -211,8 +212,12 @@ fn shrink_lists(alloc: Global, storage: &mut Storage)
 impl Frames {
     /// Appends the statement that the scope accepts next.
     ///
-    /// If an allocation fails, everything is as before. One step is counted, whatever the outcome.
-    /// Cost: the statement's own size.
+    /// Errors: an allocation fails; everything is as before. One step is counted, whatever the
+    /// outcome.
+    /// Cost: the statement's own size, n log n for an expression of n symbols if n is at least
+    /// `LONG_EXPRESSION`; for an assertion also up to 48 hypotheses that the active `$e` bring
+    /// along, and up to 64 active `$d`; for a `$}` the `$d`, `$v` and `$e` that it makes inactive;
+    /// for a `$e` also its `$f`, times a logarithm, or the size of the first set of hypotheses.
     pub fn push(&mut self, scope: &Scope, stmt: &Stmt, steps: &mut Steps) -> Result<(), AllocError>
         requires same { scope.now.statements ≡ self.old.statements }
         requires legal { IsLegal scope.now.statements stmt.now }
@@ -236,11 +241,13 @@ impl Frames {
         )
     }
 
-    /// Appends the next statement if it breaks none of the rules G1 to G10. The rules, whose state is that after the
-    /// same statements, borrow the numbering, and accept the statement.
+    /// Appends the next statement if it breaks none of the rules G1 to G10 (`scope`). `rules` is
+    /// the state of the rules after the same statements; it judges the statement by the numbering
+    /// of the frames, and accepts it too.
     ///
-    /// Errors: the least rule that it breaks, or `Memory` if it breaks none; everything is then as before. Cost: that
-    /// of `Rules::broken_rule` and of `push`; one step is counted, whatever the outcome.
+    /// Errors: the least rule that the statement breaks, or `Memory` if it breaks none; everything
+    /// is then as before. Cost: that of `Rules::broken_rule` and of `push`; one step is counted,
+    /// whatever the outcome.
     pub fn add(&mut self, rules: &mut Rules, stmt: &Stmt, steps: &mut Steps) -> Result<(), Rule>
         requires same { rules.old.statements ≡ self.old.statements }
         ensures added { OnOk result (self.new.statements ≡ self.old.statements ++ bare stmt.now ∷ []) }
@@ -284,10 +291,12 @@ impl Frames {
         accepted.map_err(|_| Rule::Memory)
     }
 
-    /// Truncates to the first `len` statements.
+    /// Truncates to the first `len` statements. If the kept facts on pairs of variables are about
+    /// more statements than these, all of them are discarded.
     ///
-    /// Cannot fail: unused room is given back if a smaller block can be allocated. Cost: the size of the statements that are
-    /// removed.
+    /// Cannot fail. Frees the capacity only of stacks of which little is left; `shrink` frees the
+    /// rest. Cost: the size of the statements that are removed, and the number of facts that are
+    /// discarded.
     pub fn shorten(&mut self, len: usize)
         ensures statements { self.new.statements ≡ take len self.old.statements }
         ensures names { Extends self.new.names self.old.names }
@@ -298,10 +307,11 @@ impl Frames {
         self.kept_facts.truncate(len);
     }
 
-    /// Gives back the room of removed statements, if it is more than that of the remaining ones.
+    /// Frees unused capacity: that of each list whose capacity is more than four times its length,
+    /// and that of the buffers for the next statement.
     ///
-    /// Cost: a constant; if room is given back, the size of the remaining contents, which is less than that of what was
-    /// removed.
+    /// Cost: a constant; if capacity is freed, the size of the remaining contents, which is less
+    /// than that of what was removed.
     pub fn shrink(&mut self)
         ensures { self.new ≡ self.old }
     {

@@ -3,11 +3,11 @@
 use std::alloc::Global;
 use std::collections::BTreeMap;
 
-/// The number of slots in which a guess is looked for.
+/// The number of slots of the table that belong to a hash.
 pub(crate) const PROBES: usize = 8;
 
 /// The smallest number of slots of a table that is not empty: a power of two.
-const FEWEST: usize = 1_024;
+const MIN_SLOTS: usize = 1_024;
 
 /// 2^64 divided by the golden ratio: an odd multiplier that spreads keys evenly.
 const MULTIPLIER: u64 = 0x9E37_79B9_7F4A_7C15;
@@ -84,7 +84,8 @@ impl FactSlots {
         let _recorded = self.crowded.insert(pair_key(key), index);
     }
 
-    /// Fills a slot, if it is empty, and returns whether it was.
+    /// Puts a guess into the slot with number `probe` of a hash, if that slot is empty, and returns
+    /// whether it was.
     fn take(&mut self, hash: usize, probe: usize, guess: u32) -> bool {
         let slot = self.slot(hash, probe);
         let Some(place) = self.slots.get_mut(slot) else {
@@ -97,7 +98,8 @@ impl FactSlots {
         is_empty
     }
 
-    /// Empties the slots that have the guess for a fact. A look-up ends at an empty slot, so facts are removed all together.
+    /// Empties the slots that have the guess for a fact. A look-up ends at an empty slot, so the
+    /// caller removes all facts, not single ones.
     pub(crate) fn remove(&mut self, key: FactKey, index: usize) {
         let hash = hash_of(key);
         let guess = u32::try_from(index.saturating_add(1)).unwrap_or(0);
@@ -118,7 +120,7 @@ impl FactSlots {
 
     /// Empties the table, and makes it twice as large. If an allocation fails, the table has no slots.
     pub(crate) fn grow(&mut self) {
-        let count = self.slots.len().saturating_mul(2).max(FEWEST);
+        let count = self.slots.len().saturating_mul(2).max(MIN_SLOTS);
         self.crowded.clear();
         self.slots.clear();
         let _grown = self.slots.resize(count, 0);

@@ -8,18 +8,21 @@ use scope::Stack;
 use std::alloc::{AllocError, Global};
 use std::marker::Model;
 
-/// The mandatory hypotheses and groups of an assertion, in buffers that are reused for one assertion after another.
+/// The mandatory hypotheses and groups of an assertion, in buffers that are reused for one
+/// assertion after another.
 ///
-/// Contracts see them in the form in which the parts of an assertion are kept.
+/// Contracts see them in the form in which the parts of an assertion are kept (`Assertion` of
+/// `entries`).
 #[derive(Drop)]
 pub struct FrameBuffers {
     /// Whether the parts are whole, as `AssertionParts` says; not set if the groups are made pair by pair.
     pub(crate) whole: bool,
-    /// The symbols whose `$f` were looked up; later the variables of the hypotheses.
+    /// The symbols whose `$f` were looked up; later the variables of the hypotheses. A buffer only:
+    /// contracts do not see it.
     pub(crate) recorded: Stack,
     /// The positions of the hypotheses, in order.
     pub(crate) hypotheses: Vec<u32>,
-    /// Each hypothesis as one number.
+    /// Each hypothesis as one number: the variable of a `$f`, or the position of a `$e`.
     pub(crate) required: Vec<u32>,
     /// The typecode of each hypothesis.
     pub(crate) typecodes: Vec<u32>,
@@ -41,7 +44,7 @@ impl Model for FrameBuffers {
 }
 
 impl FrameBuffers {
-    /// Returns empty buffers.
+    /// Returns empty buffers. Does not allocate.
     pub fn new(alloc: Global) -> FrameBuffers {
         FrameBuffers {
             whole: false,
@@ -73,7 +76,8 @@ impl FrameBuffers {
         }
     }
 
-    /// Returns how many numbers the parts have when they are kept.
+    /// Returns how many numbers the parts take when they are kept: three for a hypothesis, two for
+    /// a group, and one for each variable of a group.
     pub(crate) fn size(&self) -> usize {
         let hypotheses = self.hypotheses.len().saturating_mul(3);
         let groups = self.groups.len().saturating_mul(2);

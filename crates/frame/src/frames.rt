@@ -24,16 +24,19 @@ use scope::{Numbering, SymbolNumbers};
 use std::alloc::{AllocError, Global};
 use std::marker::Model;
 
-/// The largest number of mandatory hypotheses, brought along by the active `$e`, for which no view is made.
+/// The largest number of mandatory hypotheses, brought along by the active `$e`, that
+/// `mandatory_view` leaves to a list.
 const MAX_WITHOUT_VIEW: usize = 64;
 
-/// The statements of a database by position, without their proofs, with their symbols as numbers.
+/// The statements of a database by position, counted from 1, without their proofs, with their
+/// symbols as numbers.
 ///
-/// Contracts see the list of the statements, each legal after the earlier ones, and the names of the numbers, in
-/// order of first declaration.
+/// Contracts see the list of the statements, each legal after the earlier ones, and the names of
+/// the numbers, in order of first declaration.
 #[derive(Drop)]
 pub struct Frames {
     pub(crate) alloc: Global,
+    /// The statements.
     pub(crate) storage: Storage,
     /// For each `$e`, the mandatory hypotheses that it and the active `$e` before it bring along, as a set.
     pub(crate) essential_sets: EssentialSets,
@@ -56,7 +59,7 @@ impl Model for Frames {
 }
 
 impl Frames {
-    /// Returns an empty database.
+    /// Returns an empty database. Does not allocate.
     pub fn new(alloc: Global) -> Frames
         ensures statements { result.statements ≡ [] }
         ensures names { result.names ≡ [] }
@@ -94,8 +97,8 @@ impl Frames {
         self.storage.entries.len()
     }
 
-    /// Makes room for `labels` more labels if allocation succeeds, so that statements with labels are added
-    /// faster.
+    /// Reserves room for `labels` more labels if allocation succeeds, so that statements with
+    /// labels are added faster.
     pub fn reserve(&mut self, labels: usize)
         ensures { self.new ≡ self.old }
     {
@@ -104,6 +107,8 @@ impl Frames {
     }
 
     /// Returns the position of the statement with this label, or `None` if there is none.
+    ///
+    /// Cost: a look-up of the label.
     #[inline(always)]
     pub fn position(&self, label: &[u8]) -> Option<usize>
         ensures { IsPosition self.now.statements label.now result }
@@ -126,7 +131,10 @@ impl Frames {
         Ok(positions)
     }
 
-    /// Returns the expression of the statement at a position, by numbers, or an empty slice if it has none.
+    /// Returns the expression of the statement at a position, by numbers, or an empty slice if it
+    /// has none.
+    ///
+    /// Cost: a constant.
     pub fn expr(&self, at: usize) -> &[u32]
         requires { (1 ≤ at) × (at ≤ length self.now.statements) }
         ensures same { (s : Statement) → stmt_at self.now.statements at ≡ Some s → decode self.now.names result.now ≡ expr_of s }
@@ -140,8 +148,8 @@ impl Frames {
         }
     }
 
-    /// Returns where each symbol of the expression of the statement at a position stands, or `None` if the statement has no
-    /// expression or one of fewer than `LONG_EXPRESSION` symbols.
+    /// Returns where each symbol of the expression of the statement at a position occurs, or `None`
+    /// if the statement has no expression or one of fewer than `LONG_EXPRESSION` symbols.
     ///
     /// Cost: log n for n such expressions.
     pub fn places(&self, at: usize) -> Option<&SymbolPlaces>
@@ -157,8 +165,8 @@ impl Frames {
         }
     }
 
-    /// Returns the mandatory `$e` of the assertion at a position that have `LONG_EXPRESSION` symbols or more, one of which is x,
-    /// from the last one back.
+    /// Returns the mandatory `$e` of the assertion at a position that have `LONG_EXPRESSION`
+    /// symbols or more, one of which is x: their positions, from the last one back.
     ///
     /// Cost: a binary search.
     pub fn long_essentials(&self, x: u32, a: usize) -> PositionStack<'_>
@@ -170,6 +178,8 @@ impl Frames {
     }
 
     /// Returns the meaning at `at` of a citation of the statement at `i`.
+    ///
+    /// Cost: a constant.
     #[inline(always)]
     pub fn meaning(&self, at: usize, i: usize) -> Meaning<'_>
         requires { (1 ≤ at) × (at ≤ length self.now.statements) }
@@ -192,6 +202,8 @@ impl Frames {
     }
 
     /// Returns the pairs of disjoint variables at a position.
+    ///
+    /// Cost: a constant.
     pub fn active_pairs(&self, at: usize) -> Pairs<'_>
         requires { (1 ≤ at) × (at ≤ length self.now.statements) }
         ensures statements { result.statements ≡ before self.now.statements at }
@@ -205,7 +217,10 @@ impl Frames {
         }
     }
 
-    /// Returns the parts of the assertion at a position, by numbers, or `None` if they are too many to be kept whole.
+    /// Returns the parts of the assertion at a position, by numbers, or `None` if they are too many
+    /// to be kept whole.
+    ///
+    /// Cost: a constant.
     pub fn kept_view(&self, a: usize) -> Option<AssertionView<'_>>
         requires { (s : Statement) × HasAssertion self.now.statements a s }
         ensures { (s : Statement) → stmt_at self.now.statements a ≡ Some s → IfSome result (IsViewOf self.now.statements self.now.names a s) }
@@ -213,9 +228,10 @@ impl Frames {
         self.storage.entries.kept_view(a - 1)
     }
 
-    /// Fills the buffers with the parts of the assertion at a position, whose parts need not be kept whole.
+    /// Fills the buffers with the parts of the assertion at a position, kept whole or not.
     ///
-    /// Errors: an allocation fails. Cost: the size of its hypotheses, which are sorted, and of the active `$d`.
+    /// Errors: an allocation fails. Cost: the size of its hypotheses, which are sorted, and of the
+    /// active `$d`.
     pub fn fill_buffers(&self, a: usize, frame_buffers: &mut FrameBuffers) -> Result<(), AllocError>
         requires { (s : Statement) × HasAssertion self.now.statements a s }
         ensures { OnOk result (AreBuffersOf self.now.statements self.now.names a frame_buffers.new) }
@@ -225,7 +241,10 @@ impl Frames {
         fill_from_hypotheses(&self.storage, a, frame_buffers)
     }
 
-    /// Returns the parts of the assertion at a position, from the buffers that `fill_buffers` filled.
+    /// Returns the parts of the assertion at a position, from the buffers that `fill_buffers`
+    /// filled for it.
+    ///
+    /// Cost: a constant.
     pub fn buffered_view<'a>(
         &'a self,
         a: usize,
@@ -243,12 +262,15 @@ impl Frames {
         }
     }
 
-    /// Fills the buffers with lists by which the assertion at a position can be cited. Its disjoint variables are searched
-    /// for pair by pair if that costs less than going through the active `$d`.
+    /// Fills the buffers with lists by which the assertion at a position can be cited. Its disjoint
+    /// variables are searched for pair by pair if that costs less than going through the active
+    /// `$d`.
     ///
-    /// Errors: an allocation fails. Cost: the size of its hypotheses, which are sorted; and a constant times the smaller of two
-    /// numbers: that of the symbols of the active `$d`, and the sum, over the pairs of its variables, of about 64 and the `$d`
-    /// that no search for the pair has passed yet, in an earlier call with the same facts or for an answer that is kept.
+    /// Errors: an allocation fails. Cost: the size of its hypotheses, which are sorted, and a
+    /// constant times the smaller of two numbers. One is the number of symbols of the active `$d`.
+    /// The other is a sum over the pairs of its variables: about 64 for each, and the `$d` that no
+    /// earlier search for the pair passed, be it in an earlier call with the same facts or one
+    /// whose answer the frames keep.
     pub fn fill_for_citing(
         &self,
         a: usize,
@@ -272,7 +294,10 @@ impl Frames {
         )
     }
 
-    /// Returns the parts by which the assertion at a position can be cited, from the buffers that `fill_for_citing` filled.
+    /// Returns the parts by which the assertion at a position can be cited, from the buffers that
+    /// `fill_for_citing` filled for it.
+    ///
+    /// Cost: a constant.
     pub fn citing_view<'a>(&'a self, a: usize, buffers: &'a FrameBuffers) -> AssertionView<'a>
         requires assertion { (s : Statement) × HasAssertion self.now.statements a s }
         requires lists { AreCitingLists self.now.statements self.now.names a buffers.now }
@@ -286,9 +311,11 @@ impl Frames {
         }
     }
 
-    /// Appends the positions of the mandatory hypotheses of the assertion at a position, in order, to an empty list.
+    /// Appends the positions of the mandatory hypotheses of the assertion at a position, in order,
+    /// to an empty list.
     ///
-    /// Errors: an allocation fails.
+    /// Errors: an allocation fails. Cost: their number; if they are not kept whole, n log n for n
+    /// of them, or a walk over the active `$e` if they are few.
     pub fn mandatory(&self, a: usize, list: &mut Vec<u32>) -> Result<(), AllocError>
         requires assertion { (s : Statement) × HasAssertion self.now.statements a s }
         requires empty { list.old.items ≡ [] }
@@ -333,6 +360,8 @@ impl Frames {
     }
 
     /// Returns the label of the statement at a position, or `None` if it has none.
+    ///
+    /// Cost: a constant.
     pub fn label(&self, at: usize) -> Option<&[u8]>
         requires { (1 ≤ at) × (at ≤ length self.now.statements) }
         ensures { (s : Statement) → stmt_at self.now.statements at ≡ Some s → option_map (λ r. r.now) result ≡ label_of s }
@@ -346,6 +375,8 @@ impl Frames {
     }
 
     /// Returns the symbol with a number, or an empty slice if there is none.
+    ///
+    /// Cost: a constant.
     pub fn symbol(&self, number: u32) -> &[u8]
         ensures { result.now ≡ name_at self.now.names number }
     {

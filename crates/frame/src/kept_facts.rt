@@ -9,9 +9,11 @@ use crate::pair_facts::{PairFacts, search_row};
 use crate::storage::Storage;
 use std::alloc::Global;
 
-/// Facts that are kept as statements are added.
+/// Facts on pairs of variables that are kept with the statements, also as more statements are
+/// added.
 #[derive(Drop)]
 pub struct KeptFacts {
+    /// The facts.
     pub facts: PairFacts,
     /// How many of the first statements the facts are about.
     pub count: usize,
@@ -40,8 +42,8 @@ impl KeptFacts {
         }
     }
 
-    /// Searches for a `$d` that has x and y, among those of x that are active at a position, and keeps the answer. A table that
-    /// is more than half full is emptied first.
+    /// Searches for a `$d` that has x and y, among those of x that are active at a position, and
+    /// keeps the answer. All facts are discarded first if the table is more than half full.
     ///
     /// Cost: the active `$d` that have x, times a binary search.
     pub(crate) fn search(&mut self, alloc: Global, storage: &Storage, at: usize, x: u32, y: u32)

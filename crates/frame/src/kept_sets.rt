@@ -96,7 +96,7 @@ impl KeptSets {
         Some(first)
     }
 
-    /// Gives back unused room, as `give_back` does.
+    /// Frees unused capacity, as `entries::give_back` does.
     pub fn shrink(&mut self)
         ensures { self.new ≡ self.old }
     {

@@ -1,13 +1,16 @@
 //! The frames of assertions: mandatory hypotheses, disjoint variable conditions and conclusion.
 //!
-//! `Frames` keeps the statements of a database by position, and answers what a verifier asks: what a citation means at a
-//! statement, the parts of an assertion, and which variables are disjoint. `frame` collects the `Frame` of one assertion
-//! from the active statements.
+//! `Frames` keeps the statements of a database by position, and answers what a verifier asks: what
+//! a citation means at a statement, the parts of an assertion, and which variables are disjoint.
+//! `frame` collects the `Frame` of one assertion from the active statements.
 //!
-//! Reading order: `storage`, `stored_entries`, `shape`, `frame_buffers`; `symbol_numbers`, `at_position`, `stacks`, `declare`,
-//! `mandatory`, `kept_sets`, `essential_sets`, `make`, `extend` (appending and truncating); `meaning`, `frames`,
-//! `mandatory_view`, `row`, `long_searches`, `pair_memo`, `fact_slots`, `pair_facts`, `kept_facts`, `repeated_searches`,
-//! `pairs`, `active_disjoint`, `citing_lists` (queries); `assertion`, `one_frame`; `laws`.
+//! Symbols are numbers, in clauses also called codes; a position counts from 1, an index from 0.
+//!
+//! Reading order: `storage`, `stored_entries`, `shape`, `frame_buffers`; `symbol_numbers`,
+//! `at_position`, `stacks`, `declare`, `mandatory`, `kept_sets`, `essential_sets`, `make`, `extend`
+//! (appending and truncating); `meaning`, `frames`, `mandatory_view`, `row`, `long_searches`,
+//! `pair_memo`, `fact_slots`, `pair_facts`, `kept_facts`, `repeated_searches`, `pairs`,
+//! `active_disjoint`, `citing_lists` (queries); `assertion`, `one_frame`; `laws`.
 #![tactic(auto)]
 
 mod active_disjoint;

@@ -5,7 +5,8 @@ use std::alloc::Global;
 /// The largest number of searches in a list.
 const MAX_SEARCHES: usize = 64;
 
-/// A search for the `$d` of one variable that has another one, too.
+/// A search for an active `$d` that has two variables: it goes through the active `$d` of one of
+/// them.
 #[derive(Clone, Copy, Drop)]
 pub struct LongSearch {
     /// The position at which the `$d` are active.

@@ -15,7 +15,8 @@ use mm_read::Stmt;
 use scope::{Stack, SymbolNumbers};
 use std::alloc::AllocError;
 
-/// Returns the typecode of an expression, its first symbol.
+/// Returns the typecode of an expression, which is its first symbol, or `NO_TYPECODE` if it is
+/// empty.
 fn typecode(codes: &[u32]) -> u32
     ensures { result ≡ typecode_of codes.now }
 {
@@ -71,7 +72,7 @@ fn record_variable(hypothesis: Hypothesis, found: &mut Stack) -> Result<(), Allo
     found.push(variable)
 }
 
-/// Records the variables of the hypotheses.
+/// Records the variables of the hypotheses, and no others.
 fn record_variables(hypotheses: &Hypotheses<'_>, found: &mut Stack) -> Result<(), AllocError>
     ensures { OnOk result ((c : ℕ) → list_any (λ n. n == c) found.new ≡ is_typed hypotheses.now c) }
 {
@@ -83,6 +84,8 @@ fn record_variables(hypotheses: &Hypotheses<'_>, found: &mut Stack) -> Result<()
 }
 
 /// Appends a group of those symbols that are among the variables, if they are two or more.
+///
+/// Errors: an allocation fails.
 fn add_group(
     variables: &Stack,
     codes: &[u32],
@@ -109,7 +112,11 @@ fn add_group(
     Ok(())
 }
 
-/// Appends the hypotheses of an assertion at `at`, each as one number, and its groups.
+/// Appends, for the positions in `buffers` of the mandatory hypotheses of an assertion at `at`,
+/// each hypothesis as one number, its typecode, and the groups: for each active `$d` its mandatory
+/// variables, if they are two or more.
+///
+/// Errors: an allocation fails. Cost: the hypotheses, and the symbols of the active `$d`.
 pub fn fill_from_hypotheses(
     storage: &Storage,
     at: usize,
@@ -144,8 +151,11 @@ pub fn fill_from_hypotheses(
     Ok(())
 }
 
-/// Finds the parts of an assertion or `$e` that is appended to the statements, by the numbers of its symbols: all mandatory
-/// hypotheses and groups of an assertion if these are few, else the `$f` of its own variables. Other statements have none.
+/// Finds the parts of an assertion or `$e` that is appended to the statements, by the numbers of
+/// its symbols: all mandatory hypotheses and groups of an assertion if these are few; else, and for
+/// a `$e`, the `$f` of its own variables. Other statements have none.
+///
+/// Errors: an allocation fails.
 pub fn fill_parts(
     storage: &Storage,
     essential_sets: &EssentialSets,
@@ -208,5 +218,6 @@ fn fill_own(storage: &Storage, buffers: &mut FrameBuffers, codes: &[u32]) -> Res
     )
 }
 
-/// The largest number of numbers of parts that are kept whole with an assertion.
+/// The parts of an assertion are kept whole only if they take at most this many numbers
+/// (`FrameBuffers::size`).
 const MAX_KEPT: usize = 128;

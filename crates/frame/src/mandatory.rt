@@ -16,7 +16,8 @@ pub fn sort_unique(list: &mut Vec<u32>)
     list.dedup();
 }
 
-/// Appends the position of the active `$f` of a symbol, if there is one after all statements and it is not in the list yet.
+/// Appends the position of the active `$f` of a symbol, if one is active after all statements and
+/// the symbol was not looked up before.
 fn add_float(
     storage: &Storage,
     looked: &mut Stack,
@@ -73,7 +74,7 @@ fn has_each(list: &[u32], positions: &[u32]) -> bool
 fn add_new(list: &mut Vec<u32>, positions: &[u32]) -> Result<(), AllocError>
     ensures { OnOk result (HasMore (λ p. In p positions.now) list.old.items list.new.items) }
 {
-    if list.len() < FEW && has_each(list, positions) {
+    if list.len() < MIN_UNSEARCHED && has_each(list, positions) {
         return Ok(());
     }
     list.extend_from_slice(positions)?;
@@ -99,19 +100,27 @@ pub fn add_essentials(storage: &Storage, at: usize, list: &mut Vec<u32>) -> Resu
     Ok(())
 }
 
-/// The largest number of active `$d` whose groups are kept with an assertion; together they have at most twice as many symbols.
-/// A list of fewer positions is short.
-const FEW: usize = 64;
+/// The least length of a list that is not searched for positions before they are appended.
+const MIN_UNSEARCHED: usize = 64;
+
+/// The largest number of active `$e` that are gone through to count what they bring along.
+const MAX_COUNTED_ESSENTIALS: usize = 64;
+
+/// The largest number of active `$d` whose groups are kept with an assertion; together they have
+/// at most twice as many symbols.
+const MAX_KEPT_DISJOINT: usize = 64;
 
 /// The largest number of mandatory hypotheses, brought along by the active `$e`, that are not kept as a set.
 pub const MAX_WITHOUT_SET: usize = 48;
 
-/// Returns how many mandatory hypotheses the active `$e` bring along, counting a `$f` once for each `$e` that has its
-/// variable. Counting stops above `MAX_WITHOUT_SET`.
-pub fn given_count(storage: &Storage) -> usize {
+/// Returns how many mandatory hypotheses the active `$e` bring along, counting a `$f` once for each
+/// `$e` that has its variable. Counting stops above `MAX_WITHOUT_SET`.
+///
+/// Cost: a constant.
+pub fn brought_count(storage: &Storage) -> usize {
     let mut essential = storage.last_active.essential as usize;
     let mut count = 0usize;
-    for _ in 0..FEW {
+    for _ in 0..MAX_COUNTED_ESSENTIALS {
         if essential == 0 || essential > storage.entries.len() || count > MAX_WITHOUT_SET {
             break;
         }
@@ -134,7 +143,7 @@ pub fn given_count(storage: &Storage) -> usize {
 pub fn are_few(storage: &Storage, essential_sets: &EssentialSets, own: usize) -> bool {
     let set = essential_sets.set(storage.last_active.essential);
     let count = if set == 0 {
-        given_count(storage)
+        brought_count(storage)
     } else {
         essential_sets.count(set)
     };
@@ -143,13 +152,13 @@ pub fn are_few(storage: &Storage, essential_sets: &EssentialSets, own: usize) ->
     }
     let mut disjoint = storage.last_active.disjoint as usize;
     let mut variables = 0usize;
-    for _ in 0..FEW {
-        if disjoint == 0 || disjoint > storage.entries.len() || variables > 2 * FEW {
+    for _ in 0..MAX_KEPT_DISJOINT {
+        if disjoint == 0 || disjoint > storage.entries.len() || variables > 2 * MAX_KEPT_DISJOINT {
             break;
         }
         let entry = storage.entries.entry(disjoint - 1);
         variables = variables.saturating_add(entry.symbols.len());
         disjoint = entry.before.last_active.disjoint as usize;
     }
-    disjoint == 0 && variables <= 2 * FEW
+    disjoint == 0 && variables <= 2 * MAX_KEPT_DISJOINT
 }

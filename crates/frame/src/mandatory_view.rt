@@ -13,8 +13,11 @@ use std::marker::Model;
 /// assertion's own variables that are not in the set.
 #[derive(Drop)]
 pub struct MandatoryView<'a> {
+    /// All sets of the frames.
     pub(crate) sets: &'a PositionSets,
+    /// The number of the set that the active `$e` bring along.
     pub(crate) set: u32,
+    /// The `$f` of the assertion's own variables that are not in the set, by position, in order.
     pub(crate) own: Vec<u32>,
 }
 
@@ -45,7 +48,7 @@ impl<'a> MandatoryView<'a> {
         requires { index < length self.now }
         ensures { slice_get self.now index ≡ Some result }
     {
-        let low = own_before(self.sets, self.set, &self.own, index);
+        let low = own_below(self.sets, self.set, &self.own, index);
         if low < self.own.len() && place(self.sets, self.set, &self.own, low) == index {
             return self.own[low];
         }
@@ -70,7 +73,7 @@ impl<'a> MandatoryView<'a> {
     }
 }
 
-/// Returns the index of one of the assertion's own `$f` among all hypotheses.
+/// Returns the index, among all hypotheses, of the `$f` at index `at` of `own`.
 fn place(sets: &PositionSets, set: u32, own: &[u32], at: usize) -> usize
     requires { at < length own.now }
     ensures { result ≡ count_below (get_or own.now at 0) (set_at sets.now set) + at }
@@ -78,8 +81,9 @@ fn place(sets: &PositionSets, set: u32, own: &[u32], at: usize) -> usize
     sets.rank(set, own[at]) + at
 }
 
-/// Returns how many of the assertion's own `$f` have a smaller index among all hypotheses, by binary search.
-fn own_before(sets: &PositionSets, set: u32, own: &[u32], index: usize) -> usize
+/// Returns how many of the `$f` in `own` have a smaller index among all hypotheses than `index`, by
+/// binary search.
+fn own_below(sets: &PositionSets, set: u32, own: &[u32], index: usize) -> usize
     ensures within { result ≤ length own.now }
     ensures before { (k : ℕ) → suc k ≡ result → count_below (get_or own.now k 0) (set_at sets.now set) + k < index }
     ensures after { result < length own.now → index ≤ count_below (get_or own.now result 0) (set_at sets.now set) + result }

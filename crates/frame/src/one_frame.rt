@@ -108,6 +108,7 @@ fn is_required(used: &NameTable, stmt: &Stmt) -> bool
     }
 }
 
+/// Returns whether a name is one of the used variables.
 fn has(used: &NameTable, name: &[u8]) -> bool
     ensures { result ≡ has_name name.now used.now }
 {

@@ -17,7 +17,8 @@ use std::marker::Model;
 /// The largest number of facts in a table.
 const MAX_FACTS: usize = 262_144;
 
-/// The largest number of `$d` that a search passes without recording facts. A search that passes more is long.
+/// The largest number of `$d` that a search passes without recording facts. A search that passes
+/// more is long.
 const MAX_UNRECORDED: usize = 16;
 
 /// The largest number of `$d` that a search passes without being listed. `repeat_searches` makes the listed searches again, and
@@ -28,7 +29,8 @@ pub(crate) const MAX_UNLISTED: usize = 256;
 /// `$d` left, itself included.
 const STRIDE: usize = 64;
 
-/// A fact: whether two variables stand together in a `$d` that is active right after the `$d` at a position.
+/// A fact: whether two variables both occur in a `$d` that is active right after the `$d` at a
+/// position.
 #[derive(Clone, Copy, Drop)]
 pub struct PairFact {
     /// The position of a `$d`.
@@ -37,19 +39,25 @@ pub struct PairFact {
     pub x: u32,
     /// The number of the other variable.
     pub y: u32,
-    /// Whether they stand together.
+    /// Whether there is such a `$d`.
     pub found: bool,
 }
 
-/// The answers of long searches, as facts, and the first 64 of these searches that passed more than 256 `$d`.
+/// The answers of long searches, as facts, and the first 64 of these searches that passed more than
+/// 256 `$d`.
 ///
-/// Contracts see the list of the facts. A fact that is true of a database is true of all that begin with its statements.
+/// Contracts see the list of the facts. A fact that is true of a database is true of each database
+/// that begins with its statements.
 #[derive(Drop)]
 pub struct PairFacts {
+    /// The facts, in the order in which they were recorded.
     facts: Vec<PairFact>,
+    /// Where to look for a fact in the list.
     slots: FactSlots,
+    /// The searches that `repeat_searches` makes again.
     pub(crate) searches: LongSearches,
-    /// How many more `$d` searches may pass. At 0 the caller makes no further one; a search is never broken off.
+    /// How many more `$d` the searches may pass. At 0 the caller makes no further search; a search
+    /// is never broken off.
     budget: usize,
 }
 
@@ -113,7 +121,7 @@ impl PairFacts {
         self.at(index, position, x, y)
     }
 
-    /// Returns the fact at an index, if it is that of a position and two variables.
+    /// Returns the fact at an index of the list, if it is that of a position and two variables.
     #[inline(always)]
     fn at(&self, index: usize, position: u32, x: u32, y: u32) -> Option<PairFact>
         ensures fact { (v : Numbered) → AreFacts v self.now → IfSome result (IsFact v) }
@@ -192,7 +200,7 @@ impl PairFacts {
         self.budget = self.budget.saturating_sub(count);
     }
 
-    /// Returns whether searches have passed as many `$d` as they may.
+    /// Returns whether searches have passed as many `$d` as the budget.
     pub(crate) fn is_budget_spent(&self) -> bool {
         self.budget == 0
     }

@@ -19,13 +19,17 @@ const MAX_PAIRS: usize = 65_536;
 /// The number of `$d` that a search goes through before it looks the pair up in the memo.
 const MAX_BEFORE_MEMO: usize = 16;
 
-/// The positions of the `$d` in which long searches found pairs of variables; and the first 64 of the other searches, which
-/// found none or were ended by a fact, that passed more than 256 `$d` after the first 16.
+/// The positions of the `$d` in which long searches found pairs of variables. Also the first 64 of
+/// the other long searches, which found none or were ended by a fact, and passed more than 256 `$d`
+/// after the first 16.
 ///
-/// A position only says where to look first, so one memo serves at all positions and for all databases.
+/// A position only says where to look first, so one memo serves at all positions and for all
+/// databases.
 #[derive(Drop)]
 pub struct PairMemo {
+    /// For two variables, the position of a `$d` that had both when it was recorded.
     found: BTreeMap<u64, u32>,
+    /// The searches that `repeat_searches` makes again.
     pub(crate) searches: LongSearches,
 }
 
@@ -67,11 +71,12 @@ fn key(x: u32, y: u32) -> u64 {
     (x.min(y) as u64) << 32 | x.max(y) as u64
 }
 
-/// Returns whether two variables are disjoint, given the `$d` that are left to search, all of which have the first variable.
+/// Returns whether two variables are disjoint, given the `$d` that are left to search, all of which
+/// have the first variable.
 ///
-/// Cost: the number of these `$d`, times a binary search; if the memo has an active `$d` for the pair, the first
-/// `MAX_BEFORE_MEMO` of them, and log n for n pairs in the memo; if facts tell the answer, only the `$d` up to the first such
-/// fact.
+/// Cost: the number of these `$d`, times a binary search; less in two cases. If the memo has an
+/// active `$d` for the pair, the first `MAX_BEFORE_MEMO` of them, and log n for n pairs in the
+/// memo. If a fact tells the answer, the `$d` before the one at which that fact is met.
 pub fn search(
     storage: &Storage,
     facts: &PairFacts,

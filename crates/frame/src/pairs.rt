@@ -16,9 +16,11 @@ use std::marker::Model;
 /// Contracts see the statements before the position, and the names that numbers stand for.
 #[derive(Drop)]
 pub struct Pairs<'a> {
+    /// The statements.
     pub(crate) storage: &'a Storage,
     /// Facts that are kept with the statements.
     pub(crate) facts: &'a PairFacts,
+    /// The position.
     pub(crate) at: usize,
 }
 
@@ -34,9 +36,10 @@ impl<'a> Model for Pairs<'a> {
 }
 
 impl<'a> Pairs<'a> {
-    /// Returns whether x and y are different and stand together in an active `$d`.
+    /// Returns whether x and y are different and both occur in one active `$d`.
     ///
-    /// Cost: the smaller count of active `$d` that have x or that have y, times a binary search.
+    /// Cost: the number of active `$d` that have x, or of those that have y if they are fewer,
+    /// times a binary search.
     pub fn has(&self, x: u32, y: u32) -> bool
         requires { (x < length self.now.names) × (y < length self.now.names) }
         ensures { result ≡ is_pair self.now.statements (name_at self.now.names x) (name_at self.now.names y) }
@@ -53,11 +56,12 @@ impl<'a> Pairs<'a> {
         }
     }
 
-    /// Returns whether x and y are different and stand together in an active `$d`, with a memo of the pairs that long
-    /// searches found. If an allocation fails, the pair is not recorded.
+    /// Returns whether x and y are different and both occur in one active `$d`, with a memo of
+    /// the pairs that long searches found. If an allocation fails, the pair is not recorded.
     ///
-    /// Cost: that of `has`; if the memo has the pair and the `$d` in which it was found is active, only a constant, and
-    /// log n for n pairs in the memo; and if facts that are kept tell the answer, only the `$d` after the first of these facts.
+    /// Cost: that of `has`, or less in two cases. If the memo has the pair and the `$d` in which it
+    /// was found is active, only a constant, and log n for n pairs in the memo. If a fact that the
+    /// frames keep tells the answer, only the `$d` before the one at which that fact is met.
     pub fn has_by_memo(&self, memo: &mut PairMemo, x: u32, y: u32) -> bool
         requires { (x < length self.now.names) × (y < length self.now.names) }
         ensures { result ≡ is_pair self.now.statements (name_at self.now.names x) (name_at self.now.names y) }
@@ -86,7 +90,7 @@ impl<'a> Pairs<'a> {
         Row::new(self.storage, self.storage.disjoints.stack(x, self.at))
     }
 
-    /// Returns the same `$d`.
+    /// Returns the same `$d`. Cost: a constant.
     #[inline(always)]
     pub fn copy(&self) -> Pairs<'a>
         ensures { result ≡ self.now }
@@ -113,7 +117,10 @@ impl<'a> Pairs<'a> {
         Some(self.storage.entries.entry(last - 1).symbols)
     }
 
-    /// Returns the number of a name, if it has one. A name without a number is not a variable there.
+    /// Returns the number of a name, if it has one. A name without a number is not a variable at
+    /// the position.
+    ///
+    /// Cost: a look-up of the name.
     pub fn number(&self, name: &[u8]) -> Option<u32>
         ensures number { result ≡ code_of self.now.names name.now }
         ensures unnamed { IfNone result (is_variable self.now.statements name.now ≡ false) }
@@ -121,7 +128,7 @@ impl<'a> Pairs<'a> {
         symbol_number(&self.storage.numbering, name)
     }
 
-    /// Returns whether x is a variable there.
+    /// Returns whether x is a variable at the position.
     ///
     /// Cost: a binary search.
     pub fn variable(&self, x: u32) -> bool
@@ -132,7 +139,8 @@ impl<'a> Pairs<'a> {
     }
 }
 
-/// The largest number of symbols of a `$d` that is searched in order; a longer one is looked up in the stack of the symbol.
+/// The largest number of symbols of a `$d` that are compared one by one; in a longer one a symbol
+/// is looked up in the stack of the symbol.
 const MAX_SCANNED: usize = 8;
 
 /// Returns whether one of the `$d` at these positions has the symbol.

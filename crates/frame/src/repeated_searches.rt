@@ -7,10 +7,10 @@ use crate::pair_facts::PairFacts;
 use crate::pair_memo::PairMemo;
 
 impl Frames {
-    /// Makes the searches again, keeps their answers, and removes them from the list.
+    /// Makes the listed searches again, keeps their answers, and empties the list.
     ///
-    /// A search at a position that is no longer there is made at the last position, and a search for a variable that is no
-    /// longer there is left out.
+    /// A search at a position that is no longer there is made at the last position, and a search
+    /// for a variable that is no longer there is left out.
     ///
     /// Cost: that of the searches.
     pub(crate) fn repeat_all(&mut self, searches: &mut LongSearches)
@@ -39,8 +39,8 @@ impl Frames {
 }
 
 impl PairFacts {
-    /// Has the frames make the recorded searches again, whose answers they keep, and forgets these searches. They are the first
-    /// that passed more than 256 `$d`.
+    /// Has the frames make the listed searches again and keep their answers, and empties the list.
+    /// It has the first searches that passed more than 256 `$d`.
     ///
     /// Cost: that of the searches, of which there are at most 64.
     pub fn repeat_searches(&mut self, frames: &mut Frames)
@@ -52,8 +52,9 @@ impl PairFacts {
 }
 
 impl PairMemo {
-    /// Has the frames make the recorded searches again, whose answers they keep, and forgets these searches. They are the first
-    /// that passed more than 256 `$d` without finding one that has both variables.
+    /// Has the frames make the listed searches again and keep their answers, and empties the list.
+    /// It has the first searches that passed more than 256 `$d` without finding one that has both
+    /// variables.
     ///
     /// Cost: that of the searches, of which there are at most 64.
     pub fn repeat_searches(&mut self, frames: &mut Frames)

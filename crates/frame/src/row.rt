@@ -14,6 +14,7 @@ use std::marker::Model;
 #[derive(Drop)]
 pub struct Row<'a> {
     storage: &'a Storage,
+    /// The positions of the `$d` that are left.
     stack: PositionStack<'a>,
 }
 
@@ -42,7 +43,8 @@ impl<'a> Row<'a> {
         Row { storage, stack }
     }
 
-    /// Returns the symbols of the last `$d` and goes on to the one before it, or `None` if there is none.
+    /// Returns the symbols of the last `$d` of the row and removes it from the row, or returns
+    /// `None` if the row is empty.
     ///
     /// Cost: three look-ups.
     pub fn next(&mut self) -> Option<&'a [u32]>

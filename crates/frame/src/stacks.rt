@@ -14,6 +14,7 @@ use std::alloc::AllocError;
 /// The parts of the next statement that determine what is active after it.
 #[derive(Clone, Copy, Drop)]
 pub struct NextStatement<'a> {
+    /// Its kind.
     pub kind: Kind,
     /// The numbers of its symbols.
     pub codes: &'a [u32],
@@ -85,7 +86,8 @@ fn long_codes(codes: &[u32]) -> &[u32]
     }
 }
 
-/// Returns the symbols onto whose stacks a statement of a kind is pushed.
+/// Returns those symbols of a statement of a kind whose stacks have the statement: none of a short
+/// `$e`.
 fn codes_of_kind(codes: &[u32], of: Kind) -> &[u32]
     ensures { result.now ≡ codes_by of codes.now }
 {

@@ -12,10 +12,12 @@ pub struct LastDeclarations {
     pub variable: usize,
 }
 
-/// The statements, their symbols and labels by number, the position of each label, the last declarations of each symbol,
-/// the declarations that these replaced, where blocks end, and the last active statements at the end.
+/// The statements of a database, with all that is looked up about them: the symbols and labels by
+/// number, the position of each label, the last declarations of each symbol, the declarations that
+/// these replaced, where blocks end, and what is active at each position.
 #[derive(Drop)]
 pub struct Storage {
+    /// The names of symbols and labels, by number.
     pub numbering: Numbering,
     /// For each label, by its number, the position of its statement.
     pub positions: Vec<u32>,
@@ -25,6 +27,7 @@ pub struct Storage {
     pub replaced: Vec<usize>,
     /// For each `${` the position of its `$}`, or 0 while its block is open; for another statement 0.
     pub ends: Vec<u32>,
+    /// The statements.
     pub entries: StoredEntries,
     /// For each symbol, by its number, the active `$d` that have it, at each position.
     pub disjoints: Histories,
@@ -32,5 +35,6 @@ pub struct Storage {
     pub variables: Histories,
     /// For each symbol, by its number, the active `$e` of `LONG_EXPRESSION` symbols or more that have it, at each position.
     pub essentials: Histories,
+    /// The last active statement of each kind after all statements.
     pub last_active: LastActive,
 }

@@ -10,13 +10,16 @@ use entries::{
 use std::alloc::{AllocError, Global};
 use std::marker::Model;
 
-/// The least number of symbols of a long expression, whose symbols' places are kept.
+/// An expression is long if it has at least this many symbols. Where each of its symbols occurs is
+/// kept.
 pub const LONG_EXPRESSION: usize = 128;
 
 /// The statements as numbers, with the places of the symbols of long expressions. Contracts see the list of the statements.
 #[derive(Drop)]
 pub struct StoredEntries {
+    /// The statements as numbers.
     list: Entries,
+    /// Where the symbols of long expressions occur.
     long: LongExpressions,
 }
 
@@ -78,7 +81,8 @@ impl StoredEntries {
         self.list.hypotheses(index)
     }
 
-    /// Returns whether the parts of the assertion at an index are whole.
+    /// Returns whether all mandatory hypotheses and groups of the assertion at an index are kept
+    /// with it.
     #[inline(always)]
     pub fn is_whole(&self, index: usize) -> bool
         requires { index < length self.now }
@@ -87,7 +91,7 @@ impl StoredEntries {
         self.list.is_whole(index)
     }
 
-    /// Returns the parts of the assertion at an index, or `None` if they are not whole.
+    /// Returns the parts of the assertion at an index, or `None` if not all of them are kept.
     #[inline(always)]
     pub fn kept_view(&self, index: usize) -> Option<AssertionView<'_>>
         requires { index < length self.now }
@@ -97,8 +101,9 @@ impl StoredEntries {
         self.list.kept_view(index)
     }
 
-    /// Returns where each symbol of the expression at an index stands, if the expression is long. Its constants are the symbols
-    /// that are the variable of no `$f` among the hypotheses that are kept with it.
+    /// Returns where each symbol of the expression at an index occurs, if the expression is long.
+    /// Its constants are the symbols that are the variable of no `$f` among the hypotheses that are
+    /// kept with it.
     ///
     /// Cost: log n for n long expressions.
     pub fn places(&self, index: usize) -> Option<&SymbolPlaces>
@@ -108,7 +113,7 @@ impl StoredEntries {
         self.long.get(index)
     }
 
-    /// Appends a statement, and records where its symbols stand if it has a long expression.
+    /// Appends a statement, and records where its symbols occur if it has a long expression.
     ///
     /// Errors: an allocation fails; the list is as before.
     /// Cost: its size; n log n for n symbols of a long expression.
@@ -147,7 +152,7 @@ impl StoredEntries {
         self.long.truncate(len);
     }
 
-    /// Gives back the room of removed statements, if it is more than that of the remaining ones.
+    /// Frees unused capacity, as `entries::give_back` does.
     pub fn shrink(&mut self)
         ensures { self.new ≡ self.old }
     {

@@ -33,7 +33,7 @@ pub fn label_number(numbering: &Numbering, word: &[u8]) -> Option<u32>
     }
 }
 
-/// Records the number of a symbol.
+/// Records the number of a symbol. If it has none, nothing is recorded of the whole list.
 fn record_symbol(numbering: &Numbering, word: &[u8], recorded: &mut SymbolNumbers)
     ensures { (xs : Expr) → AreRecorded (declared_symbols numbering.now) xs recorded.old → AreRecorded (declared_symbols numbering.now) (xs ++ word.now ∷ []) recorded.new }
 {

@@ -1,5 +1,5 @@
 -- The variables of one active `$d` are pairwise disjoint.
-use Rattle.subst.proofs.Words.{◌≡◌, ℕ, ◌+◌, ◌<◌, ◌&&◌, ◌||◌, ◌==◌, true, false, not, true≢false, List, length, take, get_or, list_any, bit_at, bit_or, Option, Some, refl, sym, ◌∙◌, ap, subst, arith, inl, inr, and_from, or_left, or_right, eq-eqb, list_any_at, get_or-take, length-take, below-at, name_at, is_pair, AreBelow, Numbered, Places, IsAt, IsPlace, Grows, IsAmong, AreBitsOf, PlaceWord, RowWord, IsFact, AreFacts, ArePairs, RecordsWord}
+use Rattle.subst.proofs.Words.{◌≡◌, ℕ, ◌+◌, ◌<◌, ◌&&◌, ◌||◌, ◌==◌, true, false, not, true≢false, List, length, take, get_or, list_any, bit_at, bit_or, Option, Some, refl, sym, ◌∙◌, ap, subst, arith, inl, inr, and_from, or_left, or_right, eq-eqb, list_any_at, get_or-take, length-take, below-at, name_at, is_pair, AreBelow, Numbered, MetVariables, IsAt, IsPlace, Grows, IsAmong, AreBitsOf, PlaceWord, RowWord, IsFact, AreFacts, ArePairs, RecordsWord}
 use Rattle.subst.proofs.BitsLemmas.{differ, zero-none, or-either}
 use Rattle.subst.proofs.VariablePlaceLemmas.{among-before, among-last}
 use Rattle.subst.proofs.DisjointRowLemmas.{facts-recorded}
@@ -7,13 +7,13 @@ use Rattle.subst.proofs.DisjointRowLemmas.{facts-recorded}
 -- ---- the bits of a list
 
 -- a place has only one variable
-at-same : (f : Places) (j x y : ℕ) → IsAt f j x → IsAt f j y → x ≡ y
+at-same : (f : MetVariables) (j x y : ℕ) → IsAt f j x → IsAt f j y → x ≡ y
 at-same f j x y one two = sym one.same ∙ two.same
 
-pub bits-none : (f : Places) (list : List ℕ) → AreBitsOf f 0 0 list
+pub bits-none : (f : MetVariables) (list : List ℕ) → AreBitsOf f 0 0 list
 bits-none f list = record { only = λ j b. absurd (zero-none j b); once = λ i j x a b p q. absurd (zero-none i a) }
 
-pub bits-grown : (f g : Places) (bits n : ℕ) (list : List ℕ) → Grows f g → AreBitsOf f bits n list → AreBitsOf g bits n list
+pub bits-grown : (f g : MetVariables) (bits n : ℕ) (list : List ℕ) → Grows f g → AreBitsOf f bits n list → AreBitsOf g bits n list
 bits-grown f g bits n list grows h = record {
   only = λ j b. (let o = h.only j b in (o.0, o.1, grows.each j o.0 o.2));
   once = λ i j x a b p q.
@@ -23,14 +23,14 @@ bits-grown f g bits n list grows h = record {
 }
 
 -- a symbol that occurred before adds no bit
-pub bits-again : (f : Places) (bits n : ℕ) (list : List ℕ) → AreBitsOf f bits n list → AreBitsOf f bits (n + 1) list
+pub bits-again : (f : MetVariables) (bits n : ℕ) (list : List ℕ) → AreBitsOf f bits n list → AreBitsOf f bits (n + 1) list
 bits-again f bits n list h = record { only = λ j b. (let o = h.only j b in (o.0, among-before n list o.0 o.1, o.2)); once = h.once }
 
 some-same : (i j : ℕ) (o : Option ℕ) → o ≡ Some i → o ≡ Some j → i ≡ j
 some-same i j o a b = cc
 
 -- the next symbol adds the bit of its place
-module _ (v : Numbered) (f : Places) (bits bit n : ℕ) (list : List ℕ) (place : Option ℕ) (low : n < length list) (h : AreBitsOf f bits n list) (none : list_any (λ y. y == get_or list n 0) (take n list) ≡ false)
+module _ (v : Numbered) (f : MetVariables) (bits bit n : ℕ) (list : List ℕ) (place : Option ℕ) (low : n < length list) (h : AreBitsOf f bits n list) (none : list_any (λ y. y == get_or list n 0) (take n list) ≡ false)
     (is : (j : ℕ) → bit_at bit j ≡ 1 → place ≡ Some j) (at : IsPlace v f (get_or list n 0) place) where
   own : (j : ℕ) → bit_at bit j ≡ 1 → IsAt f j (get_or list n 0)
   own j b = subst (IsPlace v f (get_or list n 0)) (is j b) at
@@ -89,7 +89,7 @@ module _ (v u w : Numbered) (list : List ℕ) (pairs : ArePairsOf v u)
 
 -- ---- the facts recorded of a list
 
-module _ (v : Numbered) (f : Places) (list : List ℕ) (bits : ℕ) (pairs : ArePairs v list) (are : AreBitsOf f bits (length list) list) where
+module _ (v : Numbered) (f : MetVariables) (list : List ℕ) (bits : ℕ) (pairs : ArePairs v list) (are : AreBitsOf f bits (length list) list) where
   listed-fact : (p q : ℕ) → bit_at bits p ≡ 1 → bit_at bits q ≡ 1 → (p ≡ q → ⊥) → IsFact v f p q
   listed-fact p q a b other =
       let one = are.only p a in

@@ -1,4 +1,4 @@
--- Places as the bits of a word.
+-- MetVariables as the bits of a word.
 use Rattle.subst.proofs.Words.{◌≡◌, ◌==◌, false, ℕ, ◌*◌, ◌%◌, ◌^◌, ◌<◌, ◌⊎◌, bit_at, bit_not, ◌∙◌, ap, arith, inl, inr, bit_and, bit_or, w64, cases_eq, cases_lt, bit_at_and, bit_at_not, bit_at_or, bit_at-zero, bit_at-lt, bit_at_above, bit_at-pow_same, bit_at-pow_other, bit_at_clear_same, bit_at_clear_other, one_shl, and_le_l}
 
 -- different numbers are not equal by the test

@@ -1,16 +1,16 @@
 -- Variables that were found to be disjoint.
-use Rattle.subst.proofs.Words.{◌≡◌, ℕ, ◌+◌, ◌*◌, ◌^◌, ◌<◌, ◌≤◌, ◌⊎◌, true, List, [], ◌∷◌, ◌++◌, length, get_or, slice_set, bit_at, bit_and, bit_not, bit_or, w64, sym, ◌∙◌, ap, subst, arith, inl, inr, cases_eq, cases_lt, get_or_append_left, get_or_push, get_or-set_same, get_or-set_other, length-set, length_push, Numbered, PlaceWord, HasAmong, HasBit, HasPlace, near_word, no_word, RowWord, no_row, IsRowAt, HasFact, IsFact, AreFacts, RecordsWord, DecidesWord, DecidesAll, DecidesBits, DecidesEach, Places, are_places_disjoint, Grows}
+use Rattle.subst.proofs.Words.{◌≡◌, ℕ, ◌+◌, ◌*◌, ◌^◌, ◌<◌, ◌≤◌, ◌⊎◌, true, List, [], ◌∷◌, ◌++◌, length, get_or, slice_set, bit_at, bit_and, bit_not, bit_or, w64, sym, ◌∙◌, ap, subst, arith, inl, inr, cases_eq, cases_lt, get_or_append_left, get_or_push, get_or-set_same, get_or-set_other, length-set, length_push, Numbered, PlaceWord, HasAmong, HasBit, HasPlace, near_word, no_word, RowWord, no_row, IsRowAt, HasFact, IsFact, AreFacts, RecordsWord, DecidesWord, DecidesAll, DecidesBits, DecidesEach, MetVariables, are_places_disjoint, Grows}
 use Rattle.subst.proofs.BitsLemmas.{zero-none, or-either, and-left, and-rest, IsTaken}
 use Rattle.subst.proofs.VariablePlaceLemmas.{kept-grown, place-grown}
 use Rattle.subst.proofs.PlaceSetLemmas.{word-alone, word-more}
 
-pub facts-none : (v : Numbered) (f : Places) → AreFacts v f []
+pub facts-none : (v : Numbered) (f : MetVariables) → AreFacts v f []
 facts-none v f = record { each = λ p q h. (let low = h.there in absurd (omega (arith, low))) }
 
-pub fact-grown : (v : Numbered) (f g : Places) (p q : ℕ) → Grows f g → IsFact v f p q → IsFact v g p q
+pub fact-grown : (v : Numbered) (f g : MetVariables) (p q : ℕ) → Grows f g → IsFact v f p q → IsFact v g p q
 fact-grown v f g p q grows h = record { row = (place-grown f g p grows h.row).there; place = (place-grown f g q grows h.place).there; disjoint = kept-grown v f g p q grows h.row h.place ∙ h.disjoint }
 
-pub facts-grown : (v : Numbered) (f g : Places) (ws : List RowWord) → Grows f g → AreFacts v f ws → AreFacts v g ws
+pub facts-grown : (v : Numbered) (f g : MetVariables) (ws : List RowWord) → Grows f g → AreFacts v f ws → AreFacts v g ws
 facts-grown v f g ws grows facts = record { each = λ p q h. fact-grown v f g p q grows (facts.each p q h) }
 
 -- a bit that is set in the row found is a fact
@@ -65,7 +65,7 @@ module _ (ws : List RowWord) (p k bits : ℕ) (w : PlaceWord) (at : IsRowAt ws p
 pub records-nothing : (ws : List RowWord) (p : ℕ) (w : PlaceWord) → RecordsWord ws ws p w
 records-nothing ws p w = record { only = λ r q h. inl h }
 
-pub facts-recorded : (v : Numbered) (f : Places) (old new : List RowWord) (p : ℕ) (w : PlaceWord) → AreFacts v f old → RecordsWord old new p w → ((q : ℕ) → HasBit w q → IsFact v f p q) → AreFacts v f new
+pub facts-recorded : (v : Numbered) (f : MetVariables) (old new : List RowWord) (p : ℕ) (w : PlaceWord) → AreFacts v f old → RecordsWord old new p w → ((q : ℕ) → HasBit w q → IsFact v f p q) → AreFacts v f new
 facts-recorded v f old new p w facts records own = record {
   each = λ r q h. elim (records.only r q h) [ inl before ↦ facts.each r q before | inr now ↦ subst (λ n. IsFact v f n q) (sym now.0) (own q now.1) ];
 }
@@ -73,22 +73,22 @@ facts-recorded v f old new p w facts records own = record {
 -- ---- the words of a set, one after another
 
 -- the variable is disjoint from those of the first n words
-pub record AreToldFirst (v : Numbered) (f : Places) (p : ℕ) (ws : List PlaceWord) (n : ℕ) : Type 0 where
+pub record AreToldFirst (v : Numbered) (f : MetVariables) (p : ℕ) (ws : List PlaceWord) (n : ℕ) : Type 0 where
   pub each : (k q : ℕ) → k < n → HasBit (get_or ws k no_word) q → are_places_disjoint v f p q ≡ true
 
-pub told-none : (v : Numbered) (f : Places) (p : ℕ) (ws : List PlaceWord) → AreToldFirst v f p ws 0
+pub told-none : (v : Numbered) (f : MetVariables) (p : ℕ) (ws : List PlaceWord) → AreToldFirst v f p ws 0
 told-none v f p ws = record { each = λ k q h b. absurd (omega (arith, h)) }
 
-pub told-more : (v : Numbered) (f : Places) (p : ℕ) (ws : List PlaceWord) (n : ℕ) → AreToldFirst v f p ws n → DecidesWord v f p (get_or ws n no_word) true → AreToldFirst v f p ws (n + 1)
+pub told-more : (v : Numbered) (f : MetVariables) (p : ℕ) (ws : List PlaceWord) (n : ℕ) → AreToldFirst v f p ws n → DecidesWord v f p (get_or ws n no_word) true → AreToldFirst v f p ws (n + 1)
 told-more v f p ws n first next = record {
   each = λ k q h b. elim (cases_eq k n) [ inl same ↦ next q (subst (λ m. HasBit (get_or ws m no_word) q) same b) | inr other ↦ first.each k q (omega (arith, h, other)) b ];
 }
 
-pub told-all : (v : Numbered) (f : Places) (p : ℕ) (ws : List PlaceWord) (n : ℕ) → length ws ≤ n → AreToldFirst v f p ws n → DecidesAll v f p ws true
+pub told-all : (v : Numbered) (f : MetVariables) (p : ℕ) (ws : List PlaceWord) (n : ℕ) → length ws ≤ n → AreToldFirst v f p ws n → DecidesAll v f p ws true
 told-all v f p ws n long told = λ q h. (let low = h.there in told.each h.word q (omega (arith, long, low)) h.has)
 
 -- if the variable is disjoint from those of the word that are not recorded, it is disjoint from all of the word
-pub told-word : (v : Numbered) (f : Places) (rows : List RowWord) (p : ℕ) (w : PlaceWord) (known : ℕ) → w.bits < 2 ^ 64 → known < 2 ^ 64 → AreFacts v f rows → ((b : ℕ) → bit_at known b ≡ 1 → HasFact rows p (64 * w.index + b))
+pub told-word : (v : Numbered) (f : MetVariables) (rows : List RowWord) (p : ℕ) (w : PlaceWord) (known : ℕ) → w.bits < 2 ^ 64 → known < 2 ^ 64 → AreFacts v f rows → ((b : ℕ) → bit_at known b ≡ 1 → HasFact rows p (64 * w.index + b))
     → DecidesWord v f p (record { index = w.index; bits = bit_and w.bits (bit_not w64 known) }) true → DecidesWord v f p w true
 told-word v f rows p w known fits other facts recorded asked = λ q h. elim (and-rest w.bits known h.bit fits other h.set) [
   | inl old ↦ rw h.place (facts.each p _ (recorded h.bit old)).disjoint
@@ -121,27 +121,27 @@ found-all rows bits others rest none taken p q h k =
 pub found-none : (rows : List RowWord) (bits others : ℕ) → others ≡ 0 → (p q : ℕ) → HasBit (near_word bits) p → HasBit (near_word others) q → HasFact rows p q
 found-none rows bits others none p q h k = absurd (zero-none k.bit (rw none at k.set))
 
-pub found-tells : (v : Numbered) (f : Places) (rows : List RowWord) (bits before : ℕ) → AreFacts v f rows → ((p q : ℕ) → HasBit (near_word bits) p → HasBit (near_word before) q → HasFact rows p q) → DecidesEach v f (near_word bits ∷ []) (near_word before ∷ []) true
+pub found-tells : (v : Numbered) (f : MetVariables) (rows : List RowWord) (bits before : ℕ) → AreFacts v f rows → ((p q : ℕ) → HasBit (near_word bits) p → HasBit (near_word before) q → HasFact rows p q) → DecidesEach v f (near_word bits ∷ []) (near_word before ∷ []) true
 found-tells v f rows bits before facts found = λ p q h k. (facts.each p q (found p q (word-alone (near_word bits) p h) (word-alone (near_word before) q k))).disjoint
 
 -- ---- the places of a word, and of a list of words
 
-pub told-bits : (v : Numbered) (f : Places) (w : PlaceWord) (ws : List PlaceWord) (rest : ℕ) → rest ≡ 0 → IsTaken (λ b. DecidesAll v f (64 * w.index + b) ws true) w.bits rest → DecidesBits v f w ws true
+pub told-bits : (v : Numbered) (f : MetVariables) (w : PlaceWord) (ws : List PlaceWord) (rest : ℕ) → rest ≡ 0 → IsTaken (λ b. DecidesAll v f (64 * w.index + b) ws true) w.bits rest → DecidesBits v f w ws true
 told-bits v f w ws rest none taken = λ p q h b. elim (taken.done h.bit h.set) [ inl left ↦ absurd (zero-none h.bit (rw none at left)) | inr one ↦ rw h.place (one q b) ]
 
-pub record AreTold (v : Numbered) (f : Places) (words : List PlaceWord) (ws : List PlaceWord) (n : ℕ) : Type 0 where
+pub record AreTold (v : Numbered) (f : MetVariables) (words : List PlaceWord) (ws : List PlaceWord) (n : ℕ) : Type 0 where
   pub each : (p q : ℕ) → HasAmong n words p → HasPlace ws q → are_places_disjoint v f p q ≡ true
 
-pub are_told-none : (v : Numbered) (f : Places) (words ws : List PlaceWord) → AreTold v f words ws 0
+pub are_told-none : (v : Numbered) (f : MetVariables) (words ws : List PlaceWord) → AreTold v f words ws 0
 are_told-none v f words ws = record { each = λ p q h b. (let low = h.there in absurd (omega (arith, low))) }
 
-pub are_told-more : (v : Numbered) (f : Places) (words ws : List PlaceWord) (n : ℕ) → AreTold v f words ws n → DecidesBits v f (get_or words n no_word) ws true → AreTold v f words ws (n + 1)
+pub are_told-more : (v : Numbered) (f : MetVariables) (words ws : List PlaceWord) (n : ℕ) → AreTold v f words ws n → DecidesBits v f (get_or words n no_word) ws true → AreTold v f words ws (n + 1)
 are_told-more v f words ws n first next = record { each = λ p q h b. elim (word-more n words p h) [ inl before ↦ first.each p q before b | inr last ↦ next p q last b ] }
 
-pub are_told-all : (v : Numbered) (f : Places) (words ws : List PlaceWord) (n : ℕ) → length words ≤ n → AreTold v f words ws n → DecidesEach v f words ws true
+pub are_told-all : (v : Numbered) (f : MetVariables) (words ws : List PlaceWord) (n : ℕ) → length words ≤ n → AreTold v f words ws n → DecidesEach v f words ws true
 are_told-all v f words ws n long told = λ p q h b. told.each p q (let low = h.there in record { word = h.word; there = omega (arith, low, long); has = h.has }) b
 
 -- if the variable is disjoint from those of the word, the facts are still true after the word is recorded
-pub told-facts : (v : Numbered) (f : Places) (old new : List RowWord) (p : ℕ) (w : PlaceWord) → AreFacts v f old → RecordsWord old new p w → p < length f.variables → ((b : ℕ) → bit_at w.bits b ≡ 1 → 64 * w.index + b < length f.variables)
+pub told-facts : (v : Numbered) (f : MetVariables) (old new : List RowWord) (p : ℕ) (w : PlaceWord) → AreFacts v f old → RecordsWord old new p w → p < length f.variables → ((b : ℕ) → bit_at w.bits b ≡ 1 → 64 * w.index + b < length f.variables)
     → DecidesWord v f p w true → AreFacts v f new
 told-facts v f old new p w facts records row below told = facts-recorded v f old new p w facts records (λ q h. (let place = h.place in let low = below h.bit h.set in record { row = row; place = omega (arith, place, low); disjoint = told q h }))

@@ -1,5 +1,5 @@
 -- The tables of a cache, as images are read and listed.
-use Rattle.subst.proofs.Words.{◌≡◌, ℕ, zero, suc, ◌+◌, ◌-◌, ◌<◌, ◌≤◌, ◌==◌, false, List, [], ◌∷◌, ◌++◌, length, take, take_all, drop, get_or, sym, ap, subst, arith, Numbered, SymbolRange, symbols_in, CodeImages, code_apply, code_image, PlaceWord, Places, ArePlaced, Grows, IsAmong, AreImagesRecorded, RecordedImages, ChangesOnlyList, AddsSymbols, HasPlace, RecordsImage, AreTables, DisjointTables}
+use Rattle.subst.proofs.Words.{◌≡◌, ℕ, zero, suc, ◌+◌, ◌-◌, ◌<◌, ◌≤◌, ◌==◌, false, List, [], ◌∷◌, ◌++◌, length, take, take_all, drop, get_or, sym, ap, subst, arith, Numbered, SymbolRange, symbols_in, CodeImages, code_apply, code_image, PlaceWord, MetVariables, ArePlaced, Grows, IsAmong, AreImagesRecorded, RecordedImages, ChangesOnlyList, AddsSymbols, HasPlace, RecordsImage, AreTables, DisjointTables}
 use Rattle.subst.proofs.SymbolRangeLemmas.{length-seen}
 use Rattle.subst.proofs.PlaceSetLemmas.{among-left, among-right, symbols-again}
 use Rattle.subst.proofs.WrittenImages.{apply-take}
@@ -12,7 +12,7 @@ tables-over v w over more symbols t same e h =
     subst (λ u. AreTables u symbols t) same (subst (λ s. AreTables v s t) (sym e) (record { placed = h.placed; recorded = recorded-over v t.variables over more t.images h.recorded; facts = h.facts; found = pairs-over v over more t.found h.found }))
 
 -- the tables after an image is read
-pub tables-read : (v : Numbered) (symbols : List ℕ) (t : DisjointTables) (g : Places) (n : RecordedImages) (before : List PlaceWord) → AreTables v symbols t → ArePlaced v g → Grows t.variables g → AreImagesRecorded v g symbols n
+pub tables-read : (v : Numbered) (symbols : List ℕ) (t : DisjointTables) (g : MetVariables) (n : RecordedImages) (before : List PlaceWord) → AreTables v symbols t → ArePlaced v g → Grows t.variables g → AreImagesRecorded v g symbols n
     → AreTables v symbols (record { variables = g; images = n; rows = t.rows; before = before; found = t.found })
 tables-read v symbols t g n before h placed grows recorded = record { placed = placed; recorded = recorded; facts = facts-grown v t.variables g t.rows grows h.facts; found = h.found }
 
@@ -32,7 +32,7 @@ image-among σ (y ∷ e) zero (suc n) x low high p = among-left (code_image σ y
 image-among σ (y ∷ e) (suc i) (suc n) x low high p = among-right (code_image σ y) (code_apply σ (take n e)) x (image-among σ e i n x (omega (arith, low)) (omega (arith, high)) p)
 
 -- a symbol that occurred before adds no places
-pub symbol-again : (v : Numbered) (f : Places) (Old New : ℕ → Type 0) (σ : CodeImages) (e : List ℕ) (i n : ℕ) → i < n → n < length e → get_or e i 0 ≡ get_or e n 0 → AddsSymbols v f Old New (length (code_apply σ (take n e))) (code_apply σ (take n e))
+pub symbol-again : (v : Numbered) (f : MetVariables) (Old New : ℕ → Type 0) (σ : CodeImages) (e : List ℕ) (i n : ℕ) → i < n → n < length e → get_or e i 0 ≡ get_or e n 0 → AddsSymbols v f Old New (length (code_apply σ (take n e))) (code_apply σ (take n e))
     → AddsSymbols v f Old New (length (code_apply σ (take (n + 1) e))) (code_apply σ (take (n + 1) e))
 symbol-again v f Old New σ e i n low high same h =
     rw (apply-take σ e n high) (symbols-again v f Old New (code_apply σ (take n e)) (code_image σ (get_or e n 0))
@@ -46,7 +46,7 @@ some-range xs rest p x low high e = let size = ap length e in omega (arith, leng
 abbrev pub begun_of : RecordedImages → RecordedImages
 begun_of n = record { words = take n.kept n.words; list = []; kept = n.kept; read = []; long = n.long }
 
-module _ (v : Numbered) (symbols : List ℕ) (t : DisjointTables) (g : Places) (tables : AreTables v symbols t) (placed : ArePlaced v g) (grows : Grows t.variables g) (listed : RecordedImages) (keeps : ChangesOnlyList (begun_of t.images) listed) where
+module _ (v : Numbered) (symbols : List ℕ) (t : DisjointTables) (g : MetVariables) (tables : AreTables v symbols t) (placed : ArePlaced v g) (grows : Grows t.variables g) (listed : RecordedImages) (keeps : ChangesOnlyList (begun_of t.images) listed) where
   listed-recorded : AreImagesRecorded v g symbols listed
   listed-recorded = recorded-most v t.variables g symbols (begun_of t.images) listed grows (rest-most (begun_of t.images) listed keeps) (recorded-begin v t.variables symbols t.images tables.recorded)
 

@@ -1,10 +1,10 @@
 -- Whether two images of numbers are disjoint, symbol by symbol.
-use Rattle.subst.proofs.Words.{◌≡◌, ℕ, suc, ◌<◌, Bool, true, not, ◌||◌, List, [], ◌∷◌, length, get_or, refl, list_all, sym, ◌∙◌, ap, arith, and_from, both_ways, true_from_ne_false, list_all-map, list_all_at, is_variable, name_at, decode, are_disjoint, is_pair, Numbered, Places, are_places_disjoint, IsAt, IsAmong}
+use Rattle.subst.proofs.Words.{◌≡◌, ℕ, suc, ◌<◌, Bool, true, not, ◌||◌, List, [], ◌∷◌, length, get_or, refl, list_all, sym, ◌∙◌, ap, arith, and_from, both_ways, true_from_ne_false, list_all-map, list_all_at, is_variable, name_at, decode, are_disjoint, is_pair, Numbered, MetVariables, are_places_disjoint, IsAt, IsAmong}
 
 abbrev pub is_good : Numbered → ℕ → ℕ → Bool
 is_good v x y = not (is_variable v.statements (name_at v.names x)) || not (is_variable v.statements (name_at v.names y)) || is_pair v.statements (name_at v.names x) (name_at v.names y)
 
-pub at-names : (v : Numbered) (f : Places) (i j x y : ℕ) → IsAt f i x → IsAt f j y → are_places_disjoint v f i j ≡ is_pair v.statements (name_at v.names x) (name_at v.names y)
+pub at-names : (v : Numbered) (f : MetVariables) (i j x y : ℕ) → IsAt f i x → IsAt f j y → are_places_disjoint v f i j ≡ is_pair v.statements (name_at v.names x) (name_at v.names y)
 at-names v f i j x y first second = rw (first.same, second.same) refl
 
 -- ---- two images

@@ -1,5 +1,5 @@
 -- The images of the numbers of a group, each tested against the earlier ones.
-use Rattle.subst.proofs.Words.{◌≡◌, ℕ, zero, suc, ◌+◌, ◌<◌, ◌≤◌, Bool, true, false, not, ◌||◌, ◌&&◌, ◌==◌, List, [], ◌∷◌, length, map, take, drop, get_or, slice_get, slice_range, Some, refl, list_all, list_any, position_or_len, sym, ◌∙◌, ap, subst, arith, inl, inr, true≢false, lt-ltb, and_from, and_parts, or_right, cases_eq, or_cases, or_left, cases_Bool, false_from_ne_true, list_all-map, list_all_at, list_all_more, list_any_at, get_or-take, get_or_default, length-take, take_all, eqb-true, last_part, Name, name_eq, has_name, Expr, Database, name_at, decode, AreDistinct, name_same, same_name, name_eq-comm, is_pair, groups, Numbered, CodeImages, code_image, image, images_of_names, are_disjoint, is_group_disjoint, are_groups_disjoint, AreBelow, AllBelow, image_named, are_two_disjoint, is_number_disjoint, are_numbers_disjoint, pair_at, disjoint-from, Places, ArePlaced, ArePlacesOf, HasVariable, IsAmong, HasPlace, PlaceWord, WordRange, IsIn, IsRangeOf, AddsWords, DecidesEach, get_or_from_slice_get, slice_get-get_or, slice_get_within, Any-from_list_any, and_comm}
+use Rattle.subst.proofs.Words.{◌≡◌, ℕ, zero, suc, ◌+◌, ◌<◌, ◌≤◌, Bool, true, false, not, ◌||◌, ◌&&◌, ◌==◌, List, [], ◌∷◌, length, map, take, drop, get_or, slice_get, slice_range, Some, refl, list_all, list_any, position_or_len, sym, ◌∙◌, ap, subst, arith, inl, inr, true≢false, lt-ltb, and_from, and_parts, or_right, cases_eq, or_cases, or_left, cases_Bool, false_from_ne_true, list_all-map, list_all_at, list_all_more, list_any_at, get_or-take, get_or_default, length-take, take_all, eqb-true, last_part, Name, name_eq, has_name, Expr, Database, name_at, decode, AreDistinct, name_same, same_name, name_eq-comm, is_pair, groups, Numbered, CodeImages, code_image, image, images_of_names, are_disjoint, is_group_disjoint, are_groups_disjoint, AreBelow, AllBelow, image_named, are_two_disjoint, is_number_disjoint, are_numbers_disjoint, pair_at, disjoint-from, MetVariables, ArePlaced, ArePlacesOf, HasVariable, IsAmong, HasPlace, PlaceWord, WordRange, IsIn, IsRangeOf, AddsWords, DecidesEach, get_or_from_slice_get, slice_get-get_or, slice_get_within, Any-from_list_any, and_comm}
 use Rattle.subst.proofs.BitsLemmas.{differ}
 use Rattle.subst.proofs.VariablePlaceLemmas.{grows-own, has-more, places-same, at-variable}
 use Rattle.subst.proofs.ImageVariableLemmas.{in-listed, listed-in}
@@ -122,7 +122,7 @@ module _ (D : Database) (image_of : ℕ → Expr) (xs : List ℕ) (k n : ℕ) wh
   held-all long front = ap (λ ys. is_number_disjoint D image_of ys k) (sym (take_all n xs long)) ∙ front
 
 -- two images, by the words of the places of their variables
-module _ (v : Numbered) (f : Places) (placed : ArePlaced v f) (xs ys : List ℕ) (words : List PlaceWord) (r s : WordRange) (own : IsRangeOf v f words r xs) (other : IsRangeOf v f words s ys) where
+module _ (v : Numbered) (f : MetVariables) (placed : ArePlaced v f) (xs ys : List ℕ) (words : List PlaceWord) (r s : WordRange) (own : IsRangeOf v f words r xs) (other : IsRangeOf v f words s ys) where
   listed-places : (zs : List ℕ) (t : WordRange) → IsRangeOf v f words t zs → ArePlacesOf v f (HasPlace (slice_range words t.start t.end)) (IsAmong (length zs) zs)
   listed-places zs t is = places-same v f f (IsIn words t) (HasPlace (slice_range words t.start t.end)) _ (grows-own f) (λ j. in-listed words t j is.low is.high) (λ j. listed-in words t j is.low is.high) is.are
 
@@ -145,7 +145,7 @@ module _ (v : Numbered) (f : Places) (placed : ArePlaced v f) (xs ys : List ℕ)
 abbrev pub IsInImages : CodeImages → List ℕ → ℕ → ℕ → Type 0
 IsInImages σ group n x = (a : ℕ) × (a < n) × IsAmong (length (code_image σ (get_or group a 0))) (code_image σ (get_or group a 0)) x
 
-module _ (v : Numbered) (f : Places) (placed : ArePlaced v f) (σ : CodeImages) (group : List ℕ) (n : ℕ) (words : List PlaceWord) (r : WordRange) (set : List PlaceWord)
+module _ (v : Numbered) (f : MetVariables) (placed : ArePlaced v f) (σ : CodeImages) (group : List ℕ) (n : ℕ) (words : List PlaceWord) (r : WordRange) (set : List PlaceWord)
     (first : ArePlacesOf v f (HasPlace set) (IsInImages σ group n)) (own : IsRangeOf v f words r (code_image σ (get_or group n 0))) where
   abbrev image_at : ℕ → List ℕ
   image_at a = code_image σ (get_or group a 0)
@@ -217,7 +217,7 @@ module _ (D : Database) (image_of : ℕ → Expr) (group : List ℕ) (n : ℕ) w
       let one = repeated any in
       pairwise-more D image_of group n h (λ b less. subst (λ k. are_two_disjoint D image_of (get_or group b 0) k ≡ true) one.2 (h.each b one.0 less one.1))
 
-pub repeat-images : (v : Numbered) (f : Places) (σ : CodeImages) (group : List ℕ) (n : ℕ) (P : ℕ → Type 0) → list_any (λ x. x == get_or group n 0) (take n group) ≡ true → ArePlacesOf v f P (IsInImages σ group n) → ArePlacesOf v f P (IsInImages σ group (n + 1))
+pub repeat-images : (v : Numbered) (f : MetVariables) (σ : CodeImages) (group : List ℕ) (n : ℕ) (P : ℕ → Type 0) → list_any (λ x. x == get_or group n 0) (take n group) ≡ true → ArePlacesOf v f P (IsInImages σ group n) → ArePlacesOf v f P (IsInImages σ group (n + 1))
 repeat-images v f σ group n P any h =
     let one = repeated v.statements (λ k. []) group n any in record {
       each = λ x i. elim (cases_eq i.0 n) [

@@ -1,5 +1,5 @@
 -- The words of the places of the variables of images, and the ranges of these words.
-use Rattle.subst.proofs.Words.{◌≡◌, ℕ, ◌+◌, ◌-◌, ◌<◌, ◌≤◌, List, [], ◌∷◌, ◌++◌, length, take, drop, get_or, slice_range, refl, sym, ◌∙◌, ap, subst, arith, inl, inr, append-nil, get_or_append_left, get_or-append_right, get_or-append-add, get_or-drop, get_or-take, drop-drop, drop-take, length-append, length-take, length-drop, Numbered, code_image, SymbolRange, symbols_in, images_at, Places, Grows, GrowsWords, IsAmong, PlaceWord, ArePlacesBelow, HasBit, HasPlace, near_word, no_word, AddsSymbols, AddsWords, RecordedImages, WordRange, ReadImage, LongImage, IsIn, IsRangeOf, IsLong, AreImagesRecorded, AreRead, Appends, AppendsWord, AppendsAndChangesList, ChangesOnlyList, RecordsReadImage, RecordsImage, All-nil, All-push, All-weaker, All-contains}
+use Rattle.subst.proofs.Words.{◌≡◌, ℕ, ◌+◌, ◌-◌, ◌<◌, ◌≤◌, List, [], ◌∷◌, ◌++◌, length, take, drop, get_or, slice_range, refl, sym, ◌∙◌, ap, subst, arith, inl, inr, append-nil, get_or_append_left, get_or-append_right, get_or-append-add, get_or-drop, get_or-take, drop-drop, drop-take, length-append, length-take, length-drop, Numbered, code_image, SymbolRange, symbols_in, images_at, MetVariables, Grows, GrowsWords, IsAmong, PlaceWord, ArePlacesBelow, HasBit, HasPlace, near_word, no_word, AddsSymbols, AddsWords, RecordedImages, WordRange, ReadImage, LongImage, IsIn, IsRangeOf, IsLong, AreImagesRecorded, AreRead, Appends, AppendsWord, AppendsAndChangesList, ChangesOnlyList, RecordsReadImage, RecordsImage, All-nil, All-push, All-weaker, All-contains}
 use Rattle.subst.proofs.VariablePlaceLemmas.{grows-own, has-more, places-below, places-same}
 use Rattle.subst.proofs.PlaceSetLemmas.{place-none}
 use Rattle.subst.proofs.SymbolRangeLemmas.{seen-more}
@@ -12,7 +12,7 @@ in-more words more r j h = let low = h.there in record { spot = h.spot; from = h
 in-less : (words more : List PlaceWord) (r : WordRange) (j : ℕ) → r.end ≤ length words → IsIn (words ++ more) r j → IsIn words r j
 in-less words more r j within h = let to = h.to in let low : h.spot < length words = omega (arith, to, within) in record { spot = h.spot; from = h.from; to = to; there = low; has = subst (λ u. HasBit u j) (get_or_append_left words more no_word h.spot low) h.has }
 
-pub range-grown : (v : Numbered) (f g : Places) (words more : List PlaceWord) (r : WordRange) (image : List ℕ) → Grows f g → IsRangeOf v f words r image → IsRangeOf v g (words ++ more) r image
+pub range-grown : (v : Numbered) (f g : MetVariables) (words more : List PlaceWord) (r : WordRange) (image : List ℕ) → Grows f g → IsRangeOf v f words r image → IsRangeOf v g (words ++ more) r image
 range-grown v f g words more r image grows h = let high = h.high in record {
   low = h.low;
   high = omega (arith, high, length-append words more);
@@ -69,10 +69,10 @@ rest-cleared a b c h k = (k.0, k.1 ∙ rw h refl)
 pub most-twice : (a b c : RecordedImages) → ChangesOnlyList a b → AppendsAndChangesList b c → AppendsAndChangesList a c
 most-twice a b c h k = (k.0, k.1, k.2 ∙ rw h.1 refl)
 
-long-grown : (v : Numbered) (f g : Places) (symbols : List ℕ) (words more : List PlaceWord) (kept : ℕ) (e : LongImage) → Grows f g → IsLong v f symbols words kept e → IsLong v g symbols (words ++ more) kept e
+long-grown : (v : Numbered) (f g : MetVariables) (symbols : List ℕ) (words more : List PlaceWord) (kept : ℕ) (e : LongImage) → Grows f g → IsLong v f symbols words kept e → IsLong v g symbols (words ++ more) kept e
 long-grown v f g symbols words more kept e grows h = record { low = h.low; high = h.high; within = h.within; range = range-grown v f g words more e.words (symbols_in symbols e.image) grows h.range }
 
-pub recorded-most : (v : Numbered) (f g : Places) (symbols : List ℕ) (old new : RecordedImages) → Grows f g → AppendsAndChangesList old new → AreImagesRecorded v f symbols old → AreImagesRecorded v g symbols new
+pub recorded-most : (v : Numbered) (f g : MetVariables) (symbols : List ℕ) (old new : RecordedImages) → Grows f g → AppendsAndChangesList old new → AreImagesRecorded v f symbols old → AreImagesRecorded v g symbols new
 recorded-most v f g symbols old new grows keeps h =
     let kept = h.kept in
     rw keeps.2 (record {
@@ -80,7 +80,7 @@ recorded-most v f g symbols old new grows keeps h =
       long = All-weaker (IsLong v f symbols old.words old.kept) (IsLong v g symbols (old.words ++ keeps.0) old.kept) (λ e is. long-grown v f g symbols old.words keeps.0 old.kept e grows is) old.long h.long;
     })
 
-pub read-most : (v : Numbered) (f g : Places) (symbols : List ℕ) (images : List (ℕ × SymbolRange)) (old new : RecordedImages) → Grows f g → AppendsAndChangesList old new → AreRead v f symbols images old → AreRead v g symbols images new
+pub read-most : (v : Numbered) (f g : MetVariables) (symbols : List ℕ) (images : List (ℕ × SymbolRange)) (old new : RecordedImages) → Grows f g → AppendsAndChangesList old new → AreRead v f symbols images old → AreRead v g symbols images new
 read-most v f g symbols images old new grows keeps h =
     rw keeps.2 (record {
       each = All-weaker (λ (e : ReadImage). IsRangeOf v f old.words e.words (code_image (images_at symbols images) e.symbol)) (λ e. IsRangeOf v g (old.words ++ keeps.0) e.words (code_image (images_at symbols images) e.symbol))
@@ -88,7 +88,7 @@ read-most v f g symbols images old new grows keeps h =
     })
 
 -- symbols are appended to the buffer
-pub recorded-over : (v : Numbered) (f : Places) (symbols more : List ℕ) (n : RecordedImages) → AreImagesRecorded v f symbols n → AreImagesRecorded v f (symbols ++ more) n
+pub recorded-over : (v : Numbered) (f : MetVariables) (symbols more : List ℕ) (n : RecordedImages) → AreImagesRecorded v f symbols n → AreImagesRecorded v f (symbols ++ more) n
 recorded-over v f symbols more n h = record {
   kept = h.kept;
   long = All-weaker (IsLong v f symbols n.words n.kept) (IsLong v f (symbols ++ more) n.words n.kept)
@@ -100,7 +100,7 @@ recorded-over v f symbols more n h = record {
       })) n.long h.long;
 }
 
-pub recorded-none : (v : Numbered) (f : Places) (symbols : List ℕ) (n : RecordedImages) → n.kept ≡ 0 → n.long ≡ [] → AreImagesRecorded v f symbols n
+pub recorded-none : (v : Numbered) (f : MetVariables) (symbols : List ℕ) (n : RecordedImages) → n.kept ≡ 0 → n.long ≡ [] → AreImagesRecorded v f symbols n
 recorded-none v f symbols n kept long = record { kept = omega (arith, kept); long = rw long (All-nil (IsLong v f symbols n.words n.kept)) }
 
 -- ---- a citation begins
@@ -111,7 +111,7 @@ in-taken words n r j within h = let to = h.to in let low = h.there in record { s
 taken-in : (words : List PlaceWord) (n : ℕ) (r : WordRange) (j : ℕ) → r.end ≤ n → IsIn (take n words) r j → IsIn words r j
 taken-in words n r j within h = let to = h.to in let low = h.there in record { spot = h.spot; from = h.from; to = to; there = omega (arith, length-take n words, low); has = subst (λ u. HasBit u j) (get_or-take n words h.spot no_word (omega (arith, to, within))) h.has }
 
-pub recorded-begin : (v : Numbered) (f : Places) (symbols : List ℕ) (n : RecordedImages) → AreImagesRecorded v f symbols n → AreImagesRecorded v f symbols (record { words = take n.kept n.words; list = []; kept = n.kept; read = []; long = n.long })
+pub recorded-begin : (v : Numbered) (f : MetVariables) (symbols : List ℕ) (n : RecordedImages) → AreImagesRecorded v f symbols n → AreImagesRecorded v f symbols (record { words = take n.kept n.words; list = []; kept = n.kept; read = []; long = n.long })
 recorded-begin v f symbols n h =
     let kept = h.kept in record {
       kept = omega (arith, length-take n.kept n.words, kept);
@@ -128,13 +128,13 @@ recorded-begin v f symbols n h =
           })) n.long h.long;
     }
 
-pub read-none : (v : Numbered) (f : Places) (symbols : List ℕ) (images : List (ℕ × SymbolRange)) (n : RecordedImages) → n.read ≡ [] → AreRead v f symbols images n
+pub read-none : (v : Numbered) (f : MetVariables) (symbols : List ℕ) (images : List (ℕ × SymbolRange)) (n : RecordedImages) → n.read ≡ [] → AreRead v f symbols images n
 read-none v f symbols images n none = record { each = rw none (All-nil (λ (e : ReadImage). IsRangeOf v f n.words e.words (code_image (images_at symbols images) e.symbol))) }
 
 -- ---- the list
 
 -- the words of a recorded range add the places of the variables of its image
-pub range-symbols : (v : Numbered) (f : Places) (words old new : List PlaceWord) (r : WordRange) (image : List ℕ) → IsRangeOf v f words r image → AddsWords old new (slice_range words r.start r.end) → AddsSymbols v f (HasPlace old) (HasPlace new) (length image) image
+pub range-symbols : (v : Numbered) (f : MetVariables) (words old new : List PlaceWord) (r : WordRange) (image : List ℕ) → IsRangeOf v f words r image → AddsWords old new (slice_range words r.start r.end) → AddsSymbols v f (HasPlace old) (HasPlace new) (length image) image
 range-symbols v f words old new r image range adds = record {
   before = adds.before;
   added = λ x p. has-more v f f (IsIn words r) (HasPlace new) x (grows-own f) (λ j i. adds.added j (in-listed words r j range.low range.high i)) (range.are.each x p);
@@ -162,7 +162,7 @@ module _ (words list : List PlaceWord) where
     has = subst (λ u. HasBit u j) (get_or-append_right words list (length words) i.spot no_word refl from) i.has;
   }
 
-  pub list-range : (v : Numbered) (f : Places) (image : List ℕ) → AddsSymbols v f (HasPlace []) (HasPlace list) (length image) image → IsRangeOf v f (words ++ list) (record { start = length words; end = length (words ++ list) }) image
+  pub list-range : (v : Numbered) (f : MetVariables) (image : List ℕ) → AddsSymbols v f (HasPlace []) (HasPlace list) (length image) image → IsRangeOf v f (words ++ list) (record { start = length words; end = length (words ++ list) }) image
   list-range v f image adds = record {
     low = omega (arith, length-append words list);
     high = omega arith;
@@ -172,10 +172,10 @@ module _ (words list : List PlaceWord) where
     };
   }
 
-pub appended-range : (v : Numbered) (f : Places) (old new : RecordedImages) (r : WordRange) (image : List ℕ) → Appends old new r → AddsSymbols v f (HasPlace []) (HasPlace old.list) (length image) image → IsRangeOf v f new.words r image
+pub appended-range : (v : Numbered) (f : MetVariables) (old new : RecordedImages) (r : WordRange) (image : List ℕ) → Appends old new r → AddsSymbols v f (HasPlace []) (HasPlace old.list) (length image) image → IsRangeOf v f new.words r image
 appended-range v f old new r image appends adds = rw (appends.whole, appends.range) (list-range old.words old.list v f image adds)
 
-pub word-range : (v : Numbered) (f : Places) (old new : RecordedImages) (w : PlaceWord) (r : WordRange) (image : List ℕ) → AppendsWord old new w r → AddsSymbols v f (HasPlace []) (HasPlace (w ∷ [])) (length image) image → IsRangeOf v f new.words r image
+pub word-range : (v : Numbered) (f : MetVariables) (old new : RecordedImages) (w : PlaceWord) (r : WordRange) (image : List ℕ) → AppendsWord old new w r → AddsSymbols v f (HasPlace []) (HasPlace (w ∷ [])) (length image) image → IsRangeOf v f new.words r image
 word-range v f old new w r image appends adds = rw (appends.whole, appends.range) (list-range old.words (w ∷ []) v f image adds)
 
 -- a list of one word with the index 0 is a word of the first 64 places
@@ -186,17 +186,17 @@ one-near (x ∷ y ∷ ws) w size same index = absurd (omega (arith, size))
 
 -- ---- the ranges that were found
 
-pub long-range : (v : Numbered) (f : Places) (symbols : List ℕ) (n : RecordedImages) (image : SymbolRange) (r : WordRange) → AreImagesRecorded v f symbols n → (k : ℕ) → k < length n.long → get_or n.long k (record { image = image; words = r }) ≡ record { image = image; words = r }
+pub long-range : (v : Numbered) (f : MetVariables) (symbols : List ℕ) (n : RecordedImages) (image : SymbolRange) (r : WordRange) → AreImagesRecorded v f symbols n → (k : ℕ) → k < length n.long → get_or n.long k (record { image = image; words = r }) ≡ record { image = image; words = r }
     → IsLong v f symbols n.words n.kept (record { image = image; words = r })
 long-range v f symbols n image r recorded k low same = All-contains (IsLong v f symbols n.words n.kept) n.long (record { image = image; words = r }) recorded.long (k, low, same)
 
-pub read-range : (v : Numbered) (f : Places) (symbols : List ℕ) (images : List (ℕ × SymbolRange)) (n : RecordedImages) (x : ℕ) (r : WordRange) → AreRead v f symbols images n → (k : ℕ) → k < length n.read → get_or n.read k (record { symbol = x; words = r }) ≡ record { symbol = x; words = r }
+pub read-range : (v : Numbered) (f : MetVariables) (symbols : List ℕ) (images : List (ℕ × SymbolRange)) (n : RecordedImages) (x : ℕ) (r : WordRange) → AreRead v f symbols images n → (k : ℕ) → k < length n.read → get_or n.read k (record { symbol = x; words = r }) ≡ record { symbol = x; words = r }
     → IsRangeOf v f n.words r (code_image (images_at symbols images) x)
 read-range v f symbols images n x r read k low same = All-contains (λ (e : ReadImage). IsRangeOf v f n.words e.words (code_image (images_at symbols images) e.symbol)) n.read (record { symbol = x; words = r }) read.each (k, low, same)
 
 -- ---- an image is recorded
 
-pub recorded-image : (v : Numbered) (f : Places) (symbols : List ℕ) (old new : RecordedImages) (x : ℕ) (r : WordRange) → RecordsReadImage old new x r → AreImagesRecorded v f symbols old → AreImagesRecorded v f symbols new
+pub recorded-image : (v : Numbered) (f : MetVariables) (symbols : List ℕ) (old new : RecordedImages) (x : ℕ) (r : WordRange) → RecordsReadImage old new x r → AreImagesRecorded v f symbols old → AreImagesRecorded v f symbols new
 recorded-image v f symbols old new x r (inl e) h = rw e h
 recorded-image v f symbols old new x r (inr e) h = rw e (record { kept = h.kept; long = h.long })
 
@@ -204,7 +204,7 @@ pub words-image : (old new : RecordedImages) (x : ℕ) (r : WordRange) → Recor
 words-image old new x r (inl e) = ap (λ (n : RecordedImages). n.words) e
 words-image old new x r (inr e) = ap (λ (n : RecordedImages). n.words) e
 
-pub read-image : (v : Numbered) (f : Places) (symbols : List ℕ) (images : List (ℕ × SymbolRange)) (old new : RecordedImages) (x : ℕ) (r : WordRange) → RecordsReadImage old new x r → IsRangeOf v f old.words r (code_image (images_at symbols images) x) → AreRead v f symbols images old → AreRead v f symbols images new
+pub read-image : (v : Numbered) (f : MetVariables) (symbols : List ℕ) (images : List (ℕ × SymbolRange)) (old new : RecordedImages) (x : ℕ) (r : WordRange) → RecordsReadImage old new x r → IsRangeOf v f old.words r (code_image (images_at symbols images) x) → AreRead v f symbols images old → AreRead v f symbols images new
 read-image v f symbols images old new x r (inl e) own h = rw e h
 read-image v f symbols images old new x r (inr e) own h =
     rw e (record { each = All-push (λ (i : ReadImage). IsRangeOf v f old.words i.words (code_image (images_at symbols images) i.symbol)) old.read (record { symbol = x; words = r }) h.each own })
@@ -220,15 +220,15 @@ words-most old new h = (h.0, ap (λ (n : RecordedImages). n.words) h.2)
 pub words-kept : (a b c : RecordedImages) (x : ℕ) (r : WordRange) → AppendsAndChangesList a b → RecordsReadImage b c x r → GrowsWords a c
 words-kept a b c x r h k = (h.0, words-image b c x r k ∙ ap (λ (n : RecordedImages). n.words) h.2)
 
-pub range-words : (v : Numbered) (f g : Places) (old new : RecordedImages) (r : WordRange) (image : List ℕ) → Grows f g → GrowsWords old new → IsRangeOf v f old.words r image → IsRangeOf v g new.words r image
+pub range-words : (v : Numbered) (f g : MetVariables) (old new : RecordedImages) (r : WordRange) (image : List ℕ) → Grows f g → GrowsWords old new → IsRangeOf v f old.words r image → IsRangeOf v g new.words r image
 range-words v f g old new r image grows more h = rw more.1 (range-grown v f g old.words more.0 r image grows h)
 
 -- each place of a range is that of a variable
-pub range-below : (v : Numbered) (f : Places) (words : List PlaceWord) (r : WordRange) (image : List ℕ) → IsRangeOf v f words r image → ArePlacesBelow (length f.variables) (slice_range words r.start r.end)
+pub range-below : (v : Numbered) (f : MetVariables) (words : List PlaceWord) (r : WordRange) (image : List ℕ) → IsRangeOf v f words r image → ArePlacesBelow (length f.variables) (slice_range words r.start r.end)
 range-below v f words r image h = λ j p. places-below v f (IsIn words r) (IsAmong (length image) image) h.are j (listed-in words r j h.low h.high p)
 
 -- a long image is recorded
-pub recorded-long : (v : Numbered) (f : Places) (symbols : List ℕ) (old new : RecordedImages) (image : SymbolRange) → RecordsImage old new image → image.start ≤ image.end → image.end ≤ length symbols
+pub recorded-long : (v : Numbered) (f : MetVariables) (symbols : List ℕ) (old new : RecordedImages) (image : SymbolRange) → RecordsImage old new image → image.start ≤ image.end → image.end ≤ length symbols
     → AddsSymbols v f (HasPlace []) (HasPlace old.list) (length (symbols_in symbols image)) (symbols_in symbols image) → AreImagesRecorded v f symbols old → AreImagesRecorded v f symbols new
 recorded-long v f symbols old new image (inl keeps) low high own h = recorded-most v f f symbols old new (grows-own f) keeps h
 recorded-long v f symbols old new image (inr e) low high own h =

@@ -1,5 +1,5 @@
--- Places as words of bits.
-use Rattle.subst.proofs.Words.{◌≡◌, ℕ, ◌+◌, ◌-◌, ◌*◌, ◌%◌, ◌^◌, ◌<◌, ◌⊎◌, false, List, [], ◌∷◌, ◌++◌, length, get_or, slice_set, refl, bit_at, bit_or, sym, ◌∙◌, ap, subst, arith, inl, inr, cases_eq, cases_lt, get_or_append_left, get_or_push, get_or-set_same, get_or-set_other, length-set, length_push, length-append, get_or-append_right, get_or-append-add, Numbered, is_variable, name_at, PlaceWord, near_word, HasBit, HasAmong, HasPlace, HasEither, no_word, AddsFirst, AddsWord, AddsWords, TakesPlace, AddsSymbols, Places, IsAt, Grows, IsAmong}
+-- MetVariables as words of bits.
+use Rattle.subst.proofs.Words.{◌≡◌, ℕ, ◌+◌, ◌-◌, ◌*◌, ◌%◌, ◌^◌, ◌<◌, ◌⊎◌, false, List, [], ◌∷◌, ◌++◌, length, get_or, slice_set, refl, bit_at, bit_or, sym, ◌∙◌, ap, subst, arith, inl, inr, cases_eq, cases_lt, get_or_append_left, get_or_push, get_or-set_same, get_or-set_other, length-set, length_push, length-append, get_or-append_right, get_or-append-add, Numbered, is_variable, name_at, PlaceWord, near_word, HasBit, HasAmong, HasPlace, HasEither, no_word, AddsFirst, AddsWord, AddsWords, TakesPlace, AddsSymbols, MetVariables, IsAt, Grows, IsAmong}
 use Rattle.subst.proofs.BitsLemmas.{one-own, one-only, or-left, or-right, or-either, zero-none}
 use Rattle.subst.proofs.VariablePlaceLemmas.{grows-own, has-more, among-none, among-more, among-before, among-last}
 
@@ -134,11 +134,11 @@ adds-near before bits =
 
 -- ---- symbols
 
-pub symbols-none : (v : Numbered) (f : Places) (Old : ℕ → Type 0) (image : List ℕ) → AddsSymbols v f Old Old 0 image
+pub symbols-none : (v : Numbered) (f : MetVariables) (Old : ℕ → Type 0) (image : List ℕ) → AddsSymbols v f Old Old 0 image
 symbols-none v f Old image = record { before = λ j h. h; added = λ x p. absurd (among-none image x p); only = λ j h. inl h }
 
 -- sets with the same places
-pub symbols-same : (v : Numbered) (f : Places) (Old Now New : ℕ → Type 0) (n : ℕ) (image : List ℕ) → ((j : ℕ) → Now j → New j) → ((j : ℕ) → New j → Now j) → AddsSymbols v f Old Now n image → AddsSymbols v f Old New n image
+pub symbols-same : (v : Numbered) (f : MetVariables) (Old Now New : ℕ → Type 0) (n : ℕ) (image : List ℕ) → ((j : ℕ) → Now j → New j) → ((j : ℕ) → New j → Now j) → AddsSymbols v f Old Now n image → AddsSymbols v f Old New n image
 symbols-same v f Old Now New n image there back h = record {
   before = λ j p. there j (h.before j p);
   added = λ x p. has-more v f f Now New x (grows-own f) there (h.added x p);
@@ -146,26 +146,26 @@ symbols-same v f Old Now New n image there back h = record {
 }
 
 -- at the start the word at hand is empty
-pub symbols-start : (v : Numbered) (f : Places) (ws : List PlaceWord) (image : List ℕ) → AddsSymbols v f (HasPlace ws) (HasEither ws (record { index = 0; bits = 0 })) 0 image
+pub symbols-start : (v : Numbered) (f : MetVariables) (ws : List PlaceWord) (image : List ℕ) → AddsSymbols v f (HasPlace ws) (HasEither ws (record { index = 0; bits = 0 })) 0 image
 symbols-start v f ws image =
     symbols-same v f (HasPlace ws) (HasPlace ws) (HasEither ws (record { index = 0; bits = 0 })) 0 image (λ j p. inl p) (λ j h. elim h [ inl p ↦ p | inr b ↦ absurd (zero-none b.bit b.set) ]) (symbols-none v f (HasPlace ws) image)
 
 -- at the end the word at hand is added to the set
-pub symbols-end : (v : Numbered) (f : Places) (Old : ℕ → Type 0) (ws new : List PlaceWord) (w : PlaceWord) (n : ℕ) (image : List ℕ) → AddsWord ws new w → AddsSymbols v f Old (HasEither ws w) n image → AddsSymbols v f Old (HasPlace new) n image
+pub symbols-end : (v : Numbered) (f : MetVariables) (Old : ℕ → Type 0) (ws new : List PlaceWord) (w : PlaceWord) (n : ℕ) (image : List ℕ) → AddsWord ws new w → AddsSymbols v f Old (HasEither ws w) n image → AddsSymbols v f Old (HasPlace new) n image
 symbols-end v f Old ws new w n image adds = symbols-same v f Old (HasEither ws w) (HasPlace new) n image (λ j h. elim h [ inl p ↦ adds.before j p | inr b ↦ adds.added j b ]) adds.only
 
-pub symbols-empty : (v : Numbered) (f : Places) (Old : ℕ → Type 0) (ws : List PlaceWord) (w : PlaceWord) (n : ℕ) (image : List ℕ) → w.bits ≡ 0 → AddsSymbols v f Old (HasEither ws w) n image → AddsSymbols v f Old (HasPlace ws) n image
+pub symbols-empty : (v : Numbered) (f : MetVariables) (Old : ℕ → Type 0) (ws : List PlaceWord) (w : PlaceWord) (n : ℕ) (image : List ℕ) → w.bits ≡ 0 → AddsSymbols v f Old (HasEither ws w) n image → AddsSymbols v f Old (HasPlace ws) n image
 symbols-empty v f Old ws w n image none = symbols-same v f Old (HasEither ws w) (HasPlace ws) n image (λ j h. elim h [ inl p ↦ p | inr b ↦ absurd (zero-none b.bit (ap (λ m. bit_at m b.bit) (sym none) ∙ b.set)) ]) (λ j p. inl p)
 
 -- a symbol that is no variable adds no place
-pub symbols-constant : (v : Numbered) (f g : Places) (Old Now : ℕ → Type 0) (n : ℕ) (image : List ℕ) → Grows f g → is_variable v.statements (name_at v.names (get_or image n 0)) ≡ false → AddsSymbols v f Old Now n image → AddsSymbols v g Old Now (n + 1) image
+pub symbols-constant : (v : Numbered) (f g : MetVariables) (Old Now : ℕ → Type 0) (n : ℕ) (image : List ℕ) → Grows f g → is_variable v.statements (name_at v.names (get_or image n 0)) ≡ false → AddsSymbols v f Old Now n image → AddsSymbols v g Old Now (n + 1) image
 symbols-constant v f g Old Now n image grows none h = record {
   before = h.before;
   added = λ x p. elim (among-more n image x p) [ inl before ↦ has-more v f g Now Now x grows (λ j b. b) (h.added x before) | inr last ↦ inl (subst (λ y. is_variable v.statements (name_at v.names y) ≡ false) last none) ];
   only = λ j b. elim (h.only j b) [ inl first ↦ inl first | inr own ↦ inr (own.0, among-before n image own.0 own.1, grows.each j own.0 own.2) ];
 }
 
-pub symbols-variable : (v : Numbered) (f g : Places) (Old : ℕ → Type 0) (ws new : List PlaceWord) (w next : PlaceWord) (n place : ℕ) (image : List ℕ) → Grows f g → IsAt g place (get_or image n 0) → TakesPlace ws w new next place
+pub symbols-variable : (v : Numbered) (f g : MetVariables) (Old : ℕ → Type 0) (ws new : List PlaceWord) (w next : PlaceWord) (n place : ℕ) (image : List ℕ) → Grows f g → IsAt g place (get_or image n 0) → TakesPlace ws w new next place
     → AddsSymbols v f Old (HasEither ws w) n image → AddsSymbols v g Old (HasEither new next) (n + 1) image
 symbols-variable v f g Old ws new w next n place image grows at takes h = record {
   before = λ j p. takes.before j (h.before j p);
@@ -180,12 +180,12 @@ symbols-variable v f g Old ws new w next n place image grows at takes h = record
 }
 
 -- a variable at a place below 64 is added
-pub symbols-near : (v : Numbered) (f g : Places) (bits n place : ℕ) (image : List ℕ) → Grows f g → place < 64 → IsAt g place (get_or image n 0)
+pub symbols-near : (v : Numbered) (f g : MetVariables) (bits n place : ℕ) (image : List ℕ) → Grows f g → place < 64 → IsAt g place (get_or image n 0)
     → AddsSymbols v f (HasPlace []) (HasEither [] (near_word bits)) n image → AddsSymbols v g (HasPlace []) (HasEither [] (near_word (bit_or bits (1 * 2 ^ place % 2 ^ 64)))) (n + 1) image
 symbols-near v f g bits n place image grows low at h =
     symbols-variable v f g (HasPlace []) [] [] (near_word bits) (near_word (bit_or bits (1 * 2 ^ place % 2 ^ 64))) n place image grows at (takes-here [] (near_word bits) place 0 place low (omega arith) refl) h
 
-pub symbols-near_end : (v : Numbered) (f : Places) (bits n : ℕ) (image : List ℕ) → n ≡ length image → AddsSymbols v f (HasPlace []) (HasEither [] (near_word bits)) n image → AddsSymbols v f (HasPlace []) (HasPlace (near_word bits ∷ [])) (length image) image
+pub symbols-near_end : (v : Numbered) (f : MetVariables) (bits n : ℕ) (image : List ℕ) → n ≡ length image → AddsSymbols v f (HasPlace []) (HasEither [] (near_word bits)) n image → AddsSymbols v f (HasPlace []) (HasPlace (near_word bits ∷ [])) (length image) image
 symbols-near_end v f bits n image end h =
     subst (λ m. AddsSymbols v f (HasPlace []) (HasPlace (near_word bits ∷ [])) m image) end (symbols-end v f (HasPlace []) [] (near_word bits ∷ []) (near_word bits) n image (adds-pushed [] (near_word bits)) h)
 
@@ -203,7 +203,7 @@ among-either xs ys x p = elim (cases_lt p.0 (length xs)) [
   | inr high ↦ inr (p.0 - length xs, omega (arith, p.1, high, length-append xs ys), sym (get_or-append_right xs ys (length xs) p.0 0 refl high) ∙ p.2)
 ]
 
-pub symbols-joined : (v : Numbered) (f g : Places) (Old Now New : ℕ → Type 0) (xs ys : List ℕ) → Grows f g → AddsSymbols v f Old Now (length xs) xs → AddsSymbols v g Now New (length ys) ys → AddsSymbols v g Old New (length (xs ++ ys)) (xs ++ ys)
+pub symbols-joined : (v : Numbered) (f g : MetVariables) (Old Now New : ℕ → Type 0) (xs ys : List ℕ) → Grows f g → AddsSymbols v f Old Now (length xs) xs → AddsSymbols v g Now New (length ys) ys → AddsSymbols v g Old New (length (xs ++ ys)) (xs ++ ys)
 symbols-joined v f g Old Now New xs ys grows first next = record {
   before = λ j p. next.before j (first.before j p);
   added = λ x p. elim (among-either xs ys x p) [ inl left ↦ has-more v f g Now New x grows next.before (first.added x left) | inr right ↦ next.added x right ];
@@ -214,7 +214,7 @@ symbols-joined v f g Old Now New xs ys grows first next = record {
 }
 
 -- symbols that occurred before add no places
-pub symbols-again : (v : Numbered) (f : Places) (Old New : ℕ → Type 0) (xs ys : List ℕ) → ((x : ℕ) → IsAmong (length ys) ys x → IsAmong (length xs) xs x) → AddsSymbols v f Old New (length xs) xs → AddsSymbols v f Old New (length (xs ++ ys)) (xs ++ ys)
+pub symbols-again : (v : Numbered) (f : MetVariables) (Old New : ℕ → Type 0) (xs ys : List ℕ) → ((x : ℕ) → IsAmong (length ys) ys x → IsAmong (length xs) xs x) → AddsSymbols v f Old New (length xs) xs → AddsSymbols v f Old New (length (xs ++ ys)) (xs ++ ys)
 symbols-again v f Old New xs ys there h = record {
   before = h.before;
   added = λ x p. elim (among-either xs ys x p) [ inl left ↦ h.added x left | inr right ↦ h.added x (there x right) ];

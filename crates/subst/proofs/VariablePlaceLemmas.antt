@@ -1,38 +1,38 @@
 -- The places of variables, as symbols are met.
-use Rattle.subst.proofs.Words.{◌≡◌, ℕ, ◌+◌, ◌<◌, ◌⊎◌, false, List, [], ◌∷◌, ◌++◌, length, get_or, Option, Some, None, Result, Ok, Err, OnOk, is_ok, is_err, if◌then◌else◌, refl, sym, ◌∙◌, ap, subst, arith, inl, inr, cases_eq, get_or_append_left, get_or_push, length_push, Numbered, MetSymbol, Places, are_places_disjoint, IsAt, Grows, IsPlace, IsListed, IsVariable, ArePlaced, HasVariable, ArePlacesOf, IsAmong, All-nil, All-same, All-push, All-weaker, All-contains}
+use Rattle.subst.proofs.Words.{◌≡◌, ℕ, ◌+◌, ◌<◌, ◌⊎◌, false, List, [], ◌∷◌, ◌++◌, length, get_or, Option, Some, None, Result, Ok, Err, OnOk, is_ok, is_err, if◌then◌else◌, refl, sym, ◌∙◌, ap, subst, arith, inl, inr, cases_eq, get_or_append_left, get_or_push, length_push, Numbered, MetSymbol, MetVariables, are_places_disjoint, IsAt, Grows, IsPlace, IsListed, IsVariable, ArePlaced, HasVariable, ArePlacesOf, IsAmong, All-nil, All-same, All-push, All-weaker, All-contains}
 
-pub grows-own : (f : Places) → Grows f f
+pub grows-own : (f : MetVariables) → Grows f f
 grows-own f = record { each = λ j x at. at }
 
-pub grows-twice : (f g h : Places) → Grows f g → Grows g h → Grows f h
+pub grows-twice : (f g h : MetVariables) → Grows f g → Grows g h → Grows f h
 grows-twice f g h a b = record { each = λ j x at. b.each j x (a.each j x at) }
 
 -- a place keeps its variable
-pub place-grown : (f g : Places) (j : ℕ) → Grows f g → j < length f.variables → IsAt g j (get_or f.variables j 0)
+pub place-grown : (f g : MetVariables) (j : ℕ) → Grows f g → j < length f.variables → IsAt g j (get_or f.variables j 0)
 place-grown f g j grows h = grows.each j (get_or f.variables j 0) (record { there = h; same = refl })
 
 -- whether the variables at two places are disjoint does not change
-pub kept-grown : (v : Numbered) (f g : Places) (i j : ℕ) → Grows f g → i < length f.variables → j < length f.variables → are_places_disjoint v g i j ≡ are_places_disjoint v f i j
+pub kept-grown : (v : Numbered) (f g : MetVariables) (i j : ℕ) → Grows f g → i < length f.variables → j < length f.variables → are_places_disjoint v g i j ≡ are_places_disjoint v f i j
 kept-grown v f g i j grows hi hj = rw ((place-grown f g i grows hi).same, (place-grown f g j grows hj).same) refl
 
-pub is_place-grown : (v : Numbered) (f g : Places) (x : ℕ) (o : Option ℕ) → Grows f g → IsPlace v f x o → IsPlace v g x o
+pub is_place-grown : (v : Numbered) (f g : MetVariables) (x : ℕ) (o : Option ℕ) → Grows f g → IsPlace v f x o → IsPlace v g x o
 is_place-grown v f g x None grows h = h
 is_place-grown v f g x (Some j) grows h = grows.each j x h
 
-pub listed-place : (v : Numbered) (f : Places) (x : ℕ) (o : Option ℕ) → ArePlaced v f → IsListed f x o → IsPlace v f x o
+pub listed-place : (v : Numbered) (f : MetVariables) (x : ℕ) (o : Option ℕ) → ArePlaced v f → IsListed f x o → IsPlace v f x o
 listed-place v f x o placed at = All-contains (λ (s : MetSymbol). IsPlace v f s.number s.place) f.symbols (record { number = x; place = o }) placed.symbols at
 
 -- the symbol at a place is a variable
-pub at-variable : (v : Numbered) (f : Places) (j x : ℕ) → ArePlaced v f → IsAt f j x → IsVariable v x
+pub at-variable : (v : Numbered) (f : MetVariables) (j x : ℕ) → ArePlaced v f → IsAt f j x → IsVariable v x
 at-variable v f j x placed at = subst (IsVariable v) at.same (placed.variables j 0 at.there)
 
-pub placed-none : (v : Numbered) (f : Places) → f.symbols ≡ [] → f.variables ≡ [] → ArePlaced v f
+pub placed-none : (v : Numbered) (f : MetVariables) → f.symbols ≡ [] → f.variables ≡ [] → ArePlaced v f
 placed-none v f a b = record { symbols = All-same (λ (s : MetSymbol). IsPlace v f s.number s.place) f.symbols [] a (All-nil (λ (s : MetSymbol). IsPlace v f s.number s.place)); variables = All-same (IsVariable v) f.variables [] b (All-nil (IsVariable v)) }
 
 -- the record of a symbol is appended
-pub placed-symbol : (v : Numbered) (f : Places) (s : MetSymbol) → ArePlaced v f → IsPlace v f s.number s.place → let g : Places = record { symbols = f.symbols ++ s ∷ []; variables = f.variables } in ArePlaced v g × Grows f g × IsPlace v g s.number s.place
+pub placed-symbol : (v : Numbered) (f : MetVariables) (s : MetSymbol) → ArePlaced v f → IsPlace v f s.number s.place → let g : MetVariables = record { symbols = f.symbols ++ s ∷ []; variables = f.variables } in ArePlaced v g × Grows f g × IsPlace v g s.number s.place
 placed-symbol v f s placed own =
-    let g : Places = record { symbols = f.symbols ++ s ∷ []; variables = f.variables } in
+    let g : MetVariables = record { symbols = f.symbols ++ s ∷ []; variables = f.variables } in
     let grows : Grows f g = record { each = λ j x at. record { there = at.there; same = at.same } } in (
       record {
         symbols = All-weaker (λ (t : MetSymbol). IsPlace v f t.number t.place) (λ t. IsPlace v g t.number t.place) (λ t h. is_place-grown v f g t.number t.place grows h) g.symbols (All-push (λ (t : MetSymbol). IsPlace v f t.number t.place) f.symbols s placed.symbols own);
@@ -43,9 +43,9 @@ placed-symbol v f s placed own =
     )
 
 -- a variable is appended
-pub placed-variable : (v : Numbered) (f : Places) (x : ℕ) → ArePlaced v f → IsVariable v x → let g : Places = record { symbols = f.symbols; variables = f.variables ++ x ∷ [] } in ArePlaced v g × Grows f g × IsAt g (length f.variables) x
+pub placed-variable : (v : Numbered) (f : MetVariables) (x : ℕ) → ArePlaced v f → IsVariable v x → let g : MetVariables = record { symbols = f.symbols; variables = f.variables ++ x ∷ [] } in ArePlaced v g × Grows f g × IsAt g (length f.variables) x
 placed-variable v f x placed is =
-    let g : Places = record { symbols = f.symbols; variables = f.variables ++ x ∷ [] } in
+    let g : MetVariables = record { symbols = f.symbols; variables = f.variables ++ x ∷ [] } in
     let grows : Grows f g = record { each = λ j y at. (let low = at.there in record { there = omega (arith, low, length_push f.variables x); same = get_or_append_left f.variables (x ∷ []) 0 j low ∙ at.same }) } in (
       record {
         symbols = All-weaker (λ (t : MetSymbol). IsPlace v f t.number t.place) (λ t. IsPlace v g t.number t.place) (λ t h. is_place-grown v f g t.number t.place grows h) g.symbols placed.symbols;
@@ -57,23 +57,23 @@ placed-variable v f x placed is =
 
 -- ---- sets of places
 
-pub has-more : (v : Numbered) (f g : Places) (P Q : ℕ → Type 0) (x : ℕ) → Grows f g → ((j : ℕ) → P j → Q j) → HasVariable v f P x → HasVariable v g Q x
+pub has-more : (v : Numbered) (f g : MetVariables) (P Q : ℕ → Type 0) (x : ℕ) → Grows f g → ((j : ℕ) → P j → Q j) → HasVariable v f P x → HasVariable v g Q x
 has-more v f g P Q x grows keep (inl none) = inl none
 has-more v f g P Q x grows keep (inr n) = inr (n.0, grows.each n.0 x n.1, keep n.0 n.2)
 
 -- sets with the same places
-pub places-same : (v : Numbered) (f g : Places) (P Q R : ℕ → Type 0) → Grows f g → ((j : ℕ) → P j → Q j) → ((j : ℕ) → Q j → P j) → ArePlacesOf v f P R → ArePlacesOf v g Q R
+pub places-same : (v : Numbered) (f g : MetVariables) (P Q R : ℕ → Type 0) → Grows f g → ((j : ℕ) → P j → Q j) → ((j : ℕ) → Q j → P j) → ArePlacesOf v f P R → ArePlacesOf v g Q R
 places-same v f g P Q R grows there back h = record {
   each = λ x r. has-more v f g P Q x grows there (h.each x r);
   only = λ j q. (let o = h.only j (back j q) in (o.0, o.1, grows.each j o.0 o.2));
 }
 
 -- each place of the set is that of a variable
-pub places-below : (v : Numbered) (f : Places) (P R : ℕ → Type 0) → ArePlacesOf v f P R → (j : ℕ) → P j → j < length f.variables
+pub places-below : (v : Numbered) (f : MetVariables) (P R : ℕ → Type 0) → ArePlacesOf v f P R → (j : ℕ) → P j → j < length f.variables
 places-below v f P R h j p = (h.only j p).2.there
 
 -- an empty set has the places of no symbols
-pub places-none : (v : Numbered) (f : Places) (P R : ℕ → Type 0) → ((j : ℕ) → P j → ⊥) → ((x : ℕ) → R x → ⊥) → ArePlacesOf v f P R
+pub places-none : (v : Numbered) (f : MetVariables) (P R : ℕ → Type 0) → ((j : ℕ) → P j → ⊥) → ((x : ℕ) → R x → ⊥) → ArePlacesOf v f P R
 places-none v f P R none no_symbol = record { each = λ x r. absurd (no_symbol x r); only = λ j p. absurd (none j p) }
 
 pub among-none : (xs : List ℕ) (x : ℕ) → IsAmong 0 xs x → ⊥

@@ -49,7 +49,7 @@ pub use Rattle.subst.specs.Stored.ImageVariables.{AddsImage, Appends, AppendsWor
 pub use Rattle.subst.specs.Stored.PlaceSets.{AddsFirst, AddsSymbols, AddsWord, AddsWords, ArePlacesBelow, HasAmong, HasBit, HasEither, HasPlace, TakesPlace, near_word, no_word}
 pub use Rattle.subst.specs.Stored.ImageTables.{AreUpTo, placed}
 pub use Rattle.subst.specs.Stored.SymbolMarks.{AreMarksOf, HasBoth, IsMarked, TakesMark, TakesPlaces, number_at}
-pub use Rattle.subst.specs.Stored.VariablePlaces.{AreBitsOf, ArePlaced, ArePlacesOf, Grows, HasVariable, IsAmong, IsAt, IsListed, IsPlace, IsVariable, Places, are_places_disjoint, variable_name}
+pub use Rattle.subst.specs.Stored.VariablePlaces.{AreBitsOf, ArePlaced, ArePlacesOf, Grows, HasVariable, IsAmong, IsAt, IsListed, IsPlace, IsVariable, MetVariables, are_places_disjoint, variable_name}
 pub use Rattle.subst.specs.Stored.Written.{IsWritten, LacksRoom}
 pub use Rattle.subst.specs.SymbolRanges.{AreInside, AreWithin, images_at, symbols_in}
 pub use Rattle.subst.specs.RemainingSymbols.{group_left, is_group_left, has_nonempty_image, is_range_nonempty, is_symbol_left, remaining}

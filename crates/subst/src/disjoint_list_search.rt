@@ -118,10 +118,10 @@ fn list_has_both(
     ensures { IfOk result (λ ok. ok ≡ true → HasBoth variables.now words.now others.now list.now) }
 {
     mark_symbols(marks, list)?;
-    if !take_words(marks, variables, words) {
+    if !remove_marks_of_words(marks, variables, words) {
         return Ok(false);
     }
-    Ok(take_words(marks, variables, others))
+    Ok(remove_marks_of_words(marks, variables, others))
 }
 
 /// Marks the symbols of a list, and no others.
@@ -160,7 +160,7 @@ fn mark(marks: &mut Vec<bool>, symbol: usize)
 
 /// Removes the mark of a symbol, and returns whether it had one.
 #[inline(always)]
-fn take_mark(marks: &mut Vec<bool>, symbol: usize) -> bool
+fn remove_mark(marks: &mut Vec<bool>, symbol: usize) -> bool
     ensures { result ≡ true → TakesMark marks.old.items marks.new.items symbol }
 {
     if symbol >= marks.len() || !marks[symbol] {
@@ -172,7 +172,7 @@ fn take_mark(marks: &mut Vec<bool>, symbol: usize) -> bool
 
 /// Removes the marks of the variables at the places of a word, and returns `true` only if each had one.
 #[inline(always)]
-fn take_word(marks: &mut Vec<bool>, variables: &VariablePlaces, word: PlaceWord) -> bool
+fn remove_marks_of_word(marks: &mut Vec<bool>, variables: &VariablePlaces, word: PlaceWord) -> bool
     requires { (j : ℕ) → HasBit word j → j < length variables.now.variables }
     ensures { result ≡ true → TakesPlaces variables.now (HasBit word) marks.old.items marks.new.items }
 {
@@ -180,7 +180,7 @@ fn take_word(marks: &mut Vec<bool>, variables: &VariablePlaces, word: PlaceWord)
     while rest != 0 {
         let bit = lowest(rest);
         let symbol = variables.number(64 * word.index as usize + bit);
-        if !take_mark(marks, symbol as usize) {
+        if !remove_mark(marks, symbol as usize) {
             return false;
         }
         rest = without(rest, bit);
@@ -189,12 +189,16 @@ fn take_word(marks: &mut Vec<bool>, variables: &VariablePlaces, word: PlaceWord)
 }
 
 /// Removes the marks of the variables at the places of words, and returns `true` only if each had one.
-fn take_words(marks: &mut Vec<bool>, variables: &VariablePlaces, words: &[PlaceWord]) -> bool
+fn remove_marks_of_words(
+    marks: &mut Vec<bool>,
+    variables: &VariablePlaces,
+    words: &[PlaceWord],
+) -> bool
     requires { ArePlacesBelow (length variables.now.variables) words.now }
     ensures { result ≡ true → TakesPlaces variables.now (HasPlace words.now) marks.old.items marks.new.items }
 {
     for word in words {
-        if !take_word(marks, variables, *word) {
+        if !remove_marks_of_word(marks, variables, *word) {
             return false;
         }
     }

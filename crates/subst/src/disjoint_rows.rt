@@ -218,7 +218,7 @@ impl DisjointRows {
         if list.len() > READ_SYMBOLS {
             return Ok(());
         }
-        let listed = variables.bits_of(pairs, list)?;
+        let listed = variables.near_bits_of_list(pairs, list)?;
         let mut rest = listed;
         while rest != 0 {
             let bit = lowest(rest);

@@ -154,7 +154,7 @@ impl DisjointTables {
         if !self.are_disjoint(pairs, symbols, images, first, second)? {
             return Ok(false);
         }
-        self.found.record_if_new(pair);
+        self.found.record_pair(pair);
         Ok(true)
     }
 

@@ -101,7 +101,7 @@ impl ImagePairs {
     /// fails. Does not look whether they are recorded: the caller does (`has`).
     ///
     /// Cost: log n for n pairs.
-    pub fn record_if_new(&mut self, pair: ImagePair)
+    pub fn record_pair(&mut self, pair: ImagePair)
         ensures { RecordsPair self.old self.new pair }
     {
         let place = self.pairs.len();

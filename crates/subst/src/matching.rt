@@ -42,7 +42,7 @@ fn have_same_prefix(left: &[u32], right: &[u32], len: usize) -> bool
 
 /// Returns where the image in a range ends if the symbols from `at` up to `end` begin with it, else `None`.
 #[inline(always)]
-fn pass_range(symbols: &[u32], place: SymbolRange, at: usize, end: usize) -> Option<usize>
+fn skip_range(symbols: &[u32], place: SymbolRange, at: usize, end: usize) -> Option<usize>
     requires image { (place.start ≤ place.end) × (place.end ≤ length symbols.now) }
     requires rest { (at ≤ end) × (end ≤ length symbols.now) }
     ensures some { IfSome result (λ next. (next ≤ end) × (slice_range symbols.now at end ≡ symbols_in symbols.now place ++ slice_range symbols.now next end)) }
@@ -61,7 +61,7 @@ fn pass_range(symbols: &[u32], place: SymbolRange, at: usize, end: usize) -> Opt
 
 /// Returns where the image of a symbol ends if the symbols from `at` up to `end` begin with it, else `None`.
 #[inline(always)]
-fn pass_image(
+fn skip_image(
     symbols: &[u32],
     images: &ImageTable<'_>,
     symbol: u32,
@@ -74,7 +74,7 @@ fn pass_image(
     ensures none { IfNone result ((more : List ℕ) → slice_range symbols.now at end ≡ code_image (images_at symbols.now images.now) symbol ++ more → ⊥) }
 {
     match images.get(symbol) {
-        Some(place) => pass_range(symbols, place, at, end),
+        Some(place) => skip_range(symbols, place, at, end),
         None if at < end && symbols[at] == symbol => Some(at + 1),
         None => None,
     }
@@ -97,7 +97,7 @@ pub(crate) fn matches(
     let end = whole.end as usize;
     let mut at = whole.start as usize;
     for symbol in expr {
-        match pass_image(symbols, &table, *symbol, at, end) {
+        match skip_image(symbols, &table, *symbol, at, end) {
             Some(next) => at = next,
             None => return false,
         }

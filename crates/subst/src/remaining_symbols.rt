@@ -278,7 +278,7 @@ fn read_symbols(symbols: &mut Vec<u32>, keys: &[u64]) -> Result<(), AllocError>
 }
 
 /// Returns how many keys precede the first one that is not less than a bound.
-fn place_from(keys: &[u64], bound: u64) -> usize
+fn count_below_bound(keys: &[u64], bound: u64) -> usize
     requires { Ascends keys.now }
     ensures within { result ≤ length keys.now }
     ensures less { (j : ℕ) → j < result → get_or keys.now j 0 < bound }
@@ -290,7 +290,7 @@ fn place_from(keys: &[u64], bound: u64) -> usize
 }
 
 /// Returns how many keys precede the first one that is greater than a bound.
-fn place_above(keys: &[u64], bound: u64) -> usize
+fn count_up_to_bound(keys: &[u64], bound: u64) -> usize
     requires { Ascends keys.now }
     ensures within { result ≤ length keys.now }
     ensures greater { (j : ℕ) → result ≤ j → j < length keys.now → bound < get_or keys.now j 0 }
@@ -307,7 +307,7 @@ fn keys_at(keys: &[u64], position: u32) -> &[u64]
     ensures { (s : ℕ) → s < 2 ^ 32 → In (key_of position s) keys.now → In (key_of position s) result.now }
 {
     let first = position as u64 * KEY_BASE;
-    let from = place_from(keys, first);
-    let to = place_above(keys, first + (KEY_BASE - 1)).max(from);
+    let from = count_below_bound(keys, first);
+    let to = count_up_to_bound(keys, first + (KEY_BASE - 1)).max(from);
     &keys[from..to]
 }

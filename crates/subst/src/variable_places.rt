@@ -36,9 +36,9 @@ pub struct VariablePlaces {
 }
 
 impl Model for VariablePlaces {
-    ghost use Rattle.subst.specs.Stored.VariablePlaces.{Places};
+    ghost use Rattle.subst.specs.Stored.VariablePlaces.{MetVariables};
 
-    ghost Value = { Places };
+    ghost Value = { MetVariables };
 
     ghost view = { λ a. record { symbols = a.symbols.items; variables = a.variables.items } };
 }
@@ -164,7 +164,7 @@ impl VariablePlaces {
     /// Returns the places below 64 of the variables in a list, as bits, each variable once.
     ///
     /// Errors: an allocation fails. Cost: the square of the number of symbols, and that of `place_of` for each.
-    pub fn bits_of(&mut self, pairs: &Pairs<'_>, list: &[u32]) -> Result<u64, AllocError>
+    pub fn near_bits_of_list(&mut self, pairs: &Pairs<'_>, list: &[u32]) -> Result<u64, AllocError>
         requires placed { ArePlaced pairs.now self.old }
         requires below { AreBelow (length pairs.now.names) list.now }
         ensures placed { ArePlaced pairs.now self.new }

@@ -1,4 +1,5 @@
--- The parts of an assertion, by numbers. The code's own form: no public clause cites it.
+-- The parts of an assertion, by numbers.
+-- Internal to the code: no public clause cites it.
 use Rattle.std.specs.Prelude.{◌≡◌, ℕ, ◌-◌, ◌==◌, Bool, true, false, if◌then◌else◌, List, [], ◌∷◌, map, filter, get_or, slice_get, Option, Some, None}
 use Rattle.frame.specs.Words.{has_name, Stmt, Expr, Database, expr_of, active, is_essential, Hypothesis, Kind, Float, Ess, Axiom, Prove, Entry, Assertion, list_any}
 use Rattle.mm_read.specs.declared.stmt.Stmt.TheVariants as stmt
@@ -18,6 +19,7 @@ is_typed_by c (hypothesis.Essential p) = false
 abbrev pub is_typed : List Hypothesis → ℕ → Bool
 is_typed hs c = list_any (is_typed_by c) hs
 
+-- those of the numbers that are variables of the `$f`
 abbrev pub typed : List Hypothesis → List ℕ → List ℕ
 typed hs codes = filter (is_typed hs) codes
 
@@ -25,10 +27,12 @@ typed hs codes = filter (is_typed hs) codes
 abbrev pub recorded_in : List ℕ → List ℕ → List ℕ
 recorded_in ns codes = filter (λ c. list_any (λ n. n == c) ns) codes
 
+-- the symbols of an entry, or none if there is no entry
 abbrev pub option_symbols : Option Entry → List ℕ
 option_symbols None = []
 option_symbols (Some e) = e.symbols
 
+-- the symbols of the entry at a position
 abbrev pub symbols_at : List Entry → ℕ → List ℕ
 symbols_at es p = option_symbols (slice_get es (p - 1))
 
@@ -38,6 +42,7 @@ has_two [] = false
 has_two (x ∷ []) = false
 has_two (x ∷ y ∷ xs) = true
 
+-- for each list its numbers that are variables of the `$f`, if these are two or more
 abbrev pub groups_by : List Hypothesis → List (List ℕ) → List (List ℕ)
 groups_by hs lists = filter has_two (map (typed hs) lists)
 
@@ -50,10 +55,12 @@ abbrev pub required_by : ℕ → Kind → List ℕ → Hypothesis
 required_by p Float codes = hypothesis.Float (get_or codes 1 0)
 required_by p kind codes = hypothesis.Essential p
 
+-- the hypothesis that is this entry
 abbrev pub option_required : ℕ → Option Entry → Hypothesis
 option_required p None = hypothesis.Essential p
 option_required p (Some e) = required_by p e.kind e.symbols
 
+-- the hypothesis at a position
 abbrev pub required_at : List Entry → ℕ → Hypothesis
 required_at es p = option_required p (slice_get es (p - 1))
 

@@ -1,4 +1,5 @@
--- Numbers that stand for names, and what one more entry changes. The code's own form: no public clause cites it.
+-- Numbers that stand for names, and what one more entry changes.
+-- Internal to the code: no public clause cites it.
 use Rattle.std.specs.Prelude.{◌≡◌, ℕ, ◌<◌, ◌^◌, ◌==◌, true, false, if◌then◌else◌, List, [], ◌∷◌, ◌++◌, length, map, take, Option, Some, None}
 use Rattle.frame.specs.Words.{list_any, Name, Stmt, is_open, is_close, symbols_of, labels_of, LastActive, Kind, Open, Close, Const, Var, Disj, Float, Ess, Axiom, Prove, Entry, Extends}
 use Rattle.mm_read.specs.declared.stmt.Stmt.TheVariants as stmt
@@ -20,6 +21,7 @@ abbrev pub HasTwo : Kind → List ℕ → Type 0
 HasTwo Float codes = length codes ≡ 2
 HasTwo kind codes = Unit {0}
 
+-- the symbols of the entries are below n, and the labels below m
 abbrev pub AreNumbered : ℕ → ℕ → List Entry → Type 0
 AreNumbered n m [] = Unit {0}
 AreNumbered n m (e ∷ es) = AreBelow n e.symbols × IsLabelBelow e.kind e.label_count m × AreNumbered n m es × HasTwo e.kind e.symbols
@@ -39,6 +41,7 @@ IsPlain (Some s) = (is_open s ≡ false) × (is_close s ≡ false)
 abbrev pub undeclared_symbol : LastDeclarations
 undeclared_symbol = record { float = 0; variable = 0 }
 
+-- nothing declares these symbols
 abbrev pub AreUndeclared : List LastDeclarations → Type 0
 AreUndeclared [] = Unit {0}
 AreUndeclared (x ∷ xs) = (x ≡ undeclared_symbol) × AreUndeclared xs
@@ -47,6 +50,7 @@ AreUndeclared (x ∷ xs) = (x ≡ undeclared_symbol) × AreUndeclared xs
 abbrev pub AreZeroAfter : List LastDeclarations → List LastDeclarations → Type 0
 AreZeroAfter old new = (more : List LastDeclarations) × (new ≡ old ++ more) × AreUndeclared more
 
+-- the kind of a statement
 abbrev pub kind_of : Stmt → Kind
 kind_of stmt.Open = Open
 kind_of stmt.Close = Close
@@ -66,11 +70,12 @@ next_last_active l at Var = record { block = l.block; essential = l.essential; v
 next_last_active l at Disj = record { block = l.block; essential = l.essential; variable = l.variable; disjoint = at }
 next_last_active l at kind = l
 
--- the last declarations of a symbol after one more entry
+-- the last declarations of the symbol c after a statement of a kind at a position, if they were x
 abbrev pub with_declared : Kind → List ℕ → ℕ → ℕ → LastDeclarations → LastDeclarations
 with_declared kind codes at c x =
     if list_any (λ y. c == y) (declared_by kind codes) then with_last kind at x else x
 
+-- the same after an entry
 abbrev pub with_entry : Entry → ℕ → ℕ → LastDeclarations → LastDeclarations
 with_entry e at c x = with_declared e.kind e.symbols at c x
 

@@ -1,4 +1,5 @@
--- Where blocks end (Metamath, 4.2.8), kept for each `${` by its index. The code's own form: no public clause cites it.
+-- Where blocks end (Metamath, 4.2.8), kept for each `${` by its index.
+-- Internal to the code: no public clause cites it.
 use Rattle.std.specs.Prelude.{◌≡◌, ℕ, zero, suc, ◌+◌, true, List, [], ◌∷◌, length, take, drop, get_or, slice_get, slice_set, Some}
 use Rattle.frame.specs.Words.{Stmt, Database, is_open, Entry, Kind, Close}
 use Rattle.mm_read.specs.declared.stmt.Stmt.TheVariants as stmt
@@ -22,6 +23,7 @@ end_of b S = end_from 0 (b + 2) (drop (suc b) S)
 abbrev pub AreBlockEnds : List ℕ → Database → Type 0
 AreBlockEnds ends S = (b : ℕ) (s : Stmt) → slice_get S b ≡ Some s → is_open s ≡ true → get_or ends b 0 ≡ end_of b S
 
+-- there is an item for each statement, which for a `${` is the position at which its block ends
 pub record AreEnds (ends : List ℕ) (S : Database) : Type 0 where
   pub count : length ends ≡ length S
   pub tell : AreBlockEnds ends S

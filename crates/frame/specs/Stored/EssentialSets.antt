@@ -1,4 +1,6 @@
--- The mandatory hypotheses that the active `$e` up to a `$e` bring along, as a set that is kept with the `$e`. The code's own form: no public clause cites it.
+-- The mandatory hypotheses that the active `$e` up to a `$e` bring along, as a set that is kept
+-- with the `$e`.
+-- Internal to the code: no public clause cites it.
 -- Metamath, 4.2.7: each active `$e` is mandatory, and so is the active `$f` of each variable in it.
 use Rattle.std.specs.Prelude.{◌≡◌, ℕ, suc, ◌<◌, ◌≤◌, List, length, take, slice_get, Some}
 use Rattle.frame.specs.Words.{set_at, Database, Entry}

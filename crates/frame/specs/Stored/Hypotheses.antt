@@ -1,4 +1,6 @@
--- How the mandatory hypotheses are found: the active `$e`, and the `$f` of the symbols of these and of the assertion. The code's own form: no public clause cites it.
+-- How the mandatory hypotheses are found: the active `$e`, and the `$f` of the symbols of these and
+-- of the assertion.
+-- Internal to the code: no public clause cites it.
 use Rattle.std.specs.Prelude.{◌≡◌, ℕ, ◌+◌, ◌-◌, ◌≤◌, ◌==◌, ◌⊎◌, Bool, true, false, List, [], ◌∷◌, length, map, slice_get, Option, Some, None}
 use Rattle.frame.specs.Words.{Database, is_active, is_essential, Kind, Float, Ess, Entry, Assertion, list_any, Ascends}
 use Rattle.frame.specs.LastActive.{actives, is_disj}
@@ -7,6 +9,7 @@ use Rattle.frame.specs.Stored.AssertionParts.{symbols_at, groups_by, typecode_at
 
 -- ---- lists of positions
 
+-- the number is in the list
 abbrev pub In : ℕ → List ℕ → Type 0
 In p [] = ⊥
 In p (q ∷ qs) = (p ≡ q) ⊎ In p qs
@@ -43,11 +46,12 @@ SomeFloat es S codes p = OfSome (IsFloatOf es S) codes p
 abbrev pub AreLooked : List Entry → Database → List ℕ → List ℕ → Type 0
 AreLooked es S looked list = (c p : ℕ) → list_any (λ n. n == c) looked ≡ true → IsFloatOf es S c p → In p list
 
--- the hypotheses that are kept with the statement at a position
+-- the hypotheses that are kept with an entry, or none if there is no entry
 abbrev pub option_kept : Option Entry → List ℕ
 option_kept None = []
 option_kept (Some e) = e.assertion.hypotheses
 
+-- the hypotheses that are kept with the entry at a position
 abbrev pub kept_at : List Entry → ℕ → List ℕ
 kept_at es p = option_kept (slice_get es (p - 1))
 
@@ -59,10 +63,12 @@ IsWith es q p = In p (q ∷ kept_at es q)
 abbrev pub IsFromEssentials : List Entry → Database → ℕ → Type 0
 IsFromEssentials es S p = OfSome (IsWith es) (map (λ q. q.0) (actives is_essential S)) p
 
--- the list has exactly the active `$f` of the symbols; or also the active `$e` and the hypotheses kept with these
+-- the list has exactly the active `$f` of the symbols
 abbrev pub AreFloats : List Entry → Database → List ℕ → List ℕ → Type 0
 AreFloats es S codes list = AreThose (SomeFloat es S codes) list
 
+-- the list has exactly the active `$f` of the symbols, the active `$e`, and the hypotheses kept
+-- with these
 abbrev pub AreCollected : List Entry → Database → List ℕ → List ℕ → Type 0
 AreCollected es S codes list = AreThose (λ p. SomeFloat es S codes p ⊎ IsFromEssentials es S p) list
 
@@ -70,6 +76,7 @@ AreCollected es S codes list = AreThose (λ p. SomeFloat es S codes p ⊎ IsFrom
 abbrev pub AreWith : List Entry → Database → List ℕ → List ℕ → Type 0
 AreWith es S old new = AreThose (λ p. In p old ⊎ IsFromEssentials es S p) new
 
+-- a `$f` or a `$e`
 abbrev pub is_hypothesis_entry : Kind → Bool
 is_hypothesis_entry Float = true
 is_hypothesis_entry Ess = true
@@ -80,8 +87,8 @@ abbrev pub AreHypotheses : List Entry → List ℕ → Type 0
 AreHypotheses es [] = Unit {0}
 AreHypotheses es (p ∷ ps) = ((e : Entry) × (1 ≤ p) × (slice_get es (p - 1) ≡ Some e) × (is_hypothesis_entry e.kind ≡ true)) × AreHypotheses es ps
 
--- the parts have the hypotheses by number and their typecodes, and, if they are whole, the groups of disjoint variables by the
--- `$d` that are active after S
+-- the parts have the hypotheses as numbers and their typecodes; if they are whole, they also have
+-- the groups of disjoint variables by the `$d` that are active after S
 pub record AreDescribed (es : List Entry) (S : Database) (d : Assertion) : Type 0 where
   pub required_made : d.required ≡ map (required_at es) d.hypotheses
   pub typecodes_made : d.typecodes ≡ map (typecode_at es) d.hypotheses

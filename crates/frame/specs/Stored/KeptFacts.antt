@@ -1,4 +1,5 @@
--- Facts about pairs of variables that are kept with the statements. The code's own form: no public clause cites it.
+-- Facts about pairs of variables that are kept with the statements.
+-- Internal to the code: no public clause cites it.
 -- They are about the first `count` statements, so they stay true as others are added.
 use Rattle.std.specs.Prelude.{ℕ, ◌≤◌, length, take}
 use Rattle.frame.specs.Words.{Database, symbols_of}
@@ -15,6 +16,7 @@ use Rattle.frame.specs.Stored.Whole.{AreStored}
 abbrev pub first_of : ℕ → Database → Numbered
 first_of n S = record { statements = take n S; names = symbols_of (take n S) }
 
+-- the facts are true of the first `count` statements
 pub record AreKeptFacts (S : Database) (f : KeptFacts) : Type 0 where
   pub within : f.count ≤ length S
   pub each : AreFacts (first_of f.count S) f.facts

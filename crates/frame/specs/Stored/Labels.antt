@@ -1,8 +1,9 @@
 -- Which entries have a label.
--- The code's own form: no public clause cites it.
+-- Internal to the code: no public clause cites it.
 use Rattle.std.specs.Prelude.{Bool, true, false}
 use Rattle.frame.specs.Words.{Kind, Float, Ess, Axiom, Prove}
 
+-- statements of the kind have a label
 abbrev pub is_label_kind : Kind → Bool
 is_label_kind Float = true
 is_label_kind Ess = true

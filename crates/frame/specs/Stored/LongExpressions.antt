@@ -1,4 +1,5 @@
--- Where the symbols of long expressions occur, stored beside the statements. The code's own form: no public clause cites it.
+-- Where the symbols of long expressions occur, stored beside the statements.
+-- Internal to the code: no public clause cites it.
 -- Metamath, 4.2.6: an image may be empty, and then its variable is removed.
 -- The code keeps the places of the symbols of an expression with 128 symbols or more.
 use Rattle.std.specs.Prelude.{◌≡◌, ℕ, List, Some, slice_get}
@@ -8,5 +9,6 @@ use Rattle.frame.specs.Words.{All, Entry, ArePlacesOf, SymbolGroups, without_flo
 abbrev pub IsLongIn : List Entry → ℕ × SymbolGroups → Type 0
 IsLongIn es p = (e : Entry) × (slice_get es p.0 ≡ Some e) × ArePlacesOf e.symbols p.1 × (p.1.constants ≡ without_float e.assertion.required p.1.symbols)
 
+-- this holds for all places that are stored
 pub record AreLongIn (es : List Entry) (long : List (ℕ × SymbolGroups)) : Type 0 where
   pub each : All (IsLongIn es) long

@@ -1,4 +1,5 @@
--- A set of positions, and some positions that are not in it, as one list in order. The code's own form: no public clause cites it.
+-- A set of positions, and some positions that are not in it, as one list in order.
+-- Internal to the code: no public clause cites it.
 use Rattle.std.specs.Prelude.{◌≡◌, ℕ, ◌<◌, ◌^◌, true, false, List, [], ◌∷◌}
 use Rattle.entries.specs.PositionSets.{Ascends, has_position, with_position}
 

@@ -1,7 +1,9 @@
--- The names that statements declare, each with its kind. The code's own form: no public clause cites it.
+-- The names that statements declare, each with its kind.
+-- Internal to the code: no public clause cites it.
 use Rattle.std.specs.Prelude.{Bool, ◌||◌, [], ◌∷◌, Option}
 use Rattle.frame.specs.Words.{Database, Declared, is_constant_kind, is_variable_kind, declared_with, NameKind}
 
+-- the names, followed by those that the statements declare
 abbrev pub naming_from : Declared → Database → Declared
 naming_from names [] = names
 naming_from names (s ∷ S) = naming_from (declared_with names s) S

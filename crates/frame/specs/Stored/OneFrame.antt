@@ -1,5 +1,5 @@
 -- The frame of one assertion, collected from the active statements.
--- The code's own form: no public clause cites it.
+-- Internal to the code: no public clause cites it.
 use Rattle.std.specs.Prelude.{◌≡◌, ℕ, Bool, true, false, ◌&&◌, ◌||◌, List, map, filter}
 use Rattle.frame.specs.Words.{Name, has_name, Stmt, Expr, Database, disjoint_names, expr_of, is_essential, is_variable, FrameStatement}
 use Rattle.mm_read.specs.declared.stmt.Stmt.TheVariants.{Float, Ess}
@@ -23,6 +23,7 @@ is_needed used (Ess label expr) = true
 is_needed used (Float label constant variable) = has_name variable used
 is_needed used other = false
 
+-- the positions of the mandatory hypotheses, by the used variables
 abbrev pub required : List Name → List FrameStatement → List ℕ
 required used frame_statements = map (λ e. e.at) (filter (λ e. is_needed used e.stmt) frame_statements)
 
@@ -30,5 +31,6 @@ required used frame_statements = map (λ e. e.at) (filter (λ e. is_needed used 
 abbrev pub among : List Name → List Name → List Name
 among used names = filter (λ x. has_name x used) names
 
+-- for each `$d` those of its variables that are used, if they are two or more
 abbrev pub groups_among : List Name → List FrameStatement → List (List Name)
 groups_among used frame_statements = filter has_two_or_more (map (λ e. among used (disjoint_names e.stmt)) frame_statements)

@@ -1,4 +1,5 @@
--- Groups of two disjoint variables each, in place of those by active `$d`. The code's own form: no public clause cites it.
+-- Groups of two disjoint variables each, in place of those by active `$d`.
+-- Internal to the code: no public clause cites it.
 -- Metamath, 4.2.7: the mandatory `$d` of an assertion are pairs of its mandatory variables.
 -- The code makes them pair by pair if the active `$d` are many.
 use Rattle.std.specs.Prelude.{◌≡◌, ℕ, ◌<◌, ◌≤◌, ◌-◌, ◌==◌, ◌⊎◌, Bool, false, ◌&&◌, ◌||◌, List, length, map, take, drop}

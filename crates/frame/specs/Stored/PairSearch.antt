@@ -1,5 +1,6 @@
--- The search for an active `$d` that has two variables. The code's own form: no public clause cites it.
--- Metamath, 4.2.4: two variables are disjoint if they stand together in an active `$d`.
+-- The search for an active `$d` that has two variables.
+-- Internal to the code: no public clause cites it.
+-- Metamath, 4.2.4: two variables are disjoint if they both occur in one active `$d`.
 -- The code goes through the `$d` of one of the variables, from the last one back.
 use Rattle.std.specs.Prelude.{◌≡◌, ℕ, ◌<◌, ◌≤◌, ◌==◌, Bool, false, List, length, take}
 use Rattle.frame.specs.Words.{list_any, name_at, AreDistinct, before}
@@ -10,7 +11,7 @@ use Rattle.frame.specs.Stored.EntryMeanings.{names_in, statements_of}
 use Rattle.frame.specs.Stored.Stacks.{AreOfKind, has_code, positions_with}
 use Rattle.frame.specs.Stored.Whole.{AreStored}
 
--- the variables x and y stand together in a `$d` that is active at the position
+-- the variables x and y both occur in a `$d` that is active at the position
 abbrev pub are_pair : Storage → ℕ → ℕ → ℕ → Bool
 are_pair k at x y = is_pair (before (statements_of k) at) (name_at (names_in k) x) (name_at (names_in k) y)
 

@@ -1,4 +1,6 @@
--- Lists that have an item for some of the statements, each with the index of its statement, in ascending order. The code's own form: no public clause cites it.
+-- Lists that have an item for some of the statements, each with the index of its statement, in
+-- ascending order.
+-- Internal to the code: no public clause cites it.
 use Rattle.std.specs.Prelude.{◌≡◌, ◌==◌, ℕ, ◌<◌, ◌≤◌, List, length, take, slice_get, Option, Some, None}
 use Rattle.std.specs.List.{find}
 

@@ -1,4 +1,5 @@
--- For each symbol, by its number, the active `$d`, `$v` and long `$e` that have it. The code's own form: no public clause cites it.
+-- For each symbol, by its number, the active `$d`, `$v` and long `$e` that have it.
+-- Internal to the code: no public clause cites it.
 -- Metamath, 4.2.8: after a `$}` the statements that were active before its `${` are active again.
 use Rattle.std.specs.Prelude.{◌≡◌, ℕ, zero, suc, ◌+◌, ◌-◌, ◌≤◌, ◌==◌, Bool, true, nat_le, if◌then◌else◌, List, [], ◌∷◌, length, map, take, slice_get, Some}
 use Rattle.frame.specs.Words.{list_any, StackVersion, AreUntil, history, kept_until, stack_at, Stmt, Database, Entry, is_essential, LastActive, Kind, Close, Disj, Ess, Var}
@@ -32,6 +33,7 @@ pub record IsOfKind (kind : Stmt → Bool) (S : Database) (p : ℕ) : Type 0 whe
   pub stands : slice_get S (p - 1) ≡ Some statement
   pub of_kind : kind statement ≡ true
 
+-- the statement at each of the positions is of the kind
 abbrev pub AreOfKind : (Stmt → Bool) → Database → List ℕ → Type 0
 AreOfKind kind S [] = Unit {0}
 AreOfKind kind S (p ∷ ps) = IsOfKind kind S p × AreOfKind kind S ps
@@ -40,26 +42,29 @@ AreOfKind kind S (p ∷ ps) = IsOfKind kind S p × AreOfKind kind S ps
 abbrev pub long_codes : List ℕ → List ℕ
 long_codes codes = if nat_le LONG_EXPRESSION (length codes) then codes else []
 
+-- the entry, without its symbols if they are fewer than those of a long expression
 abbrev pub long_entry : Entry → Entry
 long_entry e = record { kind = e.kind; label_count = e.label_count; symbol_count = e.symbol_count; last_active = e.last_active; symbols = long_codes e.symbols; assertion = e.assertion }
 
--- the symbols, and the statements, by which the stacks of a kind are made; a short `$e` counts as one without symbols
+-- the symbols by which the stacks of a kind are made: none of a short `$e`
 abbrev pub codes_by : Kind → List ℕ → List ℕ
 codes_by Ess codes = long_codes codes
 codes_by kind codes = codes
 
+-- the entries by which the stacks of a kind are made: a short `$e` counts as one without symbols
 abbrev pub entries_by : Kind → List Entry → List Entry
 entries_by Ess es = map long_entry es
 entries_by kind es = es
 
 -- ---- the changes that the next statement makes
 
--- the test for the statements of a kind that has stacks, `$d`, `$e` or `$v`, and the last active one of the kind
+-- the test for the statements of a kind that has stacks: `$d`, `$e` or `$v`
 abbrev pub kind_test : Kind → Stmt → Bool
 kind_test Disj s = is_disj s
 kind_test Ess s = is_essential s
 kind_test kind s = is_var s
 
+-- the last active statement of such a kind
 abbrev pub last_by_kind : Kind → LastActive → ℕ
 last_by_kind Disj l = l.disjoint
 last_by_kind Ess l = l.essential

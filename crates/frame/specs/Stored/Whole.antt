@@ -1,4 +1,5 @@
--- The storage of a database. The code's own form: no public clause cites it.
+-- The storage of a database.
+-- Internal to the code: no public clause cites it.
 use Rattle.std.specs.Prelude.{◌≡◌, ℕ, ◌<◌, ◌^◌, true, List, length, map, take, slice_get, Some}
 use Rattle.frame.specs.Words.{Name, Stmt, is_essential, stays_open, symbols_of, labels_of, LastActive, Assertion, Entry, Kind, EntryHeader, StackVersion}
 use Rattle.frame.specs.declared.storage.LastDeclarations.{LastDeclarations}

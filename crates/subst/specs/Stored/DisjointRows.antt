@@ -6,7 +6,7 @@ use Rattle.subst.specs.Words.{bit_at, Numbered, is_pair, name_at}
 use Rattle.subst.specs.declared.disjoint_rows.RowWord.{RowWord}
 use Rattle.subst.specs.declared.place_words.PlaceWord.{PlaceWord}
 use Rattle.subst.specs.Stored.PlaceSets.{HasBit, HasPlace}
-use Rattle.subst.specs.Stored.VariablePlaces.{Places, are_places_disjoint, IsAmong}
+use Rattle.subst.specs.Stored.VariablePlaces.{MetVariables, are_places_disjoint, IsAmong}
 
 -- stands for the word at an index that no word has
 abbrev pub no_row : RowWord
@@ -28,13 +28,13 @@ pub record HasFact (ws : List RowWord) (p q : ℕ) : Type 0 where
   pub set : bit_at (get_or ws word no_row).bits bit ≡ 1
 
 -- the variables at p and q are disjoint
-pub record IsFact (v : Numbered) (f : Places) (p q : ℕ) : Type 0 where
+pub record IsFact (v : Numbered) (f : MetVariables) (p q : ℕ) : Type 0 where
   pub row : p < length f.variables
   pub place : q < length f.variables
   pub disjoint : are_places_disjoint v f p q ≡ true
 
 -- all that is recorded is true
-pub record AreFacts (v : Numbered) (f : Places) (ws : List RowWord) : Type 0 where
+pub record AreFacts (v : Numbered) (f : MetVariables) (ws : List RowWord) : Type 0 where
   pub each : (p q : ℕ) → HasFact ws p q → IsFact v f p q
 
 -- each two distinct symbols of the list are together in an active `$d`
@@ -48,22 +48,22 @@ pub record RecordsWord (old new : List RowWord) (p : ℕ) (w : PlaceWord) : Type
   pub only : (r q : ℕ) → HasFact new r q → HasFact old r q ⊎ ((r ≡ p) × HasBit w q)
 
 -- whether the variable at p is disjoint from each of those at the places of the word
-abbrev pub DecidesWord : Numbered → Places → ℕ → PlaceWord → Bool → Type 0
+abbrev pub DecidesWord : Numbered → MetVariables → ℕ → PlaceWord → Bool → Type 0
 DecidesWord v f p w true = (q : ℕ) → HasBit w q → are_places_disjoint v f p q ≡ true
 DecidesWord v f p w false = (q : ℕ) × HasBit w q × (are_places_disjoint v f p q ≡ false)
 
 -- whether the variable at p is disjoint from each of those at the places of the words
-abbrev pub DecidesAll : Numbered → Places → ℕ → List PlaceWord → Bool → Type 0
+abbrev pub DecidesAll : Numbered → MetVariables → ℕ → List PlaceWord → Bool → Type 0
 DecidesAll v f p ws true = (q : ℕ) → HasPlace ws q → are_places_disjoint v f p q ≡ true
 DecidesAll v f p ws false = (q : ℕ) × HasPlace ws q × (are_places_disjoint v f p q ≡ false)
 
 -- whether each variable at the places of w is disjoint from each of those at the places of the
 -- words
-abbrev pub DecidesBits : Numbered → Places → PlaceWord → List PlaceWord → Bool → Type 0
+abbrev pub DecidesBits : Numbered → MetVariables → PlaceWord → List PlaceWord → Bool → Type 0
 DecidesBits v f w ws true = (p q : ℕ) → HasBit w p → HasPlace ws q → are_places_disjoint v f p q ≡ true
 DecidesBits v f w ws false = (p : ℕ) × (q : ℕ) × HasBit w p × HasPlace ws q × (are_places_disjoint v f p q ≡ false)
 
 -- whether each variable at the places of `own` is disjoint from each of those at the places of `ws`
-abbrev pub DecidesEach : Numbered → Places → List PlaceWord → List PlaceWord → Bool → Type 0
+abbrev pub DecidesEach : Numbered → MetVariables → List PlaceWord → List PlaceWord → Bool → Type 0
 DecidesEach v f own ws true = (p q : ℕ) → HasPlace own p → HasPlace ws q → are_places_disjoint v f p q ≡ true
 DecidesEach v f own ws false = (p : ℕ) × (q : ℕ) × HasPlace own p × HasPlace ws q × (are_places_disjoint v f p q ≡ false)

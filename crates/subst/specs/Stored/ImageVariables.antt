@@ -10,7 +10,7 @@ use Rattle.subst.specs.declared.image_variables.WordRange.{WordRange}
 use Rattle.subst.specs.declared.image_variables.ReadImage.{ReadImage}
 use Rattle.subst.specs.declared.image_variables.LongImage.{LongImage}
 use Rattle.subst.specs.Stored.PlaceSets.{AddsSymbols, HasBit, HasPlace, no_word}
-use Rattle.subst.specs.Stored.VariablePlaces.{Places, ArePlacesOf, IsAmong}
+use Rattle.subst.specs.Stored.VariablePlaces.{MetVariables, ArePlacesOf, IsAmong}
 
 -- words of bits, of which the first `kept` are those of long images; the words of the image that is being read; the images that
 -- were read in this citation; the long images
@@ -30,25 +30,25 @@ pub record IsIn (words : List PlaceWord) (r : WordRange) (j : ℕ) : Type 0 wher
   pub has : HasBit (get_or words spot no_word) j
 
 -- the words of the range have exactly the places of the variables of the image
-pub record IsRangeOf (v : Numbered) (f : Places) (words : List PlaceWord) (r : WordRange) (image : List ℕ) : Type 0 where
+pub record IsRangeOf (v : Numbered) (f : MetVariables) (words : List PlaceWord) (r : WordRange) (image : List ℕ) : Type 0 where
   pub low : r.start ≤ r.end
   pub high : r.end ≤ length words
   pub are : ArePlacesOf v f (IsIn words r) (IsAmong (length image) image)
 
 -- the record of a long image: its range of words has the places of its variables, and is among the kept ones
-pub record IsLong (v : Numbered) (f : Places) (symbols : List ℕ) (words : List PlaceWord) (kept : ℕ) (e : LongImage) : Type 0 where
+pub record IsLong (v : Numbered) (f : MetVariables) (symbols : List ℕ) (words : List PlaceWord) (kept : ℕ) (e : LongImage) : Type 0 where
   pub low : e.image.start ≤ e.image.end
   pub high : e.image.end ≤ length symbols
   pub within : e.words.end ≤ kept
   pub range : IsRangeOf v f words e.words (symbols_in symbols e.image)
 
 -- the records of all long images are true
-pub record AreImagesRecorded (v : Numbered) (f : Places) (symbols : List ℕ) (n : RecordedImages) : Type 0 where
+pub record AreImagesRecorded (v : Numbered) (f : MetVariables) (symbols : List ℕ) (n : RecordedImages) : Type 0 where
   pub kept : n.kept ≤ length n.words
   pub long : All (IsLong v f symbols n.words n.kept) n.long
 
 -- the records of all images that were read in this citation are true
-pub record AreRead (v : Numbered) (f : Places) (symbols : List ℕ) (images : List (ℕ × SymbolRange)) (n : RecordedImages) : Type 0 where
+pub record AreRead (v : Numbered) (f : MetVariables) (symbols : List ℕ) (images : List (ℕ × SymbolRange)) (n : RecordedImages) : Type 0 where
   pub each : All (λ (e : ReadImage). IsRangeOf v f n.words e.words (code_image (images_at symbols images) e.symbol)) n.read
 
 -- ---- what the calls change
@@ -76,7 +76,7 @@ pub record AppendsWord (old new : RecordedImages) (w : PlaceWord) (r : WordRange
   pub range : r ≡ record { start = length old.words; end = length (old.words ++ w ∷ []) }
 
 -- the places of the variables of an image are added to the list
-abbrev pub AddsImage : Numbered → Places → RecordedImages → RecordedImages → List ℕ → Type 0
+abbrev pub AddsImage : Numbered → MetVariables → RecordedImages → RecordedImages → List ℕ → Type 0
 AddsImage v f old new image = AddsSymbols v f (HasPlace old.list) (HasPlace new.list) (length image) image
 
 -- the image of a symbol is recorded, or nothing changes

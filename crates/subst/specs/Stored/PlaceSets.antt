@@ -4,7 +4,7 @@
 use Rattle.std.specs.Prelude.{◌≡◌, ℕ, ◌+◌, ◌*◌, ◌<◌, ◌⊎◌, List, length, get_or}
 use Rattle.subst.specs.Words.{bit_at, Numbered}
 use Rattle.subst.specs.declared.place_words.PlaceWord.{PlaceWord}
-use Rattle.subst.specs.Stored.VariablePlaces.{Places, IsAt, HasVariable, IsAmong}
+use Rattle.subst.specs.Stored.VariablePlaces.{MetVariables, IsAt, HasVariable, IsAmong}
 
 -- stands for the word at an index that no word has
 abbrev pub no_word : PlaceWord
@@ -61,7 +61,7 @@ pub record TakesPlace (old : List PlaceWord) (w : PlaceWord) (new : List PlaceWo
   pub only : (j : ℕ) → HasEither new next j → HasEither old w j ⊎ (j ≡ place)
 
 -- the places of the variables among the first n symbols are added
-pub record AddsSymbols (v : Numbered) (f : Places) (Old New : ℕ → Type 0) (n : ℕ) (image : List ℕ) : Type 0 where
+pub record AddsSymbols (v : Numbered) (f : MetVariables) (Old New : ℕ → Type 0) (n : ℕ) (image : List ℕ) : Type 0 where
   pub before : (j : ℕ) → Old j → New j
   pub added : (x : ℕ) → IsAmong n image x → HasVariable v f New x
   pub only : (j : ℕ) → New j → Old j ⊎ ((x : ℕ) × IsAmong n image x × IsAt f j x)

@@ -6,34 +6,34 @@ use Rattle.subst.specs.Words.{bit_at, All, Contains, Name, is_variable, name_at,
 use Rattle.subst.specs.declared.variable_places.MetSymbol.{MetSymbol}
 
 -- the symbols that were met, and the variables among them, each at its place
-pub record Places : Type 0 where
+pub record MetVariables : Type 0 where
   pub symbols : List MetSymbol
   pub variables : List ℕ
 
 -- the name of the variable at place j
-abbrev pub variable_name : Numbered → Places → ℕ → Name
+abbrev pub variable_name : Numbered → MetVariables → ℕ → Name
 variable_name v f j = name_at v.names (get_or f.variables j 0)
 
 -- the variables at these places are disjoint
-abbrev pub are_places_disjoint : Numbered → Places → ℕ → ℕ → Bool
+abbrev pub are_places_disjoint : Numbered → MetVariables → ℕ → ℕ → Bool
 are_places_disjoint v f i j = is_pair v.statements (variable_name v f i) (variable_name v f j)
 
 -- the variable x is at this place
-pub record IsAt (f : Places) (j x : ℕ) : Type 0 where
+pub record IsAt (f : MetVariables) (j x : ℕ) : Type 0 where
   pub there : j < length f.variables
   pub same : get_or f.variables j 0 ≡ x
 
 -- each variable stays at its place
-pub record Grows (old new : Places) : Type 0 where
+pub record Grows (old new : MetVariables) : Type 0 where
   pub each : (j x : ℕ) → IsAt old j x → IsAt new j x
 
 -- x is the variable at this place; without a place it is no variable
-abbrev pub IsPlace : Numbered → Places → ℕ → Option ℕ → Type 0
+abbrev pub IsPlace : Numbered → MetVariables → ℕ → Option ℕ → Type 0
 IsPlace v f x (Some j) = IsAt f j x
 IsPlace v f x None = is_variable v.statements (name_at v.names x) ≡ false
 
 -- the symbol x was met, and has this place
-abbrev pub IsListed : Places → ℕ → Option ℕ → Type 0
+abbrev pub IsListed : MetVariables → ℕ → Option ℕ → Type 0
 IsListed f x place = Contains f.symbols (record { number = x; place = place })
 
 -- x is the number of a variable
@@ -42,18 +42,18 @@ pub record IsVariable (v : Numbered) (x : ℕ) : Type 0 where
   pub variable : is_variable v.statements (name_at v.names x) ≡ true
 
 -- each symbol that was met has its place, and only variables have places
-pub record ArePlaced (v : Numbered) (f : Places) : Type 0 where
+pub record ArePlaced (v : Numbered) (f : MetVariables) : Type 0 where
   pub symbols : All (λ s. IsPlace v f s.number s.place) f.symbols
   pub variables : All (IsVariable v) f.variables
 
 -- ---- sets of places
 
 -- x is no variable, or its place is in the set
-abbrev pub HasVariable : Numbered → Places → (ℕ → Type 0) → ℕ → Type 0
+abbrev pub HasVariable : Numbered → MetVariables → (ℕ → Type 0) → ℕ → Type 0
 HasVariable v f IsIn x = (is_variable v.statements (name_at v.names x) ≡ false) ⊎ ((j : ℕ) × IsAt f j x × IsIn j)
 
 -- the set has the places of the variables among these symbols
-pub record ArePlacesOf (v : Numbered) (f : Places) (IsIn IsOne : ℕ → Type 0) : Type 0 where
+pub record ArePlacesOf (v : Numbered) (f : MetVariables) (IsIn IsOne : ℕ → Type 0) : Type 0 where
   pub each : (x : ℕ) → IsOne x → HasVariable v f IsIn x
   pub only : (j : ℕ) → IsIn j → (x : ℕ) × IsOne x × IsAt f j x
 
@@ -62,6 +62,6 @@ abbrev pub IsAmong : ℕ → List ℕ → ℕ → Type 0
 IsAmong n xs x = (k : ℕ) × (k < n) × (get_or xs k 0 ≡ x)
 
 -- each bit is the place of one of the first n symbols, and each symbol has at most one bit
-pub record AreBitsOf (f : Places) (bits n : ℕ) (list : List ℕ) : Type 0 where
+pub record AreBitsOf (f : MetVariables) (bits n : ℕ) (list : List ℕ) : Type 0 where
   pub only : (j : ℕ) → bit_at bits j ≡ 1 → (x : ℕ) × IsAmong n list x × IsAt f j x
   pub once : (i j x : ℕ) → bit_at bits i ≡ 1 → bit_at bits j ≡ 1 → IsAt f i x → IsAt f j x → i ≡ j

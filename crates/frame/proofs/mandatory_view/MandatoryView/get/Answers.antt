@@ -5,7 +5,7 @@ use Rattle.frame.proofs.mandatory_view.MandatoryView.get.Goals.{After-get, else-
 
 pub returns-then-place-index : goal.returns-then-place-index
 returns-then-place-index c =
-    let own = c.self.inside.own.items in let xs = set_at c.self.inside.sets.now c.self.inside.set in let low = c.own_before-low.result in let p = c.index.result.now in
+    let own = c.self.inside.own.items in let xs = set_at c.self.inside.sets.now c.self.inside.set in let low = c.own_below-low.result in let p = c.index.result.now in
     let less = c.if-low-len.true in let n = c.len.ensures in let all = c.self.inside.own.ok.0 in
     let at : slice_get own low ≡ Some p = slice_get_read own (length own) low p refl (omega arith) c.index.ensures in
     let first : get_or c.deref-then-low-len.result.now low 0 ≡ p = ap (λ l. get_or l low 0) c.deref-then-low-len.ensures.value ∙ get_or_from_slice_get own low p 0 at in
@@ -13,7 +13,7 @@ returns-then-place-index c =
 
 pub overflow_sub-index : goal.overflow_sub-index
 overflow_sub-index c =
-    low-within (λ k. count_below (get_or c.deref.result.now k 0) (set_at c.self.inside.sets.now c.self.inside.set)) c.own_before-low.result c.args.index c.own_before-low.ensures.before
+    low-within (λ k. count_below (get_or c.deref.result.now k 0) (set_at c.self.inside.sets.now c.self.inside.set)) c.own_below-low.result c.args.index c.own_below-low.ensures.before
 
 module _ (c : After-get) where
   abbrev own : List ℕ
@@ -23,20 +23,20 @@ module _ (c : After-get) where
   xs = set_at c.self.inside.sets.now c.self.inside.set
 
   abbrev low : ℕ
-  low = c.own_before-low.result
+  low = c.own_below-low.result
 
   before : (k x : ℕ) → suc k ≡ low → slice_get own k ≡ Some x → count_below x xs + k < c.args.index
-  before k x e at = subst (λ q. count_below q xs + k < c.args.index) (ap (λ l. get_or l k 0) c.deref.ensures.value ∙ get_or_from_slice_get own k x 0 at) (c.own_before-low.ensures.before k e)
+  before k x e at = subst (λ q. count_below q xs + k < c.args.index) (ap (λ l. get_or l k 0) c.deref.ensures.value ∙ get_or_from_slice_get own k x 0 at) (c.own_below-low.ensures.before k e)
 
   within : low ≤ length own
-  within = let le = c.own_before-low.ensures.within in let same = ap length c.deref.ensures.value in omega arith
+  within = let le = c.own_below-low.ensures.within in let same = ap length c.deref.ensures.value in omega arith
 
   after : (x : ℕ) → slice_get own low ≡ Some x → c.args.index < count_below x xs + low
   after x at =
       let there = slice_get_within own low x at in
       let n = c.len.ensures in let all = c.self.inside.own.ok.0 in
       let same = ap length c.deref.ensures.value in
-      let le : c.args.index ≤ count_below x xs + low = subst (λ q. c.args.index ≤ count_below q xs + low) (ap (λ l. get_or l low 0) c.deref.ensures.value ∙ get_or_from_slice_get own low x 0 at) (c.own_before-low.ensures.after (omega arith)) in
+      let le : c.args.index ≤ count_below x xs + low = subst (λ q. c.args.index ≤ count_below q xs + low) (ap (λ l. get_or l low 0) c.deref.ensures.value ∙ get_or_from_slice_get own low x 0 at) (c.own_below-low.ensures.after (omega arith)) in
       elim c.else-low-len.branch [
         | else-low-len-via-then-low-len+else-place-index w ↦
             let is : w.place.result ≡ count_below x xs + low = w.place.ensures ∙ ap (λ q. count_below q xs + low) (ap (λ l. get_or l low 0) w.deref-then-low-len.ensures.value ∙ get_or_from_slice_get own low x 0 at) in
@@ -45,7 +45,7 @@ module _ (c : After-get) where
       ]
 
   under : low ≤ c.args.index
-  under = low-within (λ k. count_below (get_or c.deref.result.now k 0) xs) low c.args.index c.own_before-low.ensures.before
+  under = low-within (λ k. count_below (get_or c.deref.result.now k 0) xs) low c.args.index c.own_below-low.ensures.before
 
   left : c.args.index - low < length xs
   left =
@@ -56,12 +56,12 @@ module _ (c : After-get) where
 pub unreachable-requires : goal.unreachable-requires
 unreachable-requires c =
     let w = (goal.at.unreachable-requires c).After-get in
-    c.in_default.not-Some (get_or (set_at c.self.inside.sets.now c.self.inside.set) (c.args.index - c.own_before-low.result) 0)
-    (c.get.ensures ∙ slice_get-get_or (set_at c.self.inside.sets.now c.self.inside.set) (c.args.index - c.own_before-low.result) 0 (left w))
+    c.in_default.not-Some (get_or (set_at c.self.inside.sets.now c.self.inside.set) (c.args.index - c.own_below-low.result) 0)
+    (c.get.ensures ∙ slice_get-get_or (set_at c.self.inside.sets.now c.self.inside.set) (c.args.index - c.own_below-low.result) 0 (left w))
 
 pub returns : goal.returns
 returns c =
     let w = (goal.at.returns c).After-get in
     let under = under w in
     rw (← c.self.view_is)
-    (get-set (own w) (xs w) (c.args.index - c.own_before-low.result) c.own_before-low.result c.args.index c.in-Some.position c.self.invariant.parts (sym c.get.ensures ∙ c.in-Some.is) (omega arith) (within w) (before w) (after w))
+    (get-set (own w) (xs w) (c.args.index - c.own_below-low.result) c.own_below-low.result c.args.index c.in-Some.position c.self.invariant.parts (sym c.get.ensures ∙ c.in-Some.is) (omega arith) (within w) (before w) (after w))

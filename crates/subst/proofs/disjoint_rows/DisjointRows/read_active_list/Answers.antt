@@ -3,7 +3,7 @@ use Rattle.subst.proofs.ActivePairLemmas.{listed-facts}
 use Rattle.subst.proofs.disjoint_rows.DisjointRows.read_active_list.Goals as goal
 
 pub loop-rest-init : goal.loop-rest-init
-loop-rest-init c = (facts-grown c.args.pairs.now c.args.variables.now c.bits_of.new.self c.args.self.now c.bits_of.ensures.grows c.requires.facts, λ j b. b)
+loop-rest-init c = (facts-grown c.args.pairs.now c.args.variables.now c.near_bits_of_list.new.self c.args.self.now c.near_bits_of_list.ensures.grows c.requires.facts, λ j b. b)
 
 pub without-bits-requires-clause-set : goal.without-bits-requires-clause-set
 without-bits-requires-clause-set c = c.loop-rest.invariant.1 c.lowest-bit.result c.lowest-bit.ensures.set
@@ -14,13 +14,13 @@ loop-rest-preserved c =
     let i = c.lowest-bit.result in
     let r = c.loop-rest.invariant in
     let here = r.1 i c.lowest-bit.ensures.set in (
-      listed-facts v c.bits_of.new.self c.args.list.now c.in_ok-listed.listed c.requires.pairs c.in_ok-listed.ensures.bits c.loop-rest.self c.record_word.new.self i c.without-bits.result r.0 c.record_word.ensures here c.without-bits.ensures.only c.without-bits.ensures.gone,
+      listed-facts v c.near_bits_of_list.new.self c.args.list.now c.in_ok-listed.listed c.requires.pairs c.in_ok-listed.ensures.bits c.loop-rest.self c.record_word.new.self i c.without-bits.result r.0 c.record_word.ensures here c.without-bits.ensures.only c.without-bits.ensures.gone,
       λ j b. r.1 j (c.without-rest.ensures.only j b),
     )
 
 pub returns-in_err-listed-clause-facts : goal.returns-in_err-listed-clause-facts
-returns-in_err-listed-clause-facts c = facts-grown c.args.pairs.now c.args.variables.now c.bits_of.new.self c.args.self.now c.bits_of.ensures.grows c.requires.facts
+returns-in_err-listed-clause-facts c = facts-grown c.args.pairs.now c.args.variables.now c.near_bits_of_list.new.self c.args.self.now c.near_bits_of_list.ensures.grows c.requires.facts
 
 pub returns-in_err-record_word-clause-facts : goal.returns-in_err-record_word-clause-facts
 returns-in_err-record_word-clause-facts c =
-    listed-facts c.args.pairs.now c.bits_of.new.self c.args.list.now c.in_ok-listed.listed c.requires.pairs c.in_ok-listed.ensures.bits c.loop-rest.self c.record_word.new.self c.lowest-bit.result c.without-bits.result c.loop-rest.invariant.0 c.record_word.ensures (c.loop-rest.invariant.1 c.lowest-bit.result c.lowest-bit.ensures.set) c.without-bits.ensures.only c.without-bits.ensures.gone
+    listed-facts c.args.pairs.now c.near_bits_of_list.new.self c.args.list.now c.in_ok-listed.listed c.requires.pairs c.in_ok-listed.ensures.bits c.loop-rest.self c.record_word.new.self c.lowest-bit.result c.without-bits.result c.loop-rest.invariant.0 c.record_word.ensures (c.loop-rest.invariant.1 c.lowest-bit.result c.lowest-bit.ensures.set) c.without-bits.ensures.only c.without-bits.ensures.gone

@@ -13,4 +13,4 @@ returns-clause-tables c =
     let t = c.are_disjoint-2.ensures.tables in
     let told = sym c.in_ok-are_disjoint.ensures.disjoint ∙ c.if-not-branch.false in
     let own = pair-own v symbols c.args.images.now c.args.first c.args.second c.in-Some.pair c.in-Some.ensures.left c.in-Some.ensures.right c.requires.inside told in
-    record { placed = t.placed; recorded = t.recorded; facts = t.facts; found = pairs-noted v symbols c.are_disjoint-2.new.self.found c.record_if_new.new.self c.in-Some.pair c.record_if_new.ensures own t.found }
+    record { placed = t.placed; recorded = t.recorded; facts = t.facts; found = pairs-noted v symbols c.are_disjoint-2.new.self.found c.record_pair.new.self c.in-Some.pair c.record_pair.ensures own t.found }

@@ -1,5 +1,5 @@
 use Rattle.subst.proofs.Words.{AreBitsOf, ArePlaced, Grows}
-use Rattle.subst.proofs.variable_places.VariablePlaces.bits_of.Given as goal
+use Rattle.subst.proofs.variable_places.VariablePlaces.near_bits_of_list.Given as goal
 
 -- each bit is the place of one of the symbols so far
 abbrev pub invariant-loop-index : goal.invariant-loop-index

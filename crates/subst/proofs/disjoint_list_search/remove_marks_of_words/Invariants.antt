@@ -1,5 +1,5 @@
 use Rattle.subst.proofs.Words.{HasAmong, TakesPlaces}
-use Rattle.subst.proofs.disjoint_list_search.take_words.Given as goal
+use Rattle.subst.proofs.disjoint_list_search.remove_marks_of_words.Given as goal
 
 -- the marks at the places of the words so far were removed
 abbrev pub invariant-loop-word : goal.invariant-loop-word

@@ -1,7 +1,7 @@
 use Rattle.subst.proofs.Words.{◌≡◌, ◌+◌, ◌-◌, ◌≤◌, true, false, take, drop, arith, sym, ◌∙◌, ap, take_rest, symbols_in}
 use Rattle.subst.proofs.SymbolRangeLemmas.{length-seen}
 use Rattle.subst.proofs.MatchLemmas.{front-goes, front-fails}
-use Rattle.subst.proofs.matching.pass_range.Goals as goal
+use Rattle.subst.proofs.matching.skip_range.Goals as goal
 
 pub returns-then-end-at-clause-none : goal.returns-then-end-at-clause-none
 returns-then-end-at-clause-none c more =

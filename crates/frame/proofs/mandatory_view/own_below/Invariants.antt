@@ -1,5 +1,5 @@
 use Rattle.frame.proofs.Words.{◌≡◌, ℕ, suc, ◌+◌, ◌-◌, ◌<◌, ◌≤◌, length, get_or, set_at, count_below}
-use Rattle.frame.proofs.mandatory_view.own_before.Given as goal
+use Rattle.frame.proofs.mandatory_view.own_below.Given as goal
 
 abbrev pub invariant-loop-low : goal.invariant-loop-low
 invariant-loop-low l = record {

@@ -1,7 +1,7 @@
 use Rattle.subst.proofs.Words.{length, sym, ◌∙◌, below-at}
 use Rattle.subst.proofs.VariablePlaceLemmas.{grows-own, grows-twice}
 use Rattle.subst.proofs.ActivePairLemmas.{bits-none, bits-grown, bits-again, bits-more}
-use Rattle.subst.proofs.variable_places.VariablePlaces.bits_of.Goals as goal
+use Rattle.subst.proofs.variable_places.VariablePlaces.near_bits_of_list.Goals as goal
 
 pub loop-index-init : goal.loop-index-init
 loop-index-init c = (c.requires.placed, grows-own c.args.self.now, bits-none c.args.self.now c.args.list.now)

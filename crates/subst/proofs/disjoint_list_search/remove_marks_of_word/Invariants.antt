@@ -1,5 +1,5 @@
 use Rattle.subst.proofs.DisjointListSearchLemmas.{IsWordTaken}
-use Rattle.subst.proofs.disjoint_list_search.take_word.Given as goal
+use Rattle.subst.proofs.disjoint_list_search.remove_marks_of_word.Given as goal
 
 -- the marks at the bits so far were removed
 abbrev pub invariant-loop-rest : goal.invariant-loop-rest

@@ -2,7 +2,7 @@ use Rattle.subst.proofs.Words.{arith}
 use Rattle.std.specs.Prelude.{Ok, Err}
 use Rattle.std.proofs.lemmas.List.Sorted.{searched}
 use Rattle.subst.proofs.RemainingSymbolLemmas.{ascends-at, ascends-level}
-use Rattle.subst.proofs.remaining_symbols.place_from.Goals as goal
+use Rattle.subst.proofs.remaining_symbols.count_below_bound.Goals as goal
 
 pub returns-in-Ok-clause-less : goal.returns-in-Ok-clause-less
 returns-in-Ok-clause-less c = λ j l.
