@@ -35,7 +35,7 @@ impl<'a> Work for Proofs<'a> {
     ghost use Rattle.std.specs.Prelude.{length};
     ghost use Rattle.library.specs.ProofJobs.{IsRightProof};
     ghost use Rattle.scope.specs.Active.{bares};
-    ghost use Rattle.verify.specs.KeptLists.{IsCacheFor};
+    ghost use Rattle.verify.specs.CitationCache.{IsCacheFor};
 
     ghost count = { λ proofs. length proofs.positions };
 

@@ -13,5 +13,5 @@ mod statement_tokens;
 
 pub use comments::{CommentFault, comment_fault};
 pub use description::descriptions;
-pub use lines_and_columns::{Position, line_and_column};
+pub use lines_and_columns::{LineAndColumn, line_and_column};
 pub use statement_tokens::{statement_start, token_span, token_span_within};

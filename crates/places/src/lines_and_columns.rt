@@ -6,7 +6,7 @@ use memchr::memchr_iter;
 
 /// A line and a column, both counted from 1; columns count bytes.
 #[derive(Clone, Copy, Debug, Drop, PartialEq, Eq)]
-pub struct Position {
+pub struct LineAndColumn {
     pub line: usize,
     pub column: usize,
 }
@@ -14,13 +14,13 @@ pub struct Position {
 /// Returns the line and the column of an offset.
 ///
 /// Cost: the size of the text before it.
-pub fn line_and_column(text: &[u8], offset: usize) -> Position
+pub fn line_and_column(text: &[u8], offset: usize) -> LineAndColumn
     requires { offset ≤ length text.now }
     ensures line { result.line ≡ line_of text.now offset }
     ensures column { IsColumn text.now offset result.column }
 {
     let start = line_start(text, offset);
-    Position {
+    LineAndColumn {
         line: line_at(text, offset),
         column: offset - start + 1,
     }

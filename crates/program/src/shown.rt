@@ -4,7 +4,7 @@ use crate::named_text::NamedText;
 use library::{AskFault, Library};
 use memchr::memchr_iter;
 use mm_lex::{Span, tokens};
-use places::{Position, descriptions, line_and_column};
+use places::{LineAndColumn, descriptions, line_and_column};
 use statement_blocks::{BlockInput, push_block};
 use std::alloc::{AllocError, Global};
 
@@ -149,7 +149,7 @@ fn first_line_and_column(
     database: &DatabaseText<'_>,
     start: usize,
     statement_text: &[u8],
-) -> Result<Position, AllocError> {
+) -> Result<LineAndColumn, AllocError> {
     let Ok(spans) = tokens(alloc, statement_text) else {
         return Err(AllocError);
     };

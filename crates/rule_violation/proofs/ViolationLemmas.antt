@@ -78,14 +78,14 @@ G2_twice S names r none told broken =
     (λ differ. contradict (and_from _ _ (none_all (has_fault S fault.Declared) (λ x. not (was_symbol S x || was_label S x)) (λ x. ap not (named_is S x)) names none) differ) broken) (λ j k h. h) told
 
 -- G3, if no variable is an earlier constant or label or an active variable: a variable occurs twice
-pub G3_twice : {E : Type 0} (S : Database) (names : List Name) (r : Result (Option RuleViolation) E) → list_any (has_fault S fault.Taken) names ≡ false
+pub G3_twice : {E : Type 0} (S : Database) (names : List Name) (r : Result (Option RuleViolation) E) → list_any (has_fault S fault.NotNewVariable) names ≡ false
     → IfOk r (λ found. MatchOption found (all_different names ≡ true) (IsRepeated names))
     → keeps S (Var names) G3 ≡ false → IfOk r (λ found. IsSomeAnd found (Violates S (Var names) G3))
 G3_twice S names r none told broken =
     by_twice names r (Violates S (Var names) G3)
-    (λ differ. contradict (and_from _ _ (none_all (has_fault S fault.Taken) (λ x. not (is_variable S x || is_constant S x || was_label S x)) same names none) differ) broken) (λ j k h. h) told
+    (λ differ. contradict (and_from _ _ (none_all (has_fault S fault.NotNewVariable) (λ x. not (is_variable S x || is_constant S x || was_label S x)) same names none) differ) broken) (λ j k h. h) told
   where
-    same : (x : Name) → not (is_variable S x || is_constant S x || was_label S x) ≡ not (has_fault S fault.Taken x)
+    same : (x : Name) → not (is_variable S x || is_constant S x || was_label S x) ≡ not (has_fault S fault.NotNewVariable x)
     same x = ap not (or_assoc (is_variable S x) (is_constant S x) (was_label S x) ∙ ap (λ b. is_variable S x || b) (fixed_is S x))
 
 -- G8, if each symbol is an active variable: a variable occurs twice

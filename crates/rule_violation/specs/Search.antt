@@ -9,7 +9,7 @@ use Rattle.mm_read.specs.declared.stmt.Stmt.TheVariants.{Open, Close}
 use Rattle.mm_read.specs.Statements.{Database}
 use Rattle.scope.specs.Active.{stmt_at, stays_open, constants, variables, label_of, has_label, is_float_of, is_constant, is_variable, has_float}
 use Rattle.rule_violation.specs.declared.symbol_search.SymbolFault.{SymbolFault}
-use Rattle.rule_violation.specs.declared.symbol_search.SymbolFault.TheVariants.{Declared, Taken, Unknown, Inactive, Untyped}
+use Rattle.rule_violation.specs.declared.symbol_search.SymbolFault.TheVariants.{Declared, NotNewVariable, Unknown, Inactive, Untyped}
 use Rattle.rule_violation.specs.declared.search.Part.{Part}
 use Rattle.rule_violation.specs.declared.search.Part.TheVariants.{LabelOrSymbol, LabelOrConstant, Constant, Variable, Float}
 
@@ -47,7 +47,7 @@ closed_in (s ∷ S) = closed_from s (closed_in S)
 -- the faults of a symbol after S
 abbrev pub has_fault : Database → SymbolFault → Name → Bool
 has_fault S Declared x = list_any (has_name_in LabelOrSymbol x) S
-has_fault S Taken x = is_variable S x || list_any (has_name_in LabelOrConstant x) S
+has_fault S NotNewVariable x = is_variable S x || list_any (has_name_in LabelOrConstant x) S
 has_fault S Unknown x = not (is_constant S x || is_variable S x)
 has_fault S Inactive x = not (is_variable S x)
 has_fault S Untyped x = is_variable S x && not (has_float S x)

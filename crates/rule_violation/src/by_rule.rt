@@ -76,7 +76,8 @@ fn of_variables(
     let Stmt::Var(names) = stmt else {
         return Ok(None);
     };
-    let Some((symbol, name)) = first_with_fault(alloc, earlier, names, SymbolFault::Taken)? else {
+    let Some((symbol, name)) = first_with_fault(alloc, earlier, names, SymbolFault::NotNewVariable)?
+    else {
         return first_repeated(alloc, names);
     };
     if let Some(statement) = find_active(earlier, Part::Variable, name) {

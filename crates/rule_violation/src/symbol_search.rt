@@ -23,7 +23,7 @@ pub(crate) enum SymbolFault {
     /// It is an earlier label or was declared as a symbol.
     Declared,
     /// It is an active variable or an earlier label, or was declared as a constant.
-    Taken,
+    NotNewVariable,
     /// It is neither a constant nor an active variable.
     Unknown,
     /// It is not an active variable.
@@ -64,7 +64,7 @@ fn mark_faulty(names: &NameTable, earlier: &[Stmt], fault: SymbolFault, marks: &
 {
     match fault {
         SymbolFault::Declared => mark_any(names, earlier, Part::LabelOrSymbol, true, marks),
-        SymbolFault::Taken => {
+        SymbolFault::NotNewVariable => {
             mark_any(names, earlier, Part::LabelOrConstant, true, marks);
             mark_active(names, earlier, Part::Variable, true, marks);
         }

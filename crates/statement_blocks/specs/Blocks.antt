@@ -5,16 +5,16 @@ use Rattle.std.specs.Prelude.{ℕ, List, [], ◌++◌, map, codes, decimal, Opti
 use Rattle.mm_lex.specs.Alphabet.{runs, word}
 use Rattle.mm_read.specs.declared.stmt.Stmt.{Stmt}
 use Rattle.mm_read.specs.Statements.{Database}
-use Rattle.places.specs.declared.lines_and_columns.Position.{Position}
+use Rattle.places.specs.declared.lines_and_columns.LineAndColumn.{LineAndColumn}
 use Rattle.statement_blocks.specs.Wrapped.{wrapped}
 use Rattle.statement_blocks.specs.Lines.{statement_line, frame_if}
 
 -- line and column, as LINE:COLUMN
-abbrev pub line_and_column_text : Position → List ℕ
+abbrev pub line_and_column_text : LineAndColumn → List ℕ
 line_and_column_text line_and_column = decimal line_and_column.line ++ codes ":" ++ decimal line_and_column.column
 
 -- a line with the line, the column and the number of the statement
-abbrev pub heading : Position → ℕ → List ℕ
+abbrev pub heading : LineAndColumn → ℕ → List ℕ
 heading line_and_column at = line_and_column_text line_and_column ++ codes ": " ++ decimal at ++ codes "\n"
 
 -- the words of the description, if there is one
@@ -23,5 +23,5 @@ description_lines None = []
 description_lines (Some text) = wrapped (map (word text) (runs text))
 
 -- the block of the statement s at a position
-abbrev pub block_text : Database → ℕ → Stmt → Position → Option (List ℕ) → List ℕ
+abbrev pub block_text : Database → ℕ → Stmt → LineAndColumn → Option (List ℕ) → List ℕ
 block_text S at s line_and_column description = heading line_and_column at ++ description_lines description ++ frame_if S at s ++ statement_line s

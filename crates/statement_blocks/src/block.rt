@@ -10,7 +10,7 @@ use crate::statement_line::push_statement;
 use crate::wrapping::push_wrapped;
 use frame::is_assertion;
 use numbers::push_number;
-use places::Position;
+use places::LineAndColumn;
 use std::alloc::{AllocError, Global};
 
 /// Appends the block of a statement: its line, column and number, its description, its mandatory
@@ -35,7 +35,11 @@ pub fn push_block(
 }
 
 /// Appends the line, the column and the number of a statement.
-fn push_heading(text: &mut Vec<u8>, line_and_column: Position, at: usize) -> Result<(), AllocError>
+fn push_heading(
+    text: &mut Vec<u8>,
+    line_and_column: LineAndColumn,
+    at: usize,
+) -> Result<(), AllocError>
     ensures { OnOk result (text.new.items ≡ text.old.items ++ heading line_and_column at) }
 {
     push_line_and_column(text, line_and_column)?;
@@ -45,7 +49,10 @@ fn push_heading(text: &mut Vec<u8>, line_and_column: Position, at: usize) -> Res
 }
 
 /// Appends a line and a column.
-fn push_line_and_column(text: &mut Vec<u8>, line_and_column: Position) -> Result<(), AllocError>
+fn push_line_and_column(
+    text: &mut Vec<u8>,
+    line_and_column: LineAndColumn,
+) -> Result<(), AllocError>
     ensures { OnOk result (text.new.items ≡ text.old.items ++ line_and_column_text line_and_column) }
 {
     push_number(text, line_and_column.line as u64)?;

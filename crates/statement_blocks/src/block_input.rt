@@ -1,7 +1,7 @@
 //! The input of a block.
 use frame::Frames;
 use mm_read::Stmt;
-use places::Position;
+use places::LineAndColumn;
 
 /// A statement to show, with everything that its block is made of.
 #[derive(Drop)]
@@ -15,7 +15,7 @@ pub struct BlockInput<'a> {
     /// Its position among all statements, from 1.
     pub position: usize,
     /// Its line and column in the text.
-    pub line_and_column: Position,
+    pub line_and_column: LineAndColumn,
     /// Its description: the contents of a comment.
     pub description: Option<&'a [u8]>,
 }

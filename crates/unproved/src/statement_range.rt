@@ -30,7 +30,7 @@ impl<'a> Work for StatementRange<'a> {
     ghost use Rattle.std.specs.Prelude.{◌-◌};
     ghost use Rattle.scope.specs.Active.{bares};
     ghost use Rattle.unproved.specs.StatementRanges.{IsProvedIn};
-    ghost use Rattle.verify.specs.KeptLists.{IsCacheFor};
+    ghost use Rattle.verify.specs.CitationCache.{IsCacheFor};
 
     ghost count = { λ range. range.end - range.start };
 

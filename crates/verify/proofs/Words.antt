@@ -78,7 +78,7 @@ pub use Rattle.verify.specs.Derivations.{Derivation, Derivations, apply, depth, 
 pub use Rattle.verify.specs.Extents.{extent_of}
 pub use Rattle.verify.specs.HypothesisResults.{AreDifferent, AreFloats, AreLeadingFloats, AreRead, ArePresent, DoMatch, HypothesisMatches, IsPresent, IsTyped, Reads}
 pub use Rattle.verify.specs.Growth.{Builds, Grew, Grows, GrowsBy, IsSavedTree, Trees, a_hypothesis, an_assertion, trees, with_tree}
-pub use Rattle.verify.specs.KeptLists.{IsCacheFor, AreKeptLists, AreListsOf, AreMadeOf, IsAt, IsCitedBy, CheckerCache, CitationLists, AreSameCondition, are_covered, is_paired}
+pub use Rattle.verify.specs.CitationCache.{IsCacheFor, AreKeptLists, AreListsOf, AreMadeOf, IsAt, IsCitedBy, CheckerCache, CitationLists, AreSameCondition, are_covered, is_paired}
 pub use Rattle.verify.specs.LabelTable.{AreEntries, IsEntry, is_hypothesis_among, viewed_entries}
 pub use Rattle.verify.specs.Laws.{RunsSpell, SpelledOnce, SpellingsRun}
 pub use Rattle.verify.specs.Machine.{Cites, IsSaved, Results, Runs, State, Steps, of_assertion, of_hypothesis, start, with_mark, with_result}

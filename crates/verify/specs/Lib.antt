@@ -8,7 +8,7 @@ pub mod ResultPlaces
 pub mod HypothesisResults
 pub mod LongHypotheses
 pub mod ReadPlaces
-pub mod KeptLists
+pub mod CitationCache
 pub mod StepsByNumber
 pub mod Stops
 pub mod LabelTable

@@ -7,15 +7,15 @@ ghost use Rattle.mm_read.specs.declared.stmt.Stmt.{Stmt as Statement};
 ghost use Rattle.proof_code.specs.ItemNumbers.{items_of};
 ghost use Rattle.proof_code.specs.Writes.{is_compressed};
 ghost use Rattle.scope.specs.Active.{before};
-ghost use Rattle.verify.specs.KeptLists.{IsCacheFor};
+ghost use Rattle.verify.specs.CitationCache.{IsCacheFor};
 ghost use Rattle.verify.specs.LabelTable.{AreEntries, viewed_entries};
 ghost use Rattle.verify.specs.Proves.{Proves};
 ghost use Rattle.verify.specs.Right.{IsProvable, IsRight, IsAnswerTo};
 
 use crate::answer::Answer;
 use crate::citation::{Buffers, Claim};
+use crate::citation_cache::CitationCache;
 use crate::failure::run_items;
-use crate::kept_lists::KeptLists;
 use crate::label_table::{LabelEntry, Mandatory, add_listed, fill_mandatory, fill_table};
 use crate::results::Results;
 use frame::{FrameBuffers, Frames, MandatoryView};
@@ -48,7 +48,7 @@ pub struct Checker {
 }
 
 impl Model for Checker {
-    ghost use Rattle.verify.specs.KeptLists.{CheckerCache};
+    ghost use Rattle.verify.specs.CitationCache.{CheckerCache};
 
     ghost Value = { CheckerCache };
 
@@ -69,7 +69,7 @@ impl Checker {
             mandatory: Vec::new(alloc),
             buffers: Buffers {
                 frame_buffers: FrameBuffers::new(alloc),
-                kept: KeptLists::new(alloc),
+                kept: CitationCache::new(alloc),
                 remaining: Remaining::new(alloc),
                 results: Results::new(alloc),
             },

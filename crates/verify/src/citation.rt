@@ -8,12 +8,12 @@ ghost use Rattle.mm_read.specs.declared.stmt.Stmt.{Stmt as Statement};
 ghost use Rattle.proof_code.specs.ItemNumbers.{item_of};
 ghost use Rattle.scope.specs.Active.{stmt_at};
 ghost use Rattle.verify.specs.StepsByNumber.{AreKnown, AreNamed, StepsWithTable, HasCited, IsReady, MayCite};
-ghost use Rattle.verify.specs.KeptLists.{IsCacheFor, IsAt, IsCitedBy};
+ghost use Rattle.verify.specs.CitationCache.{IsCacheFor, IsAt, IsCitedBy};
 ghost use Rattle.verify.specs.LabelTable.{AreEntries, IsEntry, viewed_entries};
 ghost use Rattle.verify.specs.ResultPlaces.{UnchangedUnlessDone};
 ghost use Rattle.verify.specs.declared.label_table.LabelEntry.TheVariants.{Hypothesis};
 
-use crate::kept_lists::KeptLists;
+use crate::citation_cache::CitationCache;
 use crate::label_table::LabelEntry;
 use crate::results::Results;
 use entries::AssertionView;
@@ -38,7 +38,7 @@ pub struct Buffers {
     /// For the long lists of a cited assertion, if they are not kept.
     pub frame_buffers: FrameBuffers,
     /// The long lists that are kept, and facts on pairs of variables.
-    pub kept: KeptLists,
+    pub kept: CitationCache,
     /// For the symbols that are left of a long expression without those whose images are empty.
     pub remaining: Remaining,
     /// The results of the proof so far.
@@ -104,7 +104,7 @@ fn cite_anew(claim: &Claim<'_>, position: usize, buffers: &mut Buffers) -> Resul
 /// Cites an assertion whose lists are long. Keeps them for later citations.
 ///
 /// Errors: an allocation fails. Cost: that of the citation; if the lists are not kept yet, also that of `Frames::fill_for_citing`
-/// and `KeptLists::keep`.
+/// and `CitationCache::keep`.
 #[cold]
 #[inline(never)]
 fn cite_kept(claim: &Claim<'_>, position: usize, buffers: &mut Buffers) -> Result<bool, AllocError>
@@ -130,13 +130,13 @@ fn cite_kept(claim: &Claim<'_>, position: usize, buffers: &mut Buffers) -> Resul
 
 /// Returns the index of the kept lists of an assertion. Makes them if they are not kept yet.
 ///
-/// Errors: an allocation fails. Cost: that of `KeptLists::find`; if the lists are not kept yet, of `Frames::fill_for_citing` and
-/// `KeptLists::keep`.
+/// Errors: an allocation fails. Cost: that of `CitationCache::find`; if the lists are not kept yet, of `Frames::fill_for_citing` and
+/// `CitationCache::keep`.
 fn kept_index(
     claim: &Claim<'_>,
     position: usize,
     frame_buffers: &mut FrameBuffers,
-    kept: &mut KeptLists,
+    kept: &mut CitationCache,
 ) -> Result<usize, AllocError>
     requires assertion { (s : Statement) × HasAssertion claim.now.frames.now.statements position s }
     requires legal { AreLegal claim.now.frames.now.statements claim.now.frames.now.names }

@@ -4,14 +4,14 @@ ghost use Rattle.std.specs.Prelude.{◌≡◌, ◌++◌, List, length, IfOk, IfS
 ghost use Rattle.mm_lex.specs.Alphabet.{Name};
 ghost use Rattle.mm_read.specs.declared.stmt.Stmt.{Stmt as Statement};
 ghost use Rattle.proof_code.specs.ItemNumbers.{items_of};
-ghost use Rattle.verify.specs.KeptLists.{IsCacheFor};
+ghost use Rattle.verify.specs.CitationCache.{IsCacheFor};
 ghost use Rattle.verify.specs.StepsByNumber.{IsReady, without_cached};
 ghost use Rattle.verify.specs.LabelTable.{AreEntries, viewed_entries};
 ghost use Rattle.verify.specs.Right.{IsProvable, IsRight};
 ghost use Rattle.verify.specs.Stops.{IsFirstFailure, StopsAt};
 
 use crate::citation::{Buffers, Claim, step_at};
-use crate::kept_lists::KeptLists;
+use crate::citation_cache::CitationCache;
 use crate::label_table::{LabelEntry, fill_table};
 use crate::results::Results;
 use frame::{FrameBuffers, Frames, MandatoryView};
@@ -81,7 +81,7 @@ pub fn first_failure(
     fill_table(frames, at, parts.labels, &mut table)?;
     let mut buffers = Buffers {
         frame_buffers: FrameBuffers::new(alloc),
-        kept: KeptLists::new(alloc),
+        kept: CitationCache::new(alloc),
         remaining: Remaining::new(alloc),
         results: Results::new(alloc),
     };

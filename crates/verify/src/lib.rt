@@ -4,15 +4,15 @@
 //! derivation which concludes the statement's expression, with a weight (the symbols of all that they conclude) within the
 //! limit; else it returns `Wrong`. `check` does so for the items themselves; `first_failure` returns where their run fails.
 //!
-//! Reading order: `answer`, `tree`; `results` (as ranges of one buffer), `label_table`, `pair_places`, `kept_lists`, `citation`
+//! Reading order: `answer`, `tree`; `results` (as ranges of one buffer), `label_table`, `pair_places`, `citation_cache`, `citation`
 //! (one item), `failure` (all items), `checker` (a whole proof); `plan` (the derivation); `laws`.
 #![tactic(auto)]
 
 mod answer;
 mod checker;
 mod citation;
+mod citation_cache;
 mod failure;
-mod kept_lists;
 mod label_table;
 pub mod laws;
 mod pair_places;

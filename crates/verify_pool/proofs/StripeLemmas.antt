@@ -86,8 +86,8 @@ module _ (right : ℕ → Type 0) (count first step : ℕ) where
       elim (before other within below) [ inl r ↦ inl r | inr i ↦ inr (kept (first + other * step) i) ]
 
   -- if the first deferred job is right or not before the answer, it can be dropped
-  settle-skip : (x : ℕ) (rest : List ℕ) (least : Option ℕ) → (IsBefore x least → right x) → IsFoundInStripe right count first step least (x ∷ rest) → IsFoundInStripe right count first step least rest
-  settle-skip x rest least here found = record {
+  judge_deferred-skip : (x : ℕ) (rest : List ℕ) (least : Option ℕ) → (IsBefore x least → right x) → IsFoundInStripe right count first step least (x ∷ rest) → IsFoundInStripe right count first step least rest
+  judge_deferred-skip x rest least here found = record {
     before = λ turn within below.
         elim (found.before turn within below) [
           | inl r ↦ inl r
@@ -101,8 +101,8 @@ module _ (right : ℕ → Type 0) (count first step : ℕ) where
   }
 
   -- if the first deferred job is before the answer and not right, it is the new answer
-  settle-take : (x : ℕ) (rest : List ℕ) (least : Option ℕ) → IsBefore x least → (right x → ⊥) → IsFoundInStripe right count first step least (x ∷ rest) → IsFoundInStripe right count first step (Some x) rest
-  settle-take x rest least before wrong found = record {
+  judge_deferred-take : (x : ℕ) (rest : List ℕ) (least : Option ℕ) → IsBefore x least → (right x → ⊥) → IsFoundInStripe right count first step least (x ∷ rest) → IsFoundInStripe right count first step (Some x) rest
+  judge_deferred-take x rest least before wrong found = record {
     before = λ turn within below.
         elim (found.before turn within (before_less (first + turn * step) x least below before)) [
           | inl r ↦ inl r
@@ -115,11 +115,11 @@ module _ (right : ℕ → Type 0) (count first step : ℕ) where
     wrong = (found.within x (0, refl), wrong);
   }
 
-  pub settle-more : (x : ℕ) (rest : List ℕ) (old new : Option ℕ) → IsSettled right x old new → IsFoundInStripe right count first step old (x ∷ rest) → IsFoundInStripe right count first step new rest
-  settle-more x rest old new settled found =
+  pub judge_deferred-more : (x : ℕ) (rest : List ℕ) (old new : Option ℕ) → IsSettled right x old new → IsFoundInStripe right count first step old (x ∷ rest) → IsFoundInStripe right count first step new rest
+  judge_deferred-more x rest old new settled found =
       elim settled as (λ _. IsFoundInStripe right count first step new rest) [
-        | inl same ↦ subst (λ o. IsFoundInStripe right count first step o rest) (sym same.0) (settle-skip x rest old same.1 found)
-        | inr taken ↦ subst (λ o. IsFoundInStripe right count first step o rest) (sym taken.0) (settle-take x rest old taken.1 taken.2 found)
+        | inl same ↦ subst (λ o. IsFoundInStripe right count first step o rest) (sym same.0) (judge_deferred-skip x rest old same.1 found)
+        | inr taken ↦ subst (λ o. IsFoundInStripe right count first step o rest) (sym taken.0) (judge_deferred-take x rest old taken.1 taken.2 found)
       ]
 
   -- if no deferred jobs are left, each job before the answer is right

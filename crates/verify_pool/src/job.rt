@@ -1,7 +1,7 @@
 //! Proofs that are given as their items.
 
 ghost use Rattle.std.specs.Prelude.{◌≡◌, IfOk};
-ghost use Rattle.verify.specs.KeptLists.{IsCacheFor};
+ghost use Rattle.verify.specs.CitationCache.{IsCacheFor};
 ghost use Rattle.verify.specs.Right.{IsAnswerTo};
 ghost use Rattle.verify_pool.specs.Jobs.{AreJobs, IsJob, IsRightAt, IsRightJob, LeastBad};
 
@@ -69,7 +69,7 @@ impl<'a> Model for Jobs<'a> {
 
 impl<'a> Work for Jobs<'a> {
     ghost use Rattle.std.specs.Prelude.{length};
-    ghost use Rattle.verify.specs.KeptLists.{IsCacheFor};
+    ghost use Rattle.verify.specs.CitationCache.{IsCacheFor};
     ghost use Rattle.verify_pool.specs.Jobs.{IsRightAt};
 
     ghost count = { λ work. length work.jobs };

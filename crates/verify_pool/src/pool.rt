@@ -103,7 +103,7 @@ fn least_of<W: Work>(
 {
     let mut least = None;
     for worker in workers {
-        let found = settle(work, worker.least?, &worker.deferred, calling)?;
+        let found = judge_deferred(work, worker.least?, &worker.deferred, calling)?;
         least = earlier(least, found);
     }
     Ok(least)
@@ -228,7 +228,7 @@ fn is_wrong<W: Work>(
 /// it found not to be right. Returns the least index of a job of its stripe that is not right.
 ///
 /// Errors: an allocation fails. Cost: that of these jobs.
-fn settle<W: Work>(
+fn judge_deferred<W: Work>(
     work: &W,
     least: Option<usize>,
     deferred: &[usize],

@@ -1,7 +1,7 @@
 //! Jobs that workers share.
 
 ghost use Rattle.std.specs.Prelude.{◌≡◌, ◌<◌, ◌^◌, ℕ, IfOk};
-ghost use Rattle.verify.specs.KeptLists.{CheckerCache};
+ghost use Rattle.verify.specs.CitationCache.{CheckerCache};
 ghost use Rattle.verify.specs.Right.{IsAnswerTo};
 
 use std::alloc::AllocError;

@@ -35,15 +35,15 @@ returns-in-Declared c =
     (c.requires ∙ ap (λ t. replicate (length names) (is_fault_if_absent t)) c.in-Declared.is) (λ x. yes (list_any (has_name_in part.LabelOrSymbol x) S))
     ∙ ap (λ t. map (has_fault S t) names) (sym c.in-Declared.is))
 
-pub returns-in-Taken : goal.returns-in-Taken
-returns-in-Taken c =
+pub returns-in-NotNewVariable : goal.returns-in-NotNewVariable
+returns-in-NotNewVariable c =
     let S = c.args.earlier.now in let names = c.args.names.now in
     let one = λ (x : Name). list_any (λ p. has_name_in part.Variable x p.1) (active S) in let other = λ (x : Name). list_any (has_name_in part.LabelOrConstant x) S in
     c.mark_active.ensures
-    ∙ (ap (marked one true names) c.mark_any-in-Taken.ensures
-    ∙ (marked-twice one other (has_fault S fault.Taken) true true false names c.args.marks.now
-    (c.requires ∙ ap (λ t. replicate (length names) (is_fault_if_absent t)) c.in-Taken.is) (λ x. either (one x) (other x))
-    ∙ ap (λ t. map (has_fault S t) names) (sym c.in-Taken.is)))
+    ∙ (ap (marked one true names) c.mark_any-in-NotNewVariable.ensures
+    ∙ (marked-twice one other (has_fault S fault.NotNewVariable) true true false names c.args.marks.now
+    (c.requires ∙ ap (λ t. replicate (length names) (is_fault_if_absent t)) c.in-NotNewVariable.is) (λ x. either (one x) (other x))
+    ∙ ap (λ t. map (has_fault S t) names) (sym c.in-NotNewVariable.is)))
 
 pub returns-in-Unknown : goal.returns-in-Unknown
 returns-in-Unknown c =

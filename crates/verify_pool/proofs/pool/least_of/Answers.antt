@@ -3,8 +3,8 @@ use Rattle.verify_pool.proofs.StripeLemmas.{one_stripe_more, one_of_two, stripes
 use Rattle.verify_pool.specs.declared.checkers.Worker.{Worker}
 use Rattle.verify_pool.proofs.pool.least_of.Goals as goal
 
-pub settle-requires : goal.settle-requires
-settle-requires g c =
+pub judge_deferred-requires : goal.judge_deferred-requires
+judge_deferred-requires g c =
     let right = g.W.Work.right c.args.work.now in
     let count = g.W.Work.count c.args.work.now in
     let i = c.loop-worker.worker-index in

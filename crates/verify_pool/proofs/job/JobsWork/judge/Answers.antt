@@ -1,5 +1,5 @@
 use Rattle.verify_pool.proofs.Words.{◌≡◌, ◌<◌, Some, length, slice_get, get_or, refl, subst, sym, IfOk, slice_get_read, IsAnswerTo, IsRightAt}
-use Rattle.verify.specs.KeptLists.{IsCacheFor}
+use Rattle.verify.specs.CitationCache.{IsCacheFor}
 use Rattle.verify_pool.proofs.LeastLemmas.{job_judged}
 use Rattle.verify_pool.proofs.job.JobsWork.judge.Goals as goal
 

@@ -1,6 +1,6 @@
 use Rattle.verify.proofs.Words.{arith}
 use Rattle.verify.proofs.KeptListsLemmas.{group-appended}
-use Rattle.verify.proofs.kept_lists.add_group.Goals as goal
+use Rattle.verify.proofs.citation_cache.add_group.Goals as goal
 
 pub returns : goal.returns
 returns c =

@@ -1,6 +1,6 @@
 use Rattle.verify.proofs.Words.{◌≡◌, ◌+◌, ◌<◌, ◌∙◌, true, ap, sym, subst, arith, length, take, AllBelow, below-group, cut, AreSameCondition, are_covered}
 use Rattle.verify.proofs.KeptListsLemmas.{below-added, same-kept, same-left}
-use Rattle.verify.proofs.kept_lists.copy_groups.Goals as goal
+use Rattle.verify.proofs.citation_cache.copy_groups.Goals as goal
 
 pub loop-index-preserved-then-is_covered : goal.loop-index-preserved-then-is_covered
 loop-index-preserved-then-is_covered c =

@@ -1,6 +1,6 @@
 use Rattle.verify_pool.proofs.Words.{ℕ, IsFoundInStripe}
 use Rattle.std.proofs.Common.{drop}
-use Rattle.verify_pool.proofs.pool.settle.Given as goal
+use Rattle.verify_pool.proofs.pool.judge_deferred.Given as goal
 
 abbrev pub invariant-loop-index : goal.invariant-loop-index
 invariant-loop-index g l = record {

@@ -1,5 +1,5 @@
 use Rattle.verify.proofs.Words.{subst, sym, IsCacheFor}
-use Rattle.verify.proofs.kept_lists.KeptLists.fill.Goals as goal
+use Rattle.verify.proofs.citation_cache.CitationCache.fill.Goals as goal
 
 pub fill_for_citing-requires-clause-facts : goal.fill_for_citing-requires-clause-facts
 fill_for_citing-requires-clause-facts c = (subst (IsCacheFor c.args.frames.now.statements c.args.frames.now.names) (sym c.self.view_is) c.requires.kept).are_facts

@@ -1,5 +1,5 @@
 use Rattle.verify.proofs.Words.{ℕ, length, take, AllBelow, AreSpansIn, cut, AreSameCondition}
-use Rattle.verify.proofs.kept_lists.copy_groups.Given as goal
+use Rattle.verify.proofs.citation_cache.copy_groups.Given as goal
 
 abbrev pub invariant-loop-index : goal.invariant-loop-index
 invariant-loop-index l = record {

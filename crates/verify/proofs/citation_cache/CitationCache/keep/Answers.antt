@@ -1,6 +1,6 @@
 use Rattle.verify.proofs.Words.{◌≡◌, ◌++◌, ◌∷◌, [], ◌∙◌, refl, ap, sym, subst, arith, length, stmt_at, IsCacheFor, AreKeptLists, IsAt}
 use Rattle.verify.proofs.KeptListsLemmas.{at-end, kept-more}
-use Rattle.verify.proofs.kept_lists.KeptLists.keep.Goals as goal
+use Rattle.verify.proofs.citation_cache.CitationCache.keep.Goals as goal
 
 pub returns-clause-kept : goal.returns-clause-kept
 returns-clause-kept c = λ S names old made.

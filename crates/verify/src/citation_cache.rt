@@ -12,7 +12,7 @@ ghost use Rattle.mm_lex.specs.Alphabet.{Name};
 ghost use Rattle.mm_read.specs.Statements.{Database};
 ghost use Rattle.mm_read.specs.declared.stmt.Stmt.{Stmt as Statement};
 ghost use Rattle.scope.specs.Active.{stmt_at};
-ghost use Rattle.verify.specs.KeptLists.{IsCacheFor, AreListsOf, AreMadeOf, IsAt, CitationLists, AreSameCondition, are_covered, is_paired};
+ghost use Rattle.verify.specs.CitationCache.{IsCacheFor, AreListsOf, AreMadeOf, IsAt, CitationLists, AreSameCondition, are_covered, is_paired};
 
 use crate::pair_places::{PairPlace, PairPlaces};
 use entries::buffer_part::between;
@@ -53,7 +53,7 @@ impl Model for AssertionLists {
     ghost use Rattle.std.specs.Prelude.{length, map};
     ghost use Rattle.entries.specs.Hypotheses.{decoded_hypothesis};
     ghost use Rattle.entries.specs.Stored.Spans.{AreSpansIn, cut};
-    ghost use Rattle.verify.specs.KeptLists.{CitationLists};
+    ghost use Rattle.verify.specs.CitationCache.{CitationLists};
 
     ghost Value = { CitationLists };
 
@@ -221,7 +221,7 @@ fn stands_at(group: &[u32], index: u32, x: u32) -> bool
 /// A cache for proofs under the same frames: lists of assertions, and the pairs of variables that were found to be disjoint or
 /// not when lists were made. Contracts see both.
 #[derive(Drop)]
-pub struct KeptLists {
+pub struct CitationCache {
     /// Where lists are allocated.
     alloc: Global,
     /// The number of citations of the assertion at a position, counted until its lists are kept.
@@ -238,21 +238,21 @@ pub struct KeptLists {
     facts: PairFacts,
 }
 
-impl Model for KeptLists {
-    ghost use Rattle.verify.specs.KeptLists.{CheckerCache};
+impl Model for CitationCache {
+    ghost use Rattle.verify.specs.CitationCache.{CheckerCache};
 
     ghost Value = { CheckerCache };
 
     ghost view = { λ a. record { lists = a.lists.items; facts = a.facts } };
 }
 
-impl KeptLists {
+impl CitationCache {
     /// Returns an empty cache. Does not allocate.
-    pub fn new(alloc: Global) -> KeptLists
+    pub fn new(alloc: Global) -> CitationCache
         ensures lists { result.lists ≡ [] }
         ensures facts { result.facts ≡ [] }
     {
-        KeptLists {
+        CitationCache {
             alloc,
             counts: BTreeMap::new(alloc),
             size: 0,

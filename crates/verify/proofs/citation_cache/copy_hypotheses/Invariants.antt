@@ -1,5 +1,5 @@
 use Rattle.verify.proofs.Words.{◌≡◌, map, take, decoded_hypothesis}
-use Rattle.verify.proofs.kept_lists.copy_hypotheses.Given as goal
+use Rattle.verify.proofs.citation_cache.copy_hypotheses.Given as goal
 
 abbrev pub invariant-loop-index : goal.invariant-loop-index
 invariant-loop-index l = map decoded_hypothesis l.required.items ≡ take l.index l.hypotheses

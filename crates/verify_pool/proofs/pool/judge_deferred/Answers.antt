@@ -2,8 +2,8 @@ use Rattle.verify_pool.proofs.Words.{◌+◌, get_or, subst, IsFoundInStripe}
 use Rattle.std.proofs.Common.{drop}
 use Rattle.std.proofs.lemmas.List.{drop_all, drop_more}
 use Rattle.std.proofs.lemmas.Option.{slice_get-get_or}
-use Rattle.verify_pool.proofs.StripeLemmas.{settle-more, settled-all}
-use Rattle.verify_pool.proofs.pool.settle.Goals as goal
+use Rattle.verify_pool.proofs.StripeLemmas.{judge_deferred-more, settled-all}
+use Rattle.verify_pool.proofs.pool.judge_deferred.Goals as goal
 
 pub settle_one-requires-clause-index : goal.settle_one-requires-clause-index
 settle_one-requires-clause-index g c =
@@ -18,7 +18,7 @@ loop-index-preserved g c =
     let deferred = c.args.deferred.now in
     let i = c.loop-index.index-index in
     record {
-      rest = λ first step found. settle-more right count first step (get_or deferred i 0) (drop (i + 1) deferred) c.loop-index.least c.in_ok-least.least c.in_ok-least.ensures.settled
+      rest = λ first step found. judge_deferred-more right count first step (get_or deferred i 0) (drop (i + 1) deferred) c.loop-index.least c.in_ok-least.least c.in_ok-least.ensures.settled
           (subst (IsFoundInStripe right count first step c.loop-index.least) (drop_more deferred i 0 c.loop-index-test.true) (c.loop-index.invariant.rest first step found));
       kept = c.settle_one.ensures.kept;
     }
