@@ -1,5 +1,6 @@
 -- A statement as numbers, in plain lists.
--- Metamath, 4.2.6 and 4.2.7: a citation of an assertion needs its mandatory hypotheses. `frame` says what the numbers denote.
+-- Source: Metamath, 4.2.6 and 4.2.7 (a citation of an assertion needs its mandatory hypotheses).
+-- The crate `frame` says what the numbers denote.
 -- The code keeps the lists of all statements in a few buffers.
 use Rattle.std.specs.Prelude.{◌≡◌, ℕ, Bool, true, List, [], length, map, slice_get, Some}
 use Rattle.entries.specs.declared.assertion_view.Hypothesis.{Hypothesis}
@@ -12,9 +13,11 @@ use Rattle.entries.specs.declared.entry_header.EntryRef.{EntryRef}
 use Rattle.entries.specs.Hypotheses.{decoded_hypothesis}
 use Rattle.entries.specs.Stored.Spans.{cut, AreSpansIn}
 
--- the positions of hypotheses, each hypothesis as a `$f` with its variable or a `$e` with its position, the typecode of
--- each, and groups of variables; `frame` fills the lists of assertions and `$e` alone. `whole`: whether these are all
--- mandatory hypotheses and groups of an assertion, or only the `$f` of the statement's own variables
+-- the parts of a statement, which `frame` gives to assertions and `$e` alone: `hypotheses` are the
+-- positions of its hypotheses, `required` each of them as a `$f` with its variable or a `$e` with
+-- its position, `typecodes` the typecode of each, `groups` lists of variables. They are `whole` if
+-- they are all mandatory hypotheses and groups of an assertion; else only the `$f` of the
+-- statement's own variables
 pub record Assertion : Type 0 where
   pub whole : Bool
   pub hypotheses : List ℕ
@@ -22,8 +25,8 @@ pub record Assertion : Type 0 where
   pub typecodes : List ℕ
   pub groups : List (List ℕ)
 
--- a statement: its kind, the counts of labels and of declared symbols before it, the last active statements before it,
--- the numbers of its symbols, and its parts
+-- a statement: its kind, the counts of labels and of declared symbols before it, the last active
+-- statements before it, the numbers of its symbols, and its parts
 pub record Entry : Type 0 where
   pub kind : Kind
   pub label_count : ℕ
@@ -36,7 +39,8 @@ pub record Entry : Type 0 where
 abbrev pub assertion_of : AssertionParts → Assertion
 assertion_of p = record { whole = p.whole; hypotheses = p.hypotheses.now; required = map decoded_hypothesis p.required.now; typecodes = p.typecodes.now; groups = cut p.grouped_variables.now p.groups.now }
 
--- each hypothesis has its number and its typecode, and the groups are parts of `grouped_variables`
+-- each position of a hypothesis has that hypothesis as a number, and its typecode; and the groups
+-- are parts of `grouped_variables`
 pub record AreShapedParts (p : AssertionParts) : Type 0 where
   pub paired : length p.required.now ≡ length p.hypotheses.now
   pub typecodes_counted : length p.typecodes.now ≡ length p.hypotheses.now
@@ -46,11 +50,11 @@ pub record AreShapedParts (p : AssertionParts) : Type 0 where
 abbrev pub entry_by : EntryHeader → List ℕ → Assertion → Entry
 entry_by h codes a = record { kind = h.kind; label_count = h.before.label_count; symbol_count = h.before.symbol_count; last_active = h.before.last_active; symbols = codes; assertion = a }
 
--- no parts, and whether they are whole
+-- no parts, with this `whole`
 abbrev pub no_parts : Bool → Assertion
 no_parts whole = record { whole = whole; hypotheses = []; required = []; typecodes = []; groups = [] }
 
--- the statement of which `entry` returns x, with these parts
+-- the statement that `entry` returns as x, with these parts
 abbrev pub entry_from_ref : EntryRef → Assertion → Entry
 entry_from_ref x a = record { kind = x.kind; label_count = x.before.label_count; symbol_count = x.before.symbol_count; last_active = x.before.last_active; symbols = x.symbols.now; assertion = a }
 

@@ -1,10 +1,10 @@
 -- Stacks of positions whose earlier versions can be read.
--- Driscoll, Sarnak, Sleator and Tarjan, Making data structures persistent (1989): a stack that is fully persistent.
--- The stack of a version that was pushed is its position above the stack of the version before it, so the code stores its height
--- alone, and for a version that was restored the index of a pushed one with its stack.
+-- Source: Driscoll, Sarnak, Sleator and Tarjan, Making data structures persistent (1989).
+-- The code stores no stack: for a version that a push made, only the height of its stack; for a
+-- version that restored an earlier stack, which push made the version with that stack.
 use Rattle.std.specs.Prelude.{◌≡◌, ℕ, ◌≤◌, ◌==◌, Bool, false, nat_lt, nat_le, if◌then◌else◌, List, [], ◌∷◌, ◌++◌, filter, get_or}
 
--- a stack, from the last position back, and the position at which this version was made
+-- the position at which this version was made, and its stack, from the top down
 pub record StackVersion : Type 0 where
   pub since : ℕ
   pub stack : List ℕ
@@ -61,6 +61,6 @@ AreWith old c vs new = (d : ℕ) → history new d ≡ (if d == c then vs else h
 abbrev pub AreSame : List (List StackVersion) → List (List StackVersion) → Type 0
 AreSame old new = (d : ℕ) → history new d ≡ history old d
 
--- the versions of each number that were made at `last` or before
+-- each number has those of its versions that were made at `last` or before
 abbrev pub AreKeptUntil : ℕ → List (List StackVersion) → List (List StackVersion) → Type 0
 AreKeptUntil last old new = (d : ℕ) → history new d ≡ kept_until last (history old d)

@@ -1,5 +1,5 @@
 -- A hypothesis as one number: a `$f` by its variable, a `$e` by its position.
--- Metamath, 4.2.6: a citation reads the variable of a `$f`, and the expression of a `$e`.
+-- Source: Metamath, 4.2.6 (a citation reads the variable of a `$f`, and the expression of a `$e`).
 -- The code keeps the numbers in one buffer with the other numbers of the assertion.
 use Rattle.std.specs.Prelude.{ℕ, ◌-◌, nat_lt, if◌then◌else◌}
 use Rattle.entries.specs.declared.assertion_view.Hypothesis.{Hypothesis}

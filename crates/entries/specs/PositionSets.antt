@@ -1,5 +1,5 @@
 -- Sets of positions, by number: each is the list of its positions in ascending order.
--- Metamath, 4.2.6: the mandatory hypotheses of an assertion are in order of position.
+-- Source: Metamath, 4.2.6 (the mandatory hypotheses of an assertion are in order of position).
 -- The code keeps each set as a tree whose parts are earlier sets.
 use Rattle.std.specs.Prelude.{◌≡◌, ℕ, ◌<◌, ◌==◌, nat_lt, if◌then◌else◌, Bool, List, [], ◌∷◌, length, get_or}
 use Rattle.std.specs.List.{filter, list_any}
@@ -18,7 +18,7 @@ abbrev pub Ascends : List ℕ → Type 0
 Ascends [] = Unit {0}
 Ascends (p ∷ ps) = AreAbove p ps × Ascends ps
 
--- the set with the position inserted in order, unless it has it
+-- the set with the position inserted in order; the set itself if it has the position
 abbrev pub with_position : ℕ → List ℕ → List ℕ
 with_position p [] = p ∷ []
 with_position p (q ∷ qs) =

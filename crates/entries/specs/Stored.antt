@@ -1,5 +1,5 @@
--- How statements, stacks, sets and the places of symbols are stored. Public clauses cite only `Extends`, `AreSpansIn` and
--- `cut`.
+-- How statements, stacks, sets and the places of symbols are stored. Public clauses cite only
+-- `Extends`, `AreSpansIn` and `cut`.
 pub mod Spans
 pub mod Records
 pub mod Versions

@@ -1,20 +1,23 @@
 -- The indexes at which each symbol of an expression occurs.
--- Metamath, 4.2.6: an image is substituted for each occurrence of a variable.
--- The code keeps the indexes of all symbols in one list, one symbol's after the other's.
+-- Source: Metamath, 4.2.6 (an image is substituted for each occurrence of a variable).
+-- The code keeps the indexes of all symbols in one list, those of one symbol after those of
+-- another.
 use Rattle.std.specs.Prelude.{◌≡◌, ℕ, suc, ◌<◌, ◌≤◌, ◌==◌, ◌⊎◌, Bool, false, not, List, [], ◌∷◌, length, filter, slice_get, Option, Some, None}
 use Rattle.std.specs.List.{All, Contains, list_any}
 use Rattle.std.specs.List.Sorted.{IsStrictlyIncreasing}
 use Rattle.entries.specs.declared.assertion_view.Hypothesis.{Hypothesis}
 use Rattle.entries.specs.declared.assertion_view.Hypothesis.TheVariants.{Float, Essential}
 
--- the group has exactly the indexes at which the symbol occurs, in ascending order, and at least one
+-- the group has exactly the indexes at which the symbol occurs, in ascending order, and at least
+-- one
 pub record IsGroupOf (expr : List ℕ) (symbol : ℕ) (group : List ℕ) : Type 0 where
   pub rises : IsStrictlyIncreasing group
   pub some : 0 < length group
   pub only : All (λ i. slice_get expr i ≡ Some symbol) group
   pub all : (i : ℕ) → slice_get expr i ≡ Some symbol → Contains group i
 
--- each group is that of its symbol; the symbols are `low` or greater, and each is greater than the earlier ones
+-- each group is that of its symbol; the symbols are `low` or greater, and each is greater than the
+-- earlier ones
 abbrev pub AreGroupsFrom : List ℕ → ℕ → List ℕ → List (List ℕ) → Type 0
 AreGroupsFrom expr low [] [] = Unit {0}
 AreGroupsFrom expr low (s ∷ symbols) (g ∷ groups) = (low ≤ s) × IsGroupOf expr s g × AreGroupsFrom expr (suc s) symbols groups
@@ -37,7 +40,7 @@ pub record ArePlacesOf (expr : List ℕ) (places : SymbolGroups) : Type 0 where
   pub each : AreGroupsFrom expr 0 places.symbols places.groups
   pub all : (i : ℕ) → i < length expr → IsGrouped i places.groups
 
--- whether the symbol is s
+-- whether there is a symbol and it is s
 abbrev pub is_symbol : ℕ → Option ℕ → Bool
 is_symbol s None = false
 is_symbol s (Some x) = x == s

@@ -1,4 +1,4 @@
-//! The parts of a cited assertion that a verifier reads.
+//! An assertion as a verifier reads it when a proof cites it.
 ghost use Rattle.std.specs.Prelude.{◌≡◌, ◌<◌, length, map, slice_get, Some, IfOk};
 ghost use Rattle.entries.specs.Hypotheses.{decoded_hypothesis};
 
@@ -7,11 +7,11 @@ use crate::groups::Groups;
 use std::alloc::AllocError;
 use std::marker::Model;
 
-/// The typecode of an expression that has no symbols. No symbol has this number.
+/// Stands for the typecode of an expression that has no symbols. No symbol has this number.
 pub const NO_TYPECODE: u32 = u32::MAX;
 
-/// The least number that encodes a `$e`: a `$e` is encoded as this plus its position, a `$f` as the number of its
-/// variable, which is lower.
+/// The least number that encodes a `$e`: a `$e` is encoded as this plus its position, a `$f` as the
+/// number of its variable, which is lower.
 pub const ESSENTIALS: u32 = 0x8000_0000;
 
 /// A mandatory hypothesis: a `$f` by its variable, a `$e` by its position.
@@ -59,7 +59,7 @@ impl<'a> Hypotheses<'a> {
         Hypotheses { numbers }
     }
 
-    /// Returns a view of the same hypotheses, as `Groups::copy`.
+    /// Returns a view of the same hypotheses. It saves time as `Groups::copy` does.
     #[inline(always)]
     pub fn copy(&self) -> Hypotheses<'a>
         ensures { result ≡ self.now }
@@ -98,7 +98,8 @@ fn hypothesis_of(number: u32) -> Hypothesis
     }
 }
 
-/// An assertion as a verifier reads it, with its symbols as numbers. Its parts are whole.
+/// An assertion as a verifier reads it, with its symbols as numbers. It has all mandatory
+/// hypotheses and groups of the assertion.
 #[derive(Drop)]
 pub struct AssertionView<'a> {
     /// The typecode of each mandatory hypothesis, in order.
@@ -107,6 +108,6 @@ pub struct AssertionView<'a> {
     pub hypotheses: Hypotheses<'a>,
     /// The symbols of the assertion's expression.
     pub conclusion: &'a [u32],
-    /// Groups of variables: any two different variables of a group must have disjoint images.
+    /// The groups of variables: any two different variables of a group must have disjoint images.
     pub groups: Groups<'a>,
 }

@@ -1,4 +1,4 @@
-//! A part of a buffer.
+//! Parts of buffers, by indexes of 32 bits.
 ghost use Rattle.std.specs.Prelude.{◌≡◌, ◌≤◌, ◌<◌, length, slice_range, slice_get, Some, IfOk};
 
 use std::alloc::AllocError;

@@ -15,9 +15,9 @@ use std::marker::Model;
 
 /// Statements as numbers. Contracts see the list of them, with plain lists for their parts.
 ///
-/// Inside, a statement is one small record, and the numbers of all statements are in one buffer, so that a citation reads
-/// contiguous memory. Groups, which few assertions have, and the states before the statements, which no citation reads, have
-/// buffers of their own.
+/// Inside, a statement is one small record, and the numbers of all statements are in one buffer, so
+/// that a citation reads contiguous memory. Groups, which few assertions have, and the states
+/// before the statements, which no citation reads, have buffers of their own.
 #[derive(Drop)]
 pub struct Entries {
     records: Vec<StatementRecord>,
@@ -26,8 +26,8 @@ pub struct Entries {
     groups: Vec<BufferPart>,
 }
 
-/// The stored form of one statement: its record, the state before it, its numbers, the layout of its parts among them, and
-/// its groups. A part is read only where it is used.
+/// The stored form of one statement: its record (`kept`), the state before it, its numbers, the
+/// layout of its parts among them (`at`), and its groups. No part is read before it is used.
 #[derive(Clone, Copy, Drop)]
 struct Stored<'a> {
     kept: StatementRecord,
@@ -107,8 +107,8 @@ impl Entries {
         self.stored(index).kept.whole
     }
 
-    /// Returns the symbols and the parts of the statement at an index, without the positions of its hypotheses, or
-    /// `None` if its parts are not whole.
+    /// Returns the assertion at an index as it is stored: its symbols and its parts, without the
+    /// positions of its hypotheses. Returns `None` if its parts are not whole.
     pub fn kept_view(&self, index: usize) -> Option<AssertionView<'_>>
         requires { index < length self.now }
         ensures parts { (e : Entry) → slice_get self.now index ≡ Some e → IfSome result (IsWholeView e) }
@@ -154,7 +154,8 @@ impl Entries {
 
     /// Appends a statement.
     ///
-    /// Errors: an allocation fails, or a count no longer fits 32 bits; the list is then unchanged. Cost: the statement's size.
+    /// Errors: an allocation fails, or a count no longer fits 32 bits; the list is then unchanged.
+    /// Cost: amortized, the statement's size.
     pub fn push(
         &mut self,
         header: EntryHeader,
@@ -199,7 +200,7 @@ impl Entries {
         }
     }
 
-    /// Gives back unused room, as `give_back` does.
+    /// Frees unused memory, as `give_back` does and at its cost.
     pub fn shrink(&mut self)
         ensures { self.new ≡ self.old }
     {
@@ -210,7 +211,8 @@ impl Entries {
     }
 }
 
-/// Returns the numbers of the statement at an index, whose record is `kept`, and the layout of its parts among them.
+/// Returns the numbers of the statement at an index, whose record is `kept`, and the layout of its
+/// parts among them.
 #[inline(always)]
 fn numbers_at<'a>(
     records: &[StatementRecord],
@@ -239,8 +241,8 @@ fn numbers_at<'a>(
     )
 }
 
-/// Appends a statement's groups, numbers, state before it and record. If it fails, `records` is unchanged, but the
-/// other buffers may have more items.
+/// Appends a statement's groups, numbers, state before it and record. If it fails, `records` is
+/// unchanged, but the other buffers may have more items.
 fn add(
     records: &mut Vec<StatementRecord>,
     states_before: &mut Vec<StateBefore>,
@@ -276,7 +278,8 @@ fn add(
     )
 }
 
-/// Appends the numbers of a statement: its counts, parts and symbols if it has parts, else its symbols alone.
+/// Appends the numbers of a statement: its counts, parts and symbols if it has parts, else its
+/// symbols alone.
 fn add_numbers(
     numbers: &mut Vec<u32>,
     parts: &AssertionParts<'_>,
@@ -320,8 +323,9 @@ fn append<T: Copy>(buffer: &mut Vec<T>, items: &[T]) -> Result<(), AllocError>
     Ok(())
 }
 
-/// Reserves room for fifteen times as many items as the buffer has, so that a growing buffer is seldom copied. Unused
-/// room is not written. If that allocation fails, the buffer keeps its room.
+/// Reserves capacity for fifteen times as many further items as the buffer has, so that a growing
+/// buffer is seldom copied. Unused capacity is not written. If that allocation fails, the capacity
+/// stays.
 #[cold]
 fn reserve_ahead<T>(buffer: &mut Vec<T>)
     ensures { buffer.new.items ≡ buffer.old.items }

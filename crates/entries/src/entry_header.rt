@@ -5,7 +5,7 @@ use crate::last_active::LastActive;
 /// The state before a statement.
 #[derive(Clone, Copy, Drop)]
 pub struct StateBefore {
-    /// How many labels there were, which is the number of the statement's own label, if it has one.
+    /// How many labels there were. This is the number of the statement's own label, if it has one.
     pub label_count: u32,
     /// How many declared symbols there were.
     pub symbol_count: u32,
@@ -13,14 +13,15 @@ pub struct StateBefore {
     pub last_active: LastActive,
 }
 
-/// A statement's kind, and the state before it.
+/// A statement's kind, and the state before it, as `Entries::push` takes them.
 #[derive(Clone, Copy, Drop)]
 pub struct EntryHeader {
     pub kind: Kind,
     pub before: StateBefore,
 }
 
-/// A stored statement without its parts: its kind, the state before it, and the numbers of its symbols.
+/// A stored statement without its parts, as `Entries::entry` returns it: its kind, the state before
+/// it, and the numbers of its symbols.
 #[derive(Clone, Copy, Drop)]
 pub struct EntryRef<'a> {
     pub kind: Kind,

@@ -1,11 +1,12 @@
-//! Lists of numbers, stored in one buffer.
+//! A view of lists of numbers that are stored in one buffer.
 ghost use Rattle.std.specs.Prelude.{◌≡◌, ◌<◌, length, slice_get, Some};
 ghost use Rattle.entries.specs.Stored.Spans.{cut, AreSpansIn};
 
 use crate::buffer_part::{BufferPart, item, part};
 use std::marker::Model;
 
-/// Lists of numbers in one buffer. Contracts see the list of the lists.
+/// A view of lists of numbers: `spans` says where each of them stands in the buffer `numbers`.
+/// Contracts see the list of the lists.
 #[derive(Drop)]
 pub struct Groups<'a> {
     pub(crate) spans: &'a [BufferPart],
@@ -35,7 +36,8 @@ impl<'a> Groups<'a> {
 
     /// Returns a view of the same lists.
     ///
-    /// A view that is passed on by reference has to lie in memory, so a caller with a rare path passes a copy there.
+    /// It saves time: a view that is passed by reference has to lie in memory, so a caller passes a
+    /// copy to a function that it seldom calls, and its own view may stay in registers.
     #[inline(always)]
     pub fn copy(&self) -> Groups<'a>
         ensures { result ≡ self.now }

@@ -10,13 +10,15 @@ use std::marker::Model;
 
 /// A stack of positions for each number, with its earlier versions.
 ///
-/// Contracts see a list that has, by number, the versions of the stack. A number past its end has none.
+/// Contracts see a list that has, by number, the versions of the stack. A number past its end has
+/// none.
 /// Source: Driscoll, Sarnak, Sleator and Tarjan, *Making data structures persistent* (1989).
 #[derive(Drop)]
 pub struct Histories {
     alloc: Global,
     histories: Vec<History>,
-    /// For each version of any stack, in the order in which they were made, the number that the stack is of.
+    /// For each version of any stack, in the order in which they were made, the number that the
+    /// stack is of.
     log: Vec<u32>,
 }
 
@@ -45,7 +47,10 @@ impl Histories {
 
     /// Pushes `at` on the stack of a number, unless that stack changed at `at` already.
     ///
-    /// Errors: an allocation fails; the stacks are then unchanged. Cost: constant, unless a table grows.
+    /// Errors: an allocation fails, or the stack has 2^31 - 1 positions; the stacks are then
+    /// unchanged.
+    /// Cost: amortized, a constant; for a number greater than all earlier ones, the difference to
+    /// them.
     pub fn push(&mut self, number: u32, at: u32) -> Result<(), AllocError>
         requires { AreUntil at self.old }
         ensures pushed { OnOk result (AreWith self.old number (pushed at (history self.old number)) self.new) }
@@ -63,9 +68,11 @@ impl Histories {
         pushed
     }
 
-    /// Restores at `at` the stack of a number as it was at `before`, unless that stack changed at `at` already.
+    /// Restores at `at` the stack of a number as it was at `before`, unless that stack changed at
+    /// `at` already.
     ///
-    /// Errors: an allocation fails; the stacks are then unchanged. Cost: a binary search.
+    /// Errors: an allocation fails, or the top of the restored stack was pushed after 2^31 - 1
+    /// other versions of it; the stacks are then unchanged. Cost: a binary search, and as `push`.
     pub fn revert(&mut self, number: u32, at: u32, before: u32) -> Result<(), AllocError>
         requires { AreUntil at self.old }
         ensures reverted { OnOk result (AreWith self.old number (reverted at before (history self.old number)) self.new) }
@@ -85,7 +92,8 @@ impl Histories {
 
     /// Removes the versions that were made after `last`.
     ///
-    /// Cost: the number of versions removed. Gives back the room of stacks of which little is left.
+    /// Frees the unused memory of these stacks, as `give_back` does. Cost: amortized, the number of
+    /// versions removed.
     pub fn truncate(&mut self, last: u32)
         ensures { AreKeptUntil last self.old self.new }
     {
@@ -97,9 +105,10 @@ impl Histories {
         }
     }
 
-    /// Removes the last numbers that have no version, but none below `count`, and gives back unused room, as `give_back` does.
+    /// Frees unused memory: removes the greatest numbers from the table as long as they have no
+    /// version and are not below `count`, and frees what `give_back` frees. No stack changes.
     ///
-    /// Cost: the count of the numbers that are removed.
+    /// Cost: the count of the numbers that are removed, and that of `give_back`.
     pub fn shrink(&mut self, count: usize)
         ensures { AreSame self.old self.new }
     {
@@ -121,7 +130,7 @@ impl Histories {
     }
 }
 
-/// Removes the last history while it is empty and there are more than `count`.
+/// Removes the last history as long as it is empty and there are more than `count`.
 fn remove_empty(histories: &mut Vec<History>, count: usize)
     ensures same { AreSame histories.old.items histories.new.items }
 {

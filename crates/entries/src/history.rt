@@ -10,13 +10,15 @@ use std::marker::Model;
 /// The least link of a version that restored an earlier stack.
 pub const RESTORED: u32 = 2_147_483_648;
 
-/// A version of a stack: the stack as it is from just after one position on, up to the next version.
+/// A version of a stack: the stack as it is from just after one position on, up to the next
+/// version.
 #[derive(Clone, Copy, Drop)]
 pub struct Version {
     /// The position at which this version was made.
     pub since: u32,
-    /// If `since` was pushed, how many positions the stack has. Else `RESTORED` plus how many versions there are up to the one
-    /// that pushed the top of the stack, 0 if the stack is empty.
+    /// How the stack is found. If `since` was pushed, how many positions the stack has. If an
+    /// earlier stack was restored, `RESTORED` plus how many versions there are up to and including
+    /// the one that pushed the top of that stack; plus 0 if the stack is empty.
     pub link: u32,
 }
 
@@ -91,8 +93,8 @@ impl History {
         Ok(())
     }
 
-    /// Removes the last version if it was made after `last`, and gives back room if little is left. Returns whether a version
-    /// was removed.
+    /// Removes the last version if it was made after `last`, and frees unused memory as `give_back`
+    /// does. Returns whether it removed a version.
     pub fn pop_after(&mut self, last: u32) -> bool
         ensures { (front : List StackVersion) → (v : StackVersion) → self.old ≡ front ++ v ∷ [] → (result ≡ nat_lt last v.since) × (self.new ≡ (if nat_lt last v.since then front else self.old)) }
     {
@@ -145,7 +147,8 @@ fn pushed_version(versions: &[Version], at: u32) -> Result<Version, AllocError>
 
 /// Returns a version made at `at`, with the stack as it was at `before`.
 ///
-/// Errors: more than 2^31 - 1 versions up to the one that pushed the top are reported as a failed allocation.
+/// Errors: if there are 2^31 or more versions up to the one that pushed the top, this is reported
+/// as a failed allocation.
 fn restored_version(versions: &[Version], at: u32, before: u32) -> Result<Version, AllocError>
     requires { AreVersions versions.now }
     ensures { IfOk result (IsNext versions.now at (stack_at (versions_of versions.now) before)) }
@@ -169,7 +172,8 @@ fn versions_before(versions: &[Version], at: usize) -> &[Version]
     &versions[..count]
 }
 
-/// Returns the versions up to the one that pushed the top of the last one's stack, or none if that stack is empty.
+/// Returns the versions up to the one that pushed the top of the last one's stack, or none if that
+/// stack is empty.
 pub fn up_to_top(versions: &[Version]) -> &[Version]
     requires { AreVersions versions.now }
     ensures { IsUpToTop versions.now result.now }

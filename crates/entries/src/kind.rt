@@ -1,6 +1,6 @@
 //! The kinds of statements.
 
-/// The kind of a statement: one of the nine shapes that `mm_read::Stmt` has.
+/// The kind of a statement: one of the nine shapes of `mm_read::Stmt`, by the same names.
 #[derive(Clone, Copy, Debug, Drop, PartialEq, Eq)]
 pub enum Kind {
     Open,

@@ -1,6 +1,7 @@
-//! The positions from which a search for active statements starts.
+//! The last active statements before a statement.
 
-/// The last active statement of each of four kinds, by position, or 0 if there is none.
+/// The last active statement of each of four kinds, by position, or 0 if there is none. A
+/// search for active statements starts from it.
 #[derive(Clone, Copy, Drop)]
 pub struct LastActive {
     /// `${`

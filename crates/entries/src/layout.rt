@@ -6,16 +6,17 @@ use crate::buffer_part::{item, to_u32};
 use crate::parts::AssertionParts;
 use std::alloc::AllocError;
 
-/// How many numbers precede the parts of an assertion: its counts of hypotheses, symbols, groups and variables of groups.
+/// How many numbers precede the parts of an assertion: the four counts of its hypotheses, its
+/// symbols, its groups and the variables of its groups.
 pub const COUNTS: usize = 4;
 
-/// Where each part of a statement begins among its numbers, and where the last part ends. Each part ends where the
-/// next one begins.
+/// Where each part of a statement begins among its numbers, and where the last part ends. Each part
+/// ends where the next one begins.
 #[derive(Clone, Copy, Drop)]
 pub struct Layout {
     /// The typecodes of its hypotheses.
     pub typecodes: usize,
-    /// Its hypotheses, each as one number.
+    /// Its hypotheses, each as the one number that `number_of` returns for it.
     pub required: usize,
     /// Its symbols.
     pub symbols: usize,
@@ -29,8 +30,8 @@ pub struct Layout {
     pub group_count: usize,
 }
 
-/// Returns the layout of `count` hypotheses, `symbols` symbols, `group_count` groups and `grouped_variables` variables of
-/// groups, the first part of which begins at `typecodes`.
+/// Returns the layout of `count` hypotheses, `symbols` symbols, `group_count` groups and
+/// `grouped_variables` variables of groups, the first part of which begins at `typecodes`.
 #[inline(always)]
 pub fn layout_by_counts(
     typecodes: usize,

@@ -1,9 +1,13 @@
 //! The statements of a database as numbers, by position.
 //!
-//! Contracts see `Entries` as a list of statements, each with its parts as plain lists; inside, a few buffers have the parts
-//! of all. The crate `frame` says which names the numbers denote. Reading order: `kind`, `last_active`, `entry_header`,
-//! `buffer_part`, `groups`, `assertion_view`, `parts`; `layout`, `statement_record`, `entries`; `symbol_places`,
-//! `long_expressions`; `history`, `position_stack`, `histories`, `position_sets`; `room`.
+//! Contracts see `Entries` as a list of statements, each with its parts as plain lists; inside, a
+//! few buffers hold the parts of all. The crate `frame` says which names the numbers denote.
+//! `Histories` and `PositionSets` store lists of positions of statements so that earlier ones can
+//! still be read.
+//!
+//! Reading order: `kind`, `last_active`, `entry_header`, `buffer_part`, `groups`, `assertion_view`,
+//! `parts`; `layout`, `statement_record`, `entries`; `symbol_places`, `long_expressions`;
+//! `history`, `position_stack`, `histories`, `position_sets`; `room`.
 #![tactic(auto)]
 
 mod assertion_view;

@@ -1,4 +1,4 @@
-//! For each long expression, by the index of its statement, the indexes at which each of its symbols occurs.
+//! Finds, for each long expression, the indexes at which each of its symbols occurs.
 ghost use Rattle.std.specs.Prelude.{◌≡◌, ◌<◌, ◌++◌, ◌∷◌, [], ℕ, List, nat_eq, nat_lt, Some, None, IfSome, IfNone, OnOk, OnErr};
 ghost use Rattle.std.specs.{List.All, List.filter, Map.lookup};
 ghost use Rattle.entries.specs.SymbolPlaces.{ArePlacesOf, SymbolGroups, without_float};
@@ -9,9 +9,10 @@ use crate::symbol_places::SymbolPlaces;
 use std::alloc::{AllocError, Global};
 use std::marker::Model;
 
-/// For each long expression, by the index of its statement, the places of its symbols. The caller decides which are long.
-/// Contracts see the list of the indexes, in ascending order, each with the symbols of the statement's expression, their
-/// groups, and the constants among them.
+/// For each long expression, by the index of its statement, the places of its symbols: the indexes
+/// at which each of them occurs. The caller decides which expressions are long. Contracts see the
+/// list of the statements' indexes, in ascending order, each with the symbols of the statement's
+/// expression, their groups of indexes, and the constants among them.
 #[derive(Drop)]
 pub struct LongExpressions {
     alloc: Global,
@@ -43,8 +44,8 @@ impl LongExpressions {
         }
     }
 
-    /// Returns the places of the symbols of the expression of the statement at an index, or `None` if the list has none
-    /// for it.
+    /// Returns the places of the symbols of the expression of the statement at an index, or `None`
+    /// if the list has none for it.
     ///
     /// Cost: log n for n expressions.
     pub fn get(&self, index: usize) -> Option<&SymbolPlaces>
@@ -57,10 +58,12 @@ impl LongExpressions {
         }
     }
 
-    /// Appends the places of the symbols of the expression of the statement at an index, which is greater than the
-    /// earlier ones. Its constants are the symbols that are the variable of no `$f` among the hypotheses.
+    /// Appends the places of the symbols of the expression of the statement at an index, which is
+    /// greater than the earlier ones. Its constants are the symbols that are the variable of no
+    /// `$f` among the hypotheses.
     ///
-    /// Errors: an allocation fails, or the expression has 2^32 symbols or more; the list is then unchanged.
+    /// Errors: an allocation fails, or the expression has 2^32 symbols or more; the list is then
+    /// unchanged.
     /// Cost: n log n for n symbols and hypotheses.
     pub fn push(
         &mut self,
@@ -84,6 +87,8 @@ impl LongExpressions {
     }
 
     /// Truncates to the expressions of the statements with an index below `len`. Does not allocate.
+    ///
+    /// Cost: log n for n expressions, and the count of those removed.
     pub fn truncate(&mut self, len: usize)
         ensures { self.new ≡ filter (λ e. nat_lt e.0 len) self.old }
     {
@@ -95,7 +100,7 @@ impl LongExpressions {
         self.places.truncate(kept);
     }
 
-    /// Gives back unused room, as `give_back` does.
+    /// Frees unused memory, as `give_back` does and at its cost.
     pub fn shrink(&mut self)
         ensures { self.new ≡ self.old }
     {

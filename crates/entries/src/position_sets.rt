@@ -13,7 +13,8 @@ use std::marker::Model;
 /// The largest number of nodes: sets have numbers of 32 bits.
 const MOST_NODES: usize = 0xffff_fffe;
 
-/// One side of a node may weigh at most this many times the other. A side's weight is its number of positions plus one.
+/// One side of a node may weigh at most this many times as much as the other. The weight of a side
+/// is its number of positions plus one.
 const MOST_IMBALANCE: usize = 3;
 
 /// A side whose inner part weighs at least this many times its outer part needs a double rotation.
@@ -22,23 +23,26 @@ const DOUBLE_ROTATION_RATIO: usize = 2;
 /// A set that is not empty: a position, and an earlier set on either side of it.
 #[derive(Clone, Copy, Drop)]
 struct Node {
-    /// The set of the positions below.
+    /// The number of the set of the positions below `position`.
     left: u32,
-    /// The set of the positions above.
+    /// The number of the set of the positions above `position`.
     right: u32,
     position: u32,
     /// How many positions the set has.
     count: u32,
 }
 
-/// Sets of positions, each made from earlier ones, with which it shares nodes.
+/// Sets of positions. A new set is made from an earlier one, which stays and with which it shares
+/// nodes.
 ///
-/// A set is known by its number; 0 is the empty set, and a number that no set has is read as the empty set.
-/// Contracts see the list of the sets by number, each as the list of its positions in ascending order.
+/// A set is known by its number; 0 is the empty set, and a number that no set has is read as the
+/// empty set. Contracts see the list of the sets by number, each as the list of its positions in
+/// ascending order.
 ///
-/// Inside, a set is a weight-balanced tree: its height is at most 2.5 times the binary logarithm of its size plus one,
-/// whatever positions are inserted, and in whatever order.
-/// Source: Y. Hirai and K. Yamamoto, "Balancing weight-balanced trees", Journal of Functional Programming 21, 2011.
+/// Inside, a set is a weight-balanced tree: a set of n positions has a height of at most 2.5 times
+/// the binary logarithm of n + 1, whatever positions are inserted, and in whatever order.
+/// Source: Y. Hirai and K. Yamamoto, "Balancing weight-balanced trees", Journal of Functional
+/// Programming 21, 2011.
 #[derive(Drop)]
 pub struct PositionSets {
     nodes: Vec<Node>,
@@ -65,7 +69,7 @@ impl PositionSets {
         }
     }
 
-    /// Returns how many sets there are, with the empty one.
+    /// Returns how many sets there are, counting the empty one.
     pub fn set_count(&self) -> usize
         ensures set_count { result ≡ length self.now }
         ensures few { result < 2 ^ 32 }
@@ -87,7 +91,8 @@ impl PositionSets {
         }
     }
 
-    /// Returns the position at an index, from 0, among those of a set in ascending order, or `None` if there are fewer.
+    /// Returns the position at an index, from 0, among those of a set in ascending order, or `None`
+    /// if the set has no more than `index` positions.
     ///
     /// Cost: the logarithm of the set's size.
     pub fn get(&self, set: u32, index: usize) -> Option<u32>
@@ -126,7 +131,8 @@ impl PositionSets {
         false
     }
 
-    /// Returns how many positions of a set are below a position, which is its index if the set has it.
+    /// Returns how many positions of a set are below a position, which is its index if the set has
+    /// it.
     ///
     /// Cost: the logarithm of the set's size.
     pub fn rank(&self, set: u32, position: u32) -> usize
@@ -146,7 +152,8 @@ impl PositionSets {
         below
     }
 
-    /// Returns the number of the set with one more position: that of the set itself if it has the position, else a new one.
+    /// Returns the number of the set with one more position: that of the set itself if it has the
+    /// position, else a new one.
     ///
     /// Errors: an allocation fails, or there would be 2^32 sets; the sets are then unchanged.
     /// Cost: the logarithm of the set's size, in time and in memory.
@@ -194,7 +201,7 @@ impl PositionSets {
         self.nodes.truncate(set_count.saturating_sub(1));
     }
 
-    /// Gives back unused room, as `give_back` does.
+    /// Frees unused memory, as `give_back` does and at its cost.
     pub fn shrink(&mut self)
         ensures { self.new ≡ self.old }
     {
@@ -214,8 +221,8 @@ impl PositionSets {
         Some(item(nodes, set as usize - 1))
     }
 
-    /// Makes the set with one more position, copying the nodes on the path to it. If it fails, sets may have been
-    /// appended, as in the functions below.
+    /// Makes the set with one more position, copying the nodes on the path to it. If this function
+    /// or one of those below fails, it may have appended sets.
     fn insert_node(&mut self, set: u32, position: u32) -> Result<u32, AllocError>
         ensures made { IfOk result (IsSet self.new (with_position position (set_at self.old set))) }
         ensures more { Extends self.old self.new }
@@ -236,8 +243,8 @@ impl PositionSets {
         }
     }
 
-    /// Makes the set of these positions: the middle one, with the sets of the positions below and above it on its
-    /// sides.
+    /// Makes the set of these positions: the middle one, with the sets of the positions below and
+    /// above it on its sides.
     fn build_balanced(&mut self, positions: &[u32]) -> Result<u32, AllocError>
         requires empty { IsSet self.old [] 0 }
         requires ascends { Ascends positions.now }
@@ -254,7 +261,8 @@ impl PositionSets {
         self.join(left, positions[middle], right)
     }
 
-    /// Makes the union of two sets and the position between them, where one side may be too heavy by one position.
+    /// Makes the union of two sets and the position between them, rotating if one side is too
+    /// heavy, as it may be by one position.
     fn balance(&mut self, left: u32, position: u32, right: u32) -> Result<u32, AllocError>
         requires left { left < length self.old }
         requires right { right < length self.old }
@@ -277,7 +285,8 @@ impl PositionSets {
         self.join(left, position, right)
     }
 
-    /// Makes the union of two sets and the position between them by a single or double rotation to the left.
+    /// Makes the union of two sets and the position between them by a single or double rotation to
+    /// the left.
     fn rotate_left(&mut self, left: u32, position: u32, right: Node) -> Result<u32, AllocError>
         requires left { left < length self.old }
         requires inner { right.left < length self.old }
@@ -298,7 +307,8 @@ impl PositionSets {
         self.join(below, right.position, right.right)
     }
 
-    /// Makes the union of two sets and the position between them by a single or double rotation to the right.
+    /// Makes the union of two sets and the position between them by a single or double rotation to
+    /// the right.
     fn rotate_right(&mut self, left: Node, position: u32, right: u32) -> Result<u32, AllocError>
         requires outer { left.left < length self.old }
         requires inner { left.right < length self.old }

@@ -5,7 +5,8 @@ ghost use Rattle.{entries.specs.Stored.Versions.AreVersions, entries.specs.Store
 use crate::history::{Version, up_to_top};
 use std::marker::Model;
 
-/// A stack of positions, as it was at some position. Contracts see the list of its positions from the top down.
+/// A view of a stack of positions, as it was at some position. Contracts see the list of its
+/// positions from the top down.
 #[derive(Drop)]
 pub struct PositionStack<'a> {
     /// The versions up to the one that pushed the top, or none if the stack is empty.
@@ -68,9 +69,10 @@ impl<'a> PositionStack<'a> {
         }
     }
 
-    /// Removes the position on top and returns it, or returns `None` if there is none.
+    /// Removes the position on top from the view and returns it, or returns `None` if there is
+    /// none.
     ///
-    /// Cost: two look-ups.
+    /// Cost: a constant.
     pub fn pop(&mut self) -> Option<u32>
         ensures some { IfSome result (λ p. self.old ≡ p ∷ self.new) }
         ensures none { IfNone result ((self.old ≡ []) × (self.new ≡ [])) }

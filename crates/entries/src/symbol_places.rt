@@ -10,15 +10,17 @@ use crate::groups::Groups;
 use std::alloc::{AllocError, Global};
 use std::marker::Model;
 
-/// Each index is less than this. A key is a symbol times this, plus its index.
+/// Each index is less than this. The key of a symbol that occurs at an index is the symbol times
+/// this, plus the index.
 const INDEXES: u64 = 4_294_967_296;
 
-/// The indexes of an expression's symbols, grouped by symbol, the least symbol first. Contracts see the list of the distinct
-/// symbols, the list of their groups, each the ascending list of the indexes at which one symbol occurs, and the list of the
-/// constants among them.
+/// The places of an expression's symbols: the indexes at which each distinct symbol occurs, the
+/// least symbol first. Contracts see the list of the distinct symbols, the list of their groups,
+/// each the ascending list of the indexes at which one symbol occurs, and the list of the constants
+/// among them.
 ///
-/// Memory, besides unused room: four bytes for each symbol of the expression, twelve for each distinct one, and four
-/// for each distinct constant.
+/// Memory, besides unused capacity: four bytes for each symbol of the expression, twelve for each
+/// distinct one, and four for each distinct constant.
 #[derive(Drop)]
 pub struct SymbolPlaces {
     symbols: Vec<u32>,
@@ -40,8 +42,8 @@ impl Model for SymbolPlaces {
 }
 
 impl SymbolPlaces {
-    /// Groups the indexes of an expression's symbols. The constants are the symbols that are the variable of no `$f` among
-    /// the hypotheses.
+    /// Returns the places of an expression's symbols. The constants are the symbols that are the
+    /// variable of no `$f` among the hypotheses.
     ///
     /// Errors: an allocation fails, or the expression has 2^32 symbols or more.
     /// Cost: n log n for n symbols and hypotheses.
@@ -73,7 +75,8 @@ impl SymbolPlaces {
         &self.symbols
     }
 
-    /// Returns the group of each of the distinct symbols.
+    /// Returns, for each of the distinct symbols in ascending order, the indexes at which it
+    /// occurs.
     pub fn groups(&self) -> Groups<'_>
         ensures { result ≡ self.now.groups }
     {
@@ -87,7 +90,7 @@ impl SymbolPlaces {
         &self.constants
     }
 
-    /// Returns the indexes at which a symbol occurs.
+    /// Returns the indexes at which a symbol occurs, none if it does not.
     ///
     /// Cost: log n for n distinct symbols.
     pub fn group(&self, symbol: u32) -> &[u32]
@@ -115,8 +118,8 @@ fn keys_of(alloc: Global, expr: &[u32]) -> Result<Vec<u64>, AllocError>
     Ok(keys)
 }
 
-/// Returns the keys in ascending order. No two are equal, so `dedup` removes none: its contract gives that each key is less
-/// than the next.
+/// Returns the keys in ascending order. No two are equal, so `dedup` removes none; it is called
+/// because its contract says that each key is then less than the next.
 fn ordered_keys(alloc: Global, expr: &[u32]) -> Result<Vec<u64>, AllocError>
     ensures { IfOk result (λ keys. AreKeysOf expr.now keys.items) }
 {
@@ -138,7 +141,7 @@ fn is_last(keys: &[u64], at: usize) -> bool
     }
 }
 
-/// Returns the runs of keys with the same symbol, in order.
+/// Returns where each run of keys with the same symbol stands, in order.
 fn runs_of(alloc: Global, keys: &[u64]) -> Result<Vec<BufferPart>, AllocError>
     ensures { IfOk result (λ runs. AreRuns keys.now 0 (length keys.now) runs.items) }
 {
@@ -203,7 +206,7 @@ fn constants_of(
     Ok(constants)
 }
 
-/// Returns whether the number is in a list in ascending order.
+/// Returns whether the number is in a list that is in ascending order.
 fn has(list: &[u32], number: u32) -> bool
     requires { IsNonDecreasing list.now }
     ensures { result ≡ list_any (λ x. number == x) list.now }

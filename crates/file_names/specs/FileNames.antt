@@ -1,11 +1,12 @@
 -- The names of the files of assertions, made from their labels.
--- Source: this project's own form; the names of devices are those of Windows.
+-- Source: this project's choice; the names of devices are those of Windows.
 -- The code appends a name byte by byte; here it is a list.
 use Rattle.std.specs.Prelude.{ℕ, ◌+◌, ◌==◌, nat_le, Bool, ◌&&◌, if◌then◌else◌, List, [], ◌∷◌, ◌++◌, length, codes, decimal, flat_map}
 use Rattle.std.specs.Char.{is_ascii_uppercase}
 use Rattle.mm_lex.specs.Alphabet.{Name, has_name, is_label}
 
--- an uppercase letter as `+` and its lowercase letter, a dot as `+.`, any other byte unchanged
+-- an uppercase letter as `+` (43) and its lowercase letter, a dot (46) as `+.`, any other byte
+-- unchanged
 abbrev pub escaped_byte : ℕ → List ℕ
 escaped_byte b = if is_ascii_uppercase b then 43 ∷ (b + 32) ∷ [] else if b == 46 then 43 ∷ b ∷ [] else b ∷ []
 
@@ -13,7 +14,8 @@ escaped_byte b = if is_ascii_uppercase b then 43 ∷ (b + 32) ∷ [] else if b =
 abbrev pub escaped : Name → List ℕ
 escaped label = flat_map escaped_byte label
 
--- the labels that, followed by `.html`, would name the list of all assertions or a device of Windows
+-- the labels that, followed by `.html`, would name the list of all assertions or a device of
+-- Windows
 abbrev pub reserved : List Name
 reserved = codes "index" ∷ codes "con" ∷ codes "prn" ∷ codes "aux" ∷ codes "nul" ∷ codes "com0" ∷ codes "com1" ∷ codes "com2" ∷ codes "com3" ∷ codes "com4"
     ∷ codes "com5" ∷ codes "com6" ∷ codes "com7" ∷ codes "com8" ∷ codes "com9" ∷ codes "lpt0" ∷ codes "lpt1" ∷ codes "lpt2" ∷ codes "lpt3" ∷ codes "lpt4"
@@ -23,7 +25,7 @@ reserved = codes "index" ∷ codes "con" ∷ codes "prn" ∷ codes "aux" ∷ cod
 abbrev pub plus_if_reserved : Name → List ℕ
 plus_if_reserved label = if has_name label reserved then codes "+" else []
 
--- it is a label of at most 100 bytes: its file name spells the label
+-- whether the file name spells the label: it is a label of at most 100 bytes
 abbrev pub is_spelled : Name → Bool
 is_spelled label = nat_le (length label) 100 && is_label label
 

@@ -1,5 +1,5 @@
 -- Laws about the names of files.
--- Source: this project's own form.
+-- Source: this project's choice.
 -- The code makes one name at a time.
 use Rattle.std.specs.Prelude.{◌≡◌, ◌⊎◌, ℕ, ◌<◌, ◌^◌, Bool, false, true, ◌||◌, ◌==◌, List, [], ◌∷◌, codes}
 use Rattle.std.specs.List.{list_all}
@@ -11,7 +11,7 @@ use Rattle.file_names.specs.FileNames.{file_name}
 abbrev pub is_name_byte : ℕ → Bool
 is_name_byte b = is_ascii_lowercase b || (is_ascii_digit b || has_byte b (codes ".-_+"))
 
--- the bytes are none, or the first is a dot
+-- whether there are no bytes, or the first is a dot
 abbrev pub is_empty_or_begins_with_dot : List ℕ → Bool
 is_empty_or_begins_with_dot [] = true
 is_empty_or_begins_with_dot (b ∷ bytes) = b == 46

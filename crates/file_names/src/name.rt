@@ -11,11 +11,12 @@ use std::alloc::AllocError;
 /// The name of the file that lists all assertions.
 pub const INDEX: &str = "index.html";
 
-/// The name of the style sheet.
+/// The name of the file that holds the style sheet of the site.
 pub const STYLE: &str = "style.css";
 
-/// The greatest length in bytes of a label that is spelled in its file name. The file of a longer one is
-/// named by its position. Since a byte becomes two at most, a file name has at most 205 bytes.
+/// The greatest length in bytes of a label that its file name spells, that is, has in it with some
+/// bytes escaped. The file of a longer one is named by its position. Since a byte becomes two at
+/// most, a file name has at most 205 bytes.
 const MAX_SPELLED_LEN: usize = 100;
 
 /// The labels that, followed by `.html`, would name a device of Windows or the index.
@@ -26,12 +27,14 @@ const RESERVED: [&[u8]; 25] = [
 ];
 
 /// Appends the name of the file of the assertion that has this label and whose statement has this
-/// position. A label of at most 100 bytes is spelled: each dot becomes `+.`, each uppercase letter
-/// becomes `+` and its lowercase letter, and a reserved label gets a `+` at its end. For any other,
-/// the name is `+` and the position. The name ends with `.html`.
+/// position.
 ///
-/// Errors: an allocation fails; the text is then unspecified. Cost: the length of the
-/// label. Source: this project's own form; the names of devices are those of Windows.
+/// The name spells a label of at most 100 bytes: each dot becomes `+.`, each uppercase letter
+/// becomes `+` and its lowercase letter, and a reserved label gets a `+` at its end. For any other
+/// label, the name is `+` and the position. The name ends with `.html`.
+///
+/// Errors: an allocation fails; the text is then unspecified. Cost: the length of the label.
+/// Source: this project's choice; the names of devices are those of Windows.
 pub fn push_file_name(text: &mut Vec<u8>, label: &[u8], position: usize) -> Result<(), AllocError>
     ensures { OnOk result (text.new.items ≡ text.old.items ++ file_name label.now position) }
 {
@@ -51,7 +54,7 @@ fn push_stem(text: &mut Vec<u8>, label: &[u8], position: usize) -> Result<(), Al
     }
 }
 
-/// Returns whether the label is spelled in its file name: it is a label of at most 100 bytes.
+/// Returns whether the file name spells the label: whether it is a label of at most 100 bytes.
 fn is_spelled(label: &[u8]) -> bool
     ensures { result ≡ is_spelled label.now }
 {

@@ -34,7 +34,8 @@ pub trait Folder {
     /// folder after it. The default says nothing.
     ghost writes: { Self → List ℕ → List ℕ → Self → Type 0 } = { λ _ _ _ _. ⊤ };
 
-    /// Opens the folder at a path. A folder of the file system is created if it does not exist.
+    /// Opens the folder at a path, into which later calls write. A folder of the file system is
+    /// created if it does not exist.
     ///
     /// Errors: `Memory`; `Refused` if the path is not a folder, or the folder cannot be created.
     fn open(&mut self, path: &str) -> Result<(), FolderFault>;
@@ -42,8 +43,8 @@ pub trait Folder {
     /// Writes a file with this name and these bytes into the folder. A folder of the file system
     /// replaces a file of that name; a folder in memory keeps both.
     ///
-    /// Errors: `Memory`, `Refused`. After an error no file of that name holds a part of these
-    /// bytes.
+    /// Errors: `Memory`, `Refused`. After an error no file of that name holds only a part of these
+    /// bytes. Cost: the number of bytes.
     fn write(&mut self, name: &str, bytes: &[u8]) -> Result<(), FolderFault>
         ensures { OnOk result (writes self.old name.now bytes.now self.new) };
 }

@@ -1,9 +1,9 @@
 -- Bytes of a database, escaped for an HTML page and for a quoted string of the DOT language.
 -- Source: HTML, character references; the DOT language of Graphviz, quoted strings.
--- The code appends byte by byte.
+-- The code appends byte by byte; here a text is escaped as a whole.
 use Rattle.std.specs.Prelude.{◌≡◌, ℕ, ◌==◌, Bool, true, false, ◌||◌, if◌then◌else◌, List, [], ◌∷◌, ◌++◌, codes, flat_map}
 
--- `&`, `<`, `>` and `"`
+-- whether the byte is `&`, `<`, `>` or `"`
 abbrev pub is_markup : ℕ → Bool
 is_markup b = b == 38 || (b == 60 || (b == 62 || b == 34))
 
@@ -11,9 +11,11 @@ is_markup b = b == 38 || (b == 60 || (b == 62 || b == 34))
 abbrev pub reference : ℕ → List ℕ
 reference b = if b == 38 then codes "&amp;" else if b == 60 then codes "&lt;" else if b == 62 then codes "&gt;" else codes "&quot;"
 
+-- a byte as it is written in a page
 abbrev pub html_byte : ℕ → List ℕ
 html_byte b = if is_markup b then reference b else b ∷ []
 
+-- a text as it is written in a page
 abbrev pub html_text : List ℕ → List ℕ
 html_text text = flat_map html_byte text
 
@@ -23,9 +25,10 @@ pub data ReadsAs : List ℕ → List ℕ → Type 0 where
   reads_plain : (b : ℕ) (written text : List ℕ) → is_markup b ≡ false → ReadsAs written text → ReadsAs (b ∷ written) (b ∷ text)
   reads_reference : (b : ℕ) (written text : List ℕ) → is_markup b ≡ true → ReadsAs written text → ReadsAs (reference b ++ written) (b ∷ text)
 
--- a `\` before `"` and `\`
+-- a byte as it is written in a quoted string: with a `\` before it if it is `"` or `\`
 abbrev pub quoted_byte : ℕ → List ℕ
 quoted_byte b = if b == 34 || b == 92 then 92 ∷ b ∷ [] else b ∷ []
 
+-- a text as it is written in a quoted string
 abbrev pub quoted_text : List ℕ → List ℕ
 quoted_text text = flat_map quoted_byte text

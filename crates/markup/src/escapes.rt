@@ -4,10 +4,10 @@ ghost use Rattle.markup.specs.Escapes.{html_byte, html_text, ReadsAs, quoted_byt
 
 use std::alloc::AllocError;
 
-/// Appends the bytes as text of a page, so that none of them is read as markup: `&`, `<`, `>` and `"` become character
-/// references.
+/// Appends the bytes as text of a page, so that none of them is read as markup: `&`, `<`, `>` and
+/// `"` become character references.
 ///
-/// Errors: an allocation fails. Cost: the number of bytes.
+/// Errors: an allocation fails; the page is then unspecified. Cost: the number of bytes.
 pub fn push_html(page: &mut Vec<u8>, bytes: &[u8]) -> Result<(), AllocError>
     ensures written { OnOk result (page.new.items ≡ page.old.items ++ html_text bytes.now) }
     ensures reads { ReadsAs (html_text bytes.now) bytes.now }
@@ -35,9 +35,10 @@ fn push_html_byte(page: &mut Vec<u8>, byte: u8) -> Result<(), AllocError>
     }
 }
 
-/// Appends the bytes as the inside of a quoted string of the DOT language: with a `\` before each `"` and `\`.
+/// Appends the bytes as the inside of a quoted string of the DOT language: with a `\` before each
+/// `"` and `\`.
 ///
-/// Errors: an allocation fails. Cost: the number of bytes.
+/// Errors: an allocation fails; the text is then unspecified. Cost: the number of bytes.
 pub fn push_quoted(text: &mut Vec<u8>, bytes: &[u8]) -> Result<(), AllocError>
     ensures { OnOk result (text.new.items ≡ text.old.items ++ quoted_text bytes.now) }
 {

@@ -1,6 +1,7 @@
 -- The bytes of a text, its runs of visible bytes, and the two kinds of names: labels and symbols.
 -- Source: Metamath, 4.1.1 and appendix E.
--- The code reads once, left to right, from one run to the next; here the list of all runs is defined by recursion.
+-- The code reads once, left to right, from one run to the next; here the list of all runs is
+-- defined by recursion.
 use Rattle.std.specs.Prelude.{ℕ, ◌+◌, ◌-◌, ◌<◌, ◌≤◌, length, IsTrue, Bool, true, false, not, ◌&&◌, ◌||◌, ◌==◌, if◌then◌else◌, List, [], ◌∷◌, take, drop, bytes_eq, codes}
 use Rattle.std.specs.Char.{is_ascii_whitespace, is_ascii_graphic, is_ascii_alphanumeric}
 use Rattle.std.specs.List.{list_all, list_any}
@@ -31,7 +32,8 @@ abbrev pub starts_white : List ℕ → Bool
 starts_white [] = true
 starts_white (b ∷ bytes) = is_white b
 
--- the spans with a visible byte at `at` in front: a span of its own if the next byte is white, else a part of the first span
+-- the spans with the visible byte at `at` put in front of them: as a span of its own if no visible
+-- byte follows it (`true`), else as the first byte of the first span
 abbrev pub with_byte : ℕ → Bool → List Span → List Span
 with_byte at true spans = record { start = at; end = at + 1 } ∷ spans
 with_byte at false [] = record { start = at; end = at + 1 } ∷ []
@@ -56,7 +58,7 @@ pub record IsRunAt (text : List ℕ) (s : Span) : Type 0 where
   pub within : s.end ≤ length text
   pub visible : IsTrue (list_all (λ b. not (is_white b)) (word text s))
 
--- whether the name is among these
+-- whether the name is one of these
 abbrev pub has_name : Name → List Name → Bool
 has_name x names = list_any (name_eq x) names
 
@@ -68,7 +70,8 @@ abbrev pub is_empty : {A : Type 0} → List A → Bool
 is_empty [] = true
 is_empty (x ∷ xs) = false
 
--- a math symbol, or a token of a proof: a token without `$`
+-- whether the name is a math symbol or a token of a proof: it has at least one byte, each visible
+-- and none `$`, which is byte 36
 abbrev pub is_symbol : Name → Bool
 is_symbol w = not (is_empty w) && list_all is_visible w && not (has_byte 36 w)
 
@@ -76,5 +79,6 @@ is_symbol w = not (is_empty w) && list_all is_visible w && not (has_byte 36 w)
 abbrev pub is_label_byte : ℕ → Bool
 is_label_byte b = is_ascii_alphanumeric b || has_byte b (codes ".-_")
 
+-- whether the name is a label: at least one byte, each such a byte
 abbrev pub is_label : Name → Bool
 is_label w = not (is_empty w) && list_all is_label_byte w

@@ -1,6 +1,7 @@
 -- The tokens between two offsets of a text, and after an offset: the words outside comments.
 -- Source: Metamath, 4.1.1 and 4.1.2.
--- The code goes from token to token; here the runs between two offsets, or after one, are split at the comments at once.
+-- The code goes from token to token; here the runs between two offsets, or after one, are split at
+-- the comments at once.
 use Rattle.std.specs.Prelude.{◌≡◌, ℕ, ◌<◌, ◌≤◌, List, [], ◌∷◌, ◌++◌, length, Option, Some, None}
 use Rattle.mm_lex.specs.declared.span.Span.{Span}
 use Rattle.mm_lex.specs.declared.fault.LexFault.{LexFault}
@@ -46,7 +47,7 @@ pub record IsTokenAfter (text : List ℕ) (at : ℕ) (s : Span) : Type 0 where
   pub later : at < s.end
   pub between : HasBetween text at s.end (word text s ∷ [])
 
--- the place of the next token after an offset, or None if no token is left
+-- the place of the next token after an offset, or `None` if no token is left
 abbrev pub IsNextToken : List ℕ → ℕ → Option Span → Type 0
 IsNextToken text at (Some s) = IsTokenAfter text at s
 IsNextToken text at None = AreAfter text at []

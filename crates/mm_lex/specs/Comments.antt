@@ -40,7 +40,7 @@ pub record IsNestedAt (text : List ℕ) (from offset : ℕ) : Type 0 where
   pub opens_again : word text at ≡ opener
   pub place : at.start ≡ offset
 
--- the meaning of the end that the code returns
+-- the comment that is open at `from` ends as the code returns it
 abbrev pub EndsComment : List ℕ → ℕ → CommentEnd → Type 0
 EndsComment text from (Closed end) = IsClosedAt text from end
 EndsComment text from (Nested offset) = IsNestedAt text from offset

@@ -1,6 +1,8 @@
--- Laws of tokens: the split at comments is unique, and each text has exactly one of tokens, text fault, comment fault.
+-- Laws of tokens: the split at comments is unique, and each text has exactly one of tokens, text
+-- fault, comment fault.
 -- Source: Metamath, 4.1.1 and 4.1.2.
--- The contracts of the code cite the same definitions; these laws state that they determine its answer.
+-- The contracts of the code cite the same definitions; these laws state that they determine its
+-- answer.
 use Rattle.std.specs.Prelude.{◌≡◌, ℕ, ◌⊎◌, List}
 use Rattle.mm_lex.specs.declared.span.Span.{Span}
 use Rattle.mm_lex.specs.Tokens.{SplitsInto, AreTokens}

@@ -1,3 +1,3 @@
--- How words are stored, and how many symbols are copied at once. No public clause cites it.
+-- How words are stored, and which symbols are copied at once. No public clause cites it.
 pub mod WordStorage
 pub mod SpacedPrefix

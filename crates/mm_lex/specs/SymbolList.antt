@@ -1,5 +1,6 @@
 -- A list of symbols in a text, and the token that ends it.
--- Source: Metamath, 4.1.2 and 4.1.3 (a list of symbols ends with a keyword; it may have comments in it).
+-- Source: Metamath, 4.1.2 and 4.1.3 (a list of symbols ends with a keyword; it may have comments in
+-- it).
 -- The code copies many symbols at once; here the list is the tokens between two offsets.
 use Rattle.std.specs.Prelude.{◌≡◌, ℕ, ◌<◌, IsTrue, IsFalse, List, [], ◌∷◌, ◌++◌, Option, Some, None}
 use Rattle.std.specs.List.{list_all}
@@ -8,21 +9,21 @@ use Rattle.mm_lex.specs.Alphabet.{Name, is_symbol, word}
 use Rattle.mm_lex.specs.Tokens.{IsWordAt}
 use Rattle.mm_lex.specs.Between.{HasBetween, AreAfter}
 
--- the new list is the old one and the symbols between the two offsets
+-- the new list is the old one followed by the symbols between the two offsets
 pub record AddsSymbols (text : List ℕ) (from at : ℕ) (old new : List Name) : Type 0 where
   pub more : List Name
   pub whole : new ≡ old ++ more
   pub between : HasBetween text from at more
   pub symbols : IsTrue (list_all is_symbol more)
 
--- the symbols from an offset on are these, and the token after them, which is no symbol, is at this span
+-- these are the symbols from an offset on, and the token after them, at this span, is no symbol
 pub record EndsSymbols (text : List ℕ) (from : ℕ) (ws : List Name) (s : Span) : Type 0 where
   pub token : IsWordAt text s
   pub later : from < s.end
   pub between : HasBetween text from s.end (ws ++ word text s ∷ [])
   pub other : IsFalse (is_symbol (word text s))
 
--- the end of the list: such a token, or None for the end of the text
+-- these are the symbols from an offset on, up to such a token, or up to the end of the text
 abbrev pub IsListEnd : List ℕ → ℕ → List Name → Option Span → Type 0
 IsListEnd text from ws (Some s) = EndsSymbols text from ws s
 IsListEnd text from ws None = AreAfter text from ws

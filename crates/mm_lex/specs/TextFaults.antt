@@ -1,6 +1,7 @@
--- Why a text has no tokens.
+-- Why a text cannot be split into tokens.
 -- Source: Metamath, 4.1.1 (the bytes of a text) and 4.1.2 (comments do not nest).
--- The code returns the first fault that it meets; here the definition of each fault also describes the text before it.
+-- The code returns the first fault that it meets; here the definition of each fault also describes
+-- the text before it.
 use Rattle.std.specs.Prelude.{◌≡◌, ℕ, ◌<◌, ◌⊎◌, IsFalse, List, ◌∷◌, ◌++◌, length, take, slice_index}
 use Rattle.mm_lex.specs.declared.span.Span.{Span}
 use Rattle.mm_lex.specs.declared.fault.LexFault.{LexFault}
@@ -60,7 +61,7 @@ IsCommentFaultOfRuns text spans offset = IsStrayCloser text spans offset ⊎ IsN
 abbrev pub IsCommentFault : List ℕ → ℕ → Type 0
 IsCommentFault text offset = HasOnlyAllowedBytes text × IsCommentFaultOfRuns text (runs text) offset
 
--- the meaning of a fault of the text
+-- the text has this fault; a failed allocation says nothing of it
 abbrev pub IsLexFault : List ℕ → LexFault → Type 0
 IsLexFault text (Text offset) = IsFirstBadByte text offset
 IsLexFault text (Comment offset) = IsCommentFault text offset

@@ -21,7 +21,8 @@ is_plain w = not (name_eq w opener || name_eq w closer)
 abbrev pub AllPlain : List ℕ → List Span → Type 0
 AllPlain text spans = IsTrue (list_all (λ s. is_plain (word text s)) spans)
 
--- a comment, and the tokens after it up to the next comment
+-- the span where a comment begins, the runs inside it, the span where it ends, and the tokens after
+-- it up to the next comment
 pub record Part : Type 0 where
   pub begin : Span
   pub inside : List Span
@@ -41,7 +42,8 @@ abbrev pub AreParts : List ℕ → List Part → Type 0
 AreParts text [] = Unit {0}
 AreParts text (p ∷ ps) = IsPart text p × AreParts text ps
 
--- the runs split into plain runs and whole comments; the plain runs outside the comments are the tokens
+-- the runs split into plain runs and whole comments; the plain runs outside the comments are the
+-- tokens
 pub record SplitsInto (text : List ℕ) (spans tokens : List Span) : Type 0 where
   pub first : List Span
   pub parts : List Part

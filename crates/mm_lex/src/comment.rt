@@ -1,4 +1,4 @@
-//! The end of a comment.
+//! Finds the end of a comment.
 ghost use Rattle.std.specs.Prelude.{◌-◌, ◌<◌, ◌≤◌, length, slice_index, IsTrue};
 ghost use Rattle.mm_lex.specs.Alphabet.{is_white};
 ghost use Rattle.mm_lex.specs.Comments.{PassesPlain, EndsComment};
@@ -18,7 +18,7 @@ pub(crate) enum CommentEnd {
     Unclosed,
 }
 
-/// Returns how a comment ends. Its contents begin at `from`.
+/// Returns how the comment ends whose contents begin at `from`.
 #[inline(never)]
 pub(crate) fn comment_end(text: &[u8], from: usize) -> CommentEnd
     requires allowed { HasOnlyAllowedBytes text.now }
@@ -39,7 +39,8 @@ pub(crate) fn comment_end(text: &[u8], from: usize) -> CommentEnd
     CommentEnd::Unclosed
 }
 
-/// Returns the start of the run with the next `$`, or the end of the text if there is no `$`. The runs before it have no `$`.
+/// Returns the start of the run that has the next `$` at or after `at`, or the end of the text if
+/// there is no `$`. The runs before it have no `$`, so none of them is `$(` or `$)`.
 fn dollar_run_start(text: &[u8], at: usize) -> usize
     requires { at ≤ length text.now }
     ensures { PassesPlain text.now at result }

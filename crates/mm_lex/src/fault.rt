@@ -6,9 +6,10 @@ use std::alloc::AllocError;
 /// Why a text cannot be split into tokens. Offsets count bytes from 0.
 #[derive(Clone, Copy, Debug, Drop, PartialEq, Eq)]
 pub enum LexFault {
-    /// The first byte that is not allowed in a text.
+    /// The text has a byte that no text may have: the offset of the first one.
     Text { offset: usize },
-    /// The first token `$(` inside or `$)` outside a comment, or else the `$(` that is never closed.
+    /// Its comments are malformed: the offset of the first token `$(` inside or `$)` outside a
+    /// comment, or else of the `$(` that is never closed.
     Comment { offset: usize },
     /// An allocation failed.
     Memory,

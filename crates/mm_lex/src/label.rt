@@ -5,6 +5,7 @@ ghost use Rattle.mm_lex.specs.Alphabet.{is_label, is_label_byte};
 
 /// Returns whether the word is a label: at least one byte, each a letter, a digit, `.`, `-` or `_`.
 ///
+/// Cost: the length of the word.
 /// Source: Metamath, 4.1.1.
 pub fn is_label(word: &[u8]) -> bool
     ensures { result ≡ is_label word.now }

@@ -9,7 +9,7 @@ use std::simd::prelude::*;
 /// How many bytes are compared at once.
 pub(crate) const LANES: usize = 16;
 
-/// Returns the number of bytes before the first white one. The text has no bad byte.
+/// Returns the number of bytes before the first white one, in a text whose bytes are all allowed.
 pub(crate) fn count_visible(text: &[u8]) -> usize
     requires { HasOnlyAllowedBytes text.now }
     ensures count { result ≡ position_or_len is_white text.now }
@@ -26,7 +26,8 @@ pub(crate) fn count_visible(text: &[u8]) -> usize
     at + count_one_by_one(&text[at..])
 }
 
-/// Returns how many of the first 16 bytes precede the first one that is at most 0x20, which is white if it is allowed.
+/// Returns how many of the first 16 bytes precede the first one that is at most 0x20, or 16 if none
+/// is. An allowed byte is at most 0x20 if and only if it is white.
 fn count_in_lanes(text: &[u8]) -> usize
     requires room { 16 ≤ length text.now }
     ensures count { result ≡ position_or_len (λ b. nat_le b 32) (take 16 text.now) }
@@ -41,7 +42,8 @@ fn count_in_lanes(text: &[u8]) -> usize
     }
 }
 
-/// Returns the number of bytes before the first one that is not white. The text has no bad byte.
+/// Returns the number of bytes before the first one that is not white, in a text whose bytes are
+/// all allowed.
 pub(crate) fn count_white(text: &[u8]) -> usize
     requires { HasOnlyAllowedBytes text.now }
     ensures count { result ≡ position_or_len (λ b. not (is_white b)) text.now }
@@ -56,7 +58,7 @@ pub(crate) fn count_white(text: &[u8]) -> usize
     first_visible(text).unwrap_or(text.len())
 }
 
-/// Returns how many of the first 16 bytes precede the first one above 0x20.
+/// Returns how many of the first 16 bytes precede the first one above 0x20, or 16 if none is.
 fn count_low_in_lanes(text: &[u8]) -> usize
     requires room { 16 ≤ length text.now }
     ensures count { result ≡ position_or_len (λ b. nat_lt 32 b) (take 16 text.now) }

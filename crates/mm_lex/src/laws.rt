@@ -6,7 +6,8 @@ pub fn one_split()
     ensures { OneSplit }
 {}
 
-/// States that a text has exactly one of tokens, text fault and comment fault, the fault at one offset.
+/// States that a text has exactly one of tokens, text fault and comment fault, the fault at one
+/// offset.
 pub fn one_answer()
     ensures { OneAnswer }
 {}

@@ -1,10 +1,11 @@
-//! The lowest layer: the tokens of a Metamath text, and lists of words.
+//! Splits a Metamath text into tokens, and stores lists of words.
 //!
-//! `tokens` returns the spans of a text's tokens, comments excluded. `next_token`, `symbols` and `count_tokens` walk through a
-//! text without such a list, and return a comment fault when they meet it. `Word` and `Words` store words compactly.
+//! `tokens` returns the spans of a text's tokens, comments excluded. `next_token`, `symbols` and
+//! `count_tokens` walk through a text without such a list; a malformed comment is an error when
+//! they reach it. `Word` stores a short word without an allocation, `Words` many in one buffer.
 //!
-//! Reading order: `span`, `fault`, `lanes`, `visible_run`, `comment`, `scan`; `word`, `words`, `word_iter`; `walk`,
-//! `spaced_prefix`, `symbol_list`; `label`; `laws`.
+//! Reading order: `span`, `fault`, `lanes`, `visible_run`, `comment`, `scan`; `word`, `words`,
+//! `word_iter`; `walk`, `spaced_prefix`, `symbol_list`; `label`; `laws`.
 #![tactic(auto)]
 
 mod comment;

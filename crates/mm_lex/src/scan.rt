@@ -13,7 +13,7 @@ use std::alloc::Global;
 
 /// Returns the tokens of a text, in order, comments excluded.
 ///
-/// Errors: `Text`, the first byte that is not allowed, also inside a comment; else `Comment`, the
+/// Errors: `Text`, the first byte that is not allowed, even inside a comment; else `Comment`, the
 /// first token that breaks the rules of comments; else `Memory`. The first two are returned even if
 /// every allocation fails. Cost: the size of the text.
 /// Source: Metamath, 4.1.1 and 4.1.2.
@@ -65,7 +65,8 @@ fn split_tokens(alloc: Global, text: &[u8]) -> Result<Vec<Span>, LexFault>
     Ok(spans)
 }
 
-/// Appends a token, unless an earlier allocation failed. Returns whether an allocation has failed by now.
+/// Appends a token, unless an earlier allocation failed. Returns whether an allocation has failed
+/// by now.
 fn add_token(spans: &mut Vec<Span>, allocation_failed: bool, span: Span) -> bool
     ensures items { spans.new.items ≡ (if result then spans.old.items else spans.old.items ++ span ∷ []) }
     ensures stays { IsTrue allocation_failed → IsTrue result }
@@ -75,7 +76,8 @@ fn add_token(spans: &mut Vec<Span>, allocation_failed: bool, span: Span) -> bool
 
 /// Returns the offset of the first byte that is not allowed in a text, or `None` if there is none.
 ///
-/// Cost: the size of the text, read many bytes at a time; if there is such a byte, it is then looked for one by one.
+/// Cost: the size of the text. It tests many bytes at a time, and only if one of them is not
+/// allowed looks for it byte by byte.
 pub fn first_bad_byte(text: &[u8]) -> Option<usize>
     ensures { result ≡ position (λ b. not (is_allowed b)) text.now }
 {

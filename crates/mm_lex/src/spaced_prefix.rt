@@ -1,4 +1,4 @@
-//! Measures the longest prefix of a text that consists of symbols separated by single spaces, many bytes at a time.
+//! Measures a prefix of a text in which single spaces separate symbols, many bytes at a time.
 ghost use Rattle.std.specs.Prelude.{◌≡◌, ◌+◌, ◌-◌, ◌<◌, ◌≤◌, not, length, take, drop};
 ghost use Rattle.std.specs.List.{prefix_len};
 ghost use Rattle.mm_lex.specs.Stored.SpacedPrefix.{spaced_prefix_len, ends_here, lanes_end};
@@ -6,8 +6,13 @@ ghost use Rattle.mm_lex.specs.Stored.SpacedPrefix.{spaced_prefix_len, ends_here,
 use crate::lanes::LANES;
 use std::simd::prelude::*;
 
-/// Returns the length of the longest prefix of a text that consists of symbols separated by single spaces. A single space may
-/// precede the first symbol.
+/// Returns the length of a prefix of a text in which single spaces separate symbols; a single space
+/// may precede the first one.
+///
+/// The prefix ends at the first byte below the space, at the first `$`, or at the first space that
+/// a byte up to `$` follows: another space, or `!`, `"`, `#` or `$`. So it also ends before a
+/// symbol that begins with `!`, `"` or `#`, and its last symbol may be only the beginning of a
+/// token.
 pub(crate) fn count_spaced_prefix(text: &[u8]) -> usize
     ensures count { result ≡ spaced_prefix_len text.now }
     ensures within { result ≤ length text.now }
@@ -23,7 +28,8 @@ pub(crate) fn count_spaced_prefix(text: &[u8]) -> usize
     at + count_one_by_one(&text[at..])
 }
 
-/// Returns how many of the first 16 bytes precede the one at which these symbols end.
+/// Returns how many of the first 16 bytes precede the one at which the prefix ends, or 16 if it
+/// does not end at any of them.
 fn count_in_lanes(text: &[u8]) -> usize
     requires room { 16 < length text.now }
     ensures count { result ≡ prefix_len not (lanes_end (take 16 text.now) (take 16 (drop 1 text.now))) }
@@ -55,7 +61,7 @@ fn count_one_by_one(text: &[u8]) -> usize
     at
 }
 
-/// Returns whether these symbols end at this byte.
+/// Returns whether the prefix ends at the byte `at`.
 fn is_end(text: &[u8], at: usize) -> bool
     requires { at < length text.now }
     ensures { result ≡ ends_here (drop at text.now) }

@@ -16,10 +16,11 @@ use crate::words::Words;
 use memchr::memchr;
 use std::alloc::{AllocError, Global};
 
-/// Returns the symbols from `from` on, and the token after them, which is no symbol, or `None` at the end of the text.
+/// Returns the symbols from `from` on, and the span of the token after them, which is no symbol, or
+/// `None` if the text ends there.
 ///
-/// Errors: `Comment`, if a comment between `from` and that token is malformed; `Memory`. Cost: the size of the text up to that
-/// token.
+/// Errors: `Comment`, if a comment between `from` and that token is malformed; `Memory`. Cost: the
+/// bytes from `from` to the end of that token.
 pub fn symbols(alloc: Global, text: &[u8], from: usize) -> Result<(Words, Option<Span>), LexFault>
     requires allowed { HasOnlyAllowedBytes text.now }
     requires place { from ≤ length text.now }
@@ -41,6 +42,8 @@ pub fn symbols(alloc: Global, text: &[u8], from: usize) -> Result<(Words, Option
 }
 
 /// Returns whether the word may be a math symbol or a token of a proof: whether it has no `$`.
+///
+/// Cost: the length of the word.
 pub fn is_symbol(word: &[u8]) -> bool
     requires { IsTrue (is_word word.now) }
     ensures { result ≡ is_symbol word.now }
@@ -56,8 +59,8 @@ fn with_estimated_capacity(alloc: Global, text: &[u8]) -> Result<Words, AllocErr
     Words::with_capacity(alloc, room)
 }
 
-/// Appends symbols from `from` on, in pieces of words separated by single spaces, until no such piece follows. Returns the
-/// offset from which to go on word by word.
+/// Appends symbols from `from` on, a piece of words separated by single spaces at a time, until no
+/// such piece follows. Returns the offset from which the caller reads on word by word.
 fn push_pieces(words: &mut Words, text: &[u8], from: usize) -> Result<usize, AllocError>
     requires allowed { HasOnlyAllowedBytes text.now }
     requires place { from ≤ length text.now }

@@ -1,4 +1,4 @@
-//! Finds the runs of visible bytes in a text without a bad byte, one after another.
+//! Finds the runs of visible bytes in a text whose bytes are all allowed, one after another.
 ghost use Rattle.std.specs.Prelude.{◌≡◌, ◌-◌, ◌<◌, ◌≤◌, [], ◌∷◌, ℕ, not, length, take, drop, MatchOption, IfSome, IsTrue, slice_index, IsFalse};
 ghost use Rattle.std.specs.List.{position, position_or_len};
 ghost use Rattle.mm_lex.specs.Alphabet.{is_white, starts_white, runs_from, IsRunAt, name_eq};

@@ -8,9 +8,11 @@ use crate::fault::LexFault;
 use crate::span::Span;
 use crate::visible_run::{is_closer, is_opener, next_run};
 
-/// Returns the next token at or after `at`, or `None` if none is left.
+/// Returns the next token at or after `at`, or `None` if none is left. If `at` is inside a word,
+/// the rest of that word counts as one.
 ///
-/// Errors: `Comment`, if a comment before the next token is malformed. Cost: the size of the text up to the token's end.
+/// Errors: `Comment`, if a comment before the next token is malformed. Cost: the bytes from `at` to
+/// the end of that token.
 #[inline(always)]
 pub fn next_token(text: &[u8], at: usize) -> Result<Option<Span>, LexFault>
     requires allowed { HasOnlyAllowedBytes text.now }

@@ -6,15 +6,15 @@ ghost use Rattle.mm_lex.specs.Stored.WordStorage.{bytes_of, IsLengthValid};
 use std::alloc::{AllocError, Global};
 use std::marker::Model;
 
-/// The maximum number of bytes that a `Word` stores inline.
+/// The maximum number of bytes that a `Word` stores inline, that is, without an allocation.
 const INLINE: usize = 22;
 
-/// The bytes of a word.
+/// Where the bytes of a word are stored.
 #[derive(Drop)]
 enum WordStorage {
-    /// The first `len` of these.
+    /// Here: the word is the first `len` of these bytes.
     Inline { len: u8, bytes: [u8; INLINE] },
-    /// All of these, boxed so that a `Word` is no larger than an inline one.
+    /// On the heap: all bytes of the vector. The box keeps a `Word` as small as an inline one.
     Heap(Box<Vec<u8>>),
 }
 
@@ -39,7 +39,7 @@ impl Model for Word {
 impl Word {
     /// Returns the word with these bytes. It does not allocate for a word of at most 22 bytes.
     ///
-    /// Errors: an allocation fails.
+    /// Errors: an allocation fails. Cost: the length of the word.
     pub fn new(alloc: Global, bytes: &[u8]) -> Result<Word, AllocError>
         requires { IsTrue (is_word bytes.now) }
         ensures { IfOk result (λ word. word ≡ bytes.now) }
@@ -61,7 +61,7 @@ impl Word {
 
     /// Returns an equal word.
     ///
-    /// Errors: an allocation fails.
+    /// Errors: an allocation fails. Cost: the length of the word.
     pub fn copy(&self, alloc: Global) -> Result<Word, AllocError>
         ensures { IfOk result (λ word. word ≡ self.now) }
     {

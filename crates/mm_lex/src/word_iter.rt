@@ -34,7 +34,7 @@ impl<'a> WordIter<'a> {
         WordIter { text }
     }
 
-    /// Returns the words that are left, separated by single spaces.
+    /// Returns the text of the words that are left, separated by single spaces. It copies nothing.
     pub fn as_text(&self) -> &'a [u8]
         ensures text { result.now ≡ spaced self.now }
         ensures words { AreWords self.now }
@@ -62,7 +62,8 @@ impl<'a> Iterator for WordIter<'a> {
     }
 }
 
-/// Returns the first word of a text, and the text after the space that follows it, empty after the last word.
+/// Returns the first word of a text, and the text after the space that follows it, empty after the
+/// last word.
 fn split_word<'a>(text: &'a [u8]) -> (&'a [u8], &'a [u8])
     requires some { 0 < length text.now }
     requires words { AreWords (words_of text.now) }
@@ -75,7 +76,8 @@ fn split_word<'a>(text: &'a [u8]) -> (&'a [u8], &'a [u8])
     }
 }
 
-/// Returns the index of the first space. It compares the first 8 bytes at once, since most words end there.
+/// Returns the index of the first space. It compares the first 8 bytes at once, since most words
+/// end within them.
 fn find_space(text: &[u8]) -> Option<usize>
     ensures place { result ≡ position (λ b. b == 32) text.now }
     ensures within { IfSome result (λ end. end < length text.now) }
@@ -89,7 +91,7 @@ fn find_space(text: &[u8]) -> Option<usize>
     text.iter().position(|b| *b == b' ')
 }
 
-/// Returns how many of the first 8 bytes precede the first space.
+/// Returns how many of the first 8 bytes precede the first space, or 8 if none is a space.
 fn count_before_space(text: &[u8]) -> usize
     requires room { 8 ≤ length text.now }
     ensures count { result ≡ position_or_len (λ b. b == 32) (take 8 text.now) }

@@ -6,7 +6,8 @@ use crate::word_iter::WordIter;
 use std::alloc::{AllocError, Global};
 use std::marker::Model;
 
-/// A list of words in one buffer, separated by single spaces. Contracts see the list.
+/// A list of words. It stores them in one buffer, separated by single spaces; contracts see the
+/// list.
 #[derive(Drop)]
 pub struct Words {
     text: Vec<u8>,
@@ -45,7 +46,8 @@ impl Words {
 
     /// Appends a word.
     ///
-    /// Errors: an allocation fails; the list is then unchanged.
+    /// Errors: an allocation fails; the list is then unchanged. Cost: the length of the word, and
+    /// of the whole list if the buffer grows.
     pub fn push(&mut self, word: &[u8]) -> Result<(), AllocError>
         requires { IsTrue (is_word word.now) }
         ensures ok { OnOk result (self.new ≡ self.old ++ word.now ∷ []) }
@@ -56,7 +58,8 @@ impl Words {
 
     /// Appends the words of a text, in which they are separated by single spaces.
     ///
-    /// Errors: an allocation fails; the list is then unchanged.
+    /// Errors: an allocation fails; the list is then unchanged. Cost: the length of the text, and
+    /// of the whole list if the buffer grows.
     pub fn push_text(&mut self, text: &[u8]) -> Result<(), AllocError>
         requires { AreWords (words_of text.now) }
         ensures ok { OnOk result (self.new ≡ self.old ++ words_of text.now) }
@@ -65,7 +68,7 @@ impl Words {
         push_words(&mut self.text, text)
     }
 
-    /// Returns the words, separated by single spaces.
+    /// Returns the text of the list: the words, separated by single spaces. It copies nothing.
     pub fn as_text(&self) -> &[u8]
         ensures text { result.now ≡ spaced self.now }
         ensures words { AreWords self.now }
@@ -81,7 +84,7 @@ impl Words {
         WordIter::new(self.text.as_slice())
     }
 
-    /// Returns the number of words. Cost: the size of their text.
+    /// Returns the number of words, which it counts. Cost: the size of their text.
     pub fn len(&self) -> usize
         ensures { result ≡ length self.now }
     {
@@ -97,7 +100,7 @@ impl Words {
 
     /// Returns an equal list, in a buffer that is no larger than needed.
     ///
-    /// Errors: an allocation fails.
+    /// Errors: an allocation fails. Cost: the size of the text of the list.
     pub fn copy(&self, alloc: Global) -> Result<Words, AllocError>
         ensures { IfOk result (λ words. words ≡ self.now) }
     {
@@ -106,7 +109,7 @@ impl Words {
     }
 }
 
-/// Appends the words of another text. If an allocation fails, the text is unchanged.
+/// Appends the words of `more` to those of `text`. If an allocation fails, `text` is unchanged.
 fn push_words(text: &mut Vec<u8>, more: &[u8]) -> Result<(), AllocError>
     requires words { AreWords (words_of text.old.items) }
     requires more { AreWords (words_of more.now) }

@@ -1,4 +1,4 @@
--- The export form: the text that a list of statements is exported as.
+-- The export form: the text that `spell` writes for a list of statements.
 -- Source: this project's choice; each statement is written as its tokens (Metamath, 4.1).
 -- The code copies whole lists of words as they are stored.
 use Rattle.std.specs.Prelude.{ℕ, List, [], ◌∷◌, ◌++◌, flat_map}
@@ -12,7 +12,7 @@ use Rattle.mm_read.specs.Statements.{Database, stmt_tokens}
 abbrev pub line_of : Stmt → List ℕ
 line_of s = spaced (stmt_tokens s) ++ 10 ∷ []
 
--- a line for each statement
+-- the text of these statements: a line for each
 abbrev pub export_of : Database → List ℕ
 export_of S = flat_map line_of S
 

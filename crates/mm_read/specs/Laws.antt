@@ -24,14 +24,14 @@ OneShapeFault = (tokens : List Name) (t u : ℕ) → IsShapeFault tokens t → I
 abbrev pub ExportReads : Type 0
 ExportReads = (S : Database) → AreShaped S → Reads (export_of S) S
 
--- joining the texts does not make one word of two: the first is empty or ends with a white byte, or the second is empty
--- or begins with one
+-- joining the texts does not make one word of two: the first is empty or ends with a white byte, or
+-- the second is empty or begins with one
 abbrev pub joins_no_words : List ℕ → List ℕ → Bool
 joins_no_words [] other = true
 joins_no_words (b ∷ []) other = is_white b || starts_white other
 joins_no_words (b ∷ c ∷ text) other = joins_no_words (c ∷ text) other
 
--- if each of two texts reads as statements and joining them does not make one word of two, the joined text reads as
--- the statements of the first followed by those of the second
+-- if each of two texts reads as statements and joining them does not make one word of two, the
+-- joined text reads as the statements of the first followed by those of the second
 abbrev pub JoinedReads : Type 0
 JoinedReads = (text other : List ℕ) (S T : Database) → Reads text S → Reads other T → IsTrue (joins_no_words text other) → Reads (text ++ other) (S ++ T)

@@ -1,5 +1,5 @@
--- The next statement after an offset into a text, by the tokens from there to the statement's end, or why there is
--- none.
+-- The next statement after an offset into a text, by the tokens from there to the statement's end,
+-- or why there is none.
 -- Source: Metamath, 4.1.
 -- The functions that read one statement cite these; `Reads` defines reading for a whole text.
 use Rattle.std.specs.Prelude.{◌≡◌, ℕ, ◌<◌, List, [], ◌∷◌, ◌++◌, Option, Some, None}
@@ -17,13 +17,15 @@ pub record IsNext (text : List ℕ) (at : ℕ) (s : Stmt) (next : ℕ) : Type 0 
   pub later : at < next
   pub between : HasBetween text at next (stmt_tokens s)
 
--- s begins with the tokens `before`, which end at `at`, and ends at `next`: wherever these tokens start, the tokens
--- from there to `next` are those of s
+-- the statement s consists of the tokens `before`, which end at `at`, and the tokens from `at` to
+-- `next`: from each offset from which `before` are the tokens up to `at`, the tokens up to `next`
+-- are those of s
 abbrev pub IsNextAfter : List ℕ → List Name → ℕ → Stmt → ℕ → Type 0
 IsNextAfter text before at s next = (from : ℕ) → from < at → HasBetween text from at before → IsNext text from s next
 
--- why no statement begins with the tokens `before`, which end at `at`: a comment fault after `at`; or, if no comment
--- after `at` is malformed, a shape fault that counts from the first of `before`; or a failed allocation
+-- why no statement begins with the tokens `before`, which end at `at`: a comment fault after `at`;
+-- or, if no comment after `at` is malformed, a shape fault that counts from the first of `before`;
+-- or a failed allocation
 abbrev pub IsFaultAfter : List ℕ → List Name → ℕ → ReadFault → Type 0
 IsFaultAfter text before at (Text fault) = IsCommentFaultAfter text at fault
 IsFaultAfter text before at (Shape token) = (tokens : List Name) → AreAfter text at tokens → IsShapeFault (before ++ tokens) token
@@ -35,7 +37,8 @@ pub record IsOneMore (text : List ℕ) (at next : ℕ) (old new : Database) : Ty
   pub whole : new ≡ old ++ statement ∷ []
   pub next_is : IsNext text at statement next
 
--- the list has one more statement, which ends at `next`; or for None, the list is unchanged and no token is left
+-- one step of reading: the list has one more statement, which ends at `next` (`Some`); or no token
+-- is left and the list is unchanged (`None`)
 abbrev pub IsNextStep : List ℕ → ℕ → Database → Database → Option ℕ → Type 0
 IsNextStep text at old new (Some next) = IsOneMore text at next old new
 IsNextStep text at old new None = AreAfter text at [] × (new ≡ old)
@@ -45,7 +48,8 @@ pub record ReadsUpTo (text : List ℕ) (at : ℕ) (S : Database) : Type 0 where
   pub shaped : AreShaped S
   pub between : HasBetween text 0 at (tokens_of S)
 
--- why a text without a bad byte is refused: a comment fault, or else a shape fault or a failed allocation
+-- why a text whose bytes are all allowed is refused: a comment fault, or else a shape fault or a
+-- failed allocation
 abbrev pub IsFaultOf : List ℕ → ReadFault → Type 0
 IsFaultOf text (Text fault) = IsCommentFaultAfter text 0 fault
 IsFaultOf text (Shape token) = (tokens : List Name) × AreAfter text 0 tokens × IsShapeFault tokens token

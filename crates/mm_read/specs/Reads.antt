@@ -1,5 +1,6 @@
--- The statements that a text reads as, or the token at which it has a shape fault. A text, or a list of tokens, reads
--- as well-shaped statements if its tokens are those that the statements are written as (`tokens_of`).
+-- The statements that a text reads as, or the token at which it has a shape fault. A text, or a
+-- list of tokens, reads as well-shaped statements if its tokens are those that the statements are
+-- written as (`tokens_of`).
 -- Source: Metamath, 4.1 and appendix E.
 -- The code reads the text once, left to right; here reading is the inverse of writing.
 use Rattle.std.specs.Prelude.{◌≡◌, ◌≢◌, ℕ, ◌+◌, ◌-◌, ◌⊎◌, List, ◌++◌, length, take}
@@ -22,7 +23,7 @@ pub record Reads (text : List ℕ) (S : Database) : Type 0 where
   pub shaped : AreShaped S
   pub tokens : HasTokens text (tokens_of S)
 
--- some list of well-shaped statements is written as these tokens followed by others, or by none
+-- these tokens are the first ones, or all, of some list of well-shaped statements
 pub record IsStatementsPrefix (tokens : List Name) : Type 0 where
   pub statements : Database
   pub rest : List Name
@@ -33,8 +34,8 @@ pub record IsStatementsPrefix (tokens : List Name) : Type 0 where
 abbrev pub IsNoDatabase : List Name → Type 0
 IsNoDatabase tokens = (S : Database) → AreShaped S → tokens_of S ≡ tokens → ⊥
 
--- the number, from 1, of the first token such that no list of statements begins with the tokens up to it; or, if the
--- last statement is not whole, the number of tokens plus 1
+-- the number, from 1, of the first token such that no list of statements begins with the tokens up
+-- to it; or, if there is none and the last statement is not whole, the number of tokens plus 1
 pub record IsShapeFault (tokens : List Name) (token : ℕ) : Type 0 where
   pub none : IsNoDatabase tokens
   pub before : IsStatementsPrefix (take (token - 1) tokens)
@@ -44,13 +45,13 @@ pub record IsShapeFault (tokens : List Name) (token : ℕ) : Type 0 where
 abbrev pub HasShapeFault : List ℕ → ℕ → Type 0
 HasShapeFault text token = (tokens : List Name) × HasTokens text tokens × IsShapeFault tokens token
 
--- the fault is one of the text; `Memory` says nothing of the text
+-- the text has this fault; `Memory` says nothing of the text
 abbrev pub IsReadFault : List ℕ → ReadFault → Type 0
 IsReadFault text (Text fault) = IsLexFault text fault × (fault ≢ lex.Memory)
 IsReadFault text (Shape token) = HasShapeFault text token
 IsReadFault text Memory = Unit {0}
 
--- a fault of the lexer as a fault of reading
+-- the fault of reading that a fault of `mm_lex` becomes
 abbrev pub read_fault : LexFault → ReadFault
 read_fault lex.Memory = Memory
 read_fault fault = Text fault

@@ -1,7 +1,8 @@
--- The parts of a statement that can follow an offset into the text: a keyword, a list of symbols, one token; and their
--- faults.
+-- The parts of a statement that can follow an offset into the text: a keyword, a list of symbols,
+-- one token; and their faults.
 -- Source: Metamath, 4.1 and appendix E.
--- The functions that read parts of a statement cite these; `Reads` defines reading for a whole text.
+-- The functions that read parts of a statement cite these; `Reads` defines reading for a whole
+-- text.
 use Rattle.std.specs.Prelude.{◌≡◌, ℕ, Bool, ◌+◌, ◌<◌, ◌≤◌, ◌⊎◌, IsTrue, IsFalse, List, [], ◌∷◌, ◌++◌, length, codes}
 use Rattle.std.specs.List.{list_all}
 use Rattle.mm_lex.specs.Alphabet.{Name, name_eq, has_name, is_symbol}
@@ -16,7 +17,7 @@ abbrev pub keywords : List Name
 keywords =
     codes "${" ∷ codes "$}" ∷ codes "$c" ∷ codes "$v" ∷ codes "$d" ∷ codes "$f" ∷ codes "$e" ∷ codes "$a" ∷ codes "$p" ∷ []
 
--- the meaning of a keyword that the code returns for a token
+-- the keyword that the code returns for a token is right
 abbrev pub IsKeyword : Keyword → Name → Type 0
 IsKeyword Open w = w ≡ codes "${"
 IsKeyword Close w = w ≡ codes "$}"
@@ -29,14 +30,14 @@ IsKeyword Axiom w = w ≡ codes "$a"
 IsKeyword Prove w = w ≡ codes "$p"
 IsKeyword Other w = IsFalse (has_name w keywords)
 
--- a list that needs at least `least` symbols and then the keyword `end` breaks off after the symbols `ws`: no token
--- follows, or one that neither continues the list nor ends it
+-- a list that needs at least `least` symbols and then the keyword `end` breaks off after the
+-- symbols `ws`: no token follows, or one that neither continues the list nor ends it
 abbrev pub BreaksList : ℕ → Name → List Name → List Name → Type 0
 BreaksList least end ws [] = Unit {0}
 BreaksList least end ws (t ∷ rest) = IsFalse (is_symbol t) × ((length ws < least) ⊎ IsFalse (name_eq t end))
 
--- these tokens begin with a list that breaks off at the token of number `token`, if the first of them has the number
--- `number`
+-- these tokens begin with a list that breaks off at the token of number `token`, where the first of
+-- them has the number `number`
 pub record BeginsBrokenList (tokens : List Name) (number least : ℕ) (end : Name) (token : ℕ) : Type 0 where
   pub ws : List Name
   pub rest : List Name
@@ -45,14 +46,14 @@ pub record BeginsBrokenList (tokens : List Name) (number least : ℕ) (end : Nam
   pub place : token ≡ number + length ws
   pub stop : BreaksList least end ws rest
 
--- if no comment after an offset is malformed, the tokens after it begin with such a list; in any case the token's
--- number is bounded by the bytes that are left (`few`)
+-- if no comment after an offset is malformed, the tokens after it begin with such a list; in any
+-- case the token's number is bounded by the bytes that are left (`few`)
 pub record HasBrokenList (text : List ℕ) (at number least : ℕ) (end : Name) (token : ℕ) : Type 0 where
   pub few : token + at ≤ number + length text
   pub stops : (tokens : List Name) → AreAfter text at tokens → BeginsBrokenList tokens number least end token
 
--- why no whole list follows an offset: a comment fault; the token at which it breaks off, if no comment is malformed;
--- or a failed allocation
+-- why no whole list follows an offset: a comment fault; the token at which it breaks off, if no
+-- comment is malformed; or a failed allocation
 abbrev pub IsListFault : List ℕ → ℕ → ℕ → ℕ → Name → ReadFault → Type 0
 IsListFault text at number least end (Text fault) = IsCommentFaultAfter text at fault
 IsListFault text at number least end (Shape token) = HasBrokenList text at number least end token
@@ -63,8 +64,8 @@ abbrev pub StartsOtherwise : (Name → Bool) → List Name → Type 0
 StartsOtherwise fits [] = Unit {0}
 StartsOtherwise fits (t ∷ rest) = IsFalse (fits t)
 
--- why no fitting token follows an offset: a comment fault; another token or none, if no comment is malformed; or a
--- failed allocation
+-- why no fitting token follows an offset: a comment fault; another token or none, if no comment is
+-- malformed; or a failed allocation
 abbrev pub IsTokenFault : List ℕ → ℕ → ℕ → (Name → Bool) → ReadFault → Type 0
 IsTokenFault text at number fits (Text fault) = IsCommentFaultAfter text at fault
 IsTokenFault text at number fits (Shape token) =

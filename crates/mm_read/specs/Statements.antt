@@ -1,4 +1,5 @@
--- Statements: the words that each of the nine shapes may have, and the tokens that it is written as.
+-- Statements: the words that each of the nine shapes may have, and the tokens that it is written
+-- as.
 -- Source: Metamath, 4.1 and appendix E.
 -- The code reads the tokens left to right; here a statement is written out as its tokens.
 use Rattle.std.specs.Prelude.{Bool, true, false, not, ◌&&◌, IsTrue, List, [], ◌∷◌, ◌++◌, flat_map, codes}
@@ -15,7 +16,7 @@ Expr = List Name
 abbrev pub Database : Type 0
 Database = List Stmt
 
--- whether the words are one or more symbols
+-- whether there is at least one word, and each is a symbol
 abbrev pub are_symbols : List Name → Bool
 are_symbols ws = not (is_empty ws) && list_all is_symbol ws
 

@@ -10,7 +10,8 @@ use crate::stmt::Stmt;
 use mm_lex::{Word, Words};
 use std::alloc::{AllocError, Global};
 
-/// Returns the export form of the statements: the tokens of each, separated by single spaces, and a line feed.
+/// Returns the statements as a text in the export form: the tokens of each, separated by single
+/// spaces, and a line feed.
 ///
 /// Errors: an allocation fails. Cost: the size of the text returned.
 /// Source: Metamath, 4.1; single spaces and line feeds are this project's choice.
@@ -28,7 +29,8 @@ pub fn spell(alloc: Global, statements: &[Stmt]) -> Result<Vec<u8>, AllocError>
 
 /// Appends the statement's line in the export form.
 ///
-/// Errors: an allocation fails; the text is then unchanged. Cost: the size of the line.
+/// Errors: an allocation fails; the text is then unchanged. Cost: the size of the line, and of the
+/// whole text if its buffer grows.
 pub fn push_line(text: &mut Vec<u8>, statement: &Stmt) -> Result<(), AllocError>
     requires { IsShaped statement.now }
     ensures line { OnOk result (text.new.items ≡ text.old.items ++ line_of statement.now) }
@@ -51,10 +53,11 @@ pub fn push_line(text: &mut Vec<u8>, statement: &Stmt) -> Result<(), AllocError>
     }
 }
 
-/// Appends the statement's line in the export form. If the statement has a proof, the line has the word `proof` in its
-/// place.
+/// Appends the statement's line in the export form. If the statement has a proof, the line has the
+/// word that `proof` is in its place.
 ///
-/// Errors: an allocation fails; the text is then unchanged. Cost: the size of the line.
+/// Errors: an allocation fails; the text is then unchanged. Cost: the size of the line, and of the
+/// whole text if its buffer grows.
 pub fn push_line_with_proof(
     text: &mut Vec<u8>,
     statement: &Stmt,
@@ -72,7 +75,8 @@ pub fn push_line_with_proof(
     }
 }
 
-/// Appends the line of a `$c`, `$v` or `$d`: its tokens separated by single spaces, and a line feed (byte 10).
+/// Appends the line of a `$c`, `$v` or `$d`: its tokens separated by single spaces, and a line feed
+/// (byte 10).
 fn push_list(text: &mut Vec<u8>, keyword: &[u8], symbols: &Words) -> Result<(), AllocError>
     requires { IsTrue (are_symbols symbols.now) }
     ensures line { OnOk result (text.new.items
@@ -132,7 +136,8 @@ fn push_floating(
     )
 }
 
-/// Appends the line of a `$p`. The proof is a text of tokens separated by single spaces, possibly empty.
+/// Appends the line of a `$p`. The proof is a text of tokens separated by single spaces, possibly
+/// empty.
 fn push_provable(
     text: &mut Vec<u8>,
     label: &Word,
@@ -160,7 +165,7 @@ fn push_provable(
     )
 }
 
-/// Returns the space to write before a text: none if the text is empty.
+/// Returns the space to write before the text of a proof: none if that is empty.
 fn gap_before(text: &[u8]) -> &[u8]
     ensures { result.now ≡ (if is_empty text.now then [] else codes " ") }
 {

@@ -7,10 +7,12 @@ use std::alloc::{AllocError, AllocFailed};
 /// Why a text is not read: it reads as no statements, or an allocation failed.
 #[derive(Clone, Copy, Debug, Drop, PartialEq, Eq)]
 pub enum ReadFault {
-    /// The text cannot be split into tokens. The fault is `LexFault::Text` or `LexFault::Comment`.
+    /// The text cannot be split into tokens, because of a byte (`LexFault::Text`) or of a comment
+    /// (`LexFault::Comment`).
     Text(LexFault),
-    /// The number of the first misplaced token, counted from 1 without comments: no list of statements begins with the
-    /// tokens up to and including it. If the text ends within a statement, the number of tokens plus 1.
+    /// The tokens are those of no list of statements. `token` is the number of the first misplaced
+    /// one, counted from 1 without comments: no list of statements begins with the tokens up to and
+    /// including it. If the text ends within a statement, it is the number of tokens plus 1.
     Shape { token: usize },
     /// An allocation failed.
     Memory,

@@ -6,7 +6,8 @@ ghost use Rattle.mm_read.specs.StatementParts.{IsKeyword};
 
 use mm_lex::Span;
 
-/// A keyword that decides the shape of a statement, or `Other` for any other token, also for `$=` and `$.`.
+/// A keyword that decides the shape of a statement, named as that shape of `Stmt`; or `Other` for
+/// any other token, even `$=` and `$.`.
 #[derive(Clone, Copy)]
 pub enum Keyword {
     Open,

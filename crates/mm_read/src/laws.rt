@@ -6,7 +6,8 @@ pub fn one_statement_list()
     ensures { OneStatementList }
 {}
 
-/// States that each list of tokens reads as some list of statements, or has a misplaced token, or ends within a statement.
+/// States that each list of tokens reads as some list of statements, or has a shape fault: a
+/// misplaced token, or an end within a statement.
 pub fn statements_or_fault()
     ensures { StatementsOrFault }
 {}
@@ -21,8 +22,8 @@ pub fn export_reads()
     ensures { ExportReads }
 {}
 
-/// States that two joined texts read as the statements of the first followed by those of the second, if each of them
-/// reads as statements and joining them does not make one word of two.
+/// States that two joined texts read as the statements of the first followed by those of the
+/// second, if each of them reads as statements and joining them does not make one word of two.
 pub fn joined_reads()
     ensures { JoinedReads }
 {}

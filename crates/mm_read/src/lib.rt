@@ -1,8 +1,8 @@
-//! Statements of a Metamath text.
+//! Reads the statements of a Metamath text, and writes them back as text.
 //!
-//! `Stmt` is a statement, of one of nine shapes. `read` returns the one list of statements that a text reads as, or a
-//! `ReadFault`; `spell` writes statements in the export form. `specs/Reads` defines which statements a text reads as.
-//! The crates above rely on the clauses of `read`.
+//! `Stmt` is a statement, of one of nine shapes. `read` returns the one list of statements that a
+//! text reads as, or a `ReadFault`; `spell` writes statements back as a text, in the export form.
+//! `specs/Reads` defines which statements a text reads as.
 //!
 //! Reading order: `stmt`, `fault`, `parse`, `statement`, `part`, `keyword`; `export`; `laws`.
 #![tactic(auto)]

@@ -1,4 +1,4 @@
-//! The statements of a text.
+//! Reads the statements of a text, one after another.
 ghost use Rattle.std.specs.Prelude.{◌≡◌, ℕ, ◌≤◌, ◌⊎◌, [], IfOk, IfErr, IsErrAnd, MatchResult, length};
 ghost use Rattle.mm_lex.specs.Tokens.{HasOnlyAllowedBytes};
 ghost use Rattle.mm_lex.specs.TextFaults.{IsFirstBadByte, IsCommentFault};
@@ -16,16 +16,16 @@ use std::alloc::Global;
 /// How many bytes of text are read between two allocations of `grow_heap`.
 const BYTES_BETWEEN_GROWTHS: usize = 90_000;
 
-/// How many bytes `grow_heap` allocates: more than the statements of `BYTES_BETWEEN_GROWTHS` bytes of text usually
-/// take.
+/// How many bytes `grow_heap` allocates: more than the statements of `BYTES_BETWEEN_GROWTHS` bytes
+/// of text usually take.
 const GROWTH_BYTES: usize = 120_000;
 
 /// Returns the statements that the text reads as.
 ///
-/// Errors: `Text`, with the first byte that is not allowed or else the comment fault, even if every allocation fails;
-/// else `Shape`, with the number of the first misplaced token, or the number of tokens plus 1 if the text ends within a
-/// statement. If an allocation fails, `Memory` may be returned in place of `Shape` or of the statements. Cost: the size
-/// of the text.
+/// Errors: `Text`, with the first byte that is not allowed or else the comment fault, even if every
+/// allocation fails; else `Shape`, with the number of the first misplaced token, or the number of
+/// tokens plus 1 if the text ends within a statement. If an allocation fails, it may return
+/// `Memory` in place of `Shape` or of the statements. Cost: the size of the text.
 /// Source: Metamath, 4.1 and appendix E.
 pub fn read(alloc: Global, text: &[u8]) -> Result<Vec<Stmt>, ReadFault>
     ensures found { IfOk result (λ statements. Reads text.now statements.items) }
@@ -35,8 +35,8 @@ pub fn read(alloc: Global, text: &[u8]) -> Result<Vec<Stmt>, ReadFault>
     ensures statements { (S : Database) → Reads text.now S
         → MatchResult result (λ statements. statements.items ≡ S) (λ fault. fault ≡ ReadFault.Memory) }
 
-    // A bad byte or a comment fault of the text is returned even if every allocation fails. In place of a shape fault,
-    // `Memory` may be returned.
+    // The first byte that is not allowed, or a comment fault, is returned even if every allocation
+    // fails. In place of a shape fault, `Memory` may be returned.
     ensures text_fault { (offset : ℕ) → IsFirstBadByte text.now offset
         → result ≡ Err (ReadFault.Text (LexFault.Text offset)) }
     ensures comment_fault { (offset : ℕ) → IsCommentFault text.now offset
@@ -50,7 +50,7 @@ pub fn read(alloc: Global, text: &[u8]) -> Result<Vec<Stmt>, ReadFault>
     statements(alloc, text)
 }
 
-/// Returns the statements that a text without a bad byte reads as.
+/// Returns the statements that a text reads as whose bytes are all allowed.
 fn statements(alloc: Global, text: &[u8]) -> Result<Vec<Stmt>, ReadFault>
     requires { HasOnlyAllowedBytes text.now }
     ensures found { IfOk result (λ statements. Reads text.now statements.items) }
@@ -67,7 +67,8 @@ fn statements(alloc: Global, text: &[u8]) -> Result<Vec<Stmt>, ReadFault>
     }
 }
 
-/// Appends the next statement after `at`; returns the offset after the statement, or `None` if no token is left.
+/// Appends the next statement after `at`; returns the offset after the statement, or `None` if no
+/// token is left.
 ///
 /// Errors: those of `statement`, and `Text`, if a comment before the statement is malformed.
 fn add_next(
@@ -90,19 +91,23 @@ fn add_next(
     Ok(Some(next))
 }
 
-/// Allocates a block and frees it at once, if a multiple of `BYTES_BETWEEN_GROWTHS` lies after `at` and up to `next`,
-/// so at most once for that many bytes of text. A heap that would grow by one request at a time, as that of a thread
-/// may, then grows once for hundreds of statements. A failed allocation is ignored.
+/// Saves time: allocates a block and frees it at once, so that the heap grows once for hundreds of
+/// statements. Without it the heap of a thread may grow with each request.
+///
+/// It does so only if a multiple of `BYTES_BETWEEN_GROWTHS` lies after `at` and up to `next`, so at
+/// most once for that many bytes of text. It ignores a failed allocation.
 fn grow_heap(alloc: Global, at: usize, next: usize) {
     if at / BYTES_BETWEEN_GROWTHS != next / BYTES_BETWEEN_GROWTHS {
         let _ = Vec::<u8>::with_capacity(alloc, GROWTH_BYTES);
     }
 }
 
-/// Returns the fault of the whole text. The statements up to `at` are read, and `fault` is why no statement can be read
-/// there. A `Shape` in `fault` counts tokens from `at`; one that is returned counts them from the start of the text.
+/// Returns the fault of the whole text, given that the statements up to `at` are read and that
+/// `fault` is why the next one is not. A `Shape` in `fault` counts tokens from `at`; the one that
+/// it returns counts them from the start of the text.
 ///
-/// Errors: the comment fault of the text, if there is one: it takes precedence over `fault`.
+/// Errors: the comment fault of the text, if there is one: it takes precedence over `fault`. Cost:
+/// the size of the text.
 fn first_fault(text: &[u8], at: usize, fault: ReadFault) -> Result<ReadFault, LexFault>
     requires allowed { HasOnlyAllowedBytes text.now }
     requires place { at ≤ length text.now }

@@ -11,13 +11,16 @@ use crate::keyword::token_bytes;
 use mm_lex::{Word, Words, is_symbol, next_token, symbols};
 use std::alloc::Global;
 
-/// Returns the symbols after `at`, at least `least` of them, up to the token `end`, and the offset after that token.
+/// Returns the symbols after `at`, at least `least` of them, up to the token `end`, and the offset
+/// after that token.
 ///
-/// `number` is the number that `Shape` gives to the first token after `at`. It is at most 3, the number of the first
-/// symbol of an expression. Errors: `Text`, if a comment before the end of the list is malformed; `Shape`, with the
-/// number of the token that does not fit, or one past the last if the text ends first; `Memory`, if an allocation
-/// fails. Here and below, the clause `fault` states what a `Shape` means only if no comment after `at` is
-/// malformed.
+/// `number` is the number that `Shape` gives to the first token after `at`. It is at most 3, the
+/// number of the first symbol of an expression.
+///
+/// Errors: `Text`, if a comment before the end of the list is malformed; `Shape`, with the number
+/// of the token that does not fit, or one past the last if the text ends first; `Memory`, if an
+/// allocation fails. If a comment anywhere after `at` is malformed, the clause `fault` does not say
+/// which token a `Shape` names; the same holds for the functions below.
 pub fn symbols_until(
     alloc: Global,
     text: &[u8],
@@ -46,7 +49,8 @@ pub fn symbols_until(
     })
 }
 
-/// Returns whether there are at least `least` words. Cost: a constant if `least` is 0 or 1, else the size of the words.
+/// Returns whether there are at least `least` words. Cost: a constant if `least` is 0 or 1, else
+/// the size of the words.
 fn has_least(words: &Words, least: usize) -> bool
     ensures { result ≡ nat_le least (length words.now) }
 {
@@ -59,8 +63,10 @@ fn has_least(words: &Words, least: usize) -> bool
 
 /// Returns the next token, which has to be a symbol, and the offset after it.
 ///
-/// `number` is the number of that token in its statement. Errors: `Text`, if a comment before it is malformed; `Shape`,
-/// with that number, if it is no symbol or no token is left; `Memory`, if an allocation fails.
+/// `number` is the number of that token in its statement.
+///
+/// Errors: `Text`, if a comment before it is malformed; `Shape`, with that number, if it is no
+/// symbol or no token is left; `Memory`, if an allocation fails.
 pub fn next_symbol(
     alloc: Global,
     text: &[u8],
@@ -85,8 +91,10 @@ pub fn next_symbol(
 
 /// Returns the offset after the next token, which has to be `end`.
 ///
-/// `number` is the number of that token in its statement. Errors: `Text`, if a comment before it is malformed; `Shape`,
-/// with that number, if it is not `end` or no token is left.
+/// `number` is the number of that token in its statement.
+///
+/// Errors: `Text`, if a comment before it is malformed; `Shape`, with that number, if it is not
+/// `end` or no token is left.
 pub fn expect_token(text: &[u8], at: usize, number: usize, end: &[u8]) -> Result<usize, ReadFault>
     requires allowed { HasOnlyAllowedBytes text.now }
     requires place { at ≤ length text.now }

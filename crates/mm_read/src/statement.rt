@@ -1,4 +1,4 @@
-//! Reads one statement of the text, from its first token on.
+//! Reads one statement of a text, from its first token on.
 ghost use Rattle.std.specs.Prelude.{◌∷◌, ◌≤◌, [], length, IsTrue, IfOk, IfErr, codes};
 ghost use Rattle.mm_lex.specs.Alphabet.{word, is_label};
 ghost use Rattle.mm_lex.specs.Words.{is_word};
@@ -14,10 +14,11 @@ use std::alloc::Global;
 
 /// Returns the statement whose first token is at `first`, and the offset after the statement.
 ///
-/// Errors: `Text`, if a comment in the statement is malformed; `Shape`, with the number of the first misplaced token,
-/// counted from 1 at `first`, or one past the last token if the text ends within the statement; `Memory`, if an
-/// allocation fails. The clause `fault` states what a `Shape` means only if no comment after `first` is malformed, in
-/// the statement or after it. Cost: the size of the statement with its comments.
+/// Errors: `Text`, if a comment in the statement is malformed; `Shape`, with the number of the
+/// first misplaced token, counted from 1 at `first`, or one past the last token if the text ends
+/// within the statement; `Memory`, if an allocation fails. If a comment after `first` is malformed,
+/// even one after the statement, the clause `fault` does not say which token a `Shape` names. Cost:
+/// the size of the statement with its comments.
 pub fn statement(alloc: Global, text: &[u8], first: Span) -> Result<(Stmt, usize), ReadFault>
     requires allowed { HasOnlyAllowedBytes text.now }
     requires token { IsWordAt text.now first }
@@ -46,7 +47,8 @@ pub fn statement(alloc: Global, text: &[u8], first: Span) -> Result<(Stmt, usize
     }
 }
 
-/// Returns the statement with this label, and the offset after the statement. `at` is the offset after the label.
+/// Returns the statement with this label, and the offset after the statement. `at` is the offset
+/// after the label.
 fn labelled(alloc: Global, text: &[u8], label: &[u8], at: usize) -> Result<(Stmt, usize), ReadFault>
     requires allowed { HasOnlyAllowedBytes text.now }
     requires place { at ≤ length text.now }
@@ -75,7 +77,8 @@ fn labelled(alloc: Global, text: &[u8], label: &[u8], at: usize) -> Result<(Stmt
     }
 }
 
-/// Returns the `$f` with this label, and the offset after the statement. `at` is the offset after the keyword.
+/// Returns the `$f` with this label, and the offset after the statement. `at` is the offset after
+/// the keyword.
 fn floating(alloc: Global, text: &[u8], label: &[u8], at: usize) -> Result<(Stmt, usize), ReadFault>
     requires allowed { HasOnlyAllowedBytes text.now }
     requires place { at ≤ length text.now }
@@ -96,7 +99,8 @@ fn floating(alloc: Global, text: &[u8], label: &[u8], at: usize) -> Result<(Stmt
     Ok((statement, next))
 }
 
-/// Returns the `$p` with this label, and the offset after the statement. `at` is the offset after the keyword.
+/// Returns the `$p` with this label, and the offset after the statement. `at` is the offset after
+/// the keyword.
 fn provable(alloc: Global, text: &[u8], label: &[u8], at: usize) -> Result<(Stmt, usize), ReadFault>
     requires allowed { HasOnlyAllowedBytes text.now }
     requires place { at ≤ length text.now }

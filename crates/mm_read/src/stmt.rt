@@ -1,41 +1,43 @@
 //! The shapes of a statement.
 use mm_lex::{Word, Words};
 
-/// One statement. Its words are labels, symbols and tokens of a proof as they are written in the text.
+/// One statement. Its words are labels, symbols and tokens of a proof as they are written in the
+/// text.
 ///
-/// Reading asks only for symbols. By the rules of `scope`, those of `$c` are constants, those of `$v` and `$d` are
-/// variables, those of `$f` are a constant and a variable, and an expression begins with a constant.
+/// Reading checks only that a symbol stands where one has to. By the rules of `scope`, those of
+/// `$c` are constants, those of `$v` and `$d` are variables, those of `$f` are a constant and a
+/// variable, and an expression begins with a constant.
 ///
 /// Source: Metamath, 4.1. `specs/Statements` defines which statements are well shaped.
 #[derive(Drop)]
 pub enum Stmt {
-    /// `${`
+    /// The start of a block: `${`
     Open,
-    /// `$}`
+    /// The end of a block: `$}`
     Close,
-    /// `$c`, one or more symbols, `$.`
+    /// A declaration of constants: `$c`, one or more symbols, `$.`
     Const(Words),
-    /// `$v`, one or more symbols, `$.`
+    /// A declaration of variables: `$v`, one or more symbols, `$.`
     Var(Words),
-    /// `$d`, two or more symbols, `$.`
+    /// A disjoint variable condition: `$d`, two or more symbols, `$.`
     Disj(Words),
-    /// A label, `$f`, two symbols, `$.`
+    /// A floating hypothesis: a label, `$f`, two symbols, `$.`
     Float {
         label: Word,
         constant: Word,
         variable: Word,
     },
-    /// A label, `$e`, an expression of one or more symbols, `$.`
+    /// An essential hypothesis: a label, `$e`, an expression of one or more symbols, `$.`
     Ess {
         label: Word,
         expr: Words,
     },
-    /// A label, `$a`, an expression, `$.`
+    /// An axiomatic assertion: a label, `$a`, an expression, `$.`
     Axiom {
         label: Word,
         expr: Words,
     },
-    /// A label, `$p`, an expression, `$=`, the tokens of the proof, `$.`
+    /// A provable assertion: a label, `$p`, an expression, `$=`, the tokens of the proof, `$.`
     Prove {
         label: Word,
         expr: Words,

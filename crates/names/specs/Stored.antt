@@ -1,4 +1,5 @@
--- How names are stored: keys, the table of slots, the overflow, and the texts. No public clause cites these.
+-- How names are stored: keys, the table of slots, the overflow, and the texts. No public clause
+-- cites these.
 pub mod Keys
 pub mod Overflow
 pub mod Table

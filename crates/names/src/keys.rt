@@ -2,7 +2,8 @@
 ghost use Rattle.std.specs.Prelude.{◌≡◌, ◌≢◌, ◌+◌, ◌*◌, ◌^◌, ◌<◌, ◌≤◌, length};
 ghost use Rattle.names.specs.Stored.Keys.{AreBytes, digits, key_bytes, eight, scrambled, mixed, key_of};
 
-/// The least length of a name whose key is a hash, which other names may share. A shorter name shares its key with no other.
+/// The least length of a name whose key is a hash, which other names may share. A shorter name
+/// shares its key with no other.
 pub(crate) const LEAST_HASHED_LEN: usize = 8;
 
 /// The least hash. Keys of short names are lower.
@@ -11,7 +12,7 @@ const LEAST_HASH: u64 = 0x8000_0000_0000_0000;
 /// 2^64 divided by the golden ratio, rounded to an odd number: its bits are spread evenly.
 const FACTOR: u64 = 0x9e37_79b9_7f4a_7c15;
 
-/// Marks a name in the overflow. No name has this key.
+/// Stands in the place of a key for a name that is in the overflow. No name has this key.
 pub(crate) const IN_OVERFLOW: u64 = 0x7fff_ffff_ffff_ffff;
 
 /// Returns the key of a name.
@@ -43,7 +44,8 @@ pub(crate) fn short_key(name: &[u8]) -> u64
     bytes * 8 + name.len() as u64
 }
 
-/// Returns the first, the middle and the last byte as one number, so that one, two and three bytes are read in the same way.
+/// Returns the first, the middle and the last byte as one number, so that one, two and three bytes
+/// are read in the same way.
 fn few_bytes(name: &[u8]) -> u64
     requires some { 1 ≤ length name.now }
     requires few { length name.now < 4 }
@@ -85,8 +87,8 @@ fn digit(byte: u8, above: u64) -> u64
     byte as u64 + 256 * above
 }
 
-/// Returns the hash of a name of eight bytes or more: of its length and of its bytes, eight at a time. The last eight may
-/// overlap the ones before.
+/// Returns the hash of a name of eight bytes or more: of its length and of its bytes, eight at a
+/// time. The last eight may overlap the ones before.
 pub(crate) fn hash(name: &[u8]) -> u64
     requires { LEAST_HASHED_LEN ≤ length name.now }
     ensures key { result ≡ key_of name.now }
@@ -107,7 +109,8 @@ fn mix(hash: u64, bytes: u64) -> u64
     scramble(hash.wrapping_add(bytes))
 }
 
-/// Returns a number whose lowest bytes depend on all bits of this one: they are the highest bytes of `FACTOR` times it.
+/// Returns the bytes of `FACTOR` times this number in reverse order. The low bits of the result,
+/// which choose a slot, are thus high bits of the product, which depend on most bits of the number.
 pub(crate) fn scramble(number: u64) -> u64
     ensures { result ≡ scrambled number }
 {

@@ -1,8 +1,10 @@
-//! Codes of names: `NameTable` is a list of distinct names that gives each of them a code.
+//! Gives each name a number, its code: `NameTable` is a list of distinct names, and the code of a
+//! name is its index in it.
 //!
-//! The crates above use `NameTable::find`, `add` and `name`: a name's code is its index in the list. Read `names`; `texts`
-//! stores the bytes, `table` is the hash table that finds a code by the key of its name, `keys` computes keys, `name_keys`
-//! stores them by code, and `overflow` has the names that found no slot in the table.
+//! `NameTable::add` gives a name its code, `find` returns the code of a name, and `name` the name
+//! of a code. Read `names` first. The module `texts` stores the bytes of names, `table` is the hash
+//! table that finds a code by the key of its name, `keys` computes keys, `name_keys` stores them by
+//! code, and `overflow` has the names that found no slot in the table.
 #![tactic(auto)]
 
 mod keys;

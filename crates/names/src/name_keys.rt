@@ -13,8 +13,8 @@ use crate::texts::Texts;
 use entries::give_back;
 use std::alloc::{AllocError, Global};
 
-/// The key of each name by its code, or `IN_OVERFLOW` if the name is in the overflow. Keys after that of the last name
-/// have no meaning.
+/// The key of each name by its code, or `IN_OVERFLOW` if the name is in the overflow; and the
+/// overflow. Keys after that of the last name have no meaning.
 #[derive(Drop)]
 pub struct NameKeys {
     pub keys: Vec<u64>,
@@ -64,7 +64,7 @@ impl NameKeys {
         Ok(())
     }
 
-    /// Reserves room for the keys of `more` names, if allocation succeeds.
+    /// Reserves capacity for the keys of `more` names, if allocation succeeds.
     pub(crate) fn reserve(&mut self, more: usize)
         ensures keys { self.new.keys.items ≡ self.old.keys.items }
         ensures overflow { self.new.overflow ≡ self.old.overflow }
@@ -91,7 +91,7 @@ impl NameKeys {
         Ok(())
     }
 
-    /// Truncates to the first `count` keys, and gives back unused room, as `give_back` does.
+    /// Truncates to the first `count` keys, and frees unused memory, as `give_back` does.
     pub(crate) fn shrink(&mut self, count: usize)
         requires { count ≤ length self.old.keys.items }
         ensures overflow { self.new.overflow ≡ self.old.overflow }

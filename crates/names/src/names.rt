@@ -12,14 +12,15 @@ use std::marker::Model;
 
 /// A list of distinct names. The code of a name is its index. Contracts see the list.
 ///
-/// The bytes of all names are in one buffer. A hash table maps a name's key to its code; a name of at most seven bytes shares
-/// its key with no other. A name that finds no free slot within 32 steps goes into a sorted overflow.
+/// The bytes of all names are in one buffer. A hash table maps a name's key to its code; a name of
+/// at most seven bytes shares its key with no other. A name for which 32 probes meet no free slot
+/// goes into the overflow, a sorted map.
 #[derive(Drop)]
 pub struct NameTable {
     texts: Texts,
     name_keys: NameKeys,
     slots: Vec<Slot>,
-    /// An upper bound on the slots that are taken, those of removed names included.
+    /// An upper bound on the number of slots that are taken, those of removed names included.
     taken: usize,
 }
 
@@ -75,8 +76,9 @@ impl NameTable {
 
     /// Returns the code of a name, or `None` if it has none.
     ///
-    /// Cost: one pass over the name and at most 32 slots of the table; if it is not found there, also the logarithm of the
-    /// number of names in the overflow, in comparisons.
+    /// Cost: one pass over the name and at most 32 slots of the table, each of which may compare
+    /// the name; if it is not found there, also the logarithm of the number of names in the
+    /// overflow, in comparisons.
     #[inline(always)]
     pub fn find(&self, name: &[u8]) -> Option<usize>
         ensures code { result ≡ code_of self.now name.now }
@@ -97,7 +99,9 @@ impl NameTable {
 
     /// Returns the code of a name, and appends the name if it has none.
     ///
-    /// Errors: an allocation fails, or there are 2^32 - 1 names already; the list is then unchanged.
+    /// Errors: an allocation fails, or there are 2^32 - 1 names already; the list is then
+    /// unchanged.
+    /// Cost: that of `find`, and if the name is new that of `add`.
     pub fn code(&mut self, alloc: Global, name: &[u8]) -> Result<usize, AllocError>
         ensures name { IfOk result (λ n. (n < length self.new) × (name_at self.new n ≡ name.now)) }
         ensures known { IfOk result (λ n. n < length self.old → self.new ≡ self.old) }
@@ -116,8 +120,9 @@ impl NameTable {
 
     /// Appends a name that is not in the list, and returns its code.
     ///
-    /// Errors: an allocation fails, or there are 2^32 - 1 names already; the list is then unchanged. Cost: that of `find`; the
-    /// number of names if the table grows.
+    /// Errors: an allocation fails, or there are 2^32 - 1 names already; the list is then
+    /// unchanged.
+    /// Cost: that of `find`; the number of names if the table grows.
     pub fn add(&mut self, alloc: Global, name: &[u8]) -> Result<usize, AllocError>
         requires { has_name name.now self.old ≡ false }
         ensures code { IfOk result (λ n. n ≡ length self.old) }
@@ -147,7 +152,10 @@ impl NameTable {
         Ok(code)
     }
 
-    /// Reserves room for `more` names, if allocation succeeds, so that adding them makes no new table.
+    /// Reserves capacity for `more` names, if allocation succeeds, so that adding them makes no new
+    /// table.
+    ///
+    /// Cost: a constant, or the number of names and `more` if it makes a new table.
     pub fn reserve(&mut self, alloc: Global, more: usize)
         ensures { self.new ≡ self.old }
     {
@@ -166,7 +174,8 @@ impl NameTable {
         Ok(())
     }
 
-    /// Makes a new table, with room for as many names again, or for `more` if that is greater.
+    /// Makes a new table, with capacity for as many further names, or for `more` if that is
+    /// greater.
     fn rebuild(&mut self, alloc: Global, more: usize) -> Result<(), AllocError>
         ensures { self.new ≡ self.old }
     {
@@ -177,7 +186,7 @@ impl NameTable {
 
     /// Truncates to the first `len` names. Does not allocate.
     ///
-    /// Cost: constant; the number of removed names if some are in the overflow.
+    /// Cost: constant; if the overflow has a name, the number of removed names.
     pub fn truncate(&mut self, len: usize)
         ensures { self.new ≡ take len self.old }
     {
@@ -188,10 +197,11 @@ impl NameTable {
         self.texts.truncate(len);
     }
 
-    /// Gives back unused room, as `entries::give_back` does. Makes a new table if there are more than eight slots for each
-    /// name; if that allocation fails, the table stays.
+    /// Frees unused memory, as `entries::give_back` does. Makes a new table if there are more than
+    /// eight slots for each name, and more than 128 in all; if that allocation fails, the table
+    /// stays.
     ///
-    /// Cost: constant; if room is given back, the size of all names.
+    /// Cost: constant; if memory is freed, the size of all names.
     pub fn shrink(&mut self, alloc: Global)
         ensures { self.new ≡ self.old }
     {

@@ -8,8 +8,9 @@ use crate::keys::{LEAST_HASHED_LEN, key};
 use std::alloc::{AllocError, Global};
 use std::collections::BTreeMap;
 
-/// Sorted maps to the codes of names, from the keys of short names and from the bytes of others: a look-up compares a name
-/// with few others, even if an adversary chose the names.
+/// The codes of the names that found no slot, in sorted maps from the keys of short names and from
+/// the bytes of others. A look-up compares a name with few others, even if an adversary chose the
+/// names.
 #[derive(Drop)]
 pub struct Overflow {
     pub short: BTreeMap<u64, u32>,

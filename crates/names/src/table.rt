@@ -17,16 +17,18 @@ use std::alloc::{AllocError, Global};
 /// Marks a free slot.
 pub(crate) const NO_NAME: u32 = 4294967295;
 
-/// How many slots are probed for one name. If none of them is free, the name goes into the overflow.
+/// How many slots are probed for one name at most. If none of them is free, the name goes into the
+/// overflow.
 pub(crate) const MAX_PROBES: usize = 32;
 
 /// How many slots the first table has.
 pub(crate) const FIRST_SLOTS: usize = 16;
 
-/// How many values the lower half of a key can have.
+/// How many values the lower half of a key can have: the half is the key modulo this.
 const HALVES: u64 = 0x1_0000_0000;
 
-/// The lower half of the key of a name, and the code of the name, or `NO_NAME`. `NameKeys` has the whole key.
+/// A slot of the table: the lower half of the key of a name, and the code of the name, or `NO_NAME`
+/// if the slot is free. `NameKeys` has the whole key.
 #[derive(Clone, Copy, Drop)]
 pub struct Slot {
     pub half: u32,
@@ -50,8 +52,9 @@ pub(crate) fn make_slot(key: u64, code: u32) -> Slot
     }
 }
 
-/// Returns the index of the slot that a step probes: that of step 0 is `scramble` of the key modulo `len`, and that of step n
-/// is n slots after that of step n - 1. `len` is a power of two.
+/// Returns the index of the slot that a step of a search probes: that of step 0 is `scramble` of
+/// the key modulo `len`, and that of step n is n slots after that of step n - 1, where slot 0
+/// follows the last one. `len` is a power of two.
 fn slot_index(key: u64, step: usize, len: usize) -> usize
     requires some { 0 < len }
     requires near { step < MAX_PROBES }
@@ -79,7 +82,8 @@ fn probe(slots: &[Slot], key: u64, step: usize) -> Slot
     item(slots, slot_index(key, step, slots.len()))
 }
 
-/// Returns the code of a name, or `None` if it has none. Most short names are in the first slot, so that no text is read.
+/// Returns the code of a name, or `None` if it has none. Most short names are in the first slot
+/// that it probes; it then reads no text.
 #[inline(always)]
 pub(crate) fn search(
     slots: &[Slot],
@@ -107,7 +111,7 @@ pub(crate) fn search(
     search_slots(slots, name_keys, texts, name)
 }
 
-/// Returns the code of a name, quickly if it is long and in the first slot.
+/// Returns the code of a name, quickly if it is long and in the first slot that it probes.
 #[inline(never)]
 fn search_long(slots: &[Slot], name_keys: &NameKeys, texts: &Texts, name: &[u8]) -> Option<usize>
     requires found { AreFound slots.now name_keys.now.overflow texts.now }
@@ -153,7 +157,8 @@ fn search_slots(slots: &[Slot], name_keys: &NameKeys, texts: &Texts, name: &[u8]
     search_overflow(&name_keys.overflow, texts, name)
 }
 
-/// Returns whether the slot is free and the overflow is empty. If so, a name whose first slot this is has no code.
+/// Returns whether the slot is free and the overflow is empty. If so, a name for which this slot is
+/// probed first has no code.
 fn is_absent(slot: Slot, name_keys: &NameKeys) -> bool
     ensures { result ≡ true → (slot.code ≡ NO_NAME) × ((x : Name) → code_in_overflow name_keys.now.overflow x ≡ None) }
 {
@@ -209,8 +214,8 @@ pub(crate) fn free_slot_index(slots: &[Slot], key: u64) -> Option<usize>
     None
 }
 
-/// Makes new slots for the texts, with room for as many again, or for `more` if that is greater. A text in the overflow stays
-/// there.
+/// Makes new slots for the texts, with capacity for as many further ones, or for `more` if that is
+/// greater. A text in the overflow stays there.
 pub(crate) fn build_slots(
     alloc: Global,
     texts: &Texts,
@@ -271,8 +276,8 @@ fn free_slots(alloc: Global, count: usize) -> Result<Vec<Slot>, AllocError>
     Ok(slots)
 }
 
-/// Returns the length of a table with room for `count` texts and as many again, or `more` if that is greater, in seven eighths
-/// of its slots.
+/// Returns the length of a table of which seven eighths are enough for `count` texts and as many
+/// further ones, or `more` if that is greater.
 fn slots_for(count: usize, more: usize) -> usize {
     let texts = count.saturating_add(count.max(more));
     let wanted = texts.saturating_add(texts.div_ceil(7)).max(FIRST_SLOTS);

@@ -76,7 +76,7 @@ impl Texts {
         Ok(())
     }
 
-    /// Reserves room for `more` texts, but not for their bytes, if allocation succeeds.
+    /// Reserves capacity for `more` texts, but not for their bytes, if allocation succeeds.
     pub(crate) fn reserve(&mut self, more: usize)
         ensures { self.new ≡ self.old }
     {
@@ -94,7 +94,7 @@ impl Texts {
         }
     }
 
-    /// Gives back unused room, as `give_back` does.
+    /// Frees unused memory, as `give_back` does.
     pub(crate) fn shrink(&mut self)
         ensures { self.new ≡ self.old }
     {

@@ -1,4 +1,4 @@
-//! Decimal numbers.
+//! Parses and appends decimal numbers.
 ghost use Rattle.std.specs.Prelude.{◌≡◌, ◌+◌, ◌-◌, ◌*◌, ◌^◌, ◌<◌, ◌≤◌, ◌++◌, true, decimal};
 ghost use Rattle.std.specs.Prelude.{MatchOption, OnOk};
 ghost use Rattle.std.specs.Char.{is_ascii_digit};
@@ -7,8 +7,10 @@ ghost use Rattle.numbers.specs.Numbers.{number_of};
 use itoa::Buffer;
 use std::alloc::AllocError;
 
-/// Parses a word of decimal digits. Returns `None` if the word is empty, has another byte, or its
-/// value is 2^64 or more. Leading zeros are allowed; a sign is not.
+/// Returns the value of a word of decimal digits, or `None` if the word is empty, has another byte,
+/// or its value is 2^64 or more. Leading zeros are allowed; a sign is not.
+///
+/// Cost: the length of the word.
 pub fn parse_number(word: &[u8]) -> Option<u64>
     ensures { result ≡ number_of word.now }
 {
@@ -25,7 +27,8 @@ pub fn parse_number(word: &[u8]) -> Option<u64>
     Some(value)
 }
 
-/// Returns ten times a value plus a digit, or `None` if the byte is no digit or the result exceeds `u64`.
+/// Returns ten times a value plus a digit, or `None` if the byte is no digit or the result exceeds
+/// `u64`.
 fn append_digit(value: u64, digit: u8) -> Option<u64>
     ensures { MatchOption result
         (is_ascii_digit digit ≡ true → 2 ^ 64 ≤ value * 10 + (digit - 48))
@@ -40,7 +43,7 @@ fn append_digit(value: u64, digit: u8) -> Option<u64>
 
 /// Appends the digits of a number, without leading zeros.
 ///
-/// Errors: an allocation fails; the text is then unspecified.
+/// Errors: an allocation fails; the text is then unspecified. Cost: amortized, a constant.
 pub fn push_number(text: &mut Vec<u8>, number: u64) -> Result<(), AllocError>
     ensures { OnOk result (text.new.items ≡ text.old.items ++ decimal number) }
 {

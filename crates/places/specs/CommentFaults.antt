@@ -1,5 +1,6 @@
 -- The kinds of comment faults, and the first token of the statement that contains a token.
--- Source: Metamath, 4.1.2 (comments do not nest) and 4.1 (each statement but `${` and `$}` ends with `$.`).
+-- Source: Metamath, 4.1.2 (comments do not nest) and 4.1 (each statement but `${` and `$}` ends
+-- with `$.`).
 -- The code looks only at the text up to the fault.
 use Rattle.std.specs.Prelude.{ℕ, ◌-◌, ◌<◌, ◌≤◌, List, IsTrue, IsFalse, take, slice_index_or, []}
 use Rattle.mm_lex.specs.declared.span.Span.{Span}
@@ -10,14 +11,15 @@ use Rattle.places.specs.declared.comments.CommentFault.{CommentFault}
 use Rattle.places.specs.declared.comments.CommentFault.TheVariants.{StrayCloser, Nested, Unclosed}
 use Rattle.places.specs.TokenSpans.{ends_statement}
 
--- a `$)` outside a comment; a `$(` inside a comment that begins at `outer`; a `$(` outside comments
+-- the fault at the offset is of this kind: a `$)` outside a comment; a `$(` inside a comment that
+-- begins at `outer`; a `$(` outside comments
 abbrev pub IsCommentFaultKind : List ℕ → ℕ → CommentFault → Type 0
 IsCommentFaultKind text offset StrayCloser = IsStrayCloser text (runs text) offset
 IsCommentFaultKind text offset (Nested outer) = IsCommentFault (take offset text) outer
 IsCommentFaultKind text offset Unclosed = (tokens : List Span) × AreTokens (take offset text) tokens
 
--- the statement of the token at this index begins at `start`: the first token or one after a token that ends a statement, and
--- none of those between ends one
+-- the statement of the token at this index begins at `start`: there stands the first token, or one
+-- after a token that ends a statement, and none of the tokens between ends one
 pub record BeginsStatement (tokens : List Name) (token start : ℕ) : Type 0 where
   pub before : start ≤ token
   pub after : 0 < start → IsTrue (ends_statement (slice_index_or tokens (start - 1) []))

@@ -1,6 +1,8 @@
--- The descriptions of the statements of a text: the last comment between the previous statement and the first token of each.
+-- The descriptions of the statements of a text: for each statement, the last comment between the
+-- previous statement and its first token.
 -- Source: Metamath, 4.4 (a description is the comment right before the label).
--- The code goes once over the runs; here the text is split at its comments, and each token is paired with the comment right before it.
+-- The code goes once over the runs; here the text is split at its comments, and each token is
+-- paired with the comment right before it.
 use Rattle.std.specs.Prelude.{◌≡◌, ℕ, List, [], ◌∷◌, ◌++◌, length, drop, flat_map, Option, Some, None}
 use Rattle.mm_lex.specs.declared.span.Span.{Span}
 use Rattle.mm_lex.specs.Alphabet.{runs}
@@ -11,7 +13,8 @@ use Rattle.mm_read.specs.Statements.{Database, stmt_tokens}
 abbrev pub contents : Part → Span
 contents p = record { start = p.begin.end; end = p.end.start }
 
--- the comment right before each of these tokens: `comment` for the first of them, none for the others
+-- the comment right before each of these tokens: `comment` for the first of them, none for the
+-- others
 abbrev pub comments_before : Option Span → List Span → List (Option Span)
 comments_before comment [] = []
 comments_before comment (t ∷ tokens) = comment ∷ comments_before None tokens
@@ -34,6 +37,6 @@ abbrev pub statement_comments : Database → List (Option Span) → List (Option
 statement_comments [] comments = []
 statement_comments (s ∷ S) comments = first_of comments ∷ statement_comments S (drop (length (stmt_tokens s)) comments)
 
--- the descriptions of the statements that the text writes
+-- the list has the descriptions of these statements, which the text reads as
 abbrev pub AreDescriptions : List ℕ → Database → List (Option Span) → Type 0
 AreDescriptions text S list = (tokens : List Span) × (split : SplitsInto text (runs text) tokens) × (list ≡ statement_comments S (comments_of split.first split.parts))

@@ -1,6 +1,7 @@
 -- The span of a token of a statement in a text that reads as statements.
 -- Source: Metamath, 4.1 and appendix E.
--- The code counts the tokens that end a statement; here the tokens of the earlier statements are counted.
+-- The code counts the tokens that end a statement; here the tokens of the earlier statements are
+-- counted.
 use Rattle.std.specs.Prelude.{◌≡◌, ℕ, zero, suc, ◌+◌, ◌-◌, ◌≤◌, Bool, ◌||◌, if◌then◌else◌, List, [], ◌∷◌, length, take, Some, slice_get, codes}
 use Rattle.mm_lex.specs.declared.span.Span.{Span}
 use Rattle.mm_lex.specs.Alphabet.{Name, name_eq}
@@ -8,7 +9,7 @@ use Rattle.mm_lex.specs.Tokens.{AreTokens, words}
 use Rattle.mm_read.specs.declared.stmt.Stmt.{Stmt}
 use Rattle.mm_read.specs.Statements.{Database, stmt_tokens, tokens_of}
 
--- the statement has a token of this number, both counted from 1
+-- the statement of this number has a token of this number, both counted from 1
 pub record HasToken (S : Database) (statement token : ℕ) : Type 0 where
   pub stmt : Stmt
   pub some : 1 ≤ statement

@@ -1,5 +1,5 @@
 -- The descriptions of a text, as a walk over its runs finds them.
--- Source: none; for the private functions of `description`.
+-- Source: this project's choice; for the private functions of `description`.
 use Rattle.std.specs.Prelude.{◌≡◌, ℕ, ◌≤◌, true, false, if◌then◌else◌, List, [], ◌∷◌, ◌++◌, length, Option, Some, None}
 use Rattle.mm_lex.specs.declared.span.Span.{Span}
 use Rattle.mm_lex.specs.Alphabet.{Name, name_eq, word}
@@ -9,16 +9,17 @@ use Rattle.places.specs.declared.description.Walk.{Walk}
 use Rattle.places.specs.declared.description.Walk.TheVariants.{Inside, Outside}
 use Rattle.places.specs.TokenSpans.{ends_statement}
 
--- at the beginning of a text
+-- the state at the beginning of a text
 abbrev pub at_start : Walk
 at_start = Outside None true
 
--- after one more run
+-- the state after one more run, whose word is w
 abbrev pub after_run : Walk → Name → Span → Walk
 after_run (Inside start begins) w run = if name_eq w closer then Outside (Some (record { start = start; end = run.start })) begins else Inside start begins
 after_run (Outside last begins) w run = if name_eq w opener then Inside run.end begins else Outside None (ends_statement w)
 
--- the description of the statement that begins with the run, if one does
+-- the description of the statement that begins with the word w, as a list of one; the empty list if
+-- none does
 abbrev pub begun_description : Walk → Name → List (Option Span)
 begun_description (Inside start begins) w = []
 begun_description (Outside last begins) w = if name_eq w opener then [] else if begins then last ∷ [] else []

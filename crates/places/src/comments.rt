@@ -1,10 +1,10 @@
-//! The kinds of comment faults.
+//! Tells the kinds of comment faults apart.
 ghost use Rattle.mm_lex.specs.TextFaults.{IsCommentFault};
 ghost use Rattle.places.specs.CommentFaults.{IsCommentFaultKind};
 
 use mm_lex::{LexFault, count_tokens};
 
-/// A fault of the comments of a text.
+/// Why the comments of a text are malformed.
 #[derive(Clone, Copy, Debug, Drop, PartialEq, Eq)]
 pub enum CommentFault {
     /// A `$)` outside a comment.

@@ -1,4 +1,4 @@
-//! The descriptions of statements.
+//! Finds the descriptions of statements: the comments that precede them.
 ghost use Rattle.std.specs.Prelude.{◌≡◌, ◌++◌, ◌-◌, ◌<◌, ◌≤◌, ℕ, length, slice_index, IfOk, IsTrue, OnOk};
 ghost use Rattle.std.specs.Option.{option_to_list};
 ghost use Rattle.mm_lex.specs.Alphabet.{is_white};
@@ -14,7 +14,7 @@ use mm_lex::Span;
 use runs::next_run;
 use std::alloc::{AllocError, Global};
 
-/// The state of a walk over the runs of a text.
+/// The state of a walk over the runs of a text, between two runs.
 #[derive(Clone, Copy, Drop)]
 enum Walk {
     /// Inside the comment whose contents begin at `start`.
@@ -57,7 +57,8 @@ pub fn descriptions(alloc: Global, text: &[u8]) -> Result<Vec<Option<Span>>, All
     Ok(list)
 }
 
-/// Returns an offset from which the walk continues as from `at`: skips runs that do not change it.
+/// Returns the offset from which the walk goes on, after runs that it can skip because they change
+/// nothing.
 ///
 /// Does not allocate. Cost: the bytes up to the next `$`.
 fn skip_runs(text: &[u8], at: usize, walk: Walk) -> usize
@@ -73,7 +74,8 @@ fn skip_runs(text: &[u8], at: usize, walk: Walk) -> usize
     }
 }
 
-/// Returns whether only a run that begins with `$` changes the walk or begins a statement.
+/// Returns whether the walk can skip runs: whether only a run that begins with `$` changes the walk
+/// or begins a statement.
 fn can_skip(walk: Walk) -> bool
     ensures { IsTrue result → CanSkip walk }
 {
@@ -83,8 +85,8 @@ fn can_skip(walk: Walk) -> bool
     }
 }
 
-/// Returns the offset after the last white byte between `at` and the next `$` or the end of the text, or `at` if there is no
-/// such byte.
+/// Returns the offset after the last white byte between `at` and the next `$` or the end of the
+/// text, or `at` if there is no such byte.
 fn skip_to_dollar(text: &[u8], at: usize) -> usize
     requires { at ≤ length text.now }
     ensures { SkipsRuns text.now at result }
@@ -118,7 +120,7 @@ fn after_last_white(text: &[u8]) -> usize
     0
 }
 
-/// Appends the description of the statement that begins with the run of this word, if one does.
+/// Appends the description of the statement that begins with this word, if one does.
 fn push_begun_description(
     list: &mut Vec<Option<Span>>,
     walk: Walk,
@@ -135,7 +137,8 @@ fn push_begun_description(
     }
 }
 
-/// Returns the description of the statement that begins with the run of this word, if one does.
+/// Returns the description of the statement that begins with this word, or `None` if none begins
+/// here. The description is itself `None` if the statement has none.
 fn begun_description(walk: Walk, word: &[u8]) -> Option<Option<Span>>
     ensures { option_to_list result ≡ begun_description walk word.now }
 {
@@ -153,7 +156,7 @@ fn begun_description(walk: Walk, word: &[u8]) -> Option<Option<Span>>
     }
 }
 
-/// Returns the state of the walk after the run of this word.
+/// Returns the state of the walk after this run, whose word is `word`.
 fn after_run(walk: Walk, word: &[u8], run: Span) -> Walk
     ensures { result ≡ after_run walk word.now run }
 {

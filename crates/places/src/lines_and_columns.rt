@@ -1,10 +1,10 @@
-//! Lines and columns.
+//! Finds the line and the column of an offset.
 ghost use Rattle.std.specs.Prelude.{◌≡◌, ◌≤◌, length};
 ghost use Rattle.places.specs.Lines.{BeginsLine, IsColumn, line_of};
 
 use memchr::memchr_iter;
 
-/// A line and a column, both counted from 1; columns count bytes.
+/// A line and a column of a text, both counted from 1; columns count bytes.
 #[derive(Clone, Copy, Debug, Drop, PartialEq, Eq)]
 pub struct LineAndColumn {
     pub line: usize,

@@ -11,8 +11,8 @@ ghost use Rattle.places.specs.CommentFaults.{BeginsStatement};
 use mm_lex::{LexFault, Span, tokens};
 use std::alloc::Global;
 
-/// Returns the span of a token of a statement, both counted from 1, in a text that reads as statements; `None` if there are
-/// too few tokens.
+/// Returns the span of a token of a statement, both counted from 1, in a text that reads as
+/// statements; `None` if there are too few tokens.
 ///
 /// Errors: those of `mm_lex::tokens`. Cost: the size of the text.
 pub fn token_span(
@@ -31,8 +31,8 @@ pub fn token_span(
     Ok(token_span_within(text, spans.as_slice(), statement, token))
 }
 
-/// Returns the span of a token of a statement, both counted from 1, or `None` if there are too few tokens. `spans` are those
-/// of the text's tokens.
+/// Returns the span of a token of a statement, both counted from 1, or `None` if there are too few
+/// tokens. `spans` are the spans of the text's tokens.
 ///
 /// Cost: the number of tokens before it.
 pub fn token_span_within(
@@ -50,8 +50,8 @@ pub fn token_span_within(
     rest.get(token - 1).copied()
 }
 
-/// Returns the index in `spans` of the first token of a statement, counted from 1, or the number of tokens if there are fewer
-/// statements.
+/// Returns the index in `spans` of the first token of a statement, counted from 1, or the number of
+/// tokens if there are fewer statements.
 ///
 /// Cost: the number of tokens before it.
 pub(crate) fn first_token(text: &[u8], spans: &[Span], statement: usize) -> usize
@@ -79,9 +79,10 @@ pub(crate) fn ends_statement(word: &[u8]) -> bool
     word == b"$.".as_slice() || word == b"${".as_slice() || word == b"$}".as_slice()
 }
 
-/// Returns the index in `spans` of the first token of the statement that contains the token at index `token`.
+/// Returns the index in `spans` of the first token of the statement that contains the token at
+/// index `token`.
 ///
-/// Cost: the number of tokens before that.
+/// Cost: the number of tokens before the token at `token`.
 pub fn statement_start(text: &[u8], spans: &[Span], token: usize) -> usize
     requires words { All (IsWordAt text.now) spans.now }
     requires within { token ≤ length spans.now }

@@ -6,7 +6,8 @@ use Rattle.mm_lex.specs.Alphabet.{Name}
 use Rattle.proof_code.specs.declared.item.Item.{Item}
 use Rattle.proof_code.specs.declared.item.Item.TheVariants.{Cite, Recall, Mark}
 
--- 0 marks, a number up to the count of labels cites that label, counted from 1, and a greater one recalls
+-- the item of a number: 0 marks, a number up to the count of labels cites that label, counted from
+-- 1, and a number that exceeds the count by k recalls the result of mark k
 abbrev pub item_of : List Name → ℕ → Item
 item_of labels zero = Mark
 item_of labels (suc n) =

@@ -7,7 +7,8 @@ use Rattle.proof_code.specs.declared.item.Item.{Item}
 use Rattle.proof_code.specs.Letters.{IsNumber, number_of}
 use Rattle.proof_code.specs.Writes.{is_unfinished, Writes, IsMalformed}
 
--- a word's place in the order of all words is the number that the formula in base 5 and base 20 gives
+-- the place of a word of letters in the order of all words is the number that the formula in base 5
+-- and base 20 gives
 abbrev pub NumbersByFormula : Type 0
 NumbersByFormula = (word : Name) (n : ℕ) → IsNumber word n ↔ (number_of word ≡ Some n)
 

@@ -1,6 +1,7 @@
 -- The words that letters write in a compressed proof, and the number of each.
 -- Source: Metamath, appendix B.
--- The code computes a word's number in base 5 and base 20; here it is the word's place in the order of all words.
+-- The code computes a word's number in base 5 and base 20; here it is the word's place in the order
+-- of all words.
 use Rattle.std.specs.Prelude.{◌≡◌, ℕ, zero, suc, ◌+◌, ◌-◌, ◌*◌, Bool, ◌&&◌, nat_le, if◌then◌else◌, List, [], ◌∷◌, ◌++◌, map, flat_map, length, Option, Some, None, slice_get, codes}
 use Rattle.mm_lex.specs.Alphabet.{Name, is_empty}
 
@@ -21,7 +22,8 @@ abbrev pub words_below : ℕ → List Name
 words_below zero = []
 words_below (suc n) = words_below n ++ words_of_size n
 
--- the word has this number, counted from 1 over all words in order of length and then of the alphabet
+-- the word has this number, counted from 1 over all words in order of length and then of the
+-- alphabet
 abbrev pub IsNumber : Name → ℕ → Type 0
 IsNumber word zero = ⊥
 IsNumber word (suc n) = slice_get (words_below (length word)) n ≡ Some word
@@ -33,13 +35,14 @@ is_last letter = nat_le 65 letter && nat_le letter 84
 abbrev pub is_first : ℕ → Bool
 is_first letter = nat_le 85 letter && nat_le letter 89
 
--- the number by the formula, if the letters before have the value n: U to Y are the digits 1 to 5 in base 5, and A to T are
--- 1 to 20 in base 20
+-- the number of the letters by the formula, after letters of the value n: U to Y are the digits 1
+-- to 5 in base 5, and A to T the last digits 1 to 20 in base 20
 abbrev pub number_from : ℕ → Name → Option ℕ
 number_from n [] = None
 number_from n (letter ∷ word) =
     if is_first letter then number_from (5 * n + (letter - 84)) word
     else (if is_last letter && is_empty word then Some (20 * n + (letter - 64)) else None)
 
+-- the number of a word by the formula, or `None` if the letters are no word
 abbrev pub number_of : Name → Option ℕ
 number_of word = number_from 0 word

@@ -1,6 +1,8 @@
--- The count of the listed labels of a compressed proof, byte by byte, for the clauses of private functions.
+-- The count of the listed labels of a compressed proof, byte by byte, for the clauses of private
+-- functions.
 -- Source: Metamath, appendix B.
--- The code counts in this way; ListingLemmas proves that this counts the labels that `header_of` reads.
+-- The code counts in this way; `ListingLemmas` proves that it counts the labels that `header_of`
+-- reads.
 use Rattle.std.specs.Prelude.{ℕ, ◌+◌, Bool, true, false, ◌&&◌, ◌||◌, ◌==◌, if◌then◌else◌, List, [], ◌∷◌, Option, Some, None}
 use Rattle.std.specs.List.{list_all}
 use Rattle.std.specs.Option.{option_map}
@@ -17,16 +19,17 @@ is_listed b = is_label_byte b || (b == 32)
 abbrev pub are_listed : List ℕ → Bool
 are_listed bytes = list_all is_listed bytes
 
--- the letters after the word `)`
+-- the letters after the word `)` with which the text begins; `)` is byte 41, a space byte 32
 abbrev pub letters_from : List ℕ → Option (List ℕ)
 letters_from [] = None
 letters_from (b ∷ []) = if b == 41 then Some [] else None
 letters_from (b ∷ c ∷ letters) = if (b == 41) && (c == 32) then Some letters else None
 
+-- n more labels than were found
 abbrev pub more_labels : ℕ → Option (ℕ × List ℕ) → Option (ℕ × List ℕ)
 more_labels n found = option_map (λ f. (n + f.0, f.1)) found
 
--- no more labels before the letters, if a word begins here
+-- no labels before these letters, if a word begins here
 abbrev pub after_none : Bool → Option (List ℕ) → Option (ℕ × List ℕ)
 after_none word_begins letters = if word_begins then option_map (λ l. (0, l)) letters else None
 

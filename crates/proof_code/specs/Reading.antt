@@ -1,6 +1,8 @@
--- How a compressed proof is read: the effect of one byte of the letters, and the items that the whole proof writes.
+-- How a compressed proof is read: the effect of one byte of the letters, and the items that the
+-- whole proof writes.
 -- Source: Metamath, appendix B.
--- The code reads without the mandatory labels: the caller tests whether a listed label is one of them.
+-- The code reads without the mandatory labels: the caller tests whether a listed label is one of
+-- them.
 use Rattle.std.specs.Prelude.{◌≡◌, ℕ, ◌+◌, ◌-◌, ◌*◌, ◌^◌, ◌==◌, ◌||◌, Bool, IsTrue, IsFalse, if◌then◌else◌, List, [], ◌∷◌, ◌++◌, length, Option}
 use Rattle.std.specs.List.{list_any}
 use Rattle.std.specs.Option.{option_map}
@@ -15,8 +17,8 @@ use Rattle.proof_code.specs.Writes.{finish, WritesCompressed}
 abbrev pub before_rest : List ℕ → Option (List ℕ) → Option (List ℕ)
 before_rest numbers rest = option_map (λ more. numbers ++ more) rest
 
--- the value of the digits with a byte after them, where Z is a mark; it is over every limit for a mark after digits, and for a
--- byte that is neither a letter nor a space
+-- the value of the digits with a byte after them, where 32 is a space and 90 is Z, a mark; it is
+-- over every limit for a mark after digits, and for a byte that is neither a letter nor a space
 abbrev pub value_after : ℕ → ℕ → ℕ
 value_after digits byte =
     if is_first byte then 5 * digits + (byte - 84)
@@ -28,7 +30,8 @@ value_after digits byte =
 abbrev pub ends_number : ℕ → Bool
 ends_number byte = is_last byte || (byte == 90)
 
--- the number that a byte ends, if it ends one, and the digits before the next byte, by the value of the digits with the byte
+-- by the value of the digits with the byte: the number that the byte ends, if it ends one
+-- (`ended`), and the digits before the next byte (`digits_after`)
 abbrev pub ended : ℕ → ℕ → List ℕ
 ended byte value = if ends_number byte then value ∷ [] else []
 
@@ -39,12 +42,14 @@ digits_after byte value = if ends_number byte then 0 else value
 abbrev pub limit_after : ℕ → ℕ → ℕ
 limit_after limit byte = if byte == 90 then limit + 1 else limit
 
--- one byte changes the limit and the digits in this way, and ends these numbers, whatever text follows
+-- one byte changes the limit and the digits in this way, and ends these numbers, whatever text
+-- follows
 abbrev pub IsByteEffect : ℕ → ℕ → ℕ → List ℕ → ℕ → ℕ → Type 0
 IsByteEffect limit digits byte numbers limit' digits' =
     (text : List ℕ) → numbers_from limit digits (letters_of (byte ∷ text)) ≡ before_rest numbers (numbers_from limit' digits' (letters_of text))
 
--- one byte is read: whatever text follows, the numbers before the rest and those of the rest are the same as before
+-- one byte is read: whatever text follows, the numbers read before followed by those of the rest
+-- are the same before and after that byte
 abbrev pub IsNextRead : List ℕ → ℕ → ℕ → ℕ → List ℕ → ℕ → ℕ → Type 0
 IsNextRead before limit digits byte after limit' digits' =
     (text : List ℕ) → before_rest before (numbers_from limit digits (letters_of (byte ∷ text))) ≡ before_rest after (numbers_from limit' digits' (letters_of text))
@@ -53,8 +58,8 @@ IsNextRead before limit digits byte after limit' digits' =
 abbrev pub share_label : List Name → List Name → Bool
 share_label mandatory listed = list_any (λ label. has_name label mandatory) listed
 
--- the proof lists the first `count` of the words, and for any mandatory labels, as many as given, it writes the items of the
--- numbers if none of these labels is listed, and no items if one is
+-- the proof lists the first `count` of the words; and for all mandatory labels of that number, it
+-- writes the items of these numbers if none of the labels is listed, and no items if one is
 pub record IsHeading (tokens : List Name) (mandatory : ℕ) (words : List Name) (count : ℕ) (numbers : List ℕ) : Type 0 where
   pub listed : List Name
   pub rest : List Name

@@ -1,6 +1,7 @@
 -- Tokens read from left to right, for the clauses of private functions.
 -- Source: Metamath, appendix B.
--- The code reads in this way; LetterItemLemmas and WritesLemmas prove that this gives the items of `Writes`.
+-- The code reads in this way; `LetterItemLemmas` and `WritesLemmas` prove that this gives the items
+-- of `Writes`.
 use Rattle.std.specs.Prelude.{ℕ, ◌+◌, ◌-◌, ◌*◌, Bool, false, ◌&&◌, ◌==◌, nat_le, if◌then◌else◌, List, [], ◌∷◌, Option, Some, None}
 use Rattle.std.specs.Option.{option_map}
 use Rattle.mm_lex.specs.Alphabet.{Name, name_eq, is_label}
@@ -12,6 +13,7 @@ abbrev pub letters_of : List ℕ → List ℕ
 letters_of [] = []
 letters_of (byte ∷ text) = if byte == 32 then letters_of text else byte ∷ letters_of text
 
+-- whether the first letter is Z (90), a mark
 abbrev pub starts_with_mark : List ℕ → Bool
 starts_with_mark [] = false
 starts_with_mark (letter ∷ letters) = letter == 90
@@ -20,7 +22,8 @@ starts_with_mark (letter ∷ letters) = letter == 90
 abbrev pub with_number : ℕ → ℕ → Option (List ℕ) → Option (List ℕ)
 with_number limit number rest = if nat_le number limit then option_map (λ numbers. number ∷ numbers) rest else None
 
--- the numbers of the letters, 0 for a mark, if the letters U to Y read so far of this word have the value `digits`
+-- the numbers that the letters write, 0 for a mark, where the letters U to Y already read of this
+-- word have the value `digits`
 abbrev pub numbers_from : ℕ → ℕ → List ℕ → Option (List ℕ)
 numbers_from limit digits [] = if digits == 0 then Some [] else None
 numbers_from limit digits (letter ∷ letters) =
@@ -36,6 +39,7 @@ pub record Header : Type 0 where
 abbrev pub with_label : Name → Header → Header
 with_label label header = record { listed = label ∷ header.listed; rest = header.rest }
 
+-- the header with which the tokens begin, or `None` if no `)` follows labels alone
 abbrev pub header_of : List Name → Option Header
 header_of [] = None
 header_of (token ∷ tokens) =

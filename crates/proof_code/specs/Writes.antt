@@ -1,6 +1,7 @@
 -- The items that the tokens of a proof write, and the faults of tokens that write none.
 -- Source: Metamath, 4.3 (normal proofs) and appendix B (compressed proofs).
--- The code reads bytes once, left to right; here the tokens are split into labels and words in any way that fits.
+-- The code reads bytes once, left to right; here the tokens are split into labels and words in any
+-- way that fits.
 use Rattle.std.specs.Prelude.{◌≡◌, ℕ, ◌+◌, ◌≤◌, ◌⊎◌, Bool, true, false, IsTrue, IsFalse, List, [], ◌∷◌, ◌++◌, map, length, flat_map, Some, slice_get, codes}
 use Rattle.std.specs.List.{list_all, list_any}
 use Rattle.mm_lex.specs.Alphabet.{Name, name_eq, has_name, has_byte, is_label}
@@ -31,7 +32,8 @@ abbrev pub is_compressed : List Name → Bool
 is_compressed [] = false
 is_compressed (token ∷ tokens) = name_eq token begin
 
--- a number cites a label, counted from 1, or, if greater than their count, recalls one of the results marked so far
+-- a number cites a label, counted from 1, or, if greater than their count, recalls one of the
+-- results marked so far
 abbrev pub Denotes : List Name → ℕ → ℕ → Item → Type 0
 Denotes labels marks number (Cite label) = (k : ℕ) × (number ≡ k + 1) × (slice_get labels k ≡ Some label)
 Denotes labels marks number (Recall k) = (number ≡ length labels + k) × (1 ≤ k) × (k ≤ marks)
@@ -59,8 +61,8 @@ pub record WritesRow (labels : List Name) (letters : List ℕ) (items : List Ite
   pub means : AreItems labels 0 row items
   pub starts : IsTrue (starts_with_result items)
 
--- the tokens are `(`, the listed labels, `)` and the letters, with spaces anywhere among them; the mandatory labels are
--- numbered before the listed ones, and no label is both
+-- the tokens are `(`, the listed labels, `)` and the letters, with spaces anywhere among them; the
+-- mandatory labels are numbered before the listed ones, and no label is both
 pub record WritesCompressed (tokens mandatory : List Name) (items : List Item) : Type 0 where
   pub listed : List Name
   pub rest : List Name

@@ -1,13 +1,15 @@
-//! The table by which the letters of a compressed proof are read: how each byte changes the value of the digits before it.
+//! The table by which the letters of a compressed proof are read: how each byte changes the value
+//! of the digits before it.
 //!
-//! The letters U to Y are the digits 1 to 5 of a number, A to T the digits 1 to 20 that end it, and Z is a mark. The table
-//! has a step for every byte, so that none needs a test.
+//! The letters U to Y are the digits 1 to 5 of a number, A to T the digits 1 to 20 that end it, and
+//! Z is a mark. The table has a step for every byte, so that none needs a test.
 
-/// How a byte changes the value of the digits before it: the value with the byte is `factor` times theirs, modulo 2^64, and
-/// `added`.
+/// How a byte changes the value of the digits before it. The value with the byte is that value
+/// times `factor`, modulo 2^64, plus `added`.
 #[derive(Clone, Copy)]
 pub(crate) struct ByteStep {
-    /// The factor of the digits. For a mark it is -1, modulo 2^64: after digits its value is over every limit.
+    /// The factor of the value before the byte. For a mark it is -1, modulo 2^64, so that the value
+    /// of a mark after digits is over every limit.
     pub(crate) factor: usize,
     /// The number that is added.
     pub(crate) added: usize,
@@ -17,7 +19,7 @@ pub(crate) struct ByteStep {
     pub(crate) ends: usize,
     /// How many marks the byte is: 0 or 1.
     pub(crate) marks: usize,
-    /// Fills a step to 64 bytes, so that a step is found by one shift.
+    /// Makes a step 64 bytes long, so that the place of a step is found by one shift.
     pub(crate) unused: [usize; 3],
 }
 
@@ -44,7 +46,8 @@ const SPACE: ByteStep = ByteStep {
     unused: [0; 3],
 };
 
-/// The first letter that ends a number.
+/// The step of `A`, the first of the letters that end a number. The steps of `B` to `T` are the
+/// same but for `added`.
 const A: ByteStep = ByteStep {
     factor: 20,
     added: 1,
@@ -92,7 +95,8 @@ const S: ByteStep = ByteStep { added: 19, ..A };
 
 const T: ByteStep = ByteStep { added: 20, ..A };
 
-/// The first letter before the one that ends a number.
+/// The step of `U`, the first of the letters that precede the one that ends a number. The steps of
+/// `V` to `Y` are the same but for `added`.
 const U: ByteStep = ByteStep {
     factor: 5,
     added: 1,
@@ -110,7 +114,7 @@ const X: ByteStep = ByteStep { added: 4, ..U };
 
 const Y: ByteStep = ByteStep { added: 5, ..U };
 
-/// The mark.
+/// The step of `Z`, the mark.
 const Z: ByteStep = ByteStep {
     factor: ALL,
     added: 0,

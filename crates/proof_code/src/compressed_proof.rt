@@ -12,18 +12,20 @@ use mm_lex::{WordIter, Words};
 use std::alloc::{AllocError, Global};
 use std::collections::BTreeSet;
 
-/// Returns whether the tokens are those of a compressed proof: the first one is `(`.
+/// Returns whether the tokens are those of a compressed proof: whether the first one is `(`.
 pub fn is_compressed(tokens: &Words) -> bool
     ensures { result ≡ is_compressed tokens.now }
 {
     matches!(tokens.iter().next(), Some([b'(']))
 }
 
-/// Returns the items of a compressed proof. `mandatory` are the labels of the mandatory hypotheses in frame order.
+/// Returns the items of a compressed proof. `mandatory` are the labels of the mandatory hypotheses
+/// in frame order.
 ///
-/// Errors: `Unfinished` if a token has the byte `?`, else `Malformed` if the tokens write no items, both even
-/// if every allocation fails; else `Memory`. Cost: the sizes of the tokens and of the mandatory labels, times the
-/// logarithm of their number (if an allocation fails, each listed label may be compared with each mandatory one).
+/// Errors: `Unfinished` if a token has the byte `?`, else `Malformed` if the tokens write no items,
+/// both even if every allocation fails; else `Memory`. Cost: the sizes of the tokens and of the
+/// mandatory labels, times the logarithm of their number (if an allocation fails, each listed label
+/// may be compared with each mandatory one).
 /// Source: Metamath, appendix B.
 pub fn packed(alloc: Global, tokens: &Words, mandatory: &Words) -> Result<Items, CodeFault>
     requires { IsTrue (is_compressed tokens.now) }
@@ -48,7 +50,8 @@ pub fn packed(alloc: Global, tokens: &Words, mandatory: &Words) -> Result<Items,
     }
 }
 
-/// Returns how many labels there are: at most 2^62, since each takes at least a byte, and a space is between two.
+/// Returns how many labels there are: at most 2^62, since each takes at least a byte, and a space
+/// is between two.
 fn count_labels(labels: &Words) -> usize
     ensures count { result ≡ length labels.now }
     ensures few { result ≤ 2 ^ 62 }

@@ -1,4 +1,4 @@
-//! The faults of tokens that write no items.
+//! Why the tokens of a proof write no items.
 ghost use Rattle.std.specs.Prelude.{◌≡◌, ◌⊎◌, Ok, Err, IfOk, OnErr, MatchOption};
 ghost use Rattle.proof_code.specs.Writes.{is_unfinished};
 
@@ -6,7 +6,7 @@ use crate::items::Items;
 use mm_lex::Words;
 use std::alloc::AllocError;
 
-/// A fault of tokens that write no items, or a failed allocation.
+/// Why the tokens of a proof write no items; or an allocation failed.
 #[derive(Clone, Copy, Debug, Drop, PartialEq, Eq)]
 pub enum CodeFault {
     /// Some token has the byte `?`.
@@ -17,7 +17,7 @@ pub enum CodeFault {
     Memory,
 }
 
-/// Returns whether some token has the byte `?`.
+/// Returns whether some token has the byte `?`. Cost: the size of the tokens.
 #[tactic(auto, using(crate::proofs::AnswersLemmas::is_unfinished_text))]
 pub fn is_unfinished(tokens: &Words) -> bool
     ensures { result ≡ is_unfinished tokens.now }

@@ -1,16 +1,16 @@
-//! One part of a proof.
+//! The items of which a proof consists.
 
 use mm_lex::Word;
 
-/// One part of a proof.
+/// One item of a proof: what one label, one number or one letter Z of it tells the verifier to do.
 ///
 /// Source: Metamath, 4.3 and appendix B.
 #[derive(Drop)]
 pub enum Item {
     /// Cites the statement with this label.
     Cite(Word),
-    /// Recalls a marked result, counted from 1 in the order of the marks.
+    /// Recalls the result that the mark of this number saved. Marks are numbered from 1, in order.
     Recall(usize),
-    /// Marks the result of the previous item.
+    /// Saves the result of the previous item, so that later items can recall it.
     Mark,
 }

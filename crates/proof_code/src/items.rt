@@ -7,7 +7,8 @@ use std::marker::Model;
 
 /// The items of a proof. Contracts see the list of them.
 ///
-/// They are stored as a table of labels and one number for each item, so that no item has a label of its own.
+/// They are stored as a table of labels and one number for each item, so that no item has a label
+/// of its own.
 #[derive(Drop)]
 pub struct Items {
     labels: Words,
@@ -26,9 +27,10 @@ impl Model for Items {
 
 /// The contents of `Items`: the labels that may be cited, and for each item its number.
 ///
-/// The number 0 is a mark. A number up to the count of labels cites that label, counted from 1, and a number that
-/// exceeds the count by k recalls the kth marked result. In a compressed proof the labels are the mandatory ones and then
-/// the listed ones, and the numbers are those that the letters write; in a normal proof the labels are the tokens.
+/// The number 0 is a mark. A number up to the count of labels cites that label, counted from 1, and
+/// a number that exceeds the count by k recalls the kth marked result. In a compressed proof the
+/// labels are the mandatory ones and then the listed ones, and the numbers are those that the
+/// letters write; in a normal proof the labels are the tokens.
 #[derive(Clone, Copy)]
 pub struct Parts<'a> {
     /// The labels that may be cited.

@@ -1,7 +1,8 @@
 //! Laws of the definitions, each the contract of a function that does nothing.
 ghost use Rattle.proof_code.specs.Laws.{NumbersByFormula, OneListOfItems, OneAnswerEach};
 
-/// States that a word's place in the order of all words is the number that base 5 and base 20 give.
+/// States that the place of a word of letters in the order of all words is the number that the
+/// formula in base 5 and base 20 gives.
 pub fn numbers_by_formula()
     ensures { NumbersByFormula }
 {}

@@ -1,7 +1,8 @@
-//! The letters of a compressed proof, and the numbers that they write.
+//! Reads the numbers that the letters of a compressed proof write.
 //!
-//! A processor cannot predict the next letter, so no branch depends on it: a table has the numbers by which each byte
-//! changes the digits before it, and the only test for each byte is whether a value is over the limit.
+//! A processor cannot predict the next letter, so no branch depends on which it is: a table has the
+//! numbers by which each byte changes the value of the digits before it, and the only test for each
+//! byte is whether a value is over the limit.
 ghost use Rattle.std.specs.Prelude.{◌≡◌, if◌then◌else◌, ◌+◌, ◌*◌, ◌^◌, ◌<◌, ◌≤◌, ◌∷◌, ℕ, List, length, take, max, None, Some, IfNone, IfSome, MatchOption};
 ghost use Rattle.proof_code.specs.Text.{letters_of, numbers_from, starts_with_mark};
 ghost use Rattle.proof_code.specs.Reading.{IsByteEffect, IsNextRead, digits_after, ended, ends_number, limit_after, value_after};
@@ -11,7 +12,8 @@ use crate::byte_step::STEPS;
 /// The bits of a number that is stored.
 const NUMBER_BITS: usize = 0xffff_ffff;
 
-/// Returns the value of the digits with a byte after them. It is over every limit if the byte cannot stand there.
+/// Returns the value of the digits with a byte after them. It is over every limit if the byte
+/// cannot stand there.
 #[inline(always)]
 fn value_after(digits: usize, byte: u8) -> usize
     requires { 20 * digits + 26 < 2 ^ 64 }
@@ -29,18 +31,19 @@ fn count_ended(byte: u8) -> usize
     STEPS[usize::from(byte)].ends
 }
 
-/// The state between two bytes of the letters.
+/// The state of reading between two bytes of the letters.
 #[derive(Clone, Copy)]
 struct LetterState {
     /// The largest number that is valid here.
     limit: usize,
-    /// The value of the letters U to Y read so far of this word, as the digits 1 to 5 in base 5.
+    /// The value of the letters U to Y that were read of this word, as the digits 1 to 5 in base 5;
+    /// 0 between words.
     digits: usize,
 }
 
 impl LetterState {
-    /// Returns `Some` if the digits may have this value with the byte after them, or `None` if the letters with this byte
-    /// write no numbers, whatever follows.
+    /// Returns `Some` if the digits may have this value with the byte after them, or `None` if the
+    /// letters with this byte write no numbers, whatever follows.
     ///
     /// A word with digits over `digits_limit` has a number over the limit, however it ends.
     #[inline(always)]
@@ -76,11 +79,12 @@ impl LetterState {
         self.limit += step.marks;
     }
 
-    /// Goes past a byte, and stores the value of the digits with it after the first `count` numbers. Returns how many
-    /// numbers there are then, or `None` if the letters with this byte write no numbers, whatever follows.
+    /// Goes past a byte, and stores the value of the digits with it after the first `count`
+    /// numbers. Returns how many numbers there are then, or `None` if the letters with this byte
+    /// write no numbers, whatever follows.
     ///
-    /// The value is stored before it is tested: stored after the test it makes the compiler take two instructions to add to
-    /// the count.
+    /// The value is stored before it is tested, since the compiler then adds to the count with one
+    /// instruction instead of two.
     #[inline(always)]
     fn write_next(&mut self, byte: u8, count: usize, numbers: &mut [u32]) -> Option<usize>
         requires begun { self.old.digits ≤ self.old.limit }
@@ -100,11 +104,12 @@ impl LetterState {
     }
 }
 
-/// Stores the numbers that the letters of a text write, if there are `labels` labels, and returns how many there are, or
-/// `None` if the letters write no numbers. Spaces may be anywhere among the letters.
+/// Stores the numbers that the letters of a text write, if there are `labels` labels, and returns
+/// how many there are, or `None` if the letters write no numbers. Spaces may be anywhere among the
+/// letters.
 ///
-/// The value of the word is stored for each byte, and overwritten unless the byte ends a number. Four bytes are read in
-/// each turn, which share the instructions of the loop itself.
+/// For each byte it stores the value of the word, and overwrites it unless the byte ends a number.
+/// It reads four bytes in each turn of the loop, which share the instructions of the loop itself.
 #[inline(never)]
 pub(crate) fn write_numbers(text: &[u8], labels: usize, numbers: &mut [u32]) -> Option<usize>
     requires small { labels + length text.now < 2 ^ 32 }

@@ -1,12 +1,14 @@
 //! From the tokens of a Metamath proof to its items: citations, recalls and marks.
 //!
-//! The crates above use `normal` and `packed`: an `Ok` holds the items that the tokens write, and if they write
-//! none the fault is `Unfinished` exactly if a token has the byte `?`, else `Malformed`. Contracts see `Items` as the
-//! list of items; it has a table of labels and a number for each item. `Reader::read` reads one compressed proof after
-//! another into one buffer, without the mandatory labels, which the caller has.
+//! `normal` reads a normal proof, `packed` a compressed one: an `Ok` holds the items that the
+//! tokens write, and if they write none the fault is `Unfinished` exactly if a token has the byte
+//! `?`, else `Malformed`. Contracts see `Items` as the list of items; it stores a table of labels
+//! and a number for each item. `Reader::read` reads one compressed proof after another into one
+//! buffer, without the labels of the mandatory hypotheses, which the caller has.
 //!
-//! Reading order: `item`, `items`, `fault`, then `normal_proof`; `reader` with its parts `listing` (counts the labels)
-//! and `letter_numbers`, with its table `byte_step`; `compressed_proof`, which uses it; and `laws`.
+//! Reading order: `item`, `items`, `fault`, then `normal_proof`; `reader` with its parts `listing`
+//! (counts the labels) and `letter_numbers`, with its table `byte_step`; `compressed_proof`, which
+//! uses it; and `laws`.
 #![tactic(auto)]
 
 mod byte_step;

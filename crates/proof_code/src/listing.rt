@@ -8,8 +8,8 @@ use std::simd::prelude::*;
 /// How many bytes are compared at once.
 const LANES: usize = 16;
 
-/// Returns how many labels precede the word `)`, and the letters after it, or `None` if there is no `)` or if a word
-/// before it is not a label.
+/// Returns how many labels precede the word `)`, and the letters after it, or `None` if there is no
+/// `)` or if a word before it is not a label.
 pub(crate) fn count_listed(text: &[u8]) -> Option<(usize, &[u8])>
     ensures listed_count { MatchOption result (listed_count true text.now ≡ None) (λ r. listed_count true text.now ≡ Some (r.0, r.1.now)) }
     ensures within { IfSome result (λ r. r.0 + length r.1.now ≤ length text.now) }
@@ -29,7 +29,7 @@ pub(crate) fn count_listed(text: &[u8]) -> Option<(usize, &[u8])>
     Some((count + more, letters))
 }
 
-/// Counts as `count_listed` does, but byte by byte; `last` is the byte before the text.
+/// Returns what `count_listed` does, but reads byte by byte; `last` is the byte before the text.
 fn count_by_byte(text: &[u8], last: u8) -> Option<(usize, &[u8])>
     ensures listed_count { MatchOption result (listed_count (last == 32) text.now ≡ None) (λ r. listed_count (last == 32) text.now ≡ Some (r.0, r.1.now)) }
     ensures within { IfSome result (λ r. r.0 + length r.1.now ≤ length text.now) }
@@ -54,7 +54,8 @@ fn count_by_byte(text: &[u8], last: u8) -> Option<(usize, &[u8])>
     None
 }
 
-/// Returns how many of the first 16 bytes are spaces, or `None` if one is neither a byte of a label nor a space.
+/// Returns how many of the first 16 bytes are spaces, or `None` if one is neither a byte of a label
+/// nor a space.
 fn count_in_lanes(text: &[u8]) -> Option<usize>
     requires room { 16 ≤ length text.now }
     ensures listed { IfSome result (λ spaces. are_listed (take 16 text.now) ≡ true) }

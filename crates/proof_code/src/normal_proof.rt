@@ -12,8 +12,9 @@ use std::alloc::{AllocError, Global};
 
 /// Returns the items of a normal proof: a citation for each token.
 ///
-/// Errors: `Unfinished` if a token has the byte `?`, else `Malformed` if a token is not a label, both even if
-/// every allocation fails; else `Memory`. Cost: the size of the tokens. Source: Metamath, 4.3.
+/// Errors: `Unfinished` if a token has the byte `?`, else `Malformed` if a token is not a label,
+/// both even if every allocation fails; else `Memory`. Cost: the size of the tokens.
+/// Source: Metamath, 4.3.
 pub fn normal(alloc: Global, tokens: &Words) -> Result<Items, CodeFault>
     ensures items { IfOk result (λ items. WritesFinishedNormal tokens.now items) }
     ensures unfinished { (result ≡ Err CodeFault.Unfinished) ↔ IsTrue (is_unfinished tokens.now) }

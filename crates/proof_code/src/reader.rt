@@ -12,13 +12,14 @@ use mm_lex::{WordIter, Words};
 use std::alloc::{AllocError, Global};
 use std::marker::Model;
 
-/// The largest number of labels and of letters of one proof; more are reported as a failed allocation.
+/// The largest number of labels of one proof, mandatory and listed, and the largest size of its
+/// letters, the spaces among them included. More are reported as a failed allocation.
 pub const MAX_LETTERS: usize = 1 << 30;
 
 /// Reads compressed proofs, one after another. Contracts see the numbers of the last one.
 #[derive(Drop)]
 pub struct Reader {
-    /// The numbers, followed by unused items.
+    /// The numbers, followed by elements that are not used.
     buffer: Vec<u32>,
     /// How many numbers there are.
     count: usize,
@@ -34,7 +35,7 @@ impl Model for Reader {
     ghost invariant = { λ a. a.count ≤ length a.buffer.items };
 }
 
-/// The labels that a compressed proof lists: the first `count` words of `words`.
+/// The labels that a compressed proof lists in its parentheses: the first `count` words of `words`.
 #[derive(Drop)]
 pub struct Heading<'a> {
     /// The listed labels, `)` and the letters.
@@ -61,11 +62,15 @@ impl Reader {
         &self.buffer[..self.count]
     }
 
-    /// Reads a compressed proof of a statement with `mandatory` mandatory hypotheses. Returns the labels that it lists, and
-    /// keeps the numbers of its items; returns `None` if it writes no items, whatever the mandatory labels are.
+    /// Reads a compressed proof of a statement with `mandatory` mandatory hypotheses. Returns the
+    /// labels that it lists, and keeps the numbers of its items; returns `None` if it writes no
+    /// items, whatever the mandatory labels are.
     ///
-    /// The proof writes these items only if no listed label is a mandatory one, which the caller has to test.
-    /// Errors: an allocation fails, or there are more than `MAX_LETTERS` labels or letters; the numbers are then unchanged.
+    /// The proof writes these items only if no listed label is a mandatory one, which the caller
+    /// has to test.
+    ///
+    /// Errors: an allocation fails, or there are more labels or letters than `MAX_LETTERS`; the
+    /// numbers are then unchanged.
     /// Cost: the size of the tokens. Source: Metamath, appendix B.
     pub fn read<'a>(
         &mut self,
@@ -88,7 +93,8 @@ impl Reader {
         Ok(Some(heading))
     }
 
-    /// Reads a proof as `read` does, and returns, with the labels, `Ok` if the numbers were kept. Returns `None` for a proof
+    /// Reads a proof as `read` does, but also checks it if an allocation fails: returns the listed
+    /// labels with `Ok` if it keeps the numbers, or with `Err` if it cannot, and `None` for a proof
     /// that writes no items, even if every allocation fails.
     pub(crate) fn read_or_check<'a>(
         &mut self,
@@ -129,7 +135,7 @@ impl Reader {
     }
 }
 
-/// Makes room for a number for each letter.
+/// Lengthens the buffer so that it has an element for each letter.
 ///
 /// Errors: an allocation fails, or there are too many letters or labels.
 fn make_room(buffer: &mut Vec<u32>, labels: usize, letters: usize) -> Result<(), AllocError>

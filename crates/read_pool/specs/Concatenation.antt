@@ -1,5 +1,5 @@
 -- Two lists of statements as one.
--- Source: this project's own form; for the private function `concatenate` of `src/parts`.
+-- Source: this project's choice; for the private function `concatenate` of `src/parts`.
 -- The code moves the second list to the end of the first.
 use Rattle.std.specs.Prelude.{◌≡◌, ◌++◌, Option, Some, None, Vec}
 use Rattle.std.specs.declared.alloc.Global.{Global}

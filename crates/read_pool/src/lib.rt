@@ -1,6 +1,7 @@
-//! Reads a text in parallel, with the answer of one thread.
+//! Reads a text in parallel, with the same answer as by one thread.
 //!
-//! The main contract: `read_in_parts` meets each clause of `mm_read::read`, whatever the number of workers.
+//! `read_in_parts` meets each clause of `mm_read::read`, whatever the number of workers.
+//!
 //! Reading order: `specs/Cut` and `cut` (where a text is cut), `parts`.
 #![tactic(auto)]
 

@@ -1,4 +1,5 @@
-//! Reads a text in parts: a large text is cut in two, each half again, and so on, and threads read the parts.
+//! Reads a text in parts: a large text is cut in two, each half again, and so on, and threads read
+//! the parts.
 ghost use Rattle.std.specs.Prelude.{◌≡◌, ℕ, ◌⊎◌, ◌++◌, IfOk, IfErr, IfSome, IsErrAnd, MatchResult};
 ghost use Rattle.std.specs.Thread.{IsSync};
 ghost use Rattle.mm_lex.specs.TextFaults.{IsFirstBadByte, IsCommentFault};
@@ -12,13 +13,16 @@ use mm_read::{ReadFault, Stmt, read};
 use std::alloc::Global;
 use std::thread::{Threads, join};
 
-/// Returns the statements that the text reads as, like `mm_read::read`, but reads on up to `workers` threads.
+/// Returns the statements that the text reads as, like `mm_read::read`, but reads on up to
+/// `workers` threads.
 ///
-/// A text of two MiB or more is cut into at most `workers` parts, of a MiB or more on average; each cut is where a
-/// statement seems to end. If a part does not read, or an allocation fails, the calling thread reads the whole text; so
-/// no answer but `Memory` depends on the number of workers or on the cuts.
-/// Errors: those of `read`. Cost: the size of the text, divided among the workers; if a part does not read (because the
-/// text is refused, or a cut is in a comment), that of `read` as well.
+/// A text of two MiB or more is cut into at most `workers` parts, of a MiB or more on average; each
+/// cut is where a statement seems to end. If a part does not read, or an allocation fails, the
+/// calling thread reads the whole text. So no answer but `Memory` depends on the number of workers
+/// or on the cuts.
+///
+/// Errors: those of `read`. Cost: the size of the text, divided among the workers; if a part does
+/// not read (because the text is refused, or a cut is in a comment), that of `read` as well.
 pub fn read_in_parts<R: Threads + Sync>(
     rt: &R,
     alloc: Global,
@@ -32,7 +36,7 @@ pub fn read_in_parts<R: Threads + Sync>(
     ensures statements { (S : Database) → Reads text.now S
         → MatchResult result (λ statements. statements.items ≡ S) (λ fault. fault ≡ ReadFault.Memory) }
 
-    // A fault of the tokens is returned even if every allocation fails.
+    // A fault of bytes or comments is returned even if every allocation fails.
     ensures text_fault { (offset : ℕ) → IsFirstBadByte text.now offset
         → result ≡ Err (ReadFault.Text (LexFault.Text offset)) }
     ensures comment_fault { (offset : ℕ) → IsCommentFault text.now offset
@@ -49,8 +53,8 @@ pub fn read_in_parts<R: Threads + Sync>(
     read(alloc, text)
 }
 
-/// Returns the statements that the text reads as, read in `parts` parts, or `None` if a part does not read or an
-/// allocation fails.
+/// Returns the statements that the text reads as, read in `parts` parts, or `None` if a part does
+/// not read or an allocation fails.
 #[cycle(parts)]
 fn read_parts<R: Threads + Sync>(
     rt: &R,
@@ -78,8 +82,8 @@ fn read_parts<R: Threads + Sync>(
     concatenate(first, second)
 }
 
-/// Returns the statements of the first list followed by those of the second, or `None` if a list is `None` or the
-/// allocation fails.
+/// Returns the statements of the first list followed by those of the second, or `None` if a list is
+/// `None` or the allocation fails.
 fn concatenate(first: Option<Vec<Stmt>>, second: Option<Vec<Stmt>>) -> Option<Vec<Stmt>>
     ensures { IfSome result (λ statements. IsConcatenation first second statements.items) }
 {

@@ -1,5 +1,5 @@
 -- Marks of names: a truth value for each name of a list.
--- Source: this project's form.
+-- Source: this project's choice.
 -- The code looks up each name that the statements have; here each name of the list is tested.
 use Rattle.std.specs.Prelude.{Bool, true, false, cond, List, [], ◌∷◌}
 use Rattle.mm_lex.specs.Alphabet.{Name}
@@ -12,7 +12,7 @@ marked test mark [] marks = marks
 marked test mark (x ∷ names) [] = []
 marked test mark (x ∷ names) (m ∷ marks) = cond (test x) mark m ∷ marked test mark names marks
 
--- whether this is a fault of a name that occurs in no statement
+-- whether a name that occurs in no earlier statement has this fault
 abbrev pub is_fault_if_absent : SymbolFault → Bool
 is_fault_if_absent Unknown = true
 is_fault_if_absent Inactive = true

@@ -1,6 +1,7 @@
 -- Earlier statements that have a name in some part, and those of them that are active.
 -- Source: Metamath, 4.2.8.
--- The code goes back from the end and counts the blocks that are closed later; "active" is defined in the crate scope.
+-- The code goes back from the end and counts the blocks that are closed later; the crate `scope`
+-- defines which statements are active.
 use Rattle.std.specs.Prelude.{◌≡◌, ℕ, suc, ◌-◌, Bool, ◌||◌, ◌&&◌, not, List, [], ◌∷◌, drop, Some, slice_get, IsTrue}
 use Rattle.std.specs.List.{list_any}
 use Rattle.mm_lex.specs.Alphabet.{Name, has_name}
@@ -13,8 +14,8 @@ use Rattle.rule_violation.specs.declared.symbol_search.SymbolFault.TheVariants.{
 use Rattle.rule_violation.specs.declared.search.Part.{Part}
 use Rattle.rule_violation.specs.declared.search.Part.TheVariants.{LabelOrSymbol, LabelOrConstant, Constant, Variable, Float}
 
--- whether the statement has the name in that part: as its label or among the symbols that it declares; as its label or a
--- constant; as a constant; as a variable; as the variable of a `$f`
+-- whether the statement has the name in that part: as its label or among the symbols that it
+-- declares; as its label or a constant; as a constant; as a variable; as the variable of a `$f`
 abbrev pub has_name_in : Part → Name → Stmt → Bool
 has_name_in LabelOrSymbol x s = has_label x (label_of s) || (has_name x (constants s) || has_name x (variables s))
 has_name_in LabelOrConstant x s = has_label x (label_of s) || has_name x (constants s)
@@ -33,18 +34,19 @@ pub record IsActiveAt (S : Database) (i : ℕ) (test : Stmt → Bool) : Type 0 w
   pub at : IsAt S i test
   pub stays : IsTrue (stays_open 0 (drop i S))
 
--- how many blocks that were open before the statement are closed by it or later, if n of those open after it are
+-- how many of the blocks that are open before the statement are closed by it or later, given that n
+-- of those that are open after it are closed later
 abbrev pub closed_from : Stmt → ℕ → ℕ
 closed_from Open n = n - 1
 closed_from Close n = suc n
 closed_from s n = n
 
--- how many blocks that were open before these statements they close
+-- how many of the blocks that are open before these statements they close
 abbrev pub closed_in : Database → ℕ
 closed_in [] = 0
 closed_in (s ∷ S) = closed_from s (closed_in S)
 
--- the faults of a symbol after S
+-- whether the symbol x has this fault after S
 abbrev pub has_fault : Database → SymbolFault → Name → Bool
 has_fault S Declared x = list_any (has_name_in LabelOrSymbol x) S
 has_fault S NotNewVariable x = is_variable S x || list_any (has_name_in LabelOrConstant x) S

@@ -1,5 +1,5 @@
 -- The violations of each of the ten rules.
--- Source: Metamath, 4.2; the rules are those of the crate scope.
+-- Source: Metamath, 4.2; the rules are those of the crate `scope`.
 -- The code looks for the first such symbol; here a violation is defined without the search for it.
 use Rattle.std.specs.Prelude.{◌≡◌, ℕ, ◌<◌, Bool, false, ◌⊎◌, List, [], ◌∷◌, Some, slice_get, IsTrue, IsFalse}
 use Rattle.mm_lex.specs.Alphabet.{Name}
@@ -35,11 +35,12 @@ IsLabelOf S x w = ⊥
 abbrev pub IsTwice : List Name → ℕ → ℕ → Type 0
 IsTwice names first second = (first < second) × HoldsAt names second (λ x. slice_get names first ≡ Some x)
 
+-- the violation is a name that is there twice
 abbrev pub IsRepeated : List Name → RuleViolation → Type 0
 IsRepeated names (Twice first second) = IsTwice names first second
 IsRepeated names w = ⊥
 
--- the expression of a `$e`, `$a` or `$p`
+-- the expression of a `$e`, `$a` or `$p`, whose variables need an active `$f`
 abbrev pub typed_expr : Stmt → Expr
 typed_expr (Ess label expr) = expr
 typed_expr (Axiom label expr) = expr
@@ -56,11 +57,12 @@ abbrev pub Violates : Database → Stmt → Rule → RuleViolation → Type 0
 -- a `$c` inside a block, or a `$}` that closes none
 Violates S s G1 Statement = keeps S s G1 ≡ false
 Violates S s G10 Statement = keeps S s G10 ≡ false
--- a constant that is an earlier label or was declared as a symbol, with that statement, or that occurs twice
+-- a constant that is an earlier label or was declared as a symbol, with that statement, or that
+-- occurs twice
 Violates S s G2 (Earlier k i) = HoldsAt (constants s) k (λ x. IsAt S i (has_name_in part.LabelOrSymbol x))
 Violates S s G2 (Twice j k) = IsTwice (constants s) j k
--- a variable that is an earlier label, was declared as a constant, or is an active variable, with that statement, or that
--- occurs twice
+-- a variable that is an earlier label, was declared as a constant, or is an active variable, with
+-- that statement, or that occurs twice
 Violates S s G3 (Earlier k i) = HoldsAt (variables s) k (λ x. IsAt S i (has_name_in part.LabelOrConstant x) ⊎ IsActiveAt S i (has_name_in part.Variable x))
 Violates S s G3 (Twice j k) = IsTwice (variables s) j k
 -- the label, which is an earlier label or was declared as a symbol, with that statement
@@ -69,7 +71,8 @@ Violates S s G4 (Label i) = (x : Name) × (label_of s ≡ Some x) × IsAt S i (h
 Violates S s G5 (Symbol k) = HoldsAt (expr_of s) k (λ x. IsFalse (is_constant S x) × IsFalse (is_variable S x))
 -- the first symbol, which is not a constant
 Violates S s G6 (Symbol k) = (k ≡ 0) × HoldsAt (expr_of s) k (λ x. IsFalse (is_constant S x))
--- the second symbol of a `$f`, which is not an active variable, or has an active `$f`, with that statement
+-- the second symbol of a `$f`, which is not an active variable, or has an active `$f`, with that
+-- statement
 Violates S s G7 (Symbol k) = (k ≡ 1) × HoldsAt (float_expr s) k (λ x. IsFalse (is_variable S x))
 Violates S s G7 (Earlier k i) = (k ≡ 1) × HoldsAt (float_expr s) k (λ x. IsActiveAt S i (has_name_in part.Float x))
 -- a symbol of a `$d` that is not an active variable, or that occurs twice

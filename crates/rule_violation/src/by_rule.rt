@@ -16,11 +16,11 @@ use mm_read::Stmt;
 use scope::Rule;
 use std::alloc::{AllocError, Global};
 
-/// Returns a violation of a rule that a statement breaks after the earlier ones. If the statement keeps the rule, the result
-/// is not specified. `scope::Rule` lists the rules G1 to G10.
+/// Returns a violation of a rule that a statement breaks after the earlier ones. If the statement
+/// keeps the rule, the result is not specified. `scope::Rule` lists the rules G1 to G10.
 ///
-/// Errors: an allocation fails. Cost: a few passes over the earlier statements, with a look-up of each of their names among
-/// those of the statement.
+/// Errors: an allocation fails. Cost: a few passes over the earlier statements, with a look-up of
+/// each of their names among those of the statement.
 pub fn violation_of(
     alloc: Global,
     earlier: &[Stmt],
@@ -102,7 +102,8 @@ fn of_label(earlier: &[Stmt], stmt: &Stmt) -> Option<RuleViolation>
     }
 }
 
-/// Returns the first statement that has the label or declares it as a symbol, as a violation of G4, or `None`.
+/// Returns the first statement that has the label or declares it as a symbol, as a violation of G4,
+/// or `None`.
 fn label_conflict(earlier: &[Stmt], label: &Word) -> Option<RuleViolation>
     ensures { MatchOption result (list_any (has_name_in part.LabelOrSymbol label.now) earlier.now ≡ false) (IsLabelOf earlier.now label.now) }
 {
@@ -196,9 +197,10 @@ fn of_untyped(
     }
 }
 
-/// Returns the position, from 1, of the last `${` that no statement closes, or `None` if there is none.
+/// Returns the position, from 1, of the last `${` that no statement closes, or `None` if there is
+/// none.
 ///
-/// Cost: the number of statements after it.
+/// Cost: the number of statements from it on; of all if there is none.
 pub fn never_closed(statements: &[Stmt]) -> Option<usize>
     ensures { IfSome result (λ i. IsActiveAt statements.now i is_open) }
 {
@@ -213,7 +215,8 @@ pub fn never_closed(statements: &[Stmt]) -> Option<usize>
     None
 }
 
-/// Returns whether the statement is a `${` and active. `closed` is the number of blocks open after it that are closed later.
+/// Returns whether the statement is a `${` that no later statement closes. `closed` is how many of
+/// the blocks that are open after it are closed later.
 fn is_active_open(closed: usize, stmt: &Stmt) -> bool
     ensures { result ≡ (closed == 0 && is_open stmt.now) }
 {

@@ -1,7 +1,9 @@
 //! Finds which symbol of a statement breaks a rule, and which earlier statement conflicts with it.
 //!
-//! After a statement is refused, `violation_of` searches the statements for the violation of the broken rule. `specs/Violates`
-//! defines violations. Read `violation`, `search`, `marks`, `symbol_search`, `by_rule`.
+//! After a statement is refused, `violation_of` searches the statements for what breaks the rule,
+//! its violation. `specs/Violates` defines violations.
+//!
+//! Reading order: `violation`, `search`, `marks`, `symbol_search`, `by_rule`.
 #![tactic(auto)]
 
 mod by_rule;

@@ -1,4 +1,5 @@
-//! Marks many names in one pass over the statements.
+//! Marks many names in one pass over the statements. A mark is a truth value for each name of a
+//! table.
 ghost use Rattle.std.specs.Prelude.{◌≡◌, ℕ, ◌+◌, ◌==◌, ◌&&◌, Some, None, [], IfOk, MatchOption, length, map, false, true, Bool};
 ghost use Rattle.std.specs.List.{list_any};
 ghost use Rattle.mm_lex.specs.Alphabet.{Name, has_name, name_eq};
@@ -60,8 +61,8 @@ pub(crate) fn mark_active(
     }
 }
 
-/// Sets the mark of each name that the statement has in that part to `mark`, if the statement is active. `closed` is the number
-/// of blocks open after it that are closed later.
+/// Sets the mark of each name that the statement has in that part to `mark`, if the statement is
+/// active. `closed` is how many of the blocks that are open after it are closed later.
 fn mark_where_active(
     closed: usize,
     names: &NameTable,

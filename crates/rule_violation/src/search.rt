@@ -8,7 +8,7 @@ ghost use Rattle.rule_violation.specs.Search.{has_name_in, closed_from, IsAt, Is
 use mm_lex::{Word, Words};
 use mm_read::Stmt;
 
-/// A part of a statement that may have a name.
+/// The part of a statement in which a name is searched.
 #[derive(Clone, Copy, Drop)]
 pub(crate) enum Part {
     /// Its label, or a symbol that it declares.
@@ -37,7 +37,8 @@ pub(crate) fn find(earlier: &[Stmt], part: Part, name: &[u8]) -> Option<usize>
     None
 }
 
-/// Returns the position, from 1, of the last active statement that has the name in that part, or `None`.
+/// Returns the position, from 1, of the last active statement that has the name in that part, or
+/// `None`.
 pub(crate) fn find_active(earlier: &[Stmt], part: Part, name: &[u8]) -> Option<usize>
     ensures { MatchOption result (list_any (λ p. has_name_in part name.now p.1) (active earlier.now) ≡ false)
         (λ i. IsActiveAt earlier.now i (has_name_in part name.now)) }
@@ -53,16 +54,16 @@ pub(crate) fn find_active(earlier: &[Stmt], part: Part, name: &[u8]) -> Option<u
     None
 }
 
-/// Returns whether the statement has the name in that part and is active. `closed` is the number of blocks open after it that
-/// are closed later.
+/// Returns whether the statement has the name in that part and is active. `closed` is how many of
+/// the blocks that are open after it are closed later.
 fn is_active_match(closed: usize, stmt: &Stmt, part: Part, name: &[u8]) -> bool
     ensures { result ≡ (closed == 0 && has_name_in part name.now stmt.now) }
 {
     closed == 0 && has_name_in(stmt, part, name)
 }
 
-/// Returns how many blocks that were open before the statement are closed by it or later, if `closed` of those open after it
-/// are.
+/// Returns how many of the blocks that are open before the statement are closed by it or later,
+/// given that `closed` of those that are open after it are closed later.
 pub(crate) fn closed_from(stmt: &Stmt, closed: usize) -> usize
     requires { closed + 1 < 2 ^ 64 }
     ensures { result ≡ closed_from stmt.now closed }
@@ -134,7 +135,7 @@ fn is(word: &Word, name: &[u8]) -> bool
     name == word.as_bytes()
 }
 
-/// Returns whether the name is among these.
+/// Returns whether the name is one of these.
 fn has(names: &Words, name: &[u8]) -> bool
     ensures { result ≡ has_name name.now names.now }
 {

@@ -17,7 +17,7 @@ use mm_read::Stmt;
 use names::NameTable;
 use std::alloc::{AllocError, Global};
 
-/// A fault of a symbol.
+/// A fault by which a symbol of a statement breaks a rule.
 #[derive(Clone, Copy, Drop)]
 pub(crate) enum SymbolFault {
     /// It is an earlier label or was declared as a symbol.
@@ -32,7 +32,8 @@ pub(crate) enum SymbolFault {
     Untyped,
 }
 
-/// Returns the index of the first of the words with this fault, and the word, or `None` if none has it.
+/// Returns the index of the first of the words with this fault, and the word, or `None` if none has
+/// it.
 ///
 /// Cost: one or two passes over the statements, with a look-up of each name that they have.
 pub(crate) fn first_with_fault<'a>(
@@ -50,14 +51,14 @@ pub(crate) fn first_with_fault<'a>(
     Ok(first_marked(&names, &marks, words))
 }
 
-/// Returns whether this is a fault of a name that occurs in no statement.
+/// Returns whether a name that occurs in no earlier statement has this fault.
 fn is_fault_if_absent(fault: SymbolFault) -> bool
     ensures { result ≡ is_fault_if_absent fault }
 {
     matches!(fault, SymbolFault::Unknown | SymbolFault::Inactive)
 }
 
-/// Marks the names with this fault.
+/// Sets the mark of each name to whether it has this fault.
 fn mark_faulty(names: &NameTable, earlier: &[Stmt], fault: SymbolFault, marks: &mut [bool])
     requires { marks.old ≡ replicate (length names.now) (is_fault_if_absent fault) }
     ensures { marks.new ≡ map (has_fault earlier.now fault) names.now }
@@ -80,7 +81,8 @@ fn mark_faulty(names: &NameTable, earlier: &[Stmt], fault: SymbolFault, marks: &
     }
 }
 
-/// Returns the index of the first of the words that has a mark, and the word, or `None` if none has one.
+/// Returns the index of the first of the words that has a mark, and the word, or `None` if none has
+/// one.
 fn first_marked<'a>(
     names: &NameTable,
     marks: &[bool],
@@ -122,7 +124,8 @@ fn is_variable(earlier: &[Stmt], name: &[u8]) -> bool
     find_active(earlier, Part::Variable, name).is_some()
 }
 
-/// Returns the first word that repeats an earlier one, by both indexes, or `None` if the words are distinct.
+/// Returns the index of the first word that repeats an earlier one, and the index of that one, or
+/// `None` if the words are distinct.
 pub(crate) fn first_repeated(
     alloc: Global,
     words: &Words,

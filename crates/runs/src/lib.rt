@@ -1,7 +1,7 @@
 //! Finds the runs of bytes that are not white space, in any text.
 //!
-//! `mm_lex` finds the runs of a text of allowed bytes only; here a text may contain any bytes, as a
-//! command-line argument may.
+//! `mm_lex` finds the runs only of texts whose bytes are all allowed; here a text may contain any
+//! bytes, as a command-line argument may.
 #![tactic(auto)]
 
 mod run;

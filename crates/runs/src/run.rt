@@ -6,10 +6,10 @@ ghost use Rattle.mm_lex.specs.Comments.{runs_after};
 
 use mm_lex::Span;
 
-/// Returns the next run of bytes that are not white, from `at` on, or `None` if only white bytes are
-/// left.
+/// Returns the next run of bytes that are not white, from `at` on, or `None` if only white bytes
+/// are left.
 ///
-/// Does not allocate. Cost: the bytes up to the end of the run.
+/// Does not allocate. Cost: the bytes from `at` to the end of the run.
 pub fn next_run(text: &[u8], at: usize) -> Option<Span>
     requires { at ≤ length text.now }
     ensures run { MatchOption result (runs_after text.now at ≡ [])

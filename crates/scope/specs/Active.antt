@@ -1,6 +1,7 @@
 -- The statements that are active after a list of statements. Positions count from 1.
 -- Source: Metamath, 4.2.8 (scoping statements) and 4.2.
--- The code keeps stacks, with their heights at the start of each open block; the model counts the `${` and `$}` after a statement.
+-- The code keeps stacks, with their heights at the start of each open block; here the `${` and `$}`
+-- after a statement are counted.
 use Rattle.std.specs.Prelude.{ℕ, zero, suc, ◌+◌, ◌-◌, Bool, true, false, ◌&&◌, ◌||◌, ◌==◌, nat_le, nat_lt, if◌then◌else◌, List, [], ◌∷◌, take, drop, map, Option, Some, None, slice_get}
 use Rattle.scope.specs.Words.{list_any, flat_map, Name, name_eq, has_name, Stmt, Open, Close, Const, Var, Disj, Float, Ess, Axiom, Prove, Expr, Database}
 
@@ -13,7 +14,8 @@ stmt_at S (suc n) = slice_get S n
 abbrev pub before : Database → ℕ → Database
 before S at = take (at - 1) S
 
--- no prefix of the statements closes a block that is not open, if `depth` blocks are open before them
+-- no prefix of the statements closes a block that is not open, if `depth` blocks are open before
+-- them
 abbrev pub stays_open : ℕ → Database → Bool
 stays_open depth [] = true
 stays_open depth (Open ∷ S) = stays_open (suc depth) S
@@ -21,12 +23,14 @@ stays_open zero (Close ∷ S) = false
 stays_open (suc depth) (Close ∷ S) = stays_open depth S
 stays_open depth (s ∷ S) = stays_open depth S
 
--- the active ones of these statements, which have the positions from `at` on: each whose block no later one closes
+-- those of these statements that are active after them, with their positions, which begin at `at`:
+-- a statement is active if none of the later ones closes its block
 abbrev pub active_from : ℕ → Database → List (ℕ × Stmt)
 active_from at [] = []
 active_from at (s ∷ S) =
     if stays_open 0 S then (at, s) ∷ active_from (at + 1) S else active_from (at + 1) S
 
+-- the statements that are active after all of them, with their positions
 abbrev pub active : Database → List (ℕ × Stmt)
 active S = active_from 1 S
 
@@ -47,6 +51,7 @@ abbrev pub disjoint_names : Stmt → List Name
 disjoint_names (Disj names) = names
 disjoint_names s = []
 
+-- the label of a statement, or `None` if it has none
 abbrev pub label_of : Stmt → Option Name
 label_of (Float label constant variable) = Some label
 label_of (Ess label expr) = Some label
@@ -96,7 +101,7 @@ abbrev pub is_provable : Stmt → Bool
 is_provable (Prove label expr proof) = true
 is_provable s = false
 
--- the `$f` of a variable
+-- whether the statement is a `$f` of this variable
 abbrev pub is_float_of : Name → Stmt → Bool
 is_float_of x (Float label constant variable) = name_eq x variable
 is_float_of x s = false
@@ -117,9 +122,11 @@ is_constant S x = list_any (λ s. has_name x (constants s)) S
 abbrev pub was_symbol : Database → Name → Bool
 was_symbol S x = list_any (λ s. has_name x (constants s) || has_name x (variables s)) S
 
+-- an earlier statement has it as its label
 abbrev pub was_label : Database → Name → Bool
 was_label S x = list_any (λ s. has_label x (label_of s)) S
 
+-- an active `$f` gives it a typecode
 abbrev pub has_float : Database → Name → Bool
 has_float S x = list_any (λ p. is_float_of x p.1) (active S)
 
@@ -145,6 +152,6 @@ abbrev pub count : (Stmt → Bool) → Database → ℕ
 count p [] = 0
 count p (s ∷ S) = if p s then 1 + count p S else count p S
 
--- as many `${` as `$}`
+-- no block is open: there are as many `${` as `$}`
 abbrev pub is_closed : Database → Bool
 is_closed S = count is_open S == count is_close S

@@ -1,5 +1,6 @@
 -- The names that a statement declares, by its shape.
--- Source: Metamath, 4.2 (which statements declare a name); the list of the names is this project's form.
+-- Source: Metamath, 4.2 (which statements declare a name); the list of the names is this project's
+-- choice.
 use Rattle.std.specs.Prelude.{◌≡◌, ℕ, true, false, List, Option, None}
 use Rattle.scope.specs.Words.{Name, has_name, Stmt, Const, Var, Float, Ess, Axiom, Prove}
 use Rattle.scope.specs.Kinds.{Declared, declared_symbols, kind_in, is_label_kind, with_kind, with_kinds}
@@ -26,7 +27,8 @@ MayDeclare names (Axiom label expr) = kind_in names label ≡ None
 MayDeclare names (Prove label expr proof) = kind_in names label ≡ None
 MayDeclare names s = Unit {0}
 
--- the numbers of the symbols that a `$c` or a `$v` declares are recorded; another statement leaves the numbers as they were
+-- the numbers of the symbols that a `$c` or a `$v` declares are recorded, if any are; another
+-- statement leaves the numbers as they were
 abbrev pub IsRecordedBy : Declared → Stmt → Option (List ℕ) → Option (List ℕ) → Type 0
 IsRecordedBy names (Const xs) old new = AreRecorded (declared_symbols names) xs new
 IsRecordedBy names (Var xs) old new = AreRecorded (declared_symbols names) xs new

@@ -1,6 +1,6 @@
 -- The kinds of declared names: labels, constants and variables.
 -- Source: Metamath, 4.2.
--- The code keeps a name's kind beside its number; the model looks through the statements.
+-- The code keeps a name's kind beside its number; here it is looked for in the statements.
 use Rattle.std.specs.Prelude.{◌≡◌, ◌<◌, Bool, true, false, List, [], ◌∷◌, ◌++◌, map, length, take, ℕ, Option, Some, None, is_some, if◌then◌else◌}
 use Rattle.scope.specs.Words.{Name, name_eq, Database, name_at}
 use Rattle.scope.specs.Active.{is_constant, was_variable, was_label}
@@ -18,6 +18,7 @@ zip_kinds [] kinds = []
 zip_kinds (x ∷ names) [] = []
 zip_kinds (x ∷ names) (k ∷ kinds) = (x, k) ∷ zip_kinds names kinds
 
+-- the names without their kinds
 abbrev pub declared_names : Declared → List Name
 declared_names names = map (λ p. p.0) names
 
@@ -65,7 +66,7 @@ abbrev pub names_of_kind : NameKind → Declared → List Name
 names_of_kind Label names = declared_labels names
 names_of_kind kind names = declared_symbols names
 
--- the number is that of the name
+-- n is the number of the name: its index in this list
 abbrev pub IsNumberOf : List Name → Name → ℕ → Type 0
 IsNumberOf names x n = (n < length names) × (name_at names n ≡ x)
 
@@ -73,7 +74,7 @@ IsNumberOf names x n = (n < length names) × (name_at names n ≡ x)
 abbrev pub symbols_before : Declared → ℕ → ℕ
 symbols_before names n = length (declared_symbols (take n names))
 
--- the kind is the one that the statements declare the name as
+-- the kind is the one that the statements declare the name as, or `None` if they do not declare it
 pub record MatchesKind (S : Database) (x : Name) (kind : Option NameKind) : Type 0 where
   pub label : was_label S x ≡ is_label_kind kind
   pub constant : is_constant S x ≡ is_constant_kind kind
@@ -88,7 +89,7 @@ pub record IsNumberingOf (S : Database) (names : Declared) : Type 0 where
   pub symbols : declared_symbols names ≡ symbols_of S
   pub labels : declared_labels names ≡ labels_of S
 
--- the names after one is declared; a name that has a kind keeps it
+-- the names after the name x is declared; if it has a kind, it keeps that
 abbrev pub with_kind : Declared → NameKind → Name → Declared
 with_kind names kind x = if is_some (kind_in names x) then names else names ++ (x, kind) ∷ []
 

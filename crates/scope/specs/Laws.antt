@@ -6,7 +6,8 @@ use Rattle.scope.specs.Words.{list_any, Stmt, Close, Database}
 use Rattle.scope.specs.Active.{count, is_open, is_close, is_active, active, active_from, bare, bares}
 use Rattle.scope.specs.Legal.{broken_rule, end_rule}
 
--- each prefix of the statements has at most `d` more `$}` than `${`: `d` blocks are open before them
+-- each prefix of the statements has at most `d` more `$}` than `${`: `d` blocks are open before
+-- them
 abbrev pub NeverCloses : ℕ → Database → Type 0
 NeverCloses d S = (k : ℕ) → count is_close (take k S) ≤ count is_open (take k S) + d
 
@@ -14,7 +15,8 @@ NeverCloses d S = (k : ℕ) → count is_close (take k S) ≤ count is_open (tak
 abbrev pub between : Database → ℕ → ℕ → Database
 between S i j = take (j - 1 - i) (drop i S)
 
--- i is active at j exactly if i is before j and no prefix of the statements between has more `$}` than `${`
+-- i is active at j exactly if i is before j and no prefix of the statements between has more `$}`
+-- than `${`
 abbrev pub ActiveBySentence : Type 0
 ActiveBySentence = (S : Database) (i j : ℕ) → IsTrue (is_active S i j) ↔ ((1 ≤ i) × (i < j) × NeverCloses 0 (between S i j))
 
@@ -30,7 +32,8 @@ abbrev pub before_open : List (ℕ × Stmt) → List (ℕ × Stmt)
 before_open [] = []
 before_open (p ∷ es) = if has_open es then p ∷ before_open es else []
 
--- after a `$}` the last open `${` and the statements that became active after it are no longer active
+-- after a `$}` the last open `${` and the statements that became active after it are no longer
+-- active
 abbrev pub ActiveClosed : Type 0
 ActiveClosed = (S : Database) → active (S ++ Close ∷ []) ≡ before_open (active S) ++ (1 + length S, Close) ∷ []
 

@@ -1,5 +1,5 @@
--- The sort of a name after the statements: a constant, an active variable with or without an active `$f`, a label, or none of
--- these.
+-- The sort of a name after the statements: a constant, an active variable with or without an active
+-- `$f`, a label, or none of these.
 -- Source: Metamath, 4.2.
 -- The code looks a name up once; its sort decides each rule on expressions.
 use Rattle.std.specs.Prelude.{◌≡◌, Bool, true, false, not, ◌||◌, ◌&&◌, Option, Some, None, if◌then◌else◌}
@@ -33,6 +33,7 @@ sort_by false typed = Other
 sort_by true true = Typed
 sort_by true false = Untyped
 
+-- the name has this sort after the statements
 pub record IsSort (S : Database) (x : Name) (sort : Sort) : Type 0 where
   pub constant : is_constant S x ≡ is_constant_sort sort
   pub variable : is_variable S x ≡ is_variable_sort sort

@@ -1,5 +1,5 @@
--- How a scope is stored: its stacks and counts, the kinds of names, the numbers that it records, and sorted words. Public
--- clauses cite only `AreRecorded` and `IsAppended`.
+-- How a scope is stored: its stacks and counts, the kinds of names, the numbers that it records,
+-- and sorted words. Public clauses cite only `AreRecorded` and `IsAppended`.
 pub mod Stacks
 pub mod KindCounts
 pub mod SymbolNumbers

@@ -1,5 +1,7 @@
--- Symbols as numbers: each declared symbol has its index in the list of symbols by first declaration.
--- Source: Metamath, 4.2.1 (which statements declare a symbol); the numbers are this project's form.
+-- Symbols as numbers: each declared symbol has its index in the list of symbols by first
+-- declaration.
+-- Source: Metamath, 4.2.1 (which statements declare a symbol); the numbers are this project's
+-- choice.
 use Rattle.std.specs.Prelude.{◌≡◌, ℕ, List, [], ◌∷◌, Option, Some, None}
 use Rattle.scope.specs.Words.{Name, Stmt, Const, Var, Disj, Float, Ess, Axiom, Prove, Expr, Database, decode, with_names, AreCodes}
 use Rattle.scope.specs.Active.{label_of}
@@ -10,6 +12,7 @@ symbols_by (Const symbols) = symbols
 symbols_by (Var symbols) = symbols
 symbols_by s = []
 
+-- these symbols and those that the statements declare, each once
 abbrev pub symbols_from : List Name → Database → List Name
 symbols_from symbols [] = symbols
 symbols_from symbols (s ∷ S) = symbols_from (with_names symbols (symbols_by s)) S
@@ -33,8 +36,8 @@ symbols_in s = []
 abbrev pub AreNumbers : List Name → Expr → List ℕ → Type 0
 AreNumbers symbols xs numbers = AreCodes symbols numbers × (decode symbols numbers ≡ xs)
 
--- the numbers are those of the variables that a `$v` declares, or of the two symbols of a `$f`; for another statement nothing
--- is required
+-- the numbers are those of the variables that a `$v` declares, or of the two symbols of a `$f`; for
+-- another statement nothing is required
 abbrev pub AreVariableNumbers : List Name → Stmt → List ℕ → Type 0
 AreVariableNumbers symbols (Var xs) numbers = AreNumbers symbols xs numbers
 AreVariableNumbers symbols (Float label constant variable) numbers = AreNumbers symbols (constant ∷ variable ∷ []) numbers

@@ -13,10 +13,11 @@ use mm_read::Stmt;
 use std::alloc::AllocError;
 
 impl Rules {
-    /// Appends a legal statement. `numbers` are those of the variables that a `$v` declares, or of the two symbols of a `$f`;
-    /// for other statements they are ignored.
+    /// Appends a legal statement. `numbers` are those of the variables that a `$v` declares, or of
+    /// the two symbols of a `$f`; for other statements they are ignored.
     ///
-    /// Errors: an allocation fails; the statements are then unchanged. Cost: the statement's own size.
+    /// Errors: an allocation fails; the statements are then unchanged. Cost: the statement's own
+    /// size.
     pub fn accept(&mut self, stmt: &Stmt, numbers: &[u32]) -> Result<(), AllocError>
         requires legal { IsLegal self.old.statements stmt.now }
         requires room { length self.old.statements + 1 < 2 ^ 64 }
@@ -99,8 +100,9 @@ impl Rules {
         Ok(())
     }
 
-    /// Appends a statement that neither opens nor closes a block, and neither declares a variable nor gives one a typecode.
-    /// `added` is 1 for a `$e` or `$d`, else 0.
+    /// Appends a statement that neither opens nor closes a block, and neither declares a variable
+    /// nor gives one a typecode. `added` is how many frame statements it is: 1 for a `$e` or `$d`,
+    /// else 0.
     fn accept_plain(&mut self, stmt: &Stmt, added: usize) -> Result<(), AllocError>
         requires plain { IsPlain stmt.now added }
         requires one { added ≤ 1 }

@@ -1,4 +1,4 @@
-//! Adds the names that a legal statement declares to the numbering.
+//! Adds to the numbering the names that a legal statement declares.
 ghost use Rattle.std.specs.Prelude.{◌≡◌, ◌++◌, None, true, false, IfOk, OnOk, OnErr};
 ghost use Rattle.mm_lex.specs.Alphabet.{Name, has_name};
 ghost use Rattle.scope.specs.Kinds.{Declared, IsNumberOf, declared_symbols, is_label_kind, is_symbol_kind, kind_in, with_kind, with_kinds};
@@ -12,10 +12,11 @@ use mm_lex::{Word, Words};
 use mm_read::Stmt;
 use std::alloc::{AllocError, Global};
 
-/// Appends the symbols and the label that a legal statement declares. The numbers of the symbols of a `$c` or a `$v` are
-/// recorded.
+/// Appends the symbols and the label that a legal statement declares, and records the numbers of
+/// the symbols of a `$c` or a `$v`.
 ///
 /// Errors: an allocation fails; the earlier names are then unchanged, but new ones may be appended.
+/// Cost: the statement's size, and that of `NameTable::add` for each new name.
 pub fn declare_names(
     names: &mut Numbering,
     alloc: Global,
@@ -78,8 +79,8 @@ fn declare_symbols(
     Ok(())
 }
 
-/// Declares a symbol if it is not yet declared, and returns its number. A variable may have been declared before, in a block
-/// that is now closed.
+/// Declares a symbol if it is not yet declared, and returns its number. A variable may have been
+/// declared before, in a block that is now closed.
 fn declare_symbol(
     names: &mut Numbering,
     alloc: Global,

@@ -6,7 +6,8 @@ ghost use Rattle.scope.specs.FrameStatement.{as_frame_statement};
 use mm_read::Stmt;
 use std::alloc::{AllocError, Global};
 
-/// A statement that a frame may have, a `$f`, `$e` or `$d`, with its position, counted from 1 in the whole list.
+/// A statement that a frame may have, a `$f`, `$e` or `$d`, with its position, counted from 1 in
+/// the whole list of statements.
 #[derive(Drop)]
 pub struct FrameStatement {
     pub at: usize,

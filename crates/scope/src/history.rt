@@ -7,7 +7,8 @@ ghost use Rattle.scope.specs.Active.{bare};
 use mm_read::Stmt;
 use std::marker::Model;
 
-/// The statements accepted so far, without their proofs. A value has size 0.
+/// The statements accepted so far, without their proofs. Only contracts see them: at run time a
+/// value stores nothing.
 #[derive(Drop)]
 pub struct History {
     pub ghost statements: { List Statement },

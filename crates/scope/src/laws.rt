@@ -1,7 +1,9 @@
-//! Laws about active statements and about the rules, each the contract of a function that does nothing.
+//! Laws about active statements and about the rules, each the contract of a function that does
+//! nothing.
 ghost use Rattle.scope.specs.Laws.{ActiveBySentence, ActiveMore, ActiveClosed, ActiveLater, RulesIgnoreProofs};
 
-/// States that a statement is active at a later position exactly if no prefix of those between has more `$}` than `${`.
+/// States that a statement is active at a later position exactly if no prefix of the statements
+/// between has more `$}` than `${`.
 pub fn active_by_sentence()
     ensures { ActiveBySentence }
 {}

@@ -1,4 +1,4 @@
-//! Decides the rules, with a function for each shape of statement.
+//! Decides the rules G1 to G10, with a function for each shape of statement.
 ghost use Rattle.std.specs.Prelude.{◌≡◌, ◌==◌, Bool, true, false, not, ◌&&◌, ◌||◌, nat_lt, take, length, Some, None, IfOk, ◌++◌, ◌∷◌, [], is_some, if◌then◌else◌};
 ghost use Rattle.std.specs.List.{list_all, list_any};
 ghost use Rattle.mm_lex.specs.Alphabet.{has_name};
@@ -21,22 +21,27 @@ use mm_read::Stmt;
 use std::alloc::{AllocError, Global};
 use std::marker::Model;
 
-/// The least length of a list of names that is sorted to find equal ones. In a shorter list each pair is compared.
+/// The least length of a list of names that is sorted to find equal ones. In a shorter list each
+/// pair is compared.
 const MIN_SORTED_LEN: usize = 16;
 
-/// The sort of a name: a constant, an active variable with or without an active `$f`, a label, or
-/// none of these.
+/// The sort of a name after the statements accepted so far.
 #[derive(Clone, Copy, Debug, Drop, PartialEq, Eq)]
 pub(crate) enum Sort {
+    /// A declared constant.
     Constant,
+    /// An active variable with an active `$f`.
     Typed,
+    /// An active variable without an active `$f`.
     Untyped,
+    /// A label.
     Label,
+    /// None of these: it was never declared, or as a variable that is not active.
     Other,
 }
 
-/// Checks the rules for the next statement: the state of the rules, and the numbering of the names. Contracts see the
-/// statements accepted so far.
+/// Checks the rules for the next statement, by the state of the rules and the numbering of the
+/// names. Contracts see the statements accepted so far.
 #[derive(Drop)]
 pub(crate) struct RuleChecker<'a> {
     pub(crate) rules: &'a Rules,
@@ -58,8 +63,8 @@ impl<'a> Model for RuleChecker<'a> {
 impl<'a> RuleChecker<'a> {
     /// Returns the least rule that the statement would break as the next one, or `None`.
     ///
-    /// If it breaks none and recording has begun, the recorded numbers are those of its symbols, or are discarded if an
-    /// allocation fails; for `$c` and `$v` they are discarded.
+    /// If it breaks none and recording has begun, the numbers of its symbols are recorded, or
+    /// discarded if an allocation fails; for `$c` and `$v` they are discarded.
     pub(crate) fn broken_rule(&self, stmt: &Stmt, recorded: &mut SymbolNumbers) -> Option<Rule>
         requires { AreRecorded (symbols_of self.now.statements) [] recorded.old }
         ensures rule { result ≡ broken_rule self.now.statements stmt.now }
@@ -182,8 +187,8 @@ impl<'a> RuleChecker<'a> {
         None
     }
 
-    /// Returns whether the first symbol is a constant, and whether each variable has an active `$f`, or `None` if a
-    /// symbol is neither a constant nor an active variable.
+    /// Returns whether the first symbol is a constant, and whether each variable has an active
+    /// `$f`; or `None` if a symbol is neither a constant nor an active variable.
     fn check_symbols(&self, expr: &Words, recorded: &mut SymbolNumbers) -> Option<(bool, bool)>
         requires { AreRecorded (symbols_of self.now.statements) [] recorded.old }
         ensures symbols { result ≡ (if list_all (λ x. is_constant self.now.statements x || is_variable self.now.statements x) expr.now then Some (starts_with_constant self.now.statements expr.now, are_typed self.now.statements expr.now) else None) }
@@ -234,7 +239,8 @@ impl<'a> RuleChecker<'a> {
         true
     }
 
-    /// Returns whether the symbols are distinct. Compares the recorded numbers if the list is short.
+    /// Returns whether the symbols are distinct. Compares the recorded numbers if the list is
+    /// short.
     fn are_distinct(&self, symbols: &Words, recorded: &SymbolNumbers) -> bool
         requires { AreRecorded (symbols_of self.now.statements) symbols.now recorded.now }
         ensures { result ≡ all_different symbols.now }
@@ -327,8 +333,8 @@ fn are_numbers_distinct(numbers: &[u32]) -> bool
     true
 }
 
-/// Returns whether the words are distinct. Cost: that of sorting the list or, if an allocation fails, the square of its
-/// length.
+/// Returns whether the words are distinct. Cost: that of sorting the list or, if an allocation
+/// fails, the square of its length.
 fn are_words_distinct(alloc: Global, words: &Words) -> bool
     ensures { result ≡ all_different words.now }
 {

@@ -1,12 +1,14 @@
-//! Decides whether a statement is legal after the earlier ones, by the rules G1 to G10, and which statements are active.
+//! Decides whether a statement is legal after the earlier ones, by the rules G1 to G10, and which
+//! statements are active.
 //!
-//! The crates above use two contracts: `Scope::add` appends the next statement only if it is legal, and else returns the least
-//! rule that it breaks; `Rules` does the same in two calls, `broken_rule` and `accept`, with a numbering that its callers pass,
-//! so that one table of names serves rules and frames.
+//! `Scope::add` appends the next statement only if it is legal, and else returns the least rule
+//! that it breaks. `Rules` does the same in two calls, `broken_rule` and `accept`, with a numbering
+//! that its callers pass, so that one table of names serves rules and frames.
 //!
-//! Reading order: `rule`, `frame_statements` and `steps`; `scope`, `queries` and `rules`; `legal` decides the rules, `accept` updates
-//! their state by a legal statement, and `declare` the numbering; `numbering`, `stack`, `stack_heights`, `history` and
-//! `symbol_numbers` are the parts; `laws` states which statements are active.
+//! Reading order: `rule`, `frame_statements` and `steps`; `scope`, `queries` and `rules`; `legal`
+//! decides the rules, `accept` updates their state by a legal statement, and `declare` the
+//! numbering; `numbering`, `stack`, `stack_heights`, `history` and `symbol_numbers` are the parts;
+//! `laws` states which statements are active.
 #![tactic(auto)]
 
 mod accept;

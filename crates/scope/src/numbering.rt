@@ -8,7 +8,8 @@ use names::NameTable;
 use std::alloc::{AllocError, Global};
 use std::marker::Model;
 
-/// The kind of a name. A name that was declared as one kind is never declared as another.
+/// The kind of a name. In legal statements a name that is declared as one kind is never declared as
+/// another.
 #[derive(Clone, Copy, Debug, Drop, PartialEq, Eq)]
 pub enum NameKind {
     Label,
@@ -16,21 +17,23 @@ pub enum NameKind {
     Variable,
 }
 
-/// A kind, and how many of the earlier names are symbols.
+/// The kind of a name, and how many of the earlier names are symbols, from which its number
+/// follows.
 #[derive(Clone, Copy, Debug, Drop, PartialEq, Eq)]
 pub struct CountedKind {
     pub kind: NameKind,
     pub earlier_symbols: u32,
 }
 
-/// The labels and the declared symbols, in the order of their first declaration. Contracts see the list of the names,
-/// each with its kind.
+/// The labels and the declared symbols, in the order of their first declaration. Contracts see the
+/// list of the names, each with its kind.
 ///
-/// A symbol's number is its index among the symbols, a label's number its index among the labels. Both are in one
-/// table, so that a name is looked up once, whatever its kind.
+/// A symbol's number is its index among the symbols, a label's number its index among the labels.
+/// Both are in one table, so that a name is looked up once, whatever its kind.
 #[derive(Drop)]
 pub struct Numbering {
     names: NameTable,
+    /// The kind of each name, by the index of the name in `names`.
     entries: Vec<CountedKind>,
     /// The index of each symbol in `names`, by the symbol's number.
     symbols: Vec<u32>,
@@ -103,7 +106,8 @@ impl Numbering {
         self.labels.len()
     }
 
-    /// Returns the number of a name among the symbols or among the labels, and its kind, or `None` if it is not declared.
+    /// Returns the number of a name among the symbols or among the labels, and its kind, or `None`
+    /// if it is not declared.
     ///
     /// Cost: that of `NameTable::find`.
     #[inline(always)]
@@ -166,6 +170,8 @@ impl Numbering {
     }
 
     /// Reserves capacity for `labels` more labels, if allocation succeeds.
+    ///
+    /// Cost: that of `NameTable::reserve`, and the number of names if a buffer is moved.
     pub fn reserve(&mut self, alloc: Global, labels: usize)
         ensures { self.new ≡ self.old }
     {
@@ -175,6 +181,8 @@ impl Numbering {
     }
 
     /// Truncates to the first `len` names.
+    ///
+    /// Cost: that of `NameTable::truncate`.
     pub fn truncate(&mut self, len: usize)
         ensures { self.new ≡ take len self.old }
     {
@@ -188,7 +196,7 @@ impl Numbering {
         self.labels.truncate(len - earlier_symbols);
     }
 
-    /// Frees unused capacity, as `entries::give_back` does.
+    /// Frees unused memory, as `entries::give_back` does.
     ///
     /// Cost: that of `NameTable::shrink`.
     pub fn shrink(&mut self, alloc: Global)
@@ -201,7 +209,8 @@ impl Numbering {
     }
 }
 
-/// Returns the number of a name among the symbols or among the labels, by its entry and its index in the table.
+/// Returns the number of a name among the symbols or among the labels, by its entry and its index
+/// in the table.
 #[inline(always)]
 fn number_of_entry(entry: CountedKind, index: u32) -> u32
     requires { entry.earlier_symbols ≤ index }

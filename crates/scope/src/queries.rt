@@ -1,4 +1,5 @@
-//! The queries of a scope: how many statements it has, and which variables, `$f`, `$e` and `$d` are active.
+//! The queries of a scope: how many statements it has, and which variables, `$f`, `$e` and `$d` are
+//! active.
 ghost use Rattle.std.specs.Prelude.{◌≡◌, length};
 ghost use Rattle.scope.specs.Active.{is_variable};
 ghost use Rattle.scope.specs.FrameStatement.{frame_statements_of};

@@ -1,14 +1,15 @@
 //! The ten rules for a statement.
 
-/// A rule that a statement breaks, or a failed allocation.
+/// The rule that a statement breaks, or a failed allocation. Each rule is given by what it demands.
 #[derive(Clone, Copy, Debug, Drop, PartialEq, Eq)]
 pub enum Rule {
     /// `$c` is in the outermost block.
     G1,
-    /// Each symbol of `$c` was never declared as a symbol, is not an earlier label, and occurs once in the statement.
+    /// Each symbol of `$c` was never declared as a symbol, is not an earlier label, and occurs once
+    /// in the statement.
     G2,
-    /// Each symbol of `$v` is not an active variable, was never declared as a constant, is not an earlier label, and occurs
-    /// once in the statement.
+    /// Each symbol of `$v` is not an active variable, was never declared as a constant, is not an
+    /// earlier label, and occurs once in the statement.
     G3,
     /// The label was never used as a label and never declared as a symbol.
     G4,

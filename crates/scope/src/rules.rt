@@ -1,5 +1,5 @@
-//! The state of the rules: the stacks of the active variables and of those with an active `$f`, and the heights of both at the
-//! start of each open block.
+//! The state from which the rules are decided: the stacks of the active variables and of those with
+//! an active `$f`, and the heights of both at the start of each open block.
 ghost use Rattle.std.specs.Prelude.{◌≡◌, ◌==◌, ◌++◌, ◌∷◌, [], length, not, nat_lt, take, None, IfOk, IfSome, OnOk, IsTrue};
 ghost use Rattle.std.specs.List.{list_any};
 ghost use Rattle.names.specs.Codes.{codes_or_len};
@@ -24,8 +24,13 @@ use mm_read::Stmt;
 use std::alloc::{AllocError, Global};
 use std::marker::Model;
 
-/// The state of the rules after the statements accepted so far, and at the mark: stacks of the numbers of symbols.
-/// Callers pass the numbering of the names, which frames use too. Contracts see the statements.
+/// The state from which the rules are decided, after the statements accepted so far and at the
+/// mark. Callers pass the numbering of the names, which frames use too. Contracts see the
+/// statements.
+///
+/// `variables` has the numbers of the active variables, `typed` of those with an active `$f`.
+/// `blocks` has the heights of these stacks at the start of each open block, `mark` their heights
+/// at the mark.
 #[derive(Drop)]
 pub struct Rules {
     pub(crate) accepted: History,
@@ -69,7 +74,7 @@ impl Rules {
         }
     }
 
-    /// Marks the statements accepted so far: `back` returns to them. Does not allocate.
+    /// Marks the statements accepted so far: `back` goes back to them. Does not allocate.
     pub fn mark(&mut self)
         requires { IsTrue (is_closed self.old.statements) }
         ensures statements { self.new.statements ≡ self.old.statements }
@@ -83,7 +88,8 @@ impl Rules {
     pub fn back(&mut self)
         ensures statements { self.new.statements ≡ self.old.marked }
         ensures marked { self.new.marked ≡ self.old.marked }
-        // The `$f`, `$e` and `$d` that are active at the mark are a prefix of those that were active before the call.
+        // The `$f`, `$e` and `$d` that are active at the mark are a prefix of those that were
+        // active before the call.
         ensures frame_statements { take (length (frame_statements_of self.old.marked)) (frame_statements_of self.old.statements) ≡ frame_statements_of self.old.marked }
     {
         self.variables.truncate(self.mark.variables);
@@ -93,7 +99,7 @@ impl Rules {
         self.accepted = History::same(&self.marked);
     }
 
-    /// Frees unused capacity, as `entries::give_back` does.
+    /// Frees unused memory, as `entries::give_back` does and at its cost.
     pub fn shrink(&mut self)
         ensures { self.new ≡ self.old }
     {
@@ -142,14 +148,17 @@ impl Rules {
         }
     }
 
-    /// Returns the least rule that a statement would break as the next one, or `None`. `names` is the numbering of the
-    /// statements so far.
+    /// Returns the least rule that a statement would break as the next one, or `None`. `names` is
+    /// the numbering of the statements so far.
     ///
-    /// If it breaks none and recording has begun, the recorded numbers are those of its symbols, or are discarded if an
-    /// allocation fails; for `$c` and `$v` they are discarded. Allocates while it records, and temporarily if a list of names
-    /// is long; the returned rule does not depend on whether an allocation succeeds. Cost: the statement's size; for a long
-    /// list of names also that of sorting it or, if the allocation for that fails, the square of its length.
-    /// Source: Metamath, chapter 4; the rules are `specs/Legal.antt`.
+    /// If the statement breaks none and recording has begun, the numbers of its symbols are
+    /// recorded, or discarded if an allocation fails; for `$c` and `$v` they are discarded. The
+    /// call allocates while it records, and temporarily if a list of names is long; the returned
+    /// rule does not depend on whether an allocation succeeds.
+    ///
+    /// Cost: the statement's size; for a long list of names also that of sorting it or, if the
+    /// allocation for that fails, the square of its length.
+    /// Source: Metamath, chapter 4; the rules are defined in `specs/Legal.antt`.
     pub fn broken_rule<'a>(
         &'a self,
         names: &'a Numbering,
@@ -177,7 +186,8 @@ impl Rules {
         self.frame_statement_count
     }
 
-    /// Returns the sort of a symbol that was declared as a variable, by its number.
+    /// Returns the sort of a symbol that was declared as a variable, by its number: whether it is
+    /// active, and whether it has an active `$f`.
     #[inline(always)]
     pub(crate) fn sort_of_variable(&self, number: u32) -> Sort
         ensures { result ≡ sort_by (list_any (λ n. n == number) (codes_or_len (symbols_of self.now.statements) (active_variables self.now.statements))) (list_any (λ n. n == number) (codes_or_len (symbols_of self.now.statements) (typed_variables self.now.statements))) }

@@ -21,8 +21,9 @@ use mm_read::Stmt;
 use std::alloc::{AllocError, Global};
 use std::marker::Model;
 
-/// The statements accepted so far, and those of them that are marked: the state of the rules, the numbering of the names,
-/// and the active `$f`, `$e` and `$d`. Contracts see the statements.
+/// The statements accepted so far, and those of them that are marked. Contracts see these
+/// statements; a scope stores the state of the rules, the numbering of the names, and the active
+/// `$f`, `$e` and `$d`.
 #[derive(Drop)]
 pub struct Scope {
     alloc: Global,
@@ -66,9 +67,12 @@ impl Scope {
 
     /// Appends the next statement if it breaks none of the rules G1 to G10.
     ///
-    /// Errors: the least rule that it breaks, or `Memory` if it breaks none and an allocation fails; the statements are then
-    /// unchanged. Cost: that of `Rules::broken_rule`; one step is counted, whatever the outcome.
-    /// Source: Metamath, chapter 4; the rules are `specs/Legal.antt`.
+    /// `steps` counts one step, whatever the outcome.
+    ///
+    /// Errors: the least rule that it breaks, or `Memory` if it breaks none and an allocation
+    /// fails; the statements are then unchanged. Cost: that of `Rules::broken_rule`, and of
+    /// declaring its names.
+    /// Source: Metamath, chapter 4; the rules are defined in `specs/Legal.antt`.
     pub fn add(&mut self, stmt: &Stmt, steps: &mut Steps) -> Result<(), Rule>
         requires { IsShaped stmt.now }
         ensures added { OnOk result (self.new.statements ≡ self.old.statements ++ bare stmt.now ∷ []) }
@@ -123,11 +127,12 @@ impl Scope {
         }
     }
 
-    /// Returns the least rule that the statement would break as the next one, or `None`. Allocates temporarily if a list of
-    /// names is long; the returned rule does not depend on whether that succeeds.
+    /// Returns the least rule that the statement would break as the next one, or `None`. Allocates
+    /// temporarily if a list of names is long; the returned rule does not depend on whether that
+    /// succeeds.
     ///
-    /// Cost: that of `Rules::broken_rule`. Source: Metamath, chapter 4; the rules are
-    /// `specs/Legal.antt`.
+    /// Cost: that of `Rules::broken_rule`.
+    /// Source: Metamath, chapter 4; the rules are defined in `specs/Legal.antt`.
     pub fn broken_rule(&self, stmt: &Stmt) -> Option<Rule>
         ensures { result ≡ broken_rule self.now.statements stmt.now }
     {
@@ -147,7 +152,7 @@ impl Scope {
         self.rules.close_at_end()
     }
 
-    /// Marks the statements accepted so far: `back` returns to them. Does not allocate.
+    /// Marks the statements accepted so far: `back` goes back to them. Does not allocate.
     pub fn mark(&mut self)
         requires { IsTrue (is_closed self.old.statements) }
         ensures statements { self.new.statements ≡ self.old.statements }
@@ -159,6 +164,8 @@ impl Scope {
     }
 
     /// Truncates to the marked statements. Does not allocate.
+    ///
+    /// Cost: at most what the statements after the marked ones appended.
     pub fn back(&mut self)
         ensures statements { self.new.statements ≡ self.old.marked }
         ensures marked { self.new.marked ≡ self.old.marked }
@@ -191,7 +198,8 @@ impl Scope {
 
 /// Appends a legal statement; the recorded numbers are those of its symbols.
 ///
-/// Errors: an allocation fails; the rules are then unchanged, and `names` and `frame_statements` may have items appended.
+/// Errors: an allocation fails; the rules are then unchanged, and `names` and `frame_statements`
+/// may have items appended.
 fn append_legal(
     alloc: Global,
     rules: &mut Rules,

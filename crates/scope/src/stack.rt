@@ -8,8 +8,8 @@ use std::marker::Model;
 
 /// A stack of distinct numbers. Contracts see the list.
 ///
-/// `indexes` has an index for each number. It is valid only if the number is at that index, so
-/// truncating the stack leaves `indexes` as it is.
+/// `indexes` has an index for each number. That index is valid only if the number stands there in
+/// `numbers`, so a truncation of the stack leaves `indexes` as it is.
 #[derive(Drop)]
 pub struct Stack {
     numbers: Vec<u32>,
@@ -78,7 +78,8 @@ impl Stack {
 
     /// Pushes a number that is not on the stack.
     ///
-    /// Errors: an allocation fails; the stack is then unchanged. Cost: constant, unless a table grows.
+    /// Errors: an allocation fails; the stack is then unchanged. Cost: amortized, a constant; for a
+    /// number greater than all earlier ones, the difference to them.
     pub fn push(&mut self, number: u32) -> Result<(), AllocError>
         requires { list_any (λ n. n == number) self.old ≡ false }
         ensures ok { OnOk result (self.new ≡ self.old ++ number ∷ []) }

@@ -1,7 +1,7 @@
 //! The heights of the stacks of the rules.
 
-/// How many variables are active, how many of them have an active `$f`, and how many
-/// `$f`, `$e` and `$d` are active.
+/// How many variables are active (`variables`), how many of them have an active `$f` (`typed`), and
+/// how many `$f`, `$e` and `$d` are active (`frame_statements`).
 #[derive(Clone, Copy, Debug, Drop, PartialEq, Eq)]
 pub struct StackHeights {
     pub variables: usize,

@@ -1,10 +1,11 @@
-//! A count of steps that only contracts see.
+//! A count of steps, by which contracts bound the work.
 ghost use Rattle.std.specs.Prelude.{◌≡◌, ℕ, ◌+◌};
 ghost use Rattle.std.specs.Borrow.{ftrue};
 
 use std::marker::{Model, PhantomData};
 
-/// The number of steps taken, which only contracts see.
+/// The number of steps taken, which only contracts see. Scopes and frames count one step for each
+/// statement that they are given, so that a contract can bound how many these are.
 #[derive(Drop)]
 pub struct Steps {
     of: PhantomData<u8>,

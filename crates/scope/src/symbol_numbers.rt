@@ -5,9 +5,10 @@ ghost use Rattle.scope.specs.Stored.SymbolNumbers.{IsAppended};
 use std::alloc::Global;
 use std::marker::Model;
 
-/// The numbers of a statement's symbols, or nothing if they are not recorded. Contracts see an option.
+/// The numbers of a statement's symbols, or nothing if they are not recorded. Contracts see an
+/// option.
 ///
-/// The buffer is reused from statement to statement.
+/// It saves a second look-up of each symbol. The buffer is reused from statement to statement.
 #[derive(Drop)]
 pub struct SymbolNumbers {
     numbers: Vec<u32>,
@@ -33,7 +34,7 @@ impl SymbolNumbers {
         }
     }
 
-    /// Begins to record, with no numbers yet.
+    /// Starts to record, with no numbers yet.
     pub fn begin(&mut self)
         ensures { self.new ≡ Some [] }
     {
@@ -48,7 +49,10 @@ impl SymbolNumbers {
         self.is_recorded = false;
     }
 
-    /// Records one more number, if recording has begun. If an allocation fails, the recorded numbers are discarded.
+    /// Records one more number, if recording has begun. If an allocation fails, it discards the
+    /// recorded numbers.
+    ///
+    /// Cost: amortized, a constant.
     #[inline(always)]
     pub fn record_number(&mut self, number: u32)
         ensures { IsAppended number self.old self.new }

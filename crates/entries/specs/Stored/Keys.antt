@@ -1,5 +1,6 @@
--- The symbols of an expression with their indexes, each pair as one number. The code's own form: no public clause cites it.
--- If the keys are sorted, those of one symbol are next to each other, and their indexes ascend.
+-- The symbols of an expression with their indexes, each pair as one number, its key. If the keys
+-- are sorted, those of one symbol are next to each other, and their indexes ascend. No public
+-- clause cites it.
 use Rattle.std.specs.Prelude.{◌≡◌, ◌≢◌, ℕ, ◌+◌, ◌*◌, ◌/◌, ◌%◌, ◌<◌, ◌≤◌, List, [], ◌∷◌, length, slice_get, slice_index, Some}
 use Rattle.std.specs.List.{Contains}
 use Rattle.std.specs.List.Sorted.{IsStrictlyIncreasing}
@@ -25,7 +26,7 @@ pub record AreKeys (expr keys : List ℕ) : Type 0 where
   pub count : length keys ≡ length expr
   pub each : (j : ℕ) → j < length expr → slice_index keys j ≡ key_of (slice_index expr j) j
 
--- these keys in ascending order
+-- the keys of the expression's symbols, in ascending order
 pub record AreKeysOf (expr keys : List ℕ) : Type 0 where
   pub few : length expr < INDEXES
   pub rises : IsStrictlyIncreasing keys
@@ -39,7 +40,7 @@ pub record IsRun (keys : List ℕ) (from to : ℕ) : Type 0 where
   pub same : (j : ℕ) → from ≤ j → j < to → symbol_of (slice_index keys j) ≡ symbol_of (slice_index keys from)
   pub last : to < length keys → symbol_of (slice_index keys from) ≢ symbol_of (slice_index keys to)
 
--- the parts are the runs from one index up to another, in order
+-- the parts are the runs of keys from one index up to another, in order
 abbrev pub AreRuns : List ℕ → ℕ → ℕ → List BufferPart → Type 0
 AreRuns keys from to [] = from ≡ to
 AreRuns keys from to (s ∷ runs) = (s.from ≡ from) × IsRun keys s.from s.to × AreRuns keys s.to to runs

@@ -1,6 +1,6 @@
--- Statements in shared buffers: each has the items from where it begins up to where the next one begins.
--- So appending to the buffers changes no statement, and the buffers can be truncated where a statement begins.
--- The code's own form: no public clause cites it.
+-- Statements in shared buffers: each has the items from where it begins up to where the next one
+-- begins. So appending to the buffers changes no statement, and the buffers can be truncated where
+-- a statement begins. No public clause cites it.
 use Rattle.std.specs.Prelude.{◌≡◌, ℕ, ◌+◌, ◌-◌, ◌<◌, ◌≤◌, ◌^◌, Bool, true, false, List, [], ◌∷◌, ◌++◌, length, map, slice_get, slice_range, get_or, nat_lt, Option, Some, None}
 use Rattle.entries.specs.declared.layout.Layout.{Layout}
 use Rattle.entries.specs.declared.layout.TheConstants.{COUNTS}
@@ -16,7 +16,8 @@ use Rattle.entries.specs.Stored.Spans.{cut, AreSpansIn}
 
 -- ---- the numbers of one statement
 
--- the layout, from an index on, of the parts of h hypotheses, s symbols, g groups and p variables of groups
+-- the layout, from an index on, of the parts of h hypotheses, s symbols, g groups and p variables
+-- of groups
 abbrev pub layout_of_counts : ℕ → ℕ → ℕ → ℕ → ℕ → Layout
 layout_of_counts from h s g p = record {
   typecodes = from;
@@ -28,19 +29,21 @@ layout_of_counts from h s g p = record {
   group_count = g;
 }
 
--- the first numbers of an assertion with its parts are their counts; else there are symbols alone
+-- the layout of a statement's numbers: with parts, the first numbers are the counts of these;
+-- without, all numbers are symbols
 abbrev pub layout_in : Bool → List ℕ → Layout
 layout_in true numbers = layout_of_counts COUNTS (get_or numbers 0 0) (get_or numbers 1 0) (get_or numbers 2 0) (get_or numbers 3 0)
 layout_in false numbers = layout_of_counts 0 0 (length numbers) 0 0
 
+-- the counts that precede the parts
 abbrev pub counts_of : AssertionParts → List ℕ
 counts_of p = length p.hypotheses.now ∷ length p.symbols.now ∷ length p.groups.now ∷ length p.grouped_variables.now ∷ []
 
--- a statement that has neither hypotheses nor groups is stored without parts
+-- whether a statement is stored with parts: it has hypotheses or groups
 abbrev pub has_parts : AssertionParts → Bool
 has_parts p = nat_lt 0 (length p.hypotheses.now + length p.groups.now)
 
--- the numbers of a statement
+-- the numbers that a statement is stored as
 abbrev pub numbers_of : Bool → AssertionParts → List ℕ
 numbers_of true p = ((((counts_of p ++ p.typecodes.now) ++ p.required.now) ++ p.symbols.now) ++ p.hypotheses.now) ++ p.grouped_variables.now
 numbers_of false p = p.symbols.now
@@ -54,6 +57,7 @@ pub record Body : Type 0 where
   pub symbols : List ℕ
   pub assertion : Assertion
 
+-- the statement that is stored as this record, these numbers in this layout, and these groups
 abbrev pub body_by : StatementRecord → List ℕ → List BufferPart → Layout → Body
 body_by r numbers spans at = record {
   kind = r.kind;
@@ -80,13 +84,16 @@ abbrev pub end_by : List ℕ → Option StatementRecord → ℕ
 end_by numbers None = length numbers
 end_by numbers (Some next) = next.from
 
+-- where the groups of a statement end, by the next one
 abbrev pub groups_by : List BufferPart → Option StatementRecord → ℕ
 groups_by groups None = length groups
 groups_by groups (Some next) = next.groups_from
 
+-- the numbers of a statement, by its record and the next one
 abbrev pub numbers_by : List ℕ → StatementRecord → Option StatementRecord → List ℕ
 numbers_by numbers r next = slice_range numbers r.from (end_by numbers next)
 
+-- the groups of a statement, by its record and the next one
 abbrev pub spans_by : List BufferPart → StatementRecord → Option StatementRecord → List BufferPart
 spans_by groups r next = slice_range groups r.groups_from (groups_by groups next)
 
@@ -106,12 +113,13 @@ pub record IsPlaced (numbers : List ℕ) (r : StatementRecord) (next : Option St
   pub end : end_by numbers next ≤ length numbers
   pub whole : (layout_in r.has_parts (numbers_by numbers r next)).end ≡ length (numbers_by numbers r next)
 
--- a statement's groups are as many as its layout has, and parts of its grouped variables
+-- a statement's groups are as many as its layout says, and parts of its grouped variables
 pub record IsGrouped (groups : List BufferPart) (r : StatementRecord) (next : Option StatementRecord) (at : Layout) : Type 0 where
   pub count : r.groups_from + at.group_count ≡ groups_by groups next
   pub end : groups_by groups next ≤ length groups
   pub spans : AreSpansIn (at.end - at.grouped_variables) (spans_by groups r next)
 
+-- the buffers have the numbers and the groups of the statement where its record says
 pub record IsKept (numbers : List ℕ) (groups : List BufferPart) (r : StatementRecord) (next : Option StatementRecord) : Type 0 where
   pub placed : IsPlaced numbers r next
   pub grouped : IsGrouped groups r next (layout_in r.has_parts (numbers_by numbers r next))
@@ -120,6 +128,7 @@ abbrev pub AreKept : List ℕ → List BufferPart → List StatementRecord → T
 AreKept numbers groups [] = Unit {0}
 AreKept numbers groups (r ∷ rs) = IsKept numbers groups r (slice_get rs 0) × AreKept numbers groups rs
 
+-- the buffers have those of all statements, and these have indexes of 32 bits
 pub record ArePacked (numbers : List ℕ) (groups : List BufferPart) (rs : List StatementRecord) : Type 0 where
   pub kept : AreKept numbers groups rs
   pub few : length rs + 1 < 2 ^ 32
@@ -134,7 +143,7 @@ pub record IsOrdered (at : Layout) : Type 0 where
   pub hypotheses : at.hypotheses ≤ at.grouped_variables
   pub grouped_variables : at.grouped_variables ≤ at.end
 
--- the stored form that was read is that of the entry found
+-- `s` is the stored form of the entry found
 pub record IsStored (found : Option Entry) (s : Stored) : Type 0 where
   pub ordered : IsOrdered s.at
   pub whole : s.at.end ≡ length s.numbers.now

@@ -1,9 +1,8 @@
--- Lists as parts of one buffer.
--- The code's own form, which public clauses cite.
+-- Lists as parts of one buffer. Public clauses cite these definitions.
 use Rattle.std.specs.Prelude.{◌≡◌, ℕ, ◌≤◌, List, [], ◌∷◌, ◌++◌, map, slice_range}
 use Rattle.entries.specs.declared.buffer_part.BufferPart.{BufferPart}
 
--- the parts of a buffer
+-- the lists that are these parts of a buffer
 abbrev pub cut : {A : Type 0} → List A → List BufferPart → List (List A)
 cut xs spans = map (λ s. slice_range xs s.from s.to) spans
 

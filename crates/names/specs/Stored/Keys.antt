@@ -1,5 +1,5 @@
--- The key of a name, a number of 64 bits; names of at most seven bytes have different keys.
--- The code's own form: no public clause cites it.
+-- The key of a name, a number of 64 bits; names of at most seven bytes have different keys. No
+-- public clause cites it.
 use Rattle.std.specs.Prelude.{ℕ, zero, suc, ◌+◌, ◌-◌, ◌*◌, ◌/◌, ◌%◌, ◌^◌, ◌<◌, List, [], ◌∷◌, length, get_or, nat_lt, if◌then◌else◌}
 use Rattle.std.specs.Int.{w64, swap_bytes}
 use Rattle.mm_lex.specs.Alphabet.{Name}
@@ -32,10 +32,11 @@ eight x at =
     get_or x at 0 ∷ get_or x (at + 1) 0 ∷ get_or x (at + 2) 0 ∷ get_or x (at + 3) 0
     ∷ get_or x (at + 4) 0 ∷ get_or x (at + 5) 0 ∷ get_or x (at + 6) 0 ∷ get_or x (at + 7) 0 ∷ []
 
--- a number whose lowest bytes depend on all bits of this one
+-- the bytes of `FACTOR` times the number, in reverse order
 abbrev pub scrambled : ℕ → ℕ
 scrambled n = swap_bytes w64 (n * FACTOR % 2 ^ 64)
 
+-- the hash with eight more bytes mixed in
 abbrev pub mixed : ℕ → ℕ → ℕ
 mixed hash bytes = scrambled ((hash + bytes) % 2 ^ 64)
 
@@ -48,5 +49,6 @@ mixed_front x (suc n) = mixed (mixed_front x n) (digits (eight x (8 * n)))
 unfoldable pub hash_of : Name → ℕ
 hash_of x = mixed (mixed_front x ((length x - 1) / 8)) (digits (eight x (length x - 8))) % LEAST_HASH + LEAST_HASH
 
+-- the key of a name: its bytes and its length if it is short, else its hash
 abbrev pub key_of : Name → ℕ
 key_of x = if nat_lt (length x) LEAST_HASHED_LEN then digits (key_bytes x) * 8 + length x else hash_of x

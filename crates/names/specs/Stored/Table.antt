@@ -1,5 +1,4 @@
--- Names by code, and the table in which their codes are found.
--- The code's own form: no public clause cites it.
+-- Names by code, and the table in which their codes are found. No public clause cites it.
 use Rattle.std.specs.Prelude.{◌≡◌, ◌≢◌, ◌⊎◌, ℕ, ◌+◌, ◌-◌, ◌*◌, ◌/◌, ◌%◌, ◌^◌, ◌<◌, List, length, Some, get_or, slice_get, bit_and}
 use Rattle.mm_lex.specs.Alphabet.{Name}
 use Rattle.names.specs.Codes.{name_at}
@@ -23,6 +22,7 @@ slot_of key code = record { half = half_of key; code = code }
 abbrev pub slot_index_of : ℕ → ℕ → ℕ → ℕ
 slot_index_of key step len = bit_and ((scrambled key + step * (step + 1) / 2) % 2 ^ 64) (len - 1)
 
+-- the step of the search for a key probes this slot
 abbrev pub slot_at : List Slot → ℕ → ℕ → Slot → Type 0
 slot_at slots key step s = slice_get slots (slot_index_of key step (length slots)) ≡ Some s
 
@@ -38,16 +38,18 @@ pub record IsReachable (slots : List Slot) (key code : ℕ) : Type 0 where
   pub there : slot_at slots key step (slot_of key code)
   pub before : (i : ℕ) → i < step → IsTaken slots key i
 
+-- all slots are free
 abbrev pub AreUnused : List Slot → Type 0
 AreUnused slots = (i : ℕ) (s : Slot) → slice_get slots i ≡ Some s → s.code ≡ NO_NAME
 
--- the key of a name is stored by its code, or the name is in the overflow
+-- the key of the name x is stored by its code k, or the name is in the overflow
 pub record IsNameKey (a : NameKeys) (x : Name) (k : ℕ) : Type 0 where
   pub there : k < length a.keys.items
   pub bytes : AreBytes x
   pub key : get_or a.keys.items k 0 ≢ IN_OVERFLOW → get_or a.keys.items k 0 ≡ key_of x
   pub in_overflow : get_or a.keys.items k 0 ≡ IN_OVERFLOW → code_in_overflow a.overflow x ≡ Some k
 
+-- the same of each name
 abbrev pub AreNameKeys : NameKeys → List Name → Type 0
 AreNameKeys a names = (k : ℕ) → k < length names → IsNameKey a (name_at names k) k
 

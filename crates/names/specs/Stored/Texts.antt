@@ -1,6 +1,6 @@
--- Texts in one buffer, each from the end of the one before it up to its own end.
--- Source: this project's form.
--- The code's own form: no public clause cites it.
+-- Texts in one buffer, each from the end of the one before it up to its own end. No public clause
+-- cites it.
+-- Source: this project's choice.
 use Rattle.std.specs.Prelude.{◌≡◌, ℕ, zero, suc, ◌≤◌, List, [], ◌∷◌, slice_range}
 use Rattle.mm_lex.specs.Alphabet.{Name}
 

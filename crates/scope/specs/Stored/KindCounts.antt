@@ -1,5 +1,5 @@
--- Kinds with the count of the symbols before each, and the indexes of the symbols and of the labels.
--- The code's own form: no public clause cites it.
+-- Kinds with the count of the symbols before each, and the indexes of the symbols and of the
+-- labels. No public clause cites it.
 use Rattle.std.specs.Prelude.{◌≡◌, ℕ, ◌+◌, Bool, List, [], ◌∷◌, map, length, if◌then◌else◌}
 use Rattle.mm_lex.specs.Alphabet.{Name}
 use Rattle.scope.specs.Kinds.{is_symbol_kind, is_label}
@@ -9,7 +9,7 @@ use Rattle.scope.specs.declared.numbering.CountedKind.{CountedKind}
 abbrev pub kinds_of : List CountedKind → List NameKind
 kinds_of entries = map (λ e. e.kind) entries
 
--- the count after an entry
+-- the count of the symbols up to and including an entry
 abbrev pub count_after : CountedKind → ℕ
 count_after e = if is_symbol_kind e.kind then e.earlier_symbols + 1 else e.earlier_symbols
 

@@ -1,4 +1,4 @@
--- Sorted words: equal ones are neighbours. The code's own form: no public clause cites it.
+-- Sorted words: equal ones are neighbours. No public clause cites it.
 use Rattle.std.specs.Prelude.{◌≡◌, ℕ, ◌+◌, ◌<◌, true, false, List, length, get_or}
 use Rattle.scope.specs.Words.{Bor, Name, name_eq}
 

@@ -1,6 +1,8 @@
--- How the rules are stored: stacks of numbers, with their heights at the start of each open block and at the mark.
--- Source: this project's form.
--- The model has positions and counts of `${` and `$}`; here each field of the code is defined as a function of the statements.
+-- How the rules are stored: stacks of numbers, with their heights at the start of each open block
+-- and at the mark.
+-- Source: this project's choice.
+-- `Active` counts the `${` and `$}`; here each field of the code is defined as a function of the
+-- statements.
 use Rattle.std.specs.Prelude.{◌≡◌, ℕ, ◌≤◌, Bool, true, false, not, ◌&&◌, ◌==◌, List, [], ◌∷◌, ◌++◌, length, take, if◌then◌else◌}
 use Rattle.scope.specs.Words.{flat_map, list_any, Stmt, Database, codes_or_len, AreNamed}
 use Rattle.scope.specs.Active.{active, stays_open, is_open, is_close, is_closed, variables, typed_by, active_variables, typed_variables}
@@ -28,8 +30,8 @@ abbrev pub can_push : List ℕ → List ℕ → Bool
 can_push stack [] = true
 can_push stack (n ∷ ns) = not (list_any (λ m. m == n) stack) && can_push (stack ++ n ∷ []) ns
 
--- a statement that neither opens nor closes a block, and neither declares a variable nor gives one a typecode; n is 1 for a
--- `$e` or `$d`, else 0
+-- a statement that neither opens nor closes a block, and neither declares a variable nor gives one
+-- a typecode; n is 1 for a `$e` or `$d`, else 0
 pub record IsPlain (s : Stmt) (n : ℕ) : Type 0 where
   pub no_open : is_open s ≡ false
   pub no_close : is_close s ≡ false
@@ -37,13 +39,15 @@ pub record IsPlain (s : Stmt) (n : ℕ) : Type 0 where
   pub untyped : typed_by s ≡ []
   pub stand : (at : ℕ) → length (as_frame_statement at s) ≡ n
 
--- the marked statements are a prefix without an open block, and the later ones close none of its blocks
+-- the marked statements M are a prefix of S without an open block, the later ones close none of its
+-- blocks, and `mark` has the heights after the marked ones
 pub record IsMarked (S M : Database) (mark : StackHeights) : Type 0 where
   pub later : (T : Database) × (S ≡ M ++ T) × (stays_open 0 T ≡ true)
   pub closed : is_closed M ≡ true
   pub heights : mark ≡ heights_of (active M)
   pub typed_known : AreNamed (symbols_of M) (typed_variables M)
 
+-- these are the fields of `Rules` after the statements S, of which M are marked
 pub record IsRulesState (S M : Database) (variable_stack typed_stack : List ℕ) (frame_statement_count : ℕ) (blocks : List StackHeights) (mark : StackHeights) : Type 0 where
   pub variables_are : variable_stack ≡ codes_or_len (symbols_of S) (active_variables S)
   pub typed_are : typed_stack ≡ codes_or_len (symbols_of S) (typed_variables S)
@@ -53,7 +57,8 @@ pub record IsRulesState (S M : Database) (variable_stack typed_stack : List ℕ)
   pub never_closes_unopened : stays_open 0 S ≡ true
   pub marked : IsMarked S M mark
 
--- the other parts of a scope: the numbering and its marked part, the active `$f`, `$e` and `$d`, and the counts of statements
+-- these are the other fields of a scope: the numbering and the count of its marked names, the
+-- active `$f`, `$e` and `$d`, and the counts of statements
 pub record IsScope (S M : Database) (names : Declared) (marked_names : ℕ) (frame_statements : List FrameStatement) (count marked_count : ℕ) : Type 0 where
   pub numbering : IsNumberingOf S names
   pub marked_numbering : IsNumberingOf M (take marked_names names)

@@ -1,5 +1,5 @@
 -- The numbers of a statement's symbols, if they were recorded while its rules were tested.
--- Source: this project's form.
+-- Source: this project's choice.
 -- The code keeps them in one buffer; here they are an option.
 use Rattle.std.specs.Prelude.{◌≡◌, ℕ, ◌==◌, Bool, true, not, ◌&&◌, List, [], ◌∷◌, ◌++◌, Option, Some, option_map, IfSome}
 use Rattle.scope.specs.Words.{list_any, Name, Expr}
