@@ -1,6 +1,9 @@
-//! A scenario in which a node may learn its second entry before its first, by the calls that borrow the locked values.
-//! Each cell applies the entries of its node's log up to the first gap, and cells compare as their statements do. The
-//! latter holds as well if the first node's keep fails at any call and the node restarts after any event.
+//! A scenario in which node 2 learns the second entry of the log before the first, and then fills the gap. It is played by the
+//! calls of `cluster` that borrow a switch and cells, the values that `nodes` has under locks.
+//!
+//! Each cell applies the entries of its node's log, which ends at the first gap, and cells compare as the counts of their
+//! statements do. They also compare so if the keep of node 0 fails at one of its first 18 calls and the node restarts after
+//! any step.
 
 use crate::fuse::{Fuse, entry, make_three, restart_first};
 use cluster::{
@@ -11,7 +14,8 @@ use net::StepFault;
 use std::alloc::Global;
 use world::Carried;
 
-/// A step of the scenario: a ballot or an offer of one of two texts, at node 0, or a delivery.
+/// A step of the scenario: at node 0 a ballot, or an offer of the text of a serial number; or a delivery of a packet by its
+/// number.
 #[derive(Clone, Copy)]
 enum Step {
     Begin,
@@ -19,7 +23,7 @@ enum Step {
     Deliver(u64),
 }
 
-/// Each step with the number of packets posted after it.
+/// Each step, with the number of packets that are posted by it and the steps before it.
 const STEPS: [(Step, u64); 17] = [
     (Step::Begin, 3),
     (Step::Deliver(0), 4),
@@ -45,6 +49,7 @@ fn each_cell_fills_the_gap(rt: HostRuntime) {
     assert!(rt; fills_each_cell(rt.alloc()) == Ok(true));
 }
 
+/// Returns whether three new nodes fill the gap, and their cells apply what they have learned.
 fn fills_each_cell(alloc: Global) -> Result<bool, StepFault> {
     let (mut switch, mut cells) = make_three(alloc, Fuse::new(alloc, None, false))?;
     let filled = steps_fill_gap(alloc, &mut switch, &mut cells);
@@ -54,7 +59,7 @@ fn fills_each_cell(alloc: Global) -> Result<bool, StepFault> {
     filled
 }
 
-/// Returns whether all steps succeed, and the cells fill the gap.
+/// Returns whether all steps succeed, and the cells then apply what their nodes have learned.
 fn steps_fill_gap(
     alloc: Global,
     switch: &mut Switch<Carried, Fuse>,
@@ -74,7 +79,7 @@ fn all_steps_succeed(alloc: Global, switch: &mut Switch<Carried, Fuse>) -> bool 
         && begin_on(switch, 3) == Err(StepFault::NoNode)
 }
 
-/// Returns whether each cell adds as many statements as `expected_added` returns, and all agree.
+/// Returns whether each cell adds as many statements as `expected_added` says of its node, and all agree.
 fn fills_gap(switch: &Switch<Carried, Fuse>, cells: &mut Vec<NodeCell>) -> Result<bool, StepFault> {
     for cell in cells.iter_mut() {
         if !adds_statements(cell, switch, expected_added(cell.node()))? {
@@ -84,7 +89,7 @@ fn fills_gap(switch: &Switch<Carried, Fuse>, cells: &mut Vec<NodeCell>) -> Resul
     Ok(all_agree(switch, cells))
 }
 
-/// Returns how many statements a node is expected to add.
+/// Returns how many statements a node is expected to add: node 0 has learned the first entry, node 1 none, and node 2 both.
 fn expected_added(node: u8) -> usize {
     match node {
         0 => 1,
@@ -93,7 +98,8 @@ fn expected_added(node: u8) -> usize {
     }
 }
 
-/// Returns whether the cell copies and applies the entries of its log, and then has `added` statements, none with a label.
+/// Returns whether the cell takes over and applies all entries of its node's log, and then has `added` statements, none with a
+/// label.
 fn adds_statements(
     cell: &mut NodeCell,
     switch: &Switch<Carried, Fuse>,
@@ -120,7 +126,7 @@ fn make_step(
     }
 }
 
-/// Copies and applies all entries of the cell's log.
+/// Takes over and applies the entries of the log of the cell's node, three at most.
 fn copy_and_apply(cell: &mut NodeCell, switch: &Switch<Carried, Fuse>) -> Result<(), StepFault> {
     for _entry in 0..3 {
         if !take_on(cell, switch)? {
@@ -143,7 +149,7 @@ fn all_agree(switch: &Switch<Carried, Fuse>, cells: &[NodeCell]) -> bool {
     true
 }
 
-/// Returns which of two cells is ahead, if both belong to the switch.
+/// Returns which of two cells is ahead, or `None` if one does not belong to the switch.
 fn compared(one: &NodeCell, other: &NodeCell, switch: &Switch<Carried, Fuse>) -> Option<Ahead> {
     if belongs(one, switch) && belongs(other, switch) {
         Some(compare_on(one, other, switch))
@@ -152,7 +158,7 @@ fn compared(one: &NodeCell, other: &NodeCell, switch: &Switch<Carried, Fuse>) ->
     }
 }
 
-/// Returns which cell's library has more statements, by counting them.
+/// Returns which of two cells is ahead, by the counts of their statements.
 fn ahead_by_count(one: &NodeCell, other: &NodeCell) -> Ahead {
     let first = one.library().statements().len();
     let second = other.library().statements().len();
@@ -179,8 +185,9 @@ fn stop_at_each(rt: HostRuntime) {
     }
 }
 
-/// Returns whether all cells agree after the steps if node 0 has this keep and restarts after one of them. A step that fails
-/// is skipped. After each step, each cell copies and applies the entries that it can.
+/// Returns whether all cells agree after the steps if the keep of node 0 fails after `calls_left` calls and the node restarts
+/// after the step of index `restart`. A step that fails is skipped. After each step, each cell takes over and applies the
+/// entries that its node has learned.
 fn agrees(
     alloc: Global,
     calls_left: Option<u32>,
@@ -194,6 +201,7 @@ fn agrees(
     agreed
 }
 
+/// Makes the steps and the restart, and returns whether all cells agree then.
 fn run_with_restart(
     alloc: Global,
     switch: &mut Switch<Carried, Fuse>,
@@ -210,6 +218,7 @@ fn run_with_restart(
     Ok(all_agree(switch, cells))
 }
 
+/// Has each cell take over and apply the entries of its node's log.
 fn copy_and_apply_each(
     cells: &mut Vec<NodeCell>,
     switch: &Switch<Carried, Fuse>,

@@ -1,4 +1,4 @@
-//! A node whose keep fails is down until it restarts.
+//! A node whose keep fails is down until it restarts. A keep in memory keeps an entry at any slot.
 use crate::fuse::{Fuse, make_three, restart_first};
 use cluster::{MemoryKeep, NodeCell, Switch, begin_on};
 use net::{Event, StepFault};
@@ -28,6 +28,7 @@ fn store_fails(alloc: Global, leaves_new: bool) -> Result<bool, StepFault> {
     down
 }
 
+/// Returns whether the keep of the first node fails as it begins a ballot, and the node is down until it restarts.
 fn goes_down(
     switch: &mut Switch<Carried, Fuse>,
     cells: &mut Vec<NodeCell>,
@@ -40,7 +41,7 @@ fn goes_down(
     )
 }
 
-/// Returns whether the node asked both others when it restarted, and its next ballot is its second.
+/// Returns whether the node asked both others for the first entry when it restarted, and its next ballot is its second.
 fn is_up_again(switch: &mut Switch<Carried, Fuse>) -> Result<bool, StepFault> {
     let asked = matches!(switch.history(), [Event::Begin(0), Event::Restart(0)])
         && is_ask_for_first(switch, 3, 1)?
@@ -77,6 +78,7 @@ fn a_load_fails(rt: HostRuntime) {
     assert!(rt; load_fails(rt.alloc()) == Ok(true));
 }
 
+/// Returns whether the first node restarts after its keep failed to load.
 fn load_fails(alloc: Global) -> Result<bool, StepFault> {
     let (mut switch, mut cells) = make_three(alloc, Fuse::new(alloc, Some(0), false))?;
     let restarted = restarts_twice(&mut switch, &mut cells);
@@ -85,13 +87,14 @@ fn load_fails(alloc: Global) -> Result<bool, StepFault> {
     Ok(restarted)
 }
 
+/// Returns whether the first restart meets the failure, and the second one is taken and stands alone in the history.
 fn restarts_twice(switch: &mut Switch<Carried, Fuse>, cells: &mut Vec<NodeCell>) -> bool {
     restart_first(switch, cells) == Err(StepFault::Device)
         && restart_first(switch, cells) == Ok(2)
         && matches!(switch.history(), [Event::Restart(0)])
 }
 
-/// Slots of the first page and of later pages, up to the last slot.
+/// Slots of the first page of 256 and of later pages, up to the last slot.
 const SLOTS_KEPT: [u32; 5] = [0, 255, 256, 300, SLOTS - 1];
 
 #[test]
@@ -101,6 +104,7 @@ fn each_slot_is_kept(rt: HostRuntime) {
     }
 }
 
+/// Returns whether a new keep in memory keeps an entry at the slot.
 fn is_slot_kept(alloc: Global, slot: u32) -> Result<bool, Failed> {
     let mut keep: MemoryKeep<Carried> = MemoryKeep::new(alloc);
     let kept = is_kept(&mut keep, slot);

@@ -6,7 +6,8 @@ use std::alloc::{AllocError, Global};
 use synod::Weights;
 use world::{World, run};
 
-/// The packets that are delivered after the ballot and after each of the two offers, in the scenario of a gap in the log.
+/// The packets that are delivered in the scenario of `gap`: those of the ballot, and after both offers the accepts to nodes 0
+/// and 1 and four votes on them.
 const DELIVERED: [[u64; 4]; 3] = [[0, 1, 3, 4], [5, 6, 8, 9], [11, 14, 19, 22]];
 
 #[test]
@@ -14,7 +15,8 @@ fn events_are_run(rt: HostRuntime) {
     assert!(rt; runs_to_its_end(rt.alloc()) == Ok(true));
 }
 
-/// Returns whether all events up to the gap are taken, also if a delivery of a packet that does not exist follows and fails.
+/// Returns whether all events up to the gap are taken, also if a delivery of a packet that does not exist follows, which is
+/// refused.
 fn runs_to_its_end(alloc: Global) -> Result<bool, AllocError> {
     let runs = runs_all(alloc, gap(alloc)?);
     let stops = stops_at_last(alloc, one_more(alloc)?);
@@ -70,6 +72,7 @@ fn push_gap(alloc: Global, events: &mut Vec<Event<Entry>>) -> Result<(), AllocEr
     push_deliveries(events, &second)
 }
 
+/// Appends the offer of a text at node 0.
 fn push_offer(
     alloc: Global,
     events: &mut Vec<Event<Entry>>,
@@ -80,6 +83,7 @@ fn push_offer(
     Ok(events.push(Event::Offer(0, entry))?)
 }
 
+/// Appends the deliveries of the packets of these numbers.
 fn push_deliveries(events: &mut Vec<Event<Entry>>, numbers: &[u64]) -> Result<(), AllocError> {
     for number in numbers {
         events.push(Event::Deliver(*number))?;
@@ -87,7 +91,7 @@ fn push_deliveries(events: &mut Vec<Event<Entry>>, numbers: &[u64]) -> Result<()
     Ok(())
 }
 
-/// A replica stays at its slot after a failed allocation, and the next application returns the verdict.
+/// A replica is as before after a failed allocation, and the next application returns the verdict.
 #[test]
 fn applies_after_a_failed_allocation(rt: HostRuntime) {
     assert!(rt; applies_if_learned(rt.alloc()));
@@ -120,13 +124,14 @@ fn applies_all(world: &mut World) -> bool {
     world.apply_next(0) == Ok(None)
 }
 
-/// Returns a world of one node that learned two texts of one author with the same serial number.
+/// Returns a world of one node that has learned two texts of one author with the same serial number.
 fn learned(alloc: Global) -> Result<World, StepFault> {
     let mut world = World::new(alloc, Weights::equal(1))?;
     learn_two(alloc, &mut world)?;
     Ok(world)
 }
 
+/// Has the node of this world learn the two texts.
 fn learn_two(alloc: Global, world: &mut World) -> Result<(), StepFault> {
     world.step(Event::Offer(0, entry(alloc, 1, b"$c a $.")?))?;
     world.step(Event::Offer(0, entry(alloc, 1, b"$c b $.")?))?;

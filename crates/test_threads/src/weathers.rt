@@ -1,4 +1,4 @@
-//! Repeated and delayed hints, a restart, and a gap in one node's log that a later answer fills.
+//! Repeated, delayed and lost hints, a restart, and a gap in one node's log that a later answer fills.
 ghost use Rattle.std.specs.Prelude.{◌≡◌, length, IfOk};
 
 use crate::three_nodes::{
@@ -17,7 +17,7 @@ use std::time::{Clock, Duration};
 use synod::Weights;
 use verify_pool::{Gate, OpenGate};
 
-/// Passes, repeats and delays hints in turn.
+/// Passes, repeats and delays hints in turn. The number counts them, from 0 to 2.
 #[derive(Clone, Copy)]
 struct CyclingWeather(u8);
 
@@ -65,7 +65,7 @@ fn nodes_answer_alike<R: Threads + Wait + Clock + Copy + Send + Sync + Drop + 's
     served
 }
 
-/// Returns whether each node answers like this new library after the texts are applied to it.
+/// Applies the texts to this new library, and returns whether each of three nodes then answers like it.
 fn nodes_answer_like_new<R: Threads + Wait + Clock + Copy + Send + Sync + Drop + 'static>(
     rt: &R,
     alloc: Global,
@@ -82,12 +82,13 @@ fn apply_all(alloc: Global, library: &mut Library) -> Result<bool, AllocError> {
     Ok(library.statements().len() == 3)
 }
 
+/// Applies one text.
 fn apply_one(library: &mut Library, entry: &Entry) -> Result<(), AllocError> {
     let _verdict = library.apply(Some(entry))?;
     Ok(())
 }
 
-/// Returns whether each of three nodes answers like that library, also after a restart.
+/// Returns whether each of three new nodes, at which the texts are submitted, answers like that library.
 fn nodes_answer_like<R: Threads + Wait + Clock + Copy + Send + Sync + Drop + 'static>(
     rt: &R,
     alloc: Global,
@@ -110,6 +111,7 @@ fn answers_and_stops<R: Threads + Wait + Clock>(
     served
 }
 
+/// Returns whether the nodes of this cluster answer like the library.
 fn cluster_answers_like<R: Wait + Clock>(
     rt: &R,
     alloc: Global,
@@ -120,6 +122,7 @@ fn cluster_answers_like<R: Wait + Clock>(
     desk_answers_like(rt, alloc, &desk, library)
 }
 
+/// Submits the texts at the desk, and returns whether each node then answers like the library, node 2 also after a restart.
 fn desk_answers_like<R: Wait + Clock>(
     rt: &R,
     alloc: Global,
@@ -162,7 +165,7 @@ fn submit_all<G: Gate, R: Wait>(
     Ok(())
 }
 
-/// Returns whether node `k` has the verdicts and the assertions of that library.
+/// Returns whether node `k` has the verdicts and lists the assertions of that library.
 fn node_answers_like<G: Gate, R: Wait + Clock>(
     rt: &R,
     desk: &Desk<G, EntryKeep>,
@@ -182,17 +185,20 @@ fn node_answers_like<G: Gate, R: Wait + Clock>(
     Ok(same && list.len() == expected.len())
 }
 
-/// With this setting of the test a node's hints pass; with `LOSE` they are lost, with `DELAY` they are delayed.
+/// The setting with which the hints of a node pass.
 const PASS: u8 = 0;
 
+/// The setting with which they are lost.
 const LOSE: u8 = 1;
 
+/// The setting with which they are delayed.
 const DELAY: u8 = 2;
 
-/// Passes a node's first hint, and treats the others as the test sets.
+/// Passes a node's first hint, and treats the others by a setting that the test changes meanwhile.
 #[derive(Drop)]
 struct SetWeather {
     setting: Arc<AtomicU8>,
+    /// Whether no hint has come yet.
     first: bool,
 }
 
@@ -215,8 +221,8 @@ fn a_filled_gap_is_applied(rt: HostRuntime) {
     assert!(rt; fills_its_gap(&rt, rt.alloc()) == Ok(true));
 }
 
-/// Returns whether node 2, which gets no packet of the first text and cannot ask for it while it learns the next four, applies
-/// all six texts after it learns the sixth: it then asks for the first, and one answer has all that it needs.
+/// Returns whether node 2 applies all of six texts. The packets of the first one do not reach it, and its requests are lost
+/// while it learns the next four. As it learns the sixth, it asks for the first, and the answer has all that it lacks.
 fn fills_its_gap<R: Threads + Wait + Clock + Copy + Send + Sync + Drop + 'static>(
     rt: &R,
     alloc: Global,
@@ -232,7 +238,7 @@ fn fills_its_gap<R: Threads + Wait + Clock + Copy + Send + Sync + Drop + 'static
     learns_and_stops(rt, alloc, &mut cluster, &first_two, &third)
 }
 
-/// Returns whether node 2 of that cluster applies all texts, and stops the cluster.
+/// Returns the same for the nodes of this cluster, which is stopped afterwards.
 fn learns_and_stops<R: Threads + Wait + Clock>(
     rt: &R,
     alloc: Global,
@@ -245,7 +251,7 @@ fn learns_and_stops<R: Threads + Wait + Clock>(
     filled
 }
 
-/// Returns three weathers: those of the first two nodes share one setting, and the third has its own.
+/// Returns three weathers: those of nodes 0 and 1 share one setting, and that of node 2 has its own.
 fn all_weathers(
     alloc: Global,
     first_two: &Arc<AtomicU8>,
@@ -260,6 +266,7 @@ fn all_weathers(
     Ok(weathers)
 }
 
+/// Returns a weather with this setting.
 fn weather_of(setting: &Arc<AtomicU8>) -> Result<SetWeather, AllocError> {
     Ok(SetWeather {
         setting: Arc::try_clone(setting)?,
@@ -267,6 +274,7 @@ fn weather_of(setting: &Arc<AtomicU8>) -> Result<SetWeather, AllocError> {
     })
 }
 
+/// Returns whether node 2 of the cluster applies all texts.
 fn learns_all<R: Wait + Clock>(
     rt: &R,
     alloc: Global,
@@ -278,6 +286,7 @@ fn learns_all<R: Wait + Clock>(
     learns_at(rt, alloc, &desk, first_two, third)
 }
 
+/// Returns the same, with a desk of the cluster.
 fn learns_at<R: Wait + Clock>(
     rt: &R,
     alloc: Global,
@@ -301,10 +310,11 @@ fn learns_at<R: Wait + Clock>(
     Ok(decided && more && lacks_fifth && is_added_by_all(rt, desk, 6)?)
 }
 
-/// How many milliseconds the test waits for hints in transit.
+/// How many milliseconds the test waits for hints that are on their way.
 const TRANSIT_MILLIS: u64 = 100;
 
-/// Submits a text at node 0. Returns whether the first two nodes add it, after its hints have reached the third.
+/// Submits a text at node 0, waits until nodes 0 and 1 have decided it, and then until the hints on their way to node 2 have
+/// arrived. Returns whether both nodes have added the text.
 fn decide<R: Wait + Clock>(
     rt: &R,
     alloc: Global,
