@@ -29,11 +29,11 @@ const ROWS: [(u64, &[u8], Verdict, usize); 2] = [
 
 #[test]
 fn whole_or_nothing_after_a_failed_allocation(rt: HostRuntime) {
-    assert!(rt; decides_each(rt.alloc()));
+    assert!(rt; new_library_decides_rows(rt.alloc()));
 }
 
 /// Returns whether a new library decides the texts as expected.
-fn decides_each(alloc: Global) -> bool {
+fn new_library_decides_rows(alloc: Global) -> bool {
     with_new_library(alloc, |library| decides_rows(alloc, library))
 }
 

@@ -13,7 +13,7 @@ use verify_pool::{Gate, OpenGate, Workers};
 
 /// Texts whose proofs are shared among several workers, and the verdict on each.
 const ROWS: [(&[u8], Verdict); 6] = [
-    (TWO, Verdict::Added),
+    (TWO_PROOFS, Verdict::Added),
     (HEAVY, Verdict::Added),
     (
         HEAVY_WRONG,
@@ -34,7 +34,7 @@ const ROWS: [(&[u8], Verdict); 6] = [
 ];
 
 /// Two correct proofs.
-const TWO: &[u8] = b"$c |- o $. a $a |- o $. p $p |- o $= a $. q $p |- o $= p $.";
+const TWO_PROOFS: &[u8] = b"$c |- o $. a $a |- o $. p $p |- o $= a $. q $p |- o $= p $.";
 
 /// The results of the first proof have more than 2,000,000 symbols: more than a worker may hold, so the calling thread judges
 /// it.
@@ -155,7 +155,7 @@ fn push_proof(text: &mut Vec<u8>, number: u64, is_right: bool) -> Result<(), All
 #[test]
 fn gate_two_proofs(rt: HostRuntime) {
     let rendezvous = Rendezvous::new();
-    let verdict = verdict_by_workers(&rt, rt.alloc(), 2, TWO, &rendezvous);
+    let verdict = verdict_by_workers(&rt, rt.alloc(), 2, TWO_PROOFS, &rendezvous);
     assert!(rt; verdict == Some(Verdict::Added));
     assert!(rt; rendezvous.has_met());
 }

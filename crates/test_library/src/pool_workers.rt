@@ -16,14 +16,14 @@ use std::thread::Threads;
 use verify_pool::{Gate, Job, OpenGate, Workers, check_all};
 
 /// Two correct proofs.
-const TWO: &[u8] = b"$c |- o $. a $a |- o $. p $p |- o $= a $. q $p |- o $= p $.";
+const TWO_PROOFS: &[u8] = b"$c |- o $. a $a |- o $. p $p |- o $= a $. q $p |- o $= p $.";
 
 /// If an allocation fails in the first call, a second one returns the answer.
 #[test]
 fn answered_after_a_failed_allocation(rt: HostRuntime) {
-    let mut answer = answer_of(&rt, rt.alloc(), TWO, 2, &OpenGate);
+    let mut answer = answer_of(&rt, rt.alloc(), TWO_PROOFS, 2, &OpenGate);
     if answer.is_none() {
-        answer = answer_of(&rt, rt.alloc(), TWO, 2, &OpenGate);
+        answer = answer_of(&rt, rt.alloc(), TWO_PROOFS, 2, &OpenGate);
     }
     assert_eq!(rt; answer, Some(None));
 }
@@ -32,7 +32,7 @@ fn answered_after_a_failed_allocation(rt: HostRuntime) {
 #[test]
 fn gate_two_jobs(rt: HostRuntime) {
     let rendezvous = Rendezvous::new();
-    let answer = answer_of(&rt, rt.alloc(), TWO, 2, &rendezvous);
+    let answer = answer_of(&rt, rt.alloc(), TWO_PROOFS, 2, &rendezvous);
     assert_eq!(rt; answer, Some(None));
     assert!(rt; rendezvous.has_met());
 }

@@ -52,23 +52,23 @@ fn faults_are_told_apart(rt: HostRuntime) {
 /// The number of a long word of letters exceeds every limit.
 #[test]
 fn word_of_100_000_letters(rt: HostRuntime) {
-    assert!(rt; is_too_long(rt.alloc()));
+    assert!(rt; is_long_word_refused(rt.alloc()));
 }
 
 /// Returns whether a compressed proof with a word of 100,000 letters is refused.
-fn is_too_long(alloc: Global) -> bool {
-    match long_word(alloc) {
+fn is_long_word_refused(alloc: Global) -> bool {
+    match tokens_with_long_word(alloc) {
         Ok(text) => has_fault(alloc, &text, CodeFault::Malformed),
         Err(_) => false,
     }
 }
 
 /// Returns the tokens of a compressed proof whose one word of letters is 100,000 times `U`, and then `A`.
-fn long_word(alloc: Global) -> Result<Vec<u8>, AllocError> {
-    let mut text = vec![in alloc; b'U'; 100_000]?;
-    text.extend_from_slice(b"A")?;
+fn tokens_with_long_word(alloc: Global) -> Result<Vec<u8>, AllocError> {
+    let mut word = vec![in alloc; b'U'; 100_000]?;
+    word.extend_from_slice(b"A")?;
     let mut tokens = Vec::from_slice(alloc, b"( ) ")?;
-    tokens.extend_from_slice(&text)?;
+    tokens.extend_from_slice(&word)?;
     Ok(tokens)
 }
 
@@ -87,7 +87,9 @@ fn items_of(alloc: Global, tokens: &[u8]) -> Result<Items, CodeFault> {
     };
     match read(alloc, text.as_slice()) {
         Ok(statements) => match statements.as_slice() {
-            [Stmt::Const(labels), Stmt::Prove { proof, .. }] => items_after(alloc, labels, proof),
+            [Stmt::Const(labels), Stmt::Prove { proof, .. }] => items_with_labels(
+                alloc, labels, proof,
+            ),
             _ => Err(CodeFault::Memory),
         },
         Err(_) => Err(CodeFault::Memory),
@@ -95,7 +97,7 @@ fn items_of(alloc: Global, tokens: &[u8]) -> Result<Items, CodeFault> {
 }
 
 /// Returns the items that the tokens, of a compressed or a normal proof, write with these mandatory labels.
-fn items_after(alloc: Global, mandatory: &Words, tokens: &Words) -> Result<Items, CodeFault> {
+fn items_with_labels(alloc: Global, mandatory: &Words, tokens: &Words) -> Result<Items, CodeFault> {
     if is_compressed(tokens) {
         packed(alloc, tokens, mandatory)
     } else {

@@ -6,11 +6,11 @@ use scope::{Scope, Steps};
 use std::alloc::Global;
 
 /// A text with a `$c`, a comment, a `$a` and a `$p`.
-const SMALLEST: &[u8] = b"$c |- $. $( hi $) p $a |- $. q $p |- $= p $.";
+const SMALL_TEXT: &[u8] = b"$c |- $. $( hi $) p $a |- $. q $p |- $= p $.";
 
 #[test]
 fn copies_after_each_statement(rt: HostRuntime) {
-    assert!(rt; copies_each(rt.alloc(), SMALLEST));
+    assert!(rt; copies_each(rt.alloc(), SMALL_TEXT));
 }
 
 /// Returns whether the statements of the text are added, and the scope can be copied after each.

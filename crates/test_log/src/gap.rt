@@ -5,7 +5,7 @@
 //! statements do. They also compare so if the keep of node 0 fails at one of its first 18 calls and the node restarts after
 //! any step.
 
-use crate::fuse::{Fuse, entry, make_three, restart_first};
+use crate::fail_once_keep::{FailOnceKeep, entry, make_three, restart_first};
 use cluster::{
     Ahead, NodeCell, Switch, apply_on, begin_on, belongs, compare_on, deliver_on, list_on,
     offer_on, take_on,
@@ -45,13 +45,13 @@ const STEPS: [(Step, u64); 17] = [
 ];
 
 #[test]
-fn each_cell_fills_the_gap(rt: HostRuntime) {
-    assert!(rt; fills_each_cell(rt.alloc()) == Ok(true));
+fn the_gap_is_filled(rt: HostRuntime) {
+    assert!(rt; new_nodes_fill_gap(rt.alloc()) == Ok(true));
 }
 
 /// Returns whether three new nodes fill the gap, and their cells apply what they have learned.
-fn fills_each_cell(alloc: Global) -> Result<bool, StepFault> {
-    let (mut switch, mut cells) = make_three(alloc, Fuse::new(alloc, None, false))?;
+fn new_nodes_fill_gap(alloc: Global) -> Result<bool, StepFault> {
+    let (mut switch, mut cells) = make_three(alloc, FailOnceKeep::new(alloc, None, false))?;
     let filled = steps_fill_gap(alloc, &mut switch, &mut cells);
     // An explicit `drop` is proved once for each type; a drop at the end of the scope would be proved here.
     drop(cells);
@@ -62,14 +62,14 @@ fn fills_each_cell(alloc: Global) -> Result<bool, StepFault> {
 /// Returns whether all steps succeed, and the cells then apply what their nodes have learned.
 fn steps_fill_gap(
     alloc: Global,
-    switch: &mut Switch<Carried, Fuse>,
+    switch: &mut Switch<Carried, FailOnceKeep>,
     cells: &mut Vec<NodeCell>,
 ) -> Result<bool, StepFault> {
-    Ok(all_steps_succeed(alloc, switch) && fills_gap(switch, cells)?)
+    Ok(all_steps_succeed(alloc, switch) && cells_add_expected(switch, cells)?)
 }
 
 /// Returns whether all steps succeed, and no other packet and no other node exists.
-fn all_steps_succeed(alloc: Global, switch: &mut Switch<Carried, Fuse>) -> bool {
+fn all_steps_succeed(alloc: Global, switch: &mut Switch<Carried, FailOnceKeep>) -> bool {
     for (step, posted) in STEPS {
         if make_step(alloc, switch, step) != Ok(posted) {
             return false;
@@ -80,7 +80,10 @@ fn all_steps_succeed(alloc: Global, switch: &mut Switch<Carried, Fuse>) -> bool 
 }
 
 /// Returns whether each cell adds as many statements as `expected_added` says of its node, and all agree.
-fn fills_gap(switch: &Switch<Carried, Fuse>, cells: &mut Vec<NodeCell>) -> Result<bool, StepFault> {
+fn cells_add_expected(
+    switch: &Switch<Carried, FailOnceKeep>,
+    cells: &mut Vec<NodeCell>,
+) -> Result<bool, StepFault> {
     for cell in cells.iter_mut() {
         if !adds_statements(cell, switch, expected_added(cell.node()))? {
             return Ok(false);
@@ -102,11 +105,11 @@ fn expected_added(node: u8) -> usize {
 /// label.
 fn adds_statements(
     cell: &mut NodeCell,
-    switch: &Switch<Carried, Fuse>,
+    switch: &Switch<Carried, FailOnceKeep>,
     added: usize,
 ) -> Result<bool, StepFault> {
     let had_entry = apply_on(cell)?.is_some();
-    copy_and_apply(cell, switch)?;
+    take_over_and_apply(cell, switch)?;
     let has_more = take_on(cell, switch)? || apply_on(cell)?.is_some();
     let listed = list_on(cell)?.len();
     Ok(!had_entry && !has_more && listed == 0 && cell.library().statements().len() == added)
@@ -115,7 +118,7 @@ fn adds_statements(
 /// Makes a step of the scenario.
 fn make_step(
     alloc: Global,
-    switch: &mut Switch<Carried, Fuse>,
+    switch: &mut Switch<Carried, FailOnceKeep>,
     step: Step,
 ) -> Result<u64, StepFault> {
     match step {
@@ -127,7 +130,10 @@ fn make_step(
 }
 
 /// Takes over and applies the entries of the log of the cell's node, three at most.
-fn copy_and_apply(cell: &mut NodeCell, switch: &Switch<Carried, Fuse>) -> Result<(), StepFault> {
+fn take_over_and_apply(
+    cell: &mut NodeCell,
+    switch: &Switch<Carried, FailOnceKeep>,
+) -> Result<(), StepFault> {
     for _entry in 0..3 {
         if !take_on(cell, switch)? {
             break;
@@ -138,10 +144,10 @@ fn copy_and_apply(cell: &mut NodeCell, switch: &Switch<Carried, Fuse>) -> Result
 }
 
 /// Returns whether each cell belongs to the switch, and each two compare as their statements do.
-fn all_agree(switch: &Switch<Carried, Fuse>, cells: &[NodeCell]) -> bool {
+fn all_agree(switch: &Switch<Carried, FailOnceKeep>, cells: &[NodeCell]) -> bool {
     for one in cells {
         for other in cells {
-            if compared(one, other, switch) != Some(ahead_by_count(one, other)) {
+            if ahead_if_both_belong(one, other, switch) != Some(ahead_by_count(one, other)) {
                 return false;
             }
         }
@@ -150,7 +156,11 @@ fn all_agree(switch: &Switch<Carried, Fuse>, cells: &[NodeCell]) -> bool {
 }
 
 /// Returns which of two cells is ahead, or `None` if one does not belong to the switch.
-fn compared(one: &NodeCell, other: &NodeCell, switch: &Switch<Carried, Fuse>) -> Option<Ahead> {
+fn ahead_if_both_belong(
+    one: &NodeCell,
+    other: &NodeCell,
+    switch: &Switch<Carried, FailOnceKeep>,
+) -> Option<Ahead> {
     if belongs(one, switch) && belongs(other, switch) {
         Some(compare_on(one, other, switch))
     } else {
@@ -172,7 +182,7 @@ fn ahead_by_count(one: &NodeCell, other: &NodeCell) -> Ahead {
 }
 
 #[test]
-fn stop_at_each(rt: HostRuntime) {
+fn cells_agree_after_each_failure(rt: HostRuntime) {
     for restart in 0..STEPS.len() {
         for calls in 0..18 {
             let old = agrees(rt.alloc(), Some(calls), false, restart);
@@ -194,7 +204,10 @@ fn agrees(
     leaves_new: bool,
     restart: usize,
 ) -> Result<bool, StepFault> {
-    let (mut switch, mut cells) = make_three(alloc, Fuse::new(alloc, calls_left, leaves_new))?;
+    let (mut switch, mut cells) = make_three(
+        alloc,
+        FailOnceKeep::new(alloc, calls_left, leaves_new),
+    )?;
     let agreed = run_with_restart(alloc, &mut switch, &mut cells, restart);
     drop(cells);
     drop(switch);
@@ -204,13 +217,13 @@ fn agrees(
 /// Makes the steps and the restart, and returns whether all cells agree then.
 fn run_with_restart(
     alloc: Global,
-    switch: &mut Switch<Carried, Fuse>,
+    switch: &mut Switch<Carried, FailOnceKeep>,
     cells: &mut Vec<NodeCell>,
     restart: usize,
 ) -> Result<bool, StepFault> {
     for (i, (step, _)) in STEPS.iter().enumerate() {
         let _ = make_step(alloc, switch, *step);
-        copy_and_apply_each(cells, switch)?;
+        take_over_and_apply_each(cells, switch)?;
         if i == restart {
             let _ = restart_first(switch, cells);
         }
@@ -219,12 +232,12 @@ fn run_with_restart(
 }
 
 /// Has each cell take over and apply the entries of its node's log.
-fn copy_and_apply_each(
+fn take_over_and_apply_each(
     cells: &mut Vec<NodeCell>,
-    switch: &Switch<Carried, Fuse>,
+    switch: &Switch<Carried, FailOnceKeep>,
 ) -> Result<(), StepFault> {
     for cell in cells.iter_mut() {
-        copy_and_apply(cell, switch)?;
+        take_over_and_apply(cell, switch)?;
     }
     Ok(())
 }

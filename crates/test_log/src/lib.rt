@@ -2,11 +2,11 @@
 //! storage of a node) that fails at one of its calls, a gap in a log that is filled, a list of events in one call, and the
 //! application of an entry after a failed allocation.
 //!
-//! `fuse` has the keep that fails, and helpers that the other modules share.
+//! `fail_once_keep` has the keep that fails, and helpers that the other modules share.
 #![tactic(auto)]
 
 #[cfg(test)]
-mod fuse;
+mod fail_once_keep;
 #[cfg(test)]
 mod gap;
 #[cfg(test)]

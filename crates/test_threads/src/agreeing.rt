@@ -18,9 +18,9 @@ const LEADERS: [(u8, u8); 3] = [(0, 1), (0, 100), (1, 1)];
 
 #[test]
 fn three_threads_agree(rt: HostRuntime) {
-    for (leader, heaviest) in LEADERS {
+    for (leader, first_weight) in LEADERS {
         assert!(rt;
-            agree(&rt, rt.alloc(), leader, heaviest) == Ok(true),
+            agree(&rt, rt.alloc(), leader, first_weight) == Ok(true),
             "{leader} leads"
         );
     }
@@ -31,9 +31,9 @@ fn agree<R: Threads + Wait + Clock + Copy + Send + Sync + Drop + 'static>(
     rt: &R,
     alloc: Global,
     leader: u8,
-    heaviest: u8,
+    first_weight: u8,
 ) -> Result<bool, StepFault> {
-    let Some(weights) = Weights::new(&[heaviest, 1, 1]) else {
+    let Some(weights) = Weights::new(&[first_weight, 1, 1]) else {
         return Ok(false);
     };
     let weathers = same_weathers(alloc, Clear)?;

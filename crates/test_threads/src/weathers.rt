@@ -196,16 +196,16 @@ const DELAY: u8 = 2;
 
 /// Passes a node's first hint, and treats the others by a setting that the test changes meanwhile.
 #[derive(Drop)]
-struct SetWeather {
+struct SettableWeather {
     setting: Arc<AtomicU8>,
     /// Whether no hint has come yet.
-    first: bool,
+    is_first: bool,
 }
 
-impl Weather for SetWeather {
+impl Weather for SettableWeather {
     fn turn(&mut self, _number: u64) -> Fate {
-        if self.first {
-            self.first = false;
+        if self.is_first {
+            self.is_first = false;
             return Fate::Pass;
         }
         match self.setting.load(Ordering::SeqCst) {
@@ -227,15 +227,15 @@ fn fills_its_gap<R: Threads + Wait + Clock + Copy + Send + Sync + Drop + 'static
     rt: &R,
     alloc: Global,
 ) -> Result<bool, StepFault> {
-    let (Ok(first_two), Ok(third)) = (
+    let (Ok(first_two_setting), Ok(third_setting)) = (
         Arc::new(alloc, AtomicU8::new(PASS)),
         Arc::new(alloc, AtomicU8::new(LOSE)),
     ) else {
         return Err(StepFault::Memory);
     };
-    let weathers = all_weathers(alloc, &first_two, &third)?;
+    let weathers = all_weathers(alloc, &first_two_setting, &third_setting)?;
     let mut cluster = start_three_open(rt, alloc, Weights::equal(3), weathers)?;
-    learns_and_stops(rt, alloc, &mut cluster, &first_two, &third)
+    learns_and_stops(rt, alloc, &mut cluster, &first_two_setting, &third_setting)
 }
 
 /// Returns the same for the nodes of this cluster, which is stopped afterwards.
@@ -243,10 +243,10 @@ fn learns_and_stops<R: Threads + Wait + Clock>(
     rt: &R,
     alloc: Global,
     cluster: &mut Cluster<OpenGate, EntryKeep>,
-    first_two: &AtomicU8,
-    third: &AtomicU8,
+    first_two_setting: &AtomicU8,
+    third_setting: &AtomicU8,
 ) -> Result<bool, StepFault> {
-    let filled = learns_all(rt, alloc, cluster, first_two, third);
+    let filled = learns_all(rt, alloc, cluster, first_two_setting, third_setting);
     cluster.stop(rt)?;
     filled
 }
@@ -254,23 +254,23 @@ fn learns_and_stops<R: Threads + Wait + Clock>(
 /// Returns three weathers: those of nodes 0 and 1 share one setting, and that of node 2 has its own.
 fn all_weathers(
     alloc: Global,
-    first_two: &Arc<AtomicU8>,
-    third: &Arc<AtomicU8>,
-) -> Result<Vec<SetWeather>, AllocError>
+    first_two_setting: &Arc<AtomicU8>,
+    third_setting: &Arc<AtomicU8>,
+) -> Result<Vec<SettableWeather>, AllocError>
     ensures { IfOk result (λ weathers. length weathers.items ≡ 3) }
 {
     let mut weathers = Vec::with_capacity(alloc, 3)?;
-    weathers.push_reserved(weather_of(first_two)?);
-    weathers.push_reserved(weather_of(first_two)?);
-    weathers.push_reserved(weather_of(third)?);
+    weathers.push_reserved(weather_of(first_two_setting)?);
+    weathers.push_reserved(weather_of(first_two_setting)?);
+    weathers.push_reserved(weather_of(third_setting)?);
     Ok(weathers)
 }
 
 /// Returns a weather with this setting.
-fn weather_of(setting: &Arc<AtomicU8>) -> Result<SetWeather, AllocError> {
-    Ok(SetWeather {
+fn weather_of(setting: &Arc<AtomicU8>) -> Result<SettableWeather, AllocError> {
+    Ok(SettableWeather {
         setting: Arc::try_clone(setting)?,
-        first: true,
+        is_first: true,
     })
 }
 
@@ -279,11 +279,11 @@ fn learns_all<R: Wait + Clock>(
     rt: &R,
     alloc: Global,
     cluster: &Cluster<OpenGate, EntryKeep>,
-    first_two: &AtomicU8,
-    third: &AtomicU8,
+    first_two_setting: &AtomicU8,
+    third_setting: &AtomicU8,
 ) -> Result<bool, StepFault> {
     let desk = cluster.desk()?;
-    learns_at(rt, alloc, &desk, first_two, third)
+    learns_at(rt, alloc, &desk, first_two_setting, third_setting)
 }
 
 /// Returns the same, with a desk of the cluster.
@@ -291,20 +291,20 @@ fn learns_at<R: Wait + Clock>(
     rt: &R,
     alloc: Global,
     desk: &Desk<OpenGate, EntryKeep>,
-    first_two: &AtomicU8,
-    third: &AtomicU8,
+    first_two_setting: &AtomicU8,
+    third_setting: &AtomicU8,
 ) -> Result<bool, StepFault> {
     desk.begin(rt, 0)?;
     let decided = decide(rt, alloc, desk, 1)?;
-    third.store(DELAY, Ordering::SeqCst);
+    third_setting.store(DELAY, Ordering::SeqCst);
     let more = decide(rt, alloc, desk, 2)?
         && decide(rt, alloc, desk, 3)?
         && decide(rt, alloc, desk, 4)?
         && decide(rt, alloc, desk, 5)?;
-    first_two.store(LOSE, Ordering::SeqCst);
-    third.store(PASS, Ordering::SeqCst);
+    first_two_setting.store(LOSE, Ordering::SeqCst);
+    third_setting.store(PASS, Ordering::SeqCst);
     thread::sleep(rt, Duration::from_millis(TRANSIT_MILLIS));
-    first_two.store(PASS, Ordering::SeqCst);
+    first_two_setting.store(PASS, Ordering::SeqCst);
     let lacks_fifth = desk.status(rt, 2, 7, 5)?.is_none();
     submit_text(rt, alloc, desk, 6, b"$c a $.")?;
     Ok(decided && more && lacks_fifth && is_added_by_all(rt, desk, 6)?)

@@ -23,7 +23,7 @@ pub fn entry(alloc: Global, serial: u64, text: &[u8]) -> Result<Entry, AllocErro
 /// A keep in memory that fails once, after `calls_left` more calls, and then works again; it never fails by itself if
 /// `calls_left` is `None`. A store that fails leaves the new record if `leaves_new`, else the old one.
 #[derive(Drop)]
-pub struct Fuse {
+pub struct FailOnceKeep {
     keep: MemoryKeep<Carried>,
     calls_left: Option<u32>,
     leaves_new: bool,
@@ -31,12 +31,12 @@ pub struct Fuse {
     failures: Steps,
 }
 
-impl Fuse {
+impl FailOnceKeep {
     /// Creates the keep of a new node.
     pub fn new(alloc: Global, calls_left: Option<u32>, leaves_new: bool) -> Self
         ensures { ⟦<MemoryKeep<Carried> as Keep<Carried>>⟧.kept result.keep ≡ new_kept }
     {
-        Fuse {
+        FailOnceKeep {
             keep: MemoryKeep::new(alloc),
             calls_left,
             leaves_new,
@@ -45,7 +45,7 @@ impl Fuse {
     }
 }
 
-impl Keep<Carried> for Fuse {
+impl Keep<Carried> for FailOnceKeep {
     ghost kept = { λ s. ⟦<MemoryKeep<Carried> as Keep<Carried>>⟧.kept s.keep };
 
     ghost failures = { λ s. s.failures.count + ⟦<MemoryKeep<Carried> as Keep<Carried>>⟧.failures s.keep };
@@ -88,12 +88,12 @@ fn fails_now(calls_left: &mut Option<u32>) -> bool {
 /// Makes three nodes, of which the first has this keep.
 pub fn make_three(
     alloc: Global,
-    first: Fuse,
-) -> Result<(Switch<Carried, Fuse>, Vec<NodeCell>), StepFault>
+    first: FailOnceKeep,
+) -> Result<(Switch<Carried, FailOnceKeep>, Vec<NodeCell>), StepFault>
     requires { ⟦<MemoryKeep<Carried> as Keep<Carried>>⟧.kept first.keep ≡ new_kept }
 {
-    let others = Fuse::new(alloc, None, false);
-    let Ok(keeps) = vec![in alloc; first, others, Fuse::new(alloc, None, false)] else {
+    let others = FailOnceKeep::new(alloc, None, false);
+    let Ok(keeps) = vec![in alloc; first, others, FailOnceKeep::new(alloc, None, false)] else {
         return Err(StepFault::Memory);
     };
     cells(alloc, Weights::equal(3), keeps)
@@ -101,7 +101,7 @@ pub fn make_three(
 
 /// Restarts the first node.
 pub fn restart_first(
-    switch: &mut Switch<Carried, Fuse>,
+    switch: &mut Switch<Carried, FailOnceKeep>,
     cells: &mut Vec<NodeCell>,
 ) -> Result<u64, StepFault> {
     match cells.get_mut(0) {
