@@ -1,6 +1,6 @@
-"""The assertions of a Metamath database, by a plain walk over its tokens, and ways to break their proofs.
+"""Finds the assertions of a Metamath database, by a plain walk over its tokens, and breaks their proofs.
 
-For the scripts beside it. The database is taken to be good, so nothing here is refused.
+For the scripts in this folder. The database is taken to be good, so nothing here is refused.
 """
 import re
 import typing
@@ -16,16 +16,16 @@ class Assertion(typing.NamedTuple):
     label: bytes
     is_theorem: bool
     hypotheses: int
-    """How many hypotheses are mandatory."""
+    """The number of mandatory hypotheses."""
     keyword: int
-    """Where its `$a` or `$p` stands in the text."""
+    """The offset of its `$a` or `$p` in the text."""
     begin: int
-    """Where its proof begins, right after the `$=`, and where the `$.` stands."""
+    """The offset right after its `$=`, where its proof begins (0 if it has none), and that of its `$.`."""
     end: int
 
 
 def tokens(text):
-    """The tokens of a text outside comments."""
+    """Yields the tokens of a text outside comments."""
     is_comment = False
     for token in re.finditer(rb"\S+", text):
         word = token.group()
@@ -38,7 +38,7 @@ def tokens(text):
 
 
 def assertions(text):
-    """The assertions of a database, in order."""
+    """Returns the assertions of a database, in order."""
     found, number = [], 0
     blocks, floating, essential = [], {}, []
     label, kind, place, symbols, begin = b"", b"", 0, None, 0
@@ -70,13 +70,13 @@ def assertions(text):
 
 
 def is_compressed(text, theorem):
-    """Whether the proof of a theorem is compressed, and has letters."""
+    """Returns whether the proof of a theorem is compressed, and has letters."""
     proof = text[theorem.begin : theorem.end].split()
     return proof[:1] == [b"("] and proof[-1] != b")"
 
 
 def cited(text, theorem):
-    """The labels that the proof of a theorem cites; of a compressed one those that a letter names."""
+    """Returns the labels that the proof of a theorem cites: in a compressed proof those listed labels that its letters name."""
     proof = text[theorem.begin : theorem.end].split()
     if proof[0] != b"(":
         return set(proof)
@@ -90,7 +90,7 @@ def cited(text, theorem):
 
 
 def number_of(letters):
-    """The number that letters of a compressed proof write, from 1."""
+    """Returns the number that letters of a compressed proof write, from 1."""
     number = 0
     for letter in letters[:-1]:
         number = 5 * number + letter - ord("U") + 1
@@ -98,7 +98,7 @@ def number_of(letters):
 
 
 def broken(draw, proof, is_unfinished):
-    """A proof that is not finished, or a wrong one, in place of a compressed one."""
+    """Returns an unfinished proof, or else a wrong one, in place of a compressed proof."""
     if is_unfinished:
         return b" ? "
     if draw.random() < 0.5:
@@ -107,7 +107,7 @@ def broken(draw, proof, is_unfinished):
 
 
 def with_parts(text, parts):
-    """The text with others in place of parts of it, each as (begin, end, other), which do not overlap."""
+    """Returns the text with parts of it replaced, each given as (begin, end, other); the parts do not overlap."""
     pieces, last = [], 0
     for begin, end, other in sorted(parts):
         pieces += [text[last:begin], other]

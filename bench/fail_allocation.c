@@ -1,6 +1,6 @@
-// Loaded before the C library: the allocation (malloc or realloc) whose number the variable FAILING names, counted from 1 in each
-// process, fails, and all later ones too if the variable ALL_LATER is set. Writes at the end how many there were into the file that
-// COUNT_TO names.
+// A library that is loaded before the C library and makes an allocation fail: the call of malloc or realloc whose number, counted from 1
+// in each process, is the value of the environment variable FAILING, and all later ones too if ALL_LATER is set. At the end it writes how
+// many calls there were into the file that COUNT_TO names.
 #define _GNU_SOURCE
 #include <dlfcn.h>
 #include <stdatomic.h>
@@ -34,7 +34,7 @@ __attribute__((destructor)) static void end(void) {
   }
 }
 
-// A program with threads ends so, and runs no destructor.
+// A program with threads ends by this call, without running destructors.
 void _exit(int status) {
   end();
   syscall(SYS_exit_group, status);

@@ -1,4 +1,4 @@
-//! Both proofs of the book's first theorem, normal and compressed, are correct, and their tree has 34 nodes.
+//! Both proofs of the book's first theorem, normal and compressed, are correct, and the tree of each has 34 nodes.
 ghost use Rattle.std.specs.Prelude.{◌≡◌, ◌∷◌, ◌++◌, []};
 ghost use Rattle.mm_read.specs.Statements.{AreShaped, Database};
 ghost use Rattle.scope.specs.Active.{bare};
@@ -11,7 +11,7 @@ use scope::Scope;
 use std::alloc::Global;
 use verify::{Answer, Tree, TreeFault, check, derivation};
 
-/// A call in which an allocation fails returns its result when it is repeated. Each allocation fails in turn.
+/// If an allocation fails, the same call made again returns the number of nodes.
 #[test]
 fn right_after_a_failed_allocation(rt: HostRuntime) {
     for text in [NORMAL, COMPRESSED] {
@@ -23,7 +23,8 @@ fn right_after_a_failed_allocation(rt: HostRuntime) {
     }
 }
 
-/// Returns the number of nodes of the tree of the last proof: 0 if it is wrong, `None` if an allocation fails.
+/// Returns the number of nodes of the tree of the text's last proof: 0 if the proof is wrong, `None` if an allocation fails.
+/// The symbols of a `$c` serve as the list of the theorem's mandatory labels, which is `tt` alone.
 fn nodes_of(alloc: Global, text: &[u8]) -> Option<usize> {
     match (read(alloc, text), read(alloc, b"$c tt $.")) {
         (Ok(statements), Ok(labels)) => match labels.first() {
@@ -34,7 +35,7 @@ fn nodes_of(alloc: Global, text: &[u8]) -> Option<usize> {
     }
 }
 
-/// Returns the number of nodes for these statements. The last theorem must have these mandatory labels.
+/// Returns the number of nodes for the last of these statements, whose mandatory labels are given.
 fn last_nodes(alloc: Global, statements: &[Stmt], mandatory: &Words) -> Option<usize>
     requires { AreShaped statements.now }
 {
@@ -47,7 +48,7 @@ fn last_nodes(alloc: Global, statements: &[Stmt], mandatory: &Words) -> Option<u
     nodes
 }
 
-/// Returns the number of nodes, given an empty scope and empty frames.
+/// Adds the statements to the scope and the frames, which are empty, and returns the number of nodes for the last one.
 fn nodes_in(
     alloc: Global,
     statements: &[Stmt],
@@ -62,7 +63,7 @@ fn nodes_in(
     nodes_at(alloc, frames, last, mandatory)
 }
 
-/// Returns the number of nodes for the statement that was pushed last.
+/// Returns the number of nodes for this statement, the one that was pushed last.
 fn nodes_at(alloc: Global, frames: &Frames, stmt: &Stmt, mandatory: &Words) -> Option<usize>
     requires { (S : Database) × (frames.now.statements ≡ S ++ bare stmt.now ∷ []) }
 {

@@ -1,5 +1,4 @@
-//! A submission during which an allocation fails has no verdict; submitted again, it has its usual one. Each allocation fails
-//! in turn.
+//! A submission during which an allocation fails has no verdict and changes nothing; submitted again, it has its usual verdict.
 use crate::library_workers::verdict_by_workers;
 use crate::text_entries::{entry, verdict_on, with_new_library};
 use bytes::Bytes;
@@ -11,6 +10,7 @@ use verify_pool::OpenGate;
 /// A text that is refused at its last statement.
 const REFUSED: &[u8] = b"$c |- $. p $a |- $. p $a |- $.";
 
+/// A text that is added.
 const GOOD: &[u8] = b"$c |- $. p $a |- $.";
 
 /// Successive texts, each with its serial number, its verdict, and the number of statements of the library after it.
@@ -29,10 +29,11 @@ const ROWS: [(u64, &[u8], Verdict, usize); 2] = [
 
 #[test]
 fn whole_or_nothing_after_a_failed_allocation(rt: HostRuntime) {
-    assert!(rt; decides_each(rt.alloc()));
+    assert!(rt; new_library_decides_rows(rt.alloc()));
 }
 
-fn decides_each(alloc: Global) -> bool {
+/// Returns whether a new library decides the texts as expected.
+fn new_library_decides_rows(alloc: Global) -> bool {
     with_new_library(alloc, |library| decides_rows(alloc, library))
 }
 
@@ -48,7 +49,8 @@ fn decides_rows(alloc: Global, library: &mut Library) -> bool {
     true
 }
 
-/// Returns whether this is the verdict on the text. If an allocation fails, nothing must be decided, and the call is repeated.
+/// Returns whether the library decides the text as expected. If an allocation fails, it must have decided nothing, and the call
+/// is repeated.
 fn is_decided(
     alloc: Global,
     library: &mut Library,

@@ -10,7 +10,7 @@ use proof_code::{CodeFault, Items, is_compressed, normal, packed};
 use scope::{Scope, Steps};
 use std::alloc::Global;
 
-/// The book's first example.
+/// The book's first example, with a normal proof.
 pub const NORMAL: &[u8] =
     b"$c 0 + = -> ( ) term wff |- $. $v t r s P Q $. tt $f term t $. tr $f term r $. \
     ts $f term s $. wp $f wff P $. wq $f wff Q $. tze $a term 0 $. tpl $a term ( t + r ) $. \
@@ -27,13 +27,14 @@ pub const COMPRESSED: &[u8] =
     a2 $a |- ( t + 0 ) = t $. ${ min $e |- P $. maj $e |- ( P -> Q ) $. mp $a |- Q $. $} \
     th1 $p |- t = t $= ( tze tpl weq a2 wim a1 mp ) ABCZADZAADZAEZJJKFLIAAGHH $.";
 
-/// Adds the statement, if it is legal as the next one.
+/// Adds the statement to the scope and the frames, or returns `None` if it is not legal as the next one or an allocation fails.
 pub fn push(scope: &mut Scope, frames: &mut Frames, stmt: &Stmt) -> Option<()>
     requires same { scope.old.statements ≡ frames.old.statements }
     requires shaped { IsShaped stmt.now }
     ensures same { OnSome result (scope.new.statements ≡ frames.new.statements) }
     ensures added { OnSome result (frames.new.statements ≡ frames.old.statements ++ bare stmt.now ∷ []) }
 {
+    // `Steps` is a count that contracts alone see.
     let mut steps = Steps::new();
     if scope.broken_rule(stmt).is_some() {
         return None;
@@ -42,7 +43,7 @@ pub fn push(scope: &mut Scope, frames: &mut Frames, stmt: &Stmt) -> Option<()>
     scope.add(stmt, &mut steps).ok()
 }
 
-/// Adds the statements, if each is legal as the next one, and returns the last.
+/// Adds the statements, and returns the last one, or `None` if there is none, one is not legal, or an allocation fails.
 pub fn push_all<'a>(
     scope: &mut Scope,
     frames: &mut Frames,
@@ -60,7 +61,7 @@ pub fn push_all<'a>(
     last
 }
 
-/// Returns the items that the tokens write after these mandatory labels.
+/// Returns the items that the tokens, of a compressed or a normal proof, write with these mandatory labels.
 pub fn items_of(alloc: Global, tokens: &Words, mandatory: &Words) -> Result<Items, CodeFault> {
     if is_compressed(tokens) {
         packed(alloc, tokens, mandatory)

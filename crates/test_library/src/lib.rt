@@ -1,7 +1,12 @@
-//! Tests of the crates up to `library` that the rows of the crate `rows`, inputs with their printed outputs, cannot express:
-//! spans of tokens and items of proof tokens, texts read in parts, copies of a scope, worked frames, simultaneous
-//! substitution, trees of the book's first theorem, verdicts by several workers in parallel, texts of the greatest length, and
-//! verdicts after a failed allocation.
+//! Tests of `library` and the crates below it that no row of the crate `rows` (an input with its printed output) can express:
+//! spans of tokens, items of proof tokens, texts read in parts, copies of a scope, frames of worked examples, simultaneous
+//! substitution, the tree of the book's first theorem, verdicts by several workers in parallel, texts of the greatest length,
+//! and results after a failed allocation.
+//!
+//! A test of failed allocations calls again what ran out of memory. By itself it runs with ample memory;
+//! `bench/failed_allocations` runs it once for each of its allocations, with that allocation failing.
+//!
+//! `first_example`, `rendezvous` and `text_entries` are helpers that the other modules share.
 #![tactic(auto)]
 
 #[cfg(test)]

@@ -11,9 +11,9 @@ use std::test::Fail;
 use std::thread::Threads;
 use verify_pool::{Gate, OpenGate, Workers};
 
-/// Texts whose proofs several workers share, and the verdict on each.
+/// Texts whose proofs are shared among several workers, and the verdict on each.
 const ROWS: [(&[u8], Verdict); 6] = [
-    (TWO, Verdict::Added),
+    (TWO_PROOFS, Verdict::Added),
     (HEAVY, Verdict::Added),
     (
         HEAVY_WRONG,
@@ -34,14 +34,15 @@ const ROWS: [(&[u8], Verdict); 6] = [
 ];
 
 /// Two correct proofs.
-const TWO: &[u8] = b"$c |- o $. a $a |- o $. p $p |- o $= a $. q $p |- o $= p $.";
+const TWO_PROOFS: &[u8] = b"$c |- o $. a $a |- o $. p $p |- o $= a $. q $p |- o $= p $.";
 
-/// The results of the first proof have more than 2,000,000 symbols, which exceeds a worker's share.
+/// The results of the first proof have more than 2,000,000 symbols: more than a worker may hold, so the calling thread judges
+/// it.
 const HEAVY: &[u8] = b"$c |- w e $. $v x $. fx $f w x $. e0 $a w e $. d2 $a w x x $. \
     ${ h $e w x $. k $a |- e $. $} c0 $a |- e $. \
     p $p |- e $= ( e0 d2 k ) ABBBBBBBBBBBBBBBBBBBBZDC $. q $p |- e $= c0 $.";
 
-/// The first proof leaves one result too many, and the second one is wrong too.
+/// The same, but the first proof leaves one result too many, and the second one is wrong too.
 const HEAVY_WRONG: &[u8] = b"$c |- w e $. $v x $. fx $f w x $. e0 $a w e $. d2 $a w x x $. \
     ${ h $e w x $. k $a |- e $. $} c0 $a |- e $. \
     p $p |- e $= ( e0 d2 k ) ABBBBBBBBBBBBBBBBBBBBZDCA $. q $p |- e $= e0 $.";
@@ -56,6 +57,7 @@ fn judged_alike_by_workers(rt: HostRuntime) {
     }
 }
 
+/// Returns whether 1, 2, 3 and 16 workers give this verdict on the text.
 fn is_judged_by_each<R: Threads + Sync>(
     rt: &R,
     alloc: Global,
@@ -100,7 +102,7 @@ fn verdict_with_retry<G: Gate + Sync, R: Threads + Sync>(
     }
 }
 
-/// Some proofs are wrong in a text so long that its first proofs are verified while later statements are added.
+/// The text is so long that its first proofs are verified while later statements are added.
 #[test]
 fn long_text_judged_alike(rt: HostRuntime) -> Result<(), Fail> {
     for (wrong, verdict) in LONG_ROWS {
@@ -113,7 +115,8 @@ fn long_text_judged_alike(rt: HostRuntime) -> Result<(), Fail> {
     Ok(())
 }
 
-/// Which of the proofs of a long text are wrong, by number from 0, and the verdict. A `$c` and an `$a` precede the proofs.
+/// Which of the proofs of the long text are wrong, by number from 0, and the verdict. The theorem of number n is the statement
+/// at position n + 3, since a `$c` and a `$a` precede the theorems.
 const LONG_ROWS: [(&[u64], Verdict); 4] = [
     (&[], Verdict::Added),
     (
@@ -130,7 +133,7 @@ const LONG_ROWS: [(&[u64], Verdict); 4] = [
     ),
 ];
 
-/// Returns a text of 12,000 proofs.
+/// Returns a text of 12,000 theorems, of which those with the numbers of `wrong` have wrong proofs.
 fn long_text(alloc: Global, wrong: &[u64]) -> Result<Vec<u8>, AllocError> {
     let mut text = Vec::from_slice(alloc, b"$c |- o $. a $a |- o $. ".as_slice())?;
     for number in 0..12_000u64 {
@@ -148,11 +151,11 @@ fn push_proof(text: &mut Vec<u8>, number: u64, is_right: bool) -> Result<(), All
     text.extend_from_slice(proof)
 }
 
-/// Each of the first two proofs waits at the gate for the other, so two workers run in parallel.
+/// The first two proofs are judged in parallel by two workers: each waits at the gate until the other has arrived there.
 #[test]
 fn gate_two_proofs(rt: HostRuntime) {
     let rendezvous = Rendezvous::new();
-    let verdict = verdict_by_workers(&rt, rt.alloc(), 2, TWO, &rendezvous);
+    let verdict = verdict_by_workers(&rt, rt.alloc(), 2, TWO_PROOFS, &rendezvous);
     assert!(rt; verdict == Some(Verdict::Added));
     assert!(rt; rendezvous.has_met());
 }

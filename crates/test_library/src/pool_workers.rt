@@ -1,4 +1,4 @@
-//! Two workers verify the jobs of two correct proofs in parallel, also after a failed allocation.
+//! Two workers verify two correct proofs in parallel, each a job of `verify_pool`, also after a failed allocation.
 ghost use Rattle.std.specs.Prelude.{◌≡◌, ◌≤◌, ◌∷◌, ◌++◌, [], IsTrue};
 ghost use Rattle.mm_read.specs.Statements.{Database, AreShaped, IsShaped};
 ghost use Rattle.scope.specs.Active.{bare};
@@ -16,28 +16,29 @@ use std::thread::Threads;
 use verify_pool::{Gate, Job, OpenGate, Workers, check_all};
 
 /// Two correct proofs.
-const TWO: &[u8] = b"$c |- o $. a $a |- o $. p $p |- o $= a $. q $p |- o $= p $.";
+const TWO_PROOFS: &[u8] = b"$c |- o $. a $a |- o $. p $p |- o $= a $. q $p |- o $= p $.";
 
-/// A second call returns the answer after an allocation failed in the first.
+/// If an allocation fails in the first call, a second one returns the answer.
 #[test]
 fn answered_after_a_failed_allocation(rt: HostRuntime) {
-    let mut answer = answer_of(&rt, rt.alloc(), TWO, 2, &OpenGate);
+    let mut answer = answer_of(&rt, rt.alloc(), TWO_PROOFS, 2, &OpenGate);
     if answer.is_none() {
-        answer = answer_of(&rt, rt.alloc(), TWO, 2, &OpenGate);
+        answer = answer_of(&rt, rt.alloc(), TWO_PROOFS, 2, &OpenGate);
     }
     assert_eq!(rt; answer, Some(None));
 }
 
-/// Each of the first two jobs waits at the gate for the other, so two workers run in parallel.
+/// The first two jobs are judged in parallel by two workers: each waits at the gate until the other has arrived there.
 #[test]
 fn gate_two_jobs(rt: HostRuntime) {
     let rendezvous = Rendezvous::new();
-    let answer = answer_of(&rt, rt.alloc(), TWO, 2, &rendezvous);
+    let answer = answer_of(&rt, rt.alloc(), TWO_PROOFS, 2, &rendezvous);
     assert_eq!(rt; answer, Some(None));
     assert!(rt; rendezvous.has_met());
 }
 
-/// Returns the answer for the proofs of a text, or `None` if the text is not a legal database or an allocation fails.
+/// Returns the answer of `check_all` for the proofs of a text: the index of the first wrong one, if one is wrong. Returns
+/// `None` in its place if the text does not read, a statement is not legal, or an allocation fails.
 fn answer_of<G: Gate + Sync, R: Threads + Sync>(
     rt: &R,
     alloc: Global,
@@ -53,7 +54,7 @@ fn answer_of<G: Gate + Sync, R: Threads + Sync>(
     }
 }
 
-/// Returns the answer for the proofs of these statements.
+/// Returns the same for the proofs of these statements.
 fn first_wrong<G: Gate + Sync, R: Threads + Sync>(
     rt: &R,
     alloc: Global,
@@ -73,7 +74,7 @@ fn first_wrong<G: Gate + Sync, R: Threads + Sync>(
     least
 }
 
-/// Returns the answer, given empty jobs and frames to fill.
+/// Returns the same, with jobs and frames to fill, which are empty.
 fn first_wrong_in<G: Gate + Sync, R: Threads + Sync>(
     rt: &R,
     alloc: Global,
@@ -95,7 +96,7 @@ fn first_wrong_in<G: Gate + Sync, R: Threads + Sync>(
     }
 }
 
-/// Returns the first job that is wrong, if any. Repeats the call if an allocation fails.
+/// Returns the index of the first job that is wrong, if one is. Repeats the call if an allocation fails.
 fn check_with_retry<G: Gate + Sync, R: Threads + Sync>(
     rt: &R,
     alloc: Global,
@@ -113,7 +114,7 @@ fn check_with_retry<G: Gate + Sync, R: Threads + Sync>(
     }
 }
 
-/// Pushes the statements, and adds the jobs of their proofs.
+/// Adds the statements to the frames, and a job for each proof, and returns whether all are added.
 fn push_all(alloc: Global, statements: &[Stmt], frames: &mut Frames, jobs: &mut Vec<Job>) -> bool
     requires shaped { AreShaped statements.now }
     requires none { frames.old.statements ≡ [] }
@@ -126,6 +127,7 @@ fn push_all(alloc: Global, statements: &[Stmt], frames: &mut Frames, jobs: &mut 
     pushed
 }
 
+/// Does the same, with a scope to which the statements are added too.
 fn push_each(
     alloc: Global,
     statements: &[Stmt],
@@ -146,6 +148,7 @@ fn push_each(
     true
 }
 
+/// Adds one statement, and its job if it is a `$p`, and returns whether both are added.
 fn push_one(
     alloc: Global,
     stmt: &Stmt,

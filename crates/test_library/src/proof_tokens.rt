@@ -1,11 +1,12 @@
-//! The items that proof tokens write, with examples of numbers from the book, and tokens that write no items.
+//! The items that proof tokens write, with numbers that the book gives as examples, and tokens that write no items.
 use mm_lex::Words;
 use mm_read::{Stmt, read};
 use numbers::push_number;
 use proof_code::{CodeFault, Items, is_compressed, normal, packed};
 use std::alloc::{AllocError, Global};
 
-/// Tokens, and the numbers of the items that they write after the labels h1 to h130.
+/// Tokens of proofs, and the numbers of the items that they write where h1 to h130 are the mandatory labels. The number 0 is a
+/// mark, one up to the count of labels cites a label, and a greater one recalls a marked result.
 const NUMBERS: [(&[u8], &[u32]); 4] = [
     (b"( ) TUAYTUUA", &[20, 21, 120, 121]),
     (b"( b ) A BZ U A U B ZC", &[1, 2, 0, 21, 22, 0, 3]),
@@ -20,6 +21,7 @@ fn items_have_their_numbers(rt: HostRuntime) {
     }
 }
 
+/// Returns whether the tokens write items of these numbers.
 fn has_numbers(alloc: Global, tokens: &[u8], expected: &[u32]) -> bool {
     match items_of(alloc, tokens) {
         Ok(items) => items.parts().numbers == expected,
@@ -27,7 +29,7 @@ fn has_numbers(alloc: Global, tokens: &[u8], expected: &[u32]) -> bool {
     }
 }
 
-/// Tokens, and why they write no items after the same labels.
+/// Tokens of proofs, and why they write no items with the same mandatory labels.
 const FAULTS: [(&[u8], CodeFault); 9] = [
     (b"( ) AU", CodeFault::Malformed),
     (b"( ) ZA", CodeFault::Malformed),
@@ -50,24 +52,27 @@ fn faults_are_told_apart(rt: HostRuntime) {
 /// The number of a long word of letters exceeds every limit.
 #[test]
 fn word_of_100_000_letters(rt: HostRuntime) {
-    assert!(rt; is_too_long(rt.alloc()));
+    assert!(rt; is_long_word_refused(rt.alloc()));
 }
 
-fn is_too_long(alloc: Global) -> bool {
-    match long_word(alloc) {
+/// Returns whether a compressed proof with a word of 100,000 letters is refused.
+fn is_long_word_refused(alloc: Global) -> bool {
+    match tokens_with_long_word(alloc) {
         Ok(text) => has_fault(alloc, &text, CodeFault::Malformed),
         Err(_) => false,
     }
 }
 
-fn long_word(alloc: Global) -> Result<Vec<u8>, AllocError> {
-    let mut text = vec![in alloc; b'U'; 100_000]?;
-    text.extend_from_slice(b"A")?;
+/// Returns the tokens of a compressed proof whose one word of letters is 100,000 times `U`, and then `A`.
+fn tokens_with_long_word(alloc: Global) -> Result<Vec<u8>, AllocError> {
+    let mut word = vec![in alloc; b'U'; 100_000]?;
+    word.extend_from_slice(b"A")?;
     let mut tokens = Vec::from_slice(alloc, b"( ) ")?;
-    tokens.extend_from_slice(&text)?;
+    tokens.extend_from_slice(&word)?;
     Ok(tokens)
 }
 
+/// Returns whether the tokens write no items for this reason.
 fn has_fault(alloc: Global, tokens: &[u8], expected: CodeFault) -> bool {
     match items_of(alloc, tokens) {
         Ok(_) => false,
@@ -75,21 +80,24 @@ fn has_fault(alloc: Global, tokens: &[u8], expected: CodeFault) -> bool {
     }
 }
 
-/// Returns the items that the tokens write after the labels h1 to h130.
+/// Returns the items that the tokens write where h1 to h130 are the mandatory labels.
 fn items_of(alloc: Global, tokens: &[u8]) -> Result<Items, CodeFault> {
     let Ok(text) = text_of(alloc, tokens) else {
         return Err(CodeFault::Memory);
     };
     match read(alloc, text.as_slice()) {
         Ok(statements) => match statements.as_slice() {
-            [Stmt::Const(labels), Stmt::Prove { proof, .. }] => items_after(alloc, labels, proof),
+            [Stmt::Const(labels), Stmt::Prove { proof, .. }] => items_with_labels(
+                alloc, labels, proof,
+            ),
             _ => Err(CodeFault::Memory),
         },
         Err(_) => Err(CodeFault::Memory),
     }
 }
 
-fn items_after(alloc: Global, mandatory: &Words, tokens: &Words) -> Result<Items, CodeFault> {
+/// Returns the items that the tokens, of a compressed or a normal proof, write with these mandatory labels.
+fn items_with_labels(alloc: Global, mandatory: &Words, tokens: &Words) -> Result<Items, CodeFault> {
     if is_compressed(tokens) {
         packed(alloc, tokens, mandatory)
     } else {
@@ -97,13 +105,14 @@ fn items_after(alloc: Global, mandatory: &Words, tokens: &Words) -> Result<Items
     }
 }
 
-/// Returns a text of two statements: one of the labels, and one with the tokens as its proof.
+/// Returns a text of two statements: a `$c` of the labels h1 to h130, and a `$p` with the tokens as its proof.
 fn text_of(alloc: Global, tokens: &[u8]) -> Result<Vec<u8>, AllocError> {
     let mut text = Vec::new(alloc);
     push_text(&mut text, tokens)?;
     Ok(text)
 }
 
+/// Appends these two statements.
 fn push_text(text: &mut Vec<u8>, tokens: &[u8]) -> Result<(), AllocError> {
     text.extend_from_slice(b"$c")?;
     for number in 1..131u64 {

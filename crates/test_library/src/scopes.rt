@@ -1,15 +1,16 @@
-//! Copies of a scope.
+//! A scope can be copied, with ample memory.
 ghost use Rattle.mm_read.specs.Statements.{AreShaped};
 
 use mm_read::{Stmt, read};
 use scope::{Scope, Steps};
 use std::alloc::Global;
 
-const SMALLEST: &[u8] = b"$c |- $. $( hi $) p $a |- $. q $p |- $= p $.";
+/// A text with a `$c`, a comment, a `$a` and a `$p`.
+const SMALL_TEXT: &[u8] = b"$c |- $. $( hi $) p $a |- $. q $p |- $= p $.";
 
 #[test]
 fn copies_after_each_statement(rt: HostRuntime) {
-    assert!(rt; copies_each(rt.alloc(), SMALLEST));
+    assert!(rt; copies_each(rt.alloc(), SMALL_TEXT));
 }
 
 /// Returns whether the statements of the text are added, and the scope can be copied after each.
@@ -26,10 +27,12 @@ fn adds_each(alloc: Global, scope: &mut Scope, text: &[u8]) -> bool {
     }
 }
 
+/// Returns whether these statements are added to the scope, and it can be copied after each.
 fn adds_all(scope: &mut Scope, statements: &[Stmt]) -> bool
     requires { AreShaped statements.now }
 {
     for stmt in statements {
+        // `Steps` is a count that contracts alone see.
         if scope.add(stmt, &mut Steps::new()).is_err() || !has_copy(scope) {
             return false;
         }
@@ -37,6 +40,7 @@ fn adds_all(scope: &mut Scope, statements: &[Stmt]) -> bool
     true
 }
 
+/// Returns whether the scope can be copied.
 fn has_copy(scope: &Scope) -> bool {
     scope.copy().is_ok()
 }

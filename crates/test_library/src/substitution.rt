@@ -1,13 +1,14 @@
-//! Simultaneous substitution, and an empty image.
+//! Simultaneous substitution, also of an empty image. Symbols are numbers.
 use std::alloc::{AllocError, Global};
 use subst::{Buffer, Subst, apply, apply_into, has_room};
 
-/// Symbol numbers.
+/// The variable x.
 const X: u32 = 4;
 
+/// The variable y.
 const Y: u32 = 5;
 
-/// The images of x and y, an expression, and the result of the substitution.
+/// The images of x and y, an expression, and the result of substituting the images in it.
 const ROWS: [(&[u32], &[u32], &[u32], &[u32]); 3] = [
     (&[Y], &[X], &[0, X, 3, Y], &[0, Y, 3, X]),
     (&[], &[Y], &[0, 1, X, 2], &[0, 1, 2]),
@@ -24,7 +25,8 @@ fn images_are_substituted_at_once(rt: HostRuntime) {
     }
 }
 
-/// Returns whether substituting these images of x and y in an expression yields `expected`, also when appended to a buffer.
+/// Returns whether substituting these images of x and y in an expression yields `expected`, also if the result is appended to a
+/// buffer.
 fn yields(
     alloc: Global,
     x: &[u32],
@@ -36,7 +38,7 @@ fn yields(
     yields_by(alloc, &mut subst, x, y, expr, expected)
 }
 
-/// Returns whether it yields `expected`, with `subst` empty at first.
+/// Returns the same, with the images set in `subst`, which is empty at first. The first image of x is replaced by the second.
 fn yields_by(
     alloc: Global,
     subst: &mut Subst,
@@ -61,7 +63,7 @@ fn is_result(
     Ok(apply(alloc, subst, expr)?.as_slice() == expected)
 }
 
-/// Returns whether appending it to a buffer twice yields `expected` twice.
+/// Returns whether appending the result of the substitution to an empty buffer twice leaves `expected` there twice.
 fn is_appended(
     alloc: Global,
     subst: &Subst,

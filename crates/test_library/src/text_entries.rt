@@ -1,9 +1,10 @@
-//! Makes entries from texts; tests the verdict on a text of the greatest length and on one with one more byte.
+//! The verdict on a text of the greatest length, and on one of one byte more. Also helpers that the tests share: entries of
+//! texts, and calls on a new library.
 use bytes::Bytes;
 use library::{Cause, Entry, Library, Submission, Verdict};
 use std::alloc::Global;
 
-/// Returns an author's text as an entry.
+/// Returns the text as an entry of author 1 with this serial number.
 pub fn entry(serial: u64, text: Bytes) -> Entry {
     Entry::Text(Submission {
         author: 1,
@@ -12,6 +13,7 @@ pub fn entry(serial: u64, text: Bytes) -> Entry {
     })
 }
 
+/// Lengths of texts in bytes, and the verdict on a text of each.
 const LENGTHS: [(usize, Verdict); 2] = [
     (67_108_864, Verdict::Added),
     (67_108_865, Verdict::Refused(Cause::TooLong)),
@@ -34,12 +36,13 @@ fn spaces_verdict(alloc: Global, length: usize) -> Option<Verdict> {
     with_new_library(alloc, |library| verdict_on(library, &entry))
 }
 
-/// Calls `action` on a new library. The library is dropped explicitly, since `drop` is proved once for each type.
+/// Returns what `action` returns for a new library.
 pub fn with_new_library<T, F: FnOnce(&mut Library) -> T>(alloc: Global, action: F) -> T
     requires { F.IsAlwaysCallable action }
 {
     let mut library = Library::new(alloc);
     let answer = action(&mut library);
+    // An explicit `drop` is proved once for each type; a drop at the end of the scope would be proved here.
     drop(library);
     answer
 }

@@ -1,13 +1,14 @@
-//! A text that several threads read in parts gives the same result as with one thread, even if a comment contains `$.`.
+//! A text that several threads read in parts has as many statements as one thread reads, or the same fault, even if its
+//! comments contain `$.`.
 use mm_read::ReadFault;
 use read_pool::read_in_parts;
 use std::alloc::{AllocError, Global};
 use std::thread::Threads;
 
-/// One statement.
+/// A comment that contains a `$.`, and one statement.
 const LINE: &[u8] = b"$( $c b $. $) $c a $.\n";
 
-/// How many lines make a text of more than 4 MiB, which is split into at most four parts.
+/// The number of lines of the text, which has more than 4 MiB and so is split into at most four parts.
 const LINES: usize = 200_000;
 
 #[test]
@@ -18,6 +19,7 @@ fn texts_in_parts_read_alike(rt: HostRuntime) {
     }
 }
 
+/// Returns whether this number of workers reads one statement from each line.
 fn reads_all<R: Threads + Sync>(rt: &R, alloc: Global, workers: usize) -> bool {
     let Ok(text) = lines(alloc) else {
         return false;
@@ -28,7 +30,7 @@ fn reads_all<R: Threads + Sync>(rt: &R, alloc: Global, workers: usize) -> bool {
     }
 }
 
-/// Returns whether a text whose last statement has no end is refused.
+/// Returns whether this number of workers refuses a text whose last statement has no end, at the token after the last one.
 fn refuses_incomplete<R: Threads + Sync>(rt: &R, alloc: Global, workers: usize) -> bool {
     let Ok(mut text) = lines(alloc) else {
         return false;
@@ -47,6 +49,7 @@ fn refuses_incomplete<R: Threads + Sync>(rt: &R, alloc: Global, workers: usize) 
     }
 }
 
+/// Returns the text.
 fn lines(alloc: Global) -> Result<Vec<u8>, AllocError> {
     let mut text = Vec::new(alloc);
     for _ in 0..LINES {

@@ -1,4 +1,4 @@
-//! The frames of assertions of worked examples.
+//! The frames of the assertions of two worked examples.
 ghost use Rattle.mm_read.specs.Statements.{AreShaped};
 
 use frame::{Frame, frame};
@@ -18,8 +18,8 @@ const DISJOINT: &[u8] = b"$c wff |- R $. $v x y z $. wx $f wff x $. wy $f wff y 
     ${ $d x y $. ax $a |- x R y $. $} ${ h $e |- x R y $. r $a |- R x $. $} \
     ${ $d x z $. th $p |- R x $= wx wz wx wz ax r $. $}";
 
-/// A text, the number of statements before an assertion, and the assertion's mandatory hypotheses, its one list of disjoint
-/// variables (or none) and its conclusion.
+/// A text, the number of statements before an assertion, and the assertion's frame: the positions of its mandatory hypotheses
+/// (counted from 1 in the whole text), its one group of disjoint variables, empty if it has none, and its conclusion.
 const ROWS: [(&[u8], usize, &[usize], &[u8], &[u8]); 5] = [
     (ARITHMETIC, 16, &[6, 7, 15, 16], b"", b"|- Q"),
     (
@@ -45,7 +45,7 @@ fn assertions_have_their_frames(rt: HostRuntime) {
     }
 }
 
-/// Returns the frame of the assertion after `count` statements.
+/// Returns the frame of the assertion after the first `count` statements of a text.
 fn frame_after(alloc: Global, text: &[u8], count: usize) -> Option<Frame> {
     match read(alloc, text) {
         Ok(statements) => frame_at(alloc, statements.as_slice(), count),
@@ -53,6 +53,7 @@ fn frame_after(alloc: Global, text: &[u8], count: usize) -> Option<Frame> {
     }
 }
 
+/// Returns the frame of the assertion after the first `count` of these statements.
 fn frame_at(alloc: Global, statements: &[Stmt], count: usize) -> Option<Frame>
     requires { AreShaped statements.now }
 {
@@ -60,6 +61,7 @@ fn frame_at(alloc: Global, statements: &[Stmt], count: usize) -> Option<Frame>
     frame_in(alloc, &mut scope, statements, count)
 }
 
+/// Adds the first `count` statements to the scope, and returns the frame of the next one.
 fn frame_in(alloc: Global, scope: &mut Scope, statements: &[Stmt], count: usize) -> Option<Frame>
     requires { AreShaped statements.now }
 {
@@ -67,11 +69,13 @@ fn frame_in(alloc: Global, scope: &mut Scope, statements: &[Stmt], count: usize)
         if scope.len() == count {
             return frame_of(alloc, scope, stmt);
         }
+        // `Steps` is a count that contracts alone see.
         scope.add(stmt, &mut Steps::new()).ok()?;
     }
     None
 }
 
+/// Returns the frame of the statement, if it is a `$a` or a `$p`.
 fn frame_of(alloc: Global, scope: &Scope, stmt: &Stmt) -> Option<Frame> {
     match stmt {
         Stmt::Axiom { .. } => frame(alloc, scope, stmt).ok(),
@@ -80,6 +84,7 @@ fn frame_of(alloc: Global, scope: &Scope, stmt: &Stmt) -> Option<Frame> {
     }
 }
 
+/// Returns whether the frame has these mandatory hypotheses, this one group (none if it is empty), and this conclusion.
 fn is_frame(frame: Option<Frame>, hypotheses: &[usize], group: &[u8], conclusion: &[u8]) -> bool {
     match frame {
         Some(frame) => {
@@ -91,6 +96,7 @@ fn is_frame(frame: Option<Frame>, hypotheses: &[usize], group: &[u8], conclusion
     }
 }
 
+/// Returns whether the variables of this text are the frame's only group, or the frame has no group if the text is empty.
 fn is_only_group(frame: &Frame, text: &[u8]) -> bool {
     match frame.groups().first() {
         Some(group) => frame.groups().len() == 1 && group.as_text() == text,

@@ -1,8 +1,11 @@
-//! A scenario in which a node may learn its second entry before its first, by the calls that borrow the locked values.
-//! Each cell applies the entries of its node's log up to the first gap, and cells compare as their statements do. The
-//! latter holds as well if the first node's keep fails at any call and the node restarts after any event.
+//! A scenario in which node 2 learns the second entry of the log before the first, and then fills the gap. It is played by the
+//! calls of `cluster` that borrow a switch and cells, the values that `nodes` has under locks.
+//!
+//! Each cell applies the entries of its node's log, which ends at the first gap, and cells compare as the counts of their
+//! statements do. They also compare so if the keep of node 0 fails at one of its first 18 calls and the node restarts after
+//! any step.
 
-use crate::fuse::{Fuse, entry, make_three, restart_first};
+use crate::fail_once_keep::{FailOnceKeep, entry, make_three, restart_first};
 use cluster::{
     Ahead, NodeCell, Switch, apply_on, begin_on, belongs, compare_on, deliver_on, list_on,
     offer_on, take_on,
@@ -11,7 +14,8 @@ use net::StepFault;
 use std::alloc::Global;
 use world::Carried;
 
-/// A step of the scenario: a ballot or an offer of one of two texts, at node 0, or a delivery.
+/// A step of the scenario: at node 0 a ballot, or an offer of the text of a serial number; or a delivery of a packet by its
+/// number.
 #[derive(Clone, Copy)]
 enum Step {
     Begin,
@@ -19,7 +23,7 @@ enum Step {
     Deliver(u64),
 }
 
-/// Each step with the number of packets posted after it.
+/// Each step, with the number of packets that are posted by it and the steps before it.
 const STEPS: [(Step, u64); 17] = [
     (Step::Begin, 3),
     (Step::Deliver(0), 4),
@@ -41,12 +45,13 @@ const STEPS: [(Step, u64); 17] = [
 ];
 
 #[test]
-fn each_cell_fills_the_gap(rt: HostRuntime) {
-    assert!(rt; fills_each_cell(rt.alloc()) == Ok(true));
+fn the_gap_is_filled(rt: HostRuntime) {
+    assert!(rt; new_nodes_fill_gap(rt.alloc()) == Ok(true));
 }
 
-fn fills_each_cell(alloc: Global) -> Result<bool, StepFault> {
-    let (mut switch, mut cells) = make_three(alloc, Fuse::new(alloc, None, false))?;
+/// Returns whether three new nodes fill the gap, and their cells apply what they have learned.
+fn new_nodes_fill_gap(alloc: Global) -> Result<bool, StepFault> {
+    let (mut switch, mut cells) = make_three(alloc, FailOnceKeep::new(alloc, None, false))?;
     let filled = steps_fill_gap(alloc, &mut switch, &mut cells);
     // An explicit `drop` is proved once for each type; a drop at the end of the scope would be proved here.
     drop(cells);
@@ -54,17 +59,17 @@ fn fills_each_cell(alloc: Global) -> Result<bool, StepFault> {
     filled
 }
 
-/// Returns whether all steps succeed, and the cells fill the gap.
+/// Returns whether all steps succeed, and the cells then apply what their nodes have learned.
 fn steps_fill_gap(
     alloc: Global,
-    switch: &mut Switch<Carried, Fuse>,
+    switch: &mut Switch<Carried, FailOnceKeep>,
     cells: &mut Vec<NodeCell>,
 ) -> Result<bool, StepFault> {
-    Ok(all_steps_succeed(alloc, switch) && fills_gap(switch, cells)?)
+    Ok(all_steps_succeed(alloc, switch) && cells_add_expected(switch, cells)?)
 }
 
 /// Returns whether all steps succeed, and no other packet and no other node exists.
-fn all_steps_succeed(alloc: Global, switch: &mut Switch<Carried, Fuse>) -> bool {
+fn all_steps_succeed(alloc: Global, switch: &mut Switch<Carried, FailOnceKeep>) -> bool {
     for (step, posted) in STEPS {
         if make_step(alloc, switch, step) != Ok(posted) {
             return false;
@@ -74,8 +79,11 @@ fn all_steps_succeed(alloc: Global, switch: &mut Switch<Carried, Fuse>) -> bool 
         && begin_on(switch, 3) == Err(StepFault::NoNode)
 }
 
-/// Returns whether each cell adds as many statements as `expected_added` returns, and all agree.
-fn fills_gap(switch: &Switch<Carried, Fuse>, cells: &mut Vec<NodeCell>) -> Result<bool, StepFault> {
+/// Returns whether each cell adds as many statements as `expected_added` says of its node, and all agree.
+fn cells_add_expected(
+    switch: &Switch<Carried, FailOnceKeep>,
+    cells: &mut Vec<NodeCell>,
+) -> Result<bool, StepFault> {
     for cell in cells.iter_mut() {
         if !adds_statements(cell, switch, expected_added(cell.node()))? {
             return Ok(false);
@@ -84,7 +92,7 @@ fn fills_gap(switch: &Switch<Carried, Fuse>, cells: &mut Vec<NodeCell>) -> Resul
     Ok(all_agree(switch, cells))
 }
 
-/// Returns how many statements a node is expected to add.
+/// Returns how many statements a node is expected to add: node 0 has learned the first entry, node 1 none, and node 2 both.
 fn expected_added(node: u8) -> usize {
     match node {
         0 => 1,
@@ -93,14 +101,15 @@ fn expected_added(node: u8) -> usize {
     }
 }
 
-/// Returns whether the cell copies and applies the entries of its log, and then has `added` statements, none with a label.
+/// Returns whether the cell takes over and applies all entries of its node's log, and then has `added` statements, none with a
+/// label.
 fn adds_statements(
     cell: &mut NodeCell,
-    switch: &Switch<Carried, Fuse>,
+    switch: &Switch<Carried, FailOnceKeep>,
     added: usize,
 ) -> Result<bool, StepFault> {
     let had_entry = apply_on(cell)?.is_some();
-    copy_and_apply(cell, switch)?;
+    take_over_and_apply(cell, switch)?;
     let has_more = take_on(cell, switch)? || apply_on(cell)?.is_some();
     let listed = list_on(cell)?.len();
     Ok(!had_entry && !has_more && listed == 0 && cell.library().statements().len() == added)
@@ -109,7 +118,7 @@ fn adds_statements(
 /// Makes a step of the scenario.
 fn make_step(
     alloc: Global,
-    switch: &mut Switch<Carried, Fuse>,
+    switch: &mut Switch<Carried, FailOnceKeep>,
     step: Step,
 ) -> Result<u64, StepFault> {
     match step {
@@ -120,8 +129,11 @@ fn make_step(
     }
 }
 
-/// Copies and applies all entries of the cell's log.
-fn copy_and_apply(cell: &mut NodeCell, switch: &Switch<Carried, Fuse>) -> Result<(), StepFault> {
+/// Takes over and applies the entries of the log of the cell's node, three at most.
+fn take_over_and_apply(
+    cell: &mut NodeCell,
+    switch: &Switch<Carried, FailOnceKeep>,
+) -> Result<(), StepFault> {
     for _entry in 0..3 {
         if !take_on(cell, switch)? {
             break;
@@ -132,10 +144,10 @@ fn copy_and_apply(cell: &mut NodeCell, switch: &Switch<Carried, Fuse>) -> Result
 }
 
 /// Returns whether each cell belongs to the switch, and each two compare as their statements do.
-fn all_agree(switch: &Switch<Carried, Fuse>, cells: &[NodeCell]) -> bool {
+fn all_agree(switch: &Switch<Carried, FailOnceKeep>, cells: &[NodeCell]) -> bool {
     for one in cells {
         for other in cells {
-            if compared(one, other, switch) != Some(ahead_by_count(one, other)) {
+            if ahead_if_both_belong(one, other, switch) != Some(ahead_by_count(one, other)) {
                 return false;
             }
         }
@@ -143,8 +155,12 @@ fn all_agree(switch: &Switch<Carried, Fuse>, cells: &[NodeCell]) -> bool {
     true
 }
 
-/// Returns which of two cells is ahead, if both belong to the switch.
-fn compared(one: &NodeCell, other: &NodeCell, switch: &Switch<Carried, Fuse>) -> Option<Ahead> {
+/// Returns which of two cells is ahead, or `None` if one does not belong to the switch.
+fn ahead_if_both_belong(
+    one: &NodeCell,
+    other: &NodeCell,
+    switch: &Switch<Carried, FailOnceKeep>,
+) -> Option<Ahead> {
     if belongs(one, switch) && belongs(other, switch) {
         Some(compare_on(one, other, switch))
     } else {
@@ -152,7 +168,7 @@ fn compared(one: &NodeCell, other: &NodeCell, switch: &Switch<Carried, Fuse>) ->
     }
 }
 
-/// Returns which cell's library has more statements, by counting them.
+/// Returns which of two cells is ahead, by the counts of their statements.
 fn ahead_by_count(one: &NodeCell, other: &NodeCell) -> Ahead {
     let first = one.library().statements().len();
     let second = other.library().statements().len();
@@ -166,7 +182,7 @@ fn ahead_by_count(one: &NodeCell, other: &NodeCell) -> Ahead {
 }
 
 #[test]
-fn stop_at_each(rt: HostRuntime) {
+fn cells_agree_after_each_failure(rt: HostRuntime) {
     for restart in 0..STEPS.len() {
         for calls in 0..18 {
             let old = agrees(rt.alloc(), Some(calls), false, restart);
@@ -179,30 +195,35 @@ fn stop_at_each(rt: HostRuntime) {
     }
 }
 
-/// Returns whether all cells agree after the steps if node 0 has this keep and restarts after one of them. A step that fails
-/// is skipped. After each step, each cell copies and applies the entries that it can.
+/// Returns whether all cells agree after the steps if the keep of node 0 fails after `calls_left` calls and the node restarts
+/// after the step of index `restart`. A step that fails is skipped. After each step, each cell takes over and applies the
+/// entries that its node has learned.
 fn agrees(
     alloc: Global,
     calls_left: Option<u32>,
     leaves_new: bool,
     restart: usize,
 ) -> Result<bool, StepFault> {
-    let (mut switch, mut cells) = make_three(alloc, Fuse::new(alloc, calls_left, leaves_new))?;
+    let (mut switch, mut cells) = make_three(
+        alloc,
+        FailOnceKeep::new(alloc, calls_left, leaves_new),
+    )?;
     let agreed = run_with_restart(alloc, &mut switch, &mut cells, restart);
     drop(cells);
     drop(switch);
     agreed
 }
 
+/// Makes the steps and the restart, and returns whether all cells agree then.
 fn run_with_restart(
     alloc: Global,
-    switch: &mut Switch<Carried, Fuse>,
+    switch: &mut Switch<Carried, FailOnceKeep>,
     cells: &mut Vec<NodeCell>,
     restart: usize,
 ) -> Result<bool, StepFault> {
     for (i, (step, _)) in STEPS.iter().enumerate() {
         let _ = make_step(alloc, switch, *step);
-        copy_and_apply_each(cells, switch)?;
+        take_over_and_apply_each(cells, switch)?;
         if i == restart {
             let _ = restart_first(switch, cells);
         }
@@ -210,12 +231,13 @@ fn run_with_restart(
     Ok(all_agree(switch, cells))
 }
 
-fn copy_and_apply_each(
+/// Has each cell take over and apply the entries of its node's log.
+fn take_over_and_apply_each(
     cells: &mut Vec<NodeCell>,
-    switch: &Switch<Carried, Fuse>,
+    switch: &Switch<Carried, FailOnceKeep>,
 ) -> Result<(), StepFault> {
     for cell in cells.iter_mut() {
-        copy_and_apply(cell, switch)?;
+        take_over_and_apply(cell, switch)?;
     }
     Ok(())
 }

@@ -1,5 +1,5 @@
-//! A node whose keep fails is down until it restarts.
-use crate::fuse::{Fuse, make_three, restart_first};
+//! A node whose keep fails is down until it restarts. A keep in memory keeps an entry at any slot.
+use crate::fail_once_keep::{FailOnceKeep, make_three, restart_first};
 use cluster::{MemoryKeep, NodeCell, Switch, begin_on};
 use net::{Event, StepFault};
 use slots::SLOTS;
@@ -20,7 +20,7 @@ fn a_store_fails(rt: HostRuntime) {
 /// Returns whether the first node is down after its first store fails, and up again after it restarts. The failed store leaves
 /// the new record or the old one.
 fn store_fails(alloc: Global, leaves_new: bool) -> Result<bool, StepFault> {
-    let (mut switch, mut cells) = make_three(alloc, Fuse::new(alloc, Some(0), leaves_new))?;
+    let (mut switch, mut cells) = make_three(alloc, FailOnceKeep::new(alloc, Some(0), leaves_new))?;
     let down = goes_down(&mut switch, &mut cells);
     // An explicit `drop` is proved once for each type; a drop at the end of the scope would be proved here.
     drop(cells);
@@ -28,8 +28,9 @@ fn store_fails(alloc: Global, leaves_new: bool) -> Result<bool, StepFault> {
     down
 }
 
+/// Returns whether the keep of the first node fails as it begins a ballot, and the node is down until it restarts.
 fn goes_down(
-    switch: &mut Switch<Carried, Fuse>,
+    switch: &mut Switch<Carried, FailOnceKeep>,
     cells: &mut Vec<NodeCell>,
 ) -> Result<bool, StepFault> {
     Ok(
@@ -40,8 +41,8 @@ fn goes_down(
     )
 }
 
-/// Returns whether the node asked both others when it restarted, and its next ballot is its second.
-fn is_up_again(switch: &mut Switch<Carried, Fuse>) -> Result<bool, StepFault> {
+/// Returns whether the node asked both others for the first entry when it restarted, and its next ballot is its second.
+fn is_up_again(switch: &mut Switch<Carried, FailOnceKeep>) -> Result<bool, StepFault> {
     let asked = matches!(switch.history(), [Event::Begin(0), Event::Restart(0)])
         && is_ask_for_first(switch, 3, 1)?
         && is_ask_for_first(switch, 4, 2)?;
@@ -50,7 +51,7 @@ fn is_up_again(switch: &mut Switch<Carried, Fuse>) -> Result<bool, StepFault> {
 
 /// Returns whether in this packet node 0 asks node `to` for the first entry.
 fn is_ask_for_first(
-    switch: &Switch<Carried, Fuse>,
+    switch: &Switch<Carried, FailOnceKeep>,
     number: u64,
     to: u8,
 ) -> Result<bool, StepFault> {
@@ -63,7 +64,10 @@ fn is_ask_for_first(
 }
 
 /// Returns whether the packet is a prepare request to node 1 for the ballot of round 2 and node 0.
-fn is_second_prepare(switch: &Switch<Carried, Fuse>, number: u64) -> Result<bool, StepFault> {
+fn is_second_prepare(
+    switch: &Switch<Carried, FailOnceKeep>,
+    number: u64,
+) -> Result<bool, StepFault> {
     let packet = switch.packet(number)?;
     let is_second = match &packet.body {
         Body::Prepare { ballot, first } => *first == 0 && ballot.round == 2 && ballot.node == 0,
@@ -77,21 +81,23 @@ fn a_load_fails(rt: HostRuntime) {
     assert!(rt; load_fails(rt.alloc()) == Ok(true));
 }
 
+/// Returns whether the first node restarts after its keep failed to load.
 fn load_fails(alloc: Global) -> Result<bool, StepFault> {
-    let (mut switch, mut cells) = make_three(alloc, Fuse::new(alloc, Some(0), false))?;
+    let (mut switch, mut cells) = make_three(alloc, FailOnceKeep::new(alloc, Some(0), false))?;
     let restarted = restarts_twice(&mut switch, &mut cells);
     drop(cells);
     drop(switch);
     Ok(restarted)
 }
 
-fn restarts_twice(switch: &mut Switch<Carried, Fuse>, cells: &mut Vec<NodeCell>) -> bool {
+/// Returns whether the first restart meets the failure, and the second one is taken and stands alone in the history.
+fn restarts_twice(switch: &mut Switch<Carried, FailOnceKeep>, cells: &mut Vec<NodeCell>) -> bool {
     restart_first(switch, cells) == Err(StepFault::Device)
         && restart_first(switch, cells) == Ok(2)
         && matches!(switch.history(), [Event::Restart(0)])
 }
 
-/// Slots of the first page and of later pages, up to the last slot.
+/// Slots of the first page of 256 and of later pages, up to the last slot.
 const SLOTS_KEPT: [u32; 5] = [0, 255, 256, 300, SLOTS - 1];
 
 #[test]
@@ -101,6 +107,7 @@ fn each_slot_is_kept(rt: HostRuntime) {
     }
 }
 
+/// Returns whether a new keep in memory keeps an entry at the slot.
 fn is_slot_kept(alloc: Global, slot: u32) -> Result<bool, Failed> {
     let mut keep: MemoryKeep<Carried> = MemoryKeep::new(alloc);
     let kept = is_kept(&mut keep, slot);

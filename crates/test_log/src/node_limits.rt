@@ -1,4 +1,4 @@
-//! A node whose log is full, and one that has no greater round left.
+//! A node whose log is full, and one for whose next ballot no greater round is left.
 ghost use Rattle.std.specs.Prelude.{IfSome};
 ghost use Rattle.std.specs.List.{AllByRecursion};
 ghost use Rattle.synod.specs.Packets.{IsReport};
@@ -28,8 +28,8 @@ fn the_log_may_be_full(rt: HostRuntime) {
     assert!(rt; fills_its_log(rt.alloc()) == Some(true));
 }
 
-/// Returns whether a single node that leads, and receives a promise with a value at the last slot, proposes at each slot and
-/// then refuses an offer, since its log is full.
+/// Returns whether the only node of a system, which begins a ballot and receives a promise with a value at the last slot,
+/// proposes at each slot, and then refuses an offer, since its log is full.
 fn fills_its_log(alloc: Global) -> Option<bool> {
     let mut node = NodeCore::new(alloc, 0, Weights::equal(1));
     let filled = is_filled(alloc, &mut node);
@@ -38,7 +38,7 @@ fn fills_its_log(alloc: Global) -> Option<bool> {
     filled
 }
 
-/// Returns whether a new node fills its log so.
+/// Returns the same for this new node.
 fn is_filled(alloc: Global, node: &mut NodeCore<Number>) -> Option<bool> {
     if node.begin().is_err() {
         return None;
@@ -47,7 +47,7 @@ fn is_filled(alloc: Global, node: &mut NodeCore<Number>) -> Option<bool> {
     Some(proposed == SLOTS as usize && node.offer(Number(2)).err() == Some(Refusal::LogFull))
 }
 
-/// Returns how many packets the node posts after a promise that reports a value at the last slot.
+/// Returns how many packets the node posts when it receives a promise that reports a value at the last slot.
 fn proposals_after_report(alloc: Global, node: &mut NodeCore<Number>) -> Option<usize> {
     if node.nodes() == 0 {
         return None;
@@ -68,7 +68,7 @@ fn proposals_after_report(alloc: Global, node: &mut NodeCore<Number>) -> Option<
     }
 }
 
-/// Returns a report of a value at the last slot.
+/// Returns the reports of such a promise: one, of a value at the last slot.
 fn last_reported(alloc: Global) -> Option<Reports<Number>>
     ensures { IfSome result (λ reports. AllByRecursion IsReport reports) }
 {
@@ -96,7 +96,7 @@ fn has_no_greater_round(alloc: Global) -> Option<bool> {
     refused
 }
 
-/// Returns whether a new node begins no ballot after that.
+/// Returns the same for this new node.
 fn begins_no_ballot(node: &mut NodeCore<Number>) -> Option<bool> {
     if node.nodes() == 0 {
         return None;

@@ -1,12 +1,13 @@
 //! A world of entries: a whole list of events in one call, and an application after a failed allocation.
-use crate::fuse::entry;
+use crate::fail_once_keep::entry;
 use library::Entry;
 use net::{Event, StepFault};
 use std::alloc::{AllocError, Global};
 use synod::Weights;
 use world::{World, run};
 
-/// The packets that are delivered after the ballot and after each of the two offers, in the scenario of a gap in the log.
+/// The packets that are delivered in the scenario of `gap`: those of the ballot, and after both offers the accepts to nodes 0
+/// and 1 and four votes on them.
 const DELIVERED: [[u64; 4]; 3] = [[0, 1, 3, 4], [5, 6, 8, 9], [11, 14, 19, 22]];
 
 #[test]
@@ -14,10 +15,11 @@ fn events_are_run(rt: HostRuntime) {
     assert!(rt; runs_to_its_end(rt.alloc()) == Ok(true));
 }
 
-/// Returns whether all events up to the gap are taken, also if a delivery of a packet that does not exist follows and fails.
+/// Returns whether all events up to the gap are taken, also if a delivery of a packet that does not exist follows, which is
+/// refused.
 fn runs_to_its_end(alloc: Global) -> Result<bool, AllocError> {
-    let runs = runs_all(alloc, gap(alloc)?);
-    let stops = stops_at_last(alloc, one_more(alloc)?);
+    let runs = runs_all(alloc, events_up_to_gap(alloc)?);
+    let stops = stops_at_last(alloc, events_with_unknown_packet(alloc)?);
     Ok(runs && stops)
 }
 
@@ -46,30 +48,31 @@ fn stops_at_last(alloc: Global, events: Vec<Event<Entry>>) -> bool {
 }
 
 /// Returns the events of the scenario up to the gap.
-fn gap(alloc: Global) -> Result<Vec<Event<Entry>>, AllocError> {
+fn events_up_to_gap(alloc: Global) -> Result<Vec<Event<Entry>>, AllocError> {
     let mut events = Vec::new(alloc);
-    push_gap(alloc, &mut events)?;
+    push_events_up_to_gap(alloc, &mut events)?;
     Ok(events)
 }
 
 /// Returns these events and a delivery of a packet that does not exist.
-fn one_more(alloc: Global) -> Result<Vec<Event<Entry>>, AllocError> {
-    let mut events = gap(alloc)?;
+fn events_with_unknown_packet(alloc: Global) -> Result<Vec<Event<Entry>>, AllocError> {
+    let mut events = events_up_to_gap(alloc)?;
     events.push(Event::Deliver(25))?;
     Ok(events)
 }
 
 /// Appends the events of the scenario up to the gap.
-fn push_gap(alloc: Global, events: &mut Vec<Event<Entry>>) -> Result<(), AllocError> {
+fn push_events_up_to_gap(alloc: Global, events: &mut Vec<Event<Entry>>) -> Result<(), AllocError> {
     events.push(Event::Begin(0))?;
-    let [ballot, first, second] = DELIVERED;
+    let [ballot, accepts, votes] = DELIVERED;
     push_deliveries(events, &ballot)?;
     push_offer(alloc, events, 1, b"$c a $.")?;
     push_offer(alloc, events, 2, b"$c b $.")?;
-    push_deliveries(events, &first)?;
-    push_deliveries(events, &second)
+    push_deliveries(events, &accepts)?;
+    push_deliveries(events, &votes)
 }
 
+/// Appends the offer of a text at node 0.
 fn push_offer(
     alloc: Global,
     events: &mut Vec<Event<Entry>>,
@@ -80,6 +83,7 @@ fn push_offer(
     Ok(events.push(Event::Offer(0, entry))?)
 }
 
+/// Appends the deliveries of the packets of these numbers.
 fn push_deliveries(events: &mut Vec<Event<Entry>>, numbers: &[u64]) -> Result<(), AllocError> {
     for number in numbers {
         events.push(Event::Deliver(*number))?;
@@ -87,7 +91,7 @@ fn push_deliveries(events: &mut Vec<Event<Entry>>, numbers: &[u64]) -> Result<()
     Ok(())
 }
 
-/// A node's library stays at its slot after a failed allocation, and the next application returns the verdict.
+/// A node's library is as before after a failed allocation, and the next application returns the verdict.
 #[test]
 fn applies_after_a_failed_allocation(rt: HostRuntime) {
     assert!(rt; applies_if_learned(rt.alloc()));
@@ -95,7 +99,7 @@ fn applies_after_a_failed_allocation(rt: HostRuntime) {
 
 /// Returns whether a world that learned two texts applies both; also true if there is no memory for a world.
 fn applies_if_learned(alloc: Global) -> bool {
-    match learned(alloc) {
+    match world_with_two_learned(alloc) {
         Ok(mut world) => {
             let applied = applies_all(&mut world);
             drop(world);
@@ -120,13 +124,14 @@ fn applies_all(world: &mut World) -> bool {
     world.apply_next(0) == Ok(None)
 }
 
-/// Returns a world of one node that learned two texts of one author with the same serial number.
-fn learned(alloc: Global) -> Result<World, StepFault> {
+/// Returns a world of one node that has learned two texts of one author with the same serial number.
+fn world_with_two_learned(alloc: Global) -> Result<World, StepFault> {
     let mut world = World::new(alloc, Weights::equal(1))?;
     learn_two(alloc, &mut world)?;
     Ok(world)
 }
 
+/// Has the node of this world learn the two texts.
 fn learn_two(alloc: Global, world: &mut World) -> Result<(), StepFault> {
     world.step(Event::Offer(0, entry(alloc, 1, b"$c a $.")?))?;
     world.step(Event::Offer(0, entry(alloc, 1, b"$c b $.")?))?;

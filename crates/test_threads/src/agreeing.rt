@@ -1,5 +1,5 @@
-//! A text submitted at one node is added and listed at each, whichever node leads; a cluster that is stopped still answers
-//! queries; a desk works in another thread.
+//! A text submitted at the node that leads is added at each node, and their libraries are then the same, whichever node
+//! leads; a cluster that is stopped still answers questions; a desk works in another thread.
 use crate::three_nodes::{EntryKeep, is_added_by_all, same_weathers, start_three_open, text_entry};
 use cluster::Ahead;
 use library::Entry;
@@ -13,26 +13,27 @@ use std::time::Clock;
 use synod::Weights;
 use verify_pool::{Gate, OpenGate};
 
-/// The node that leads, and the weight of the first node.
+/// The node that leads, and the weight of node 0; the other nodes have weight 1.
 const LEADERS: [(u8, u8); 3] = [(0, 1), (0, 100), (1, 1)];
 
 #[test]
 fn three_threads_agree(rt: HostRuntime) {
-    for (leader, heaviest) in LEADERS {
+    for (leader, first_weight) in LEADERS {
         assert!(rt;
-            agree(&rt, rt.alloc(), leader, heaviest) == Ok(true),
+            agree(&rt, rt.alloc(), leader, first_weight) == Ok(true),
             "{leader} leads"
         );
     }
 }
 
+/// Returns whether three nodes, of which node 0 has this weight, add a text that is submitted at the leader.
 fn agree<R: Threads + Wait + Clock + Copy + Send + Sync + Drop + 'static>(
     rt: &R,
     alloc: Global,
     leader: u8,
-    heaviest: u8,
+    first_weight: u8,
 ) -> Result<bool, StepFault> {
-    let Some(weights) = Weights::new(&[heaviest, 1, 1]) else {
+    let Some(weights) = Weights::new(&[first_weight, 1, 1]) else {
         return Ok(false);
     };
     let weathers = same_weathers(alloc, Clear)?;
@@ -40,7 +41,7 @@ fn agree<R: Threads + Wait + Clock + Copy + Send + Sync + Drop + 'static>(
     serves_and_stops(rt, alloc, &mut cluster, leader)
 }
 
-/// Returns whether the cluster serves as expected, and then stops.
+/// Returns whether the cluster serves a text as expected, and then stops.
 fn serves_and_stops<R: Threads + Wait + Clock>(
     rt: &R,
     alloc: Global,
@@ -51,6 +52,7 @@ fn serves_and_stops<R: Threads + Wait + Clock>(
     serves_and_stops_at(rt, alloc, cluster, &desk, leader)
 }
 
+/// Returns the same, with a desk of the cluster.
 fn serves_and_stops_at<R: Threads + Wait + Clock>(
     rt: &R,
     alloc: Global,
@@ -63,7 +65,8 @@ fn serves_and_stops_at<R: Threads + Wait + Clock>(
     Ok(served? && stopped?)
 }
 
-/// Returns whether a text submitted at the leader is added and listed at each node, and no fourth node is known.
+/// Returns whether a text submitted at the leader is added at each node, also after a restart of node 2, and listed at node 1,
+/// and there is no node 3.
 fn serves<R: Wait + Clock>(
     rt: &R,
     alloc: Global,
@@ -80,7 +83,7 @@ fn serves<R: Wait + Clock>(
     )
 }
 
-/// Returns whether node 2 has the text again after a restart, from the answers of the others.
+/// Returns whether node 2, which learns the text again from the others after a restart, adds it again.
 fn has_text_after_restart<R: Wait + Clock>(
     rt: &R,
     desk: &Desk<OpenGate, EntryKeep>,
@@ -89,7 +92,7 @@ fn has_text_after_restart<R: Wait + Clock>(
     is_added_by_all(rt, desk, 1)
 }
 
-/// Returns whether the cluster stops after its first two nodes of three took events, and then refuses events.
+/// Returns whether the cluster stops, each of its first two nodes of three has taken an event, and events are refused then.
 fn stops<R: Threads + Wait>(
     rt: &R,
     alloc: Global,
@@ -104,7 +107,7 @@ fn stops<R: Threads + Wait>(
     Ok(handled && has_stopped(rt, alloc, cluster, desk)?)
 }
 
-/// Returns whether node 1 lists only the axiom p, and no node is ahead.
+/// Returns whether node 1 lists the axiom p alone, and no node's library is ahead of its own.
 fn lists_only_axiom<R: Wait>(rt: &R, desk: &Desk<OpenGate, EntryKeep>) -> Result<bool, StepFault> {
     let list = desk.list(rt, 1)?;
     let listed = match list.as_slice() {
@@ -114,7 +117,7 @@ fn lists_only_axiom<R: Wait>(rt: &R, desk: &Desk<OpenGate, EntryKeep>) -> Result
     Ok(listed && desk.compare(rt, 0, 1)? == Ahead::Same && desk.compare(rt, 2, 1)? == Ahead::Same)
 }
 
-/// Returns whether each call at that node reports that there is no such node.
+/// Returns whether each call at node `k` says that there is no such node.
 fn has_no_node<R: Wait>(
     rt: &R,
     alloc: Global,
@@ -128,7 +131,7 @@ fn has_no_node<R: Wait>(
     )
 }
 
-/// Returns whether a stopped cluster refuses events, and still answers queries.
+/// Returns whether a stopped cluster refuses events, and still answers questions.
 fn has_stopped<R: Threads + Wait>(
     rt: &R,
     alloc: Global,
@@ -149,6 +152,7 @@ fn a_desk_in_another_thread(rt: HostRuntime) {
     assert!(rt; adds_from_thread(&rt, rt.alloc()) == Ok(true));
 }
 
+/// Returns whether three nodes add a text that another thread submits.
 fn adds_from_thread<R: Threads + Wait + Clock + Copy + Send + Sync + Drop + 'static>(
     rt: &R,
     alloc: Global,

@@ -1,4 +1,4 @@
-//! A text has a verdict even if any one allocation fails.
+//! A text has a verdict even if one allocation, whichever it is, fails.
 use crate::three_nodes::{EntryKeep, polled_verdict, same_weathers, start_three_open, text_entry};
 use library::Verdict;
 use net::StepFault;
@@ -10,8 +10,8 @@ use std::time::Clock;
 use synod::Weights;
 use verify_pool::{Gate, OpenGate};
 
-/// A failed allocation makes `start`, `desk`, `submit` or `stop` return an error, loses a packet, delays an entry until a
-/// later hint, or makes a keep fail, whose node is then down until it restarts.
+/// A failed allocation makes `start`, `desk`, `submit` or `stop` return an error, loses a packet, has an entry applied only
+/// at a later hint, or makes a keep fail, whose node is then down until it restarts.
 #[test]
 fn decides_after_a_failed_allocation(rt: HostRuntime) {
     let mut verdict = decided_by_three(&rt, rt.alloc());
@@ -21,7 +21,7 @@ fn decides_after_a_failed_allocation(rt: HostRuntime) {
     assert!(rt; verdict == Ok(Some(Verdict::Added)));
 }
 
-/// Returns the verdict at node 0 of new nodes, which are stopped afterwards.
+/// Returns the verdict at node 0 of three new nodes, which are stopped afterwards.
 fn decided_by_three<R: Threads + Wait + Clock + Copy + Send + Sync + Drop + 'static>(
     rt: &R,
     alloc: Global,
@@ -31,7 +31,7 @@ fn decided_by_three<R: Threads + Wait + Clock + Copy + Send + Sync + Drop + 'sta
     decided_and_stopped(rt, alloc, &mut cluster)
 }
 
-/// Returns the verdict at node 0 of that cluster, which is stopped afterwards.
+/// Returns the same for the nodes of this cluster. If an allocation fails in `stop`, it is called again.
 fn decided_and_stopped<R: Threads + Wait + Clock>(
     rt: &R,
     alloc: Global,
@@ -47,8 +47,8 @@ fn decided_and_stopped<R: Threads + Wait + Clock>(
     verdict
 }
 
-/// Returns the verdict at node 0 on a text that is submitted there repeatedly, each time after a new ballot. The packets posted
-/// then replace those that a failed allocation lost.
+/// Returns the verdict at node 0 on a text that is submitted there up to 30 times, each time after a new ballot, whose packets
+/// replace those that a failed allocation lost. A node that is down is restarted first.
 fn decided<G: Gate, R: Wait + Clock>(
     rt: &R,
     alloc: Global,

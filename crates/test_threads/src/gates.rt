@@ -1,4 +1,5 @@
-//! Two nodes apply an entry in parallel: each waits for the other before it does.
+//! Two nodes apply an entry in parallel: each waits at a gate until the other has arrived there. A node's thread passes the
+//! gate of its cluster before it applies an entry.
 use crate::three_nodes::{EntryKeep, is_added_by_all, same_weathers, start_three, submit_text};
 use net::StepFault;
 use nodes::{Clear, Cluster, Desk};
@@ -11,15 +12,17 @@ use std::time::Clock;
 use synod::Weights;
 use verify_pool::{Gate, Place};
 
-/// A gate that holds each of the first two nodes before an entry until the other has arrived.
+/// A gate at which each of the first two nodes waits until the other has arrived.
 #[derive(Drop)]
 struct Rendezvous {
     first_arrived: AtomicBool,
     second_arrived: AtomicBool,
+    /// Whether one of them gave up waiting.
     timed_out: AtomicBool,
 }
 
 impl Rendezvous {
+    /// Records that `this` node has arrived, and waits until the `other` has, or gives up after a limited number of turns.
     fn wait_for(&self, this: &AtomicBool, other: &AtomicBool) {
         this.store(true, Ordering::SeqCst);
         for turn in 0..1_000_000_000u32 {
@@ -79,6 +82,7 @@ fn three_nodes_add<R: Threads + Wait + Clock + Copy + Send + Sync + Drop + 'stat
     added
 }
 
+/// Returns whether each node of the cluster adds a text.
 fn adds_one<R: Wait + Clock>(
     rt: &R,
     alloc: Global,
@@ -88,6 +92,7 @@ fn adds_one<R: Wait + Clock>(
     adds_at(rt, alloc, &desk)
 }
 
+/// Returns the same, with a desk of the cluster.
 fn adds_at<R: Wait + Clock>(
     rt: &R,
     alloc: Global,

@@ -15,9 +15,10 @@ use synod::Weights;
 use verify_pool::{Gate, OpenGate, Workers};
 use world::Carried;
 
+/// A keep in memory for values that are entries.
 pub type EntryKeep = MemoryKeep<Carried>;
 
-/// Returns a text of author 7 as an entry.
+/// Returns the text as an entry of author 7 with this serial number.
 pub fn text_entry(alloc: Global, serial: u64, text: &[u8]) -> Result<Entry, AllocError> {
     Ok(Entry::Text(Submission {
         author: 7,
@@ -82,7 +83,7 @@ pub fn submit_text<G: Gate, R: Wait>(
     desk.submit(rt, 0, entry)
 }
 
-/// Returns the same weather at each node.
+/// Returns three copies of the weather, one for each node.
 pub fn same_weathers<W: Weather + Copy>(alloc: Global, weather: W) -> Result<Vec<W>, AllocError>
     ensures { IfOk result (λ weathers. length weathers.items ≡ 3) }
 {
@@ -112,10 +113,10 @@ pub fn polled_verdict<G: Gate, R: Wait + Clock>(
     Ok(None)
 }
 
-/// How many times a desk is polled for a verdict, once a millisecond: for 20 seconds.
+/// How many times a desk is polled for a verdict, once a millisecond: for 20 seconds at least.
 pub const MAX_POLLS: u32 = 20_000;
 
-/// Returns whether each node adds the text with that serial number.
+/// Returns whether each node adds the text with that serial number within `MAX_POLLS`.
 pub fn is_added_by_all<G: Gate, R: Wait + Clock>(
     rt: &R,
     desk: &Desk<G, EntryKeep>,

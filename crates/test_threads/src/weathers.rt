@@ -1,4 +1,4 @@
-//! Repeated and delayed hints, a restart, and a gap in one node's log that a later answer fills.
+//! Repeated, delayed and lost hints, a restart, and a gap in one node's log that a later answer fills.
 ghost use Rattle.std.specs.Prelude.{◌≡◌, length, IfOk};
 
 use crate::three_nodes::{
@@ -17,7 +17,7 @@ use std::time::{Clock, Duration};
 use synod::Weights;
 use verify_pool::{Gate, OpenGate};
 
-/// Passes, repeats and delays hints in turn.
+/// Passes, repeats and delays hints in turn. The number counts them, from 0 to 2.
 #[derive(Clone, Copy)]
 struct CyclingWeather(u8);
 
@@ -65,7 +65,7 @@ fn nodes_answer_alike<R: Threads + Wait + Clock + Copy + Send + Sync + Drop + 's
     served
 }
 
-/// Returns whether each node answers like this new library after the texts are applied to it.
+/// Applies the texts to this new library, and returns whether each of three nodes then answers like it.
 fn nodes_answer_like_new<R: Threads + Wait + Clock + Copy + Send + Sync + Drop + 'static>(
     rt: &R,
     alloc: Global,
@@ -82,12 +82,13 @@ fn apply_all(alloc: Global, library: &mut Library) -> Result<bool, AllocError> {
     Ok(library.statements().len() == 3)
 }
 
+/// Applies one text.
 fn apply_one(library: &mut Library, entry: &Entry) -> Result<(), AllocError> {
     let _verdict = library.apply(Some(entry))?;
     Ok(())
 }
 
-/// Returns whether each of three nodes answers like that library, also after a restart.
+/// Returns whether each of three new nodes, at which the texts are submitted, answers like that library.
 fn nodes_answer_like<R: Threads + Wait + Clock + Copy + Send + Sync + Drop + 'static>(
     rt: &R,
     alloc: Global,
@@ -110,6 +111,7 @@ fn answers_and_stops<R: Threads + Wait + Clock>(
     served
 }
 
+/// Returns whether the nodes of this cluster answer like the library.
 fn cluster_answers_like<R: Wait + Clock>(
     rt: &R,
     alloc: Global,
@@ -120,6 +122,7 @@ fn cluster_answers_like<R: Wait + Clock>(
     desk_answers_like(rt, alloc, &desk, library)
 }
 
+/// Submits the texts at the desk, and returns whether each node then answers like the library, node 2 also after a restart.
 fn desk_answers_like<R: Wait + Clock>(
     rt: &R,
     alloc: Global,
@@ -162,7 +165,7 @@ fn submit_all<G: Gate, R: Wait>(
     Ok(())
 }
 
-/// Returns whether node `k` has the verdicts and the assertions of that library.
+/// Returns whether node `k` has the verdicts and lists the assertions of that library.
 fn node_answers_like<G: Gate, R: Wait + Clock>(
     rt: &R,
     desk: &Desk<G, EntryKeep>,
@@ -182,24 +185,27 @@ fn node_answers_like<G: Gate, R: Wait + Clock>(
     Ok(same && list.len() == expected.len())
 }
 
-/// With this setting of the test a node's hints pass; with `LOSE` they are lost, with `DELAY` they are delayed.
+/// The setting with which the hints of a node pass.
 const PASS: u8 = 0;
 
+/// The setting with which they are lost.
 const LOSE: u8 = 1;
 
+/// The setting with which they are delayed.
 const DELAY: u8 = 2;
 
-/// Passes a node's first hint, and treats the others as the test sets.
+/// Passes a node's first hint, and treats the others by a setting that the test changes meanwhile.
 #[derive(Drop)]
-struct SetWeather {
+struct SettableWeather {
     setting: Arc<AtomicU8>,
-    first: bool,
+    /// Whether no hint has come yet.
+    is_first: bool,
 }
 
-impl Weather for SetWeather {
+impl Weather for SettableWeather {
     fn turn(&mut self, _number: u64) -> Fate {
-        if self.first {
-            self.first = false;
+        if self.is_first {
+            self.is_first = false;
             return Fate::Pass;
         }
         match self.setting.load(Ordering::SeqCst) {
@@ -215,96 +221,100 @@ fn a_filled_gap_is_applied(rt: HostRuntime) {
     assert!(rt; fills_its_gap(&rt, rt.alloc()) == Ok(true));
 }
 
-/// Returns whether node 2, which gets no packet of the first text and cannot ask for it while it learns the next four, applies
-/// all six texts after it learns the sixth: it then asks for the first, and one answer has all that it needs.
+/// Returns whether node 2 applies all of six texts. The packets of the first one do not reach it, and its requests are lost
+/// while it learns the next four. As it learns the sixth, it asks for the first, and the answer has all that it lacks.
 fn fills_its_gap<R: Threads + Wait + Clock + Copy + Send + Sync + Drop + 'static>(
     rt: &R,
     alloc: Global,
 ) -> Result<bool, StepFault> {
-    let (Ok(first_two), Ok(third)) = (
+    let (Ok(first_two_setting), Ok(third_setting)) = (
         Arc::new(alloc, AtomicU8::new(PASS)),
         Arc::new(alloc, AtomicU8::new(LOSE)),
     ) else {
         return Err(StepFault::Memory);
     };
-    let weathers = all_weathers(alloc, &first_two, &third)?;
+    let weathers = all_weathers(alloc, &first_two_setting, &third_setting)?;
     let mut cluster = start_three_open(rt, alloc, Weights::equal(3), weathers)?;
-    learns_and_stops(rt, alloc, &mut cluster, &first_two, &third)
+    learns_and_stops(rt, alloc, &mut cluster, &first_two_setting, &third_setting)
 }
 
-/// Returns whether node 2 of that cluster applies all texts, and stops the cluster.
+/// Returns the same for the nodes of this cluster, which is stopped afterwards.
 fn learns_and_stops<R: Threads + Wait + Clock>(
     rt: &R,
     alloc: Global,
     cluster: &mut Cluster<OpenGate, EntryKeep>,
-    first_two: &AtomicU8,
-    third: &AtomicU8,
+    first_two_setting: &AtomicU8,
+    third_setting: &AtomicU8,
 ) -> Result<bool, StepFault> {
-    let filled = learns_all(rt, alloc, cluster, first_two, third);
+    let filled = learns_all(rt, alloc, cluster, first_two_setting, third_setting);
     cluster.stop(rt)?;
     filled
 }
 
-/// Returns three weathers: those of the first two nodes share one setting, and the third has its own.
+/// Returns three weathers: those of nodes 0 and 1 share one setting, and that of node 2 has its own.
 fn all_weathers(
     alloc: Global,
-    first_two: &Arc<AtomicU8>,
-    third: &Arc<AtomicU8>,
-) -> Result<Vec<SetWeather>, AllocError>
+    first_two_setting: &Arc<AtomicU8>,
+    third_setting: &Arc<AtomicU8>,
+) -> Result<Vec<SettableWeather>, AllocError>
     ensures { IfOk result (λ weathers. length weathers.items ≡ 3) }
 {
     let mut weathers = Vec::with_capacity(alloc, 3)?;
-    weathers.push_reserved(weather_of(first_two)?);
-    weathers.push_reserved(weather_of(first_two)?);
-    weathers.push_reserved(weather_of(third)?);
+    weathers.push_reserved(weather_of(first_two_setting)?);
+    weathers.push_reserved(weather_of(first_two_setting)?);
+    weathers.push_reserved(weather_of(third_setting)?);
     Ok(weathers)
 }
 
-fn weather_of(setting: &Arc<AtomicU8>) -> Result<SetWeather, AllocError> {
-    Ok(SetWeather {
+/// Returns a weather with this setting.
+fn weather_of(setting: &Arc<AtomicU8>) -> Result<SettableWeather, AllocError> {
+    Ok(SettableWeather {
         setting: Arc::try_clone(setting)?,
-        first: true,
+        is_first: true,
     })
 }
 
+/// Returns whether node 2 of the cluster applies all texts.
 fn learns_all<R: Wait + Clock>(
     rt: &R,
     alloc: Global,
     cluster: &Cluster<OpenGate, EntryKeep>,
-    first_two: &AtomicU8,
-    third: &AtomicU8,
+    first_two_setting: &AtomicU8,
+    third_setting: &AtomicU8,
 ) -> Result<bool, StepFault> {
     let desk = cluster.desk()?;
-    learns_at(rt, alloc, &desk, first_two, third)
+    learns_at(rt, alloc, &desk, first_two_setting, third_setting)
 }
 
+/// Returns the same, with a desk of the cluster.
 fn learns_at<R: Wait + Clock>(
     rt: &R,
     alloc: Global,
     desk: &Desk<OpenGate, EntryKeep>,
-    first_two: &AtomicU8,
-    third: &AtomicU8,
+    first_two_setting: &AtomicU8,
+    third_setting: &AtomicU8,
 ) -> Result<bool, StepFault> {
     desk.begin(rt, 0)?;
     let decided = decide(rt, alloc, desk, 1)?;
-    third.store(DELAY, Ordering::SeqCst);
+    third_setting.store(DELAY, Ordering::SeqCst);
     let more = decide(rt, alloc, desk, 2)?
         && decide(rt, alloc, desk, 3)?
         && decide(rt, alloc, desk, 4)?
         && decide(rt, alloc, desk, 5)?;
-    first_two.store(LOSE, Ordering::SeqCst);
-    third.store(PASS, Ordering::SeqCst);
+    first_two_setting.store(LOSE, Ordering::SeqCst);
+    third_setting.store(PASS, Ordering::SeqCst);
     thread::sleep(rt, Duration::from_millis(TRANSIT_MILLIS));
-    first_two.store(PASS, Ordering::SeqCst);
+    first_two_setting.store(PASS, Ordering::SeqCst);
     let lacks_fifth = desk.status(rt, 2, 7, 5)?.is_none();
     submit_text(rt, alloc, desk, 6, b"$c a $.")?;
     Ok(decided && more && lacks_fifth && is_added_by_all(rt, desk, 6)?)
 }
 
-/// How many milliseconds the test waits for hints in transit.
+/// How many milliseconds the test waits for hints that are on their way.
 const TRANSIT_MILLIS: u64 = 100;
 
-/// Submits a text at node 0. Returns whether the first two nodes add it, after its hints have reached the third.
+/// Submits a text at node 0, waits until nodes 0 and 1 have decided it, and then until the hints on their way to node 2 have
+/// arrived. Returns whether both nodes have added the text.
 fn decide<R: Wait + Clock>(
     rt: &R,
     alloc: Global,

@@ -1,4 +1,4 @@
-//! A keep that fails at one of its calls, and three nodes of which the first uses it.
+//! A keep that fails at one of its calls, three nodes of which the first uses it, and entries of texts.
 ghost use Rattle.std.specs.Prelude.{◌≡◌, ◌+◌};
 ghost use Rattle.synod.specs.Record.{new_kept};
 
@@ -11,7 +11,7 @@ use std::alloc::{AllocError, Global};
 use synod::{Change, Failed, Keep, Record, Weights};
 use world::Carried;
 
-/// Returns a text of author 7 with this serial number, as an entry.
+/// Returns the text as an entry of author 7 with this serial number.
 pub fn entry(alloc: Global, serial: u64, text: &[u8]) -> Result<Entry, AllocError> {
     Ok(Entry::Text(Submission {
         author: 7,
@@ -20,22 +20,23 @@ pub fn entry(alloc: Global, serial: u64, text: &[u8]) -> Result<Entry, AllocErro
     }))
 }
 
-/// A keep that fails once, after `calls_left` calls, and then works again. A store that fails leaves the new record if
-/// `leaves_new`, else the old one.
+/// A keep in memory that fails once, after `calls_left` more calls, and then works again; it never fails by itself if
+/// `calls_left` is `None`. A store that fails leaves the new record if `leaves_new`, else the old one.
 #[derive(Drop)]
-pub struct Fuse {
+pub struct FailOnceKeep {
     keep: MemoryKeep<Carried>,
     calls_left: Option<u32>,
     leaves_new: bool,
+    /// How often it failed by itself: a count that contracts alone see.
     failures: Steps,
 }
 
-impl Fuse {
-    /// Creates the keep of a new node. If `calls_left` is `None`, it never fails by itself.
+impl FailOnceKeep {
+    /// Creates the keep of a new node.
     pub fn new(alloc: Global, calls_left: Option<u32>, leaves_new: bool) -> Self
         ensures { ⟦<MemoryKeep<Carried> as Keep<Carried>>⟧.kept result.keep ≡ new_kept }
     {
-        Fuse {
+        FailOnceKeep {
             keep: MemoryKeep::new(alloc),
             calls_left,
             leaves_new,
@@ -44,7 +45,7 @@ impl Fuse {
     }
 }
 
-impl Keep<Carried> for Fuse {
+impl Keep<Carried> for FailOnceKeep {
     ghost kept = { λ s. ⟦<MemoryKeep<Carried> as Keep<Carried>>⟧.kept s.keep };
 
     ghost failures = { λ s. s.failures.count + ⟦<MemoryKeep<Carried> as Keep<Carried>>⟧.failures s.keep };
@@ -69,7 +70,7 @@ impl Keep<Carried> for Fuse {
     }
 }
 
-/// Returns whether this call is the one that fails.
+/// Counts a call, and returns whether it is the one that fails.
 fn fails_now(calls_left: &mut Option<u32>) -> bool {
     match *calls_left {
         Some(0) => {
@@ -87,12 +88,12 @@ fn fails_now(calls_left: &mut Option<u32>) -> bool {
 /// Makes three nodes, of which the first has this keep.
 pub fn make_three(
     alloc: Global,
-    first: Fuse,
-) -> Result<(Switch<Carried, Fuse>, Vec<NodeCell>), StepFault>
+    first: FailOnceKeep,
+) -> Result<(Switch<Carried, FailOnceKeep>, Vec<NodeCell>), StepFault>
     requires { ⟦<MemoryKeep<Carried> as Keep<Carried>>⟧.kept first.keep ≡ new_kept }
 {
-    let others = Fuse::new(alloc, None, false);
-    let Ok(keeps) = vec![in alloc; first, others, Fuse::new(alloc, None, false)] else {
+    let others = FailOnceKeep::new(alloc, None, false);
+    let Ok(keeps) = vec![in alloc; first, others, FailOnceKeep::new(alloc, None, false)] else {
         return Err(StepFault::Memory);
     };
     cells(alloc, Weights::equal(3), keeps)
@@ -100,7 +101,7 @@ pub fn make_three(
 
 /// Restarts the first node.
 pub fn restart_first(
-    switch: &mut Switch<Carried, Fuse>,
+    switch: &mut Switch<Carried, FailOnceKeep>,
     cells: &mut Vec<NodeCell>,
 ) -> Result<u64, StepFault> {
     match cells.get_mut(0) {
