@@ -22,7 +22,8 @@ IsFirstFixed S (x ∷ e) = is_variable S x ≡ false
 
 -- each variable of the expression, of the mandatory `$e` and of the groups of the assertion s at a
 -- is that of exactly one mandatory `$f`; a variable at a mandatory `$e` is still a variable at the
--- assertion
+-- assertion, and so is the variable of a mandatory `$f`; no first symbol of the expression or of a
+-- mandatory hypothesis is a variable
 pub record IsBound (S : Database) (a : ℕ) (s : Stmt) : Type 0 where
   pub own : (x : Name) → has_name x (expr_of s) ≡ true → is_variable (before S a) x ≡ true → HasFloat S (hypotheses (before S a) s) x
   pub essential : (k p : ℕ) (label : Name) (e : Expr) (x : Name) → slice_get (hypotheses (before S a) s) k ≡ Some p → stmt_at S p ≡ Some (Ess label e) → has_name x e ≡ true → is_variable (before S a) x ≡ true → HasFloat S (hypotheses (before S a) s) x

@@ -13,7 +13,7 @@ pub record Carries (S : Database) (i : ℕ) (s : Stmt) (label : Name) : Type 0 w
   pub stands : stmt_at S i ≡ Some s
   pub carried : label_of s ≡ Some label
 
--- a `$f` or a `$e`
+-- the statement is a `$f` or a `$e`
 abbrev pub is_hypothesis_kind : Stmt → Bool
 is_hypothesis_kind (Float label constant variable) = true
 is_hypothesis_kind (Ess label expr) = true

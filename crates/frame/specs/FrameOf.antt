@@ -12,7 +12,7 @@ is_used S s x = has_name x (expr_of s) || list_any (λ p. is_essential p.1 && ha
 abbrev pub is_mandatory : Database → Stmt → Name → Bool
 is_mandatory S s x = is_variable S x && is_used S s x
 
--- an active `$e`, or the active `$f` of a mandatory variable
+-- an active statement is a mandatory hypothesis of the assertion s: a `$e`, or the `$f` of a mandatory variable
 abbrev pub is_hypothesis : Database → Stmt → Stmt → Bool
 is_hypothesis S s (Ess label expr) = true
 is_hypothesis S s (Float label constant variable) = is_mandatory S s variable
@@ -26,7 +26,7 @@ hypotheses S s = map (λ p. p.0) (filter (λ p. is_hypothesis S s p.1) (active S
 abbrev pub together : List (List Name) → Name → Name → Bool
 together groups x y = not (name_eq x y) && list_any (λ names. has_name x names && has_name y names) groups
 
--- the lists of the active `$d`
+-- the whole lists of the active `$d`, also with variables that are not mandatory
 abbrev pub groups : Database → List (List Name)
 groups S = map (λ p. disjoint_names p.1) (active S)
 

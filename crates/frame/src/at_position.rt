@@ -5,7 +5,8 @@ ghost use Rattle.{scope.specs.Active.is_active, frame.specs.LastActive.last_acti
 use crate::storage::Storage;
 use entries::LastActive;
 
-/// Returns the last active statements before the statement at `at`, or at the end.
+/// Returns, of each kind, the last statement that is active at `at`. `at` may be one past the last
+/// statement.
 pub fn last_active_at(storage: &Storage, at: usize) -> LastActive
     requires stored { AreStored storage.now }
     requires place { (1 ≤ at) × (at ≤ length (statements_of storage.now) + 1) }

@@ -121,9 +121,9 @@ fn count_at(counts: &[usize], index: usize) -> usize {
 /// Appends a group for each two of the variables that are disjoint, and returns `true`, if that
 /// takes no longer than going through the active `$d`; else appends none, and returns `false`.
 ///
-/// Together the searches may pass a budget of `$d`. If that does not suffice, and the active `$d`
-/// have more symbols than four times the budget, all pairs are searched for again with that budget;
-/// the facts that were recorded make this shorter.
+/// All searches together may pass a budget of `$d`. When it is spent, it is made four times as
+/// large. If the active `$d` have more symbols than the new budget, all pairs are searched for
+/// again, which the recorded facts make shorter; else `false` is returned.
 ///
 /// Errors: an allocation fails. Cost: at most a constant times that of the cheaper of the two.
 fn find_pairs(

@@ -1,5 +1,6 @@
-//! Makes and undoes the changes that one more statement makes: in the names and the last
-//! declarations of symbols, in where blocks end, and in what is active after it.
+//! Makes the changes of one more statement in the names, in the last declarations of symbols, in
+//! where blocks end, and in what is active after it. Undoes those in last declarations and in where
+//! blocks end; `extend` undoes the others.
 ghost use Rattle.std.specs.Prelude.{◌≡◌, ℕ, ◌+◌, ◌≤◌, ◌==◌, ◌++◌, ◌∷◌, [], Some, length, slice_get, OnOk, if◌then◌else◌, map, take};
 ghost use Rattle.{std.specs.List.list_any, mm_read.specs.declared.stmt.Stmt.Stmt as Statement, scope.specs.Active.label_of, scope.specs.Declares.IsRecordedBy, scope.specs.Declares.MayDeclare, scope.specs.Declares.declared_with, entries.specs.Stored.Spans.Extends, frame.specs.Below.AreBelow, frame.specs.LastActive.last_active_of, frame.specs.declared.storage.LastDeclarations.LastDeclarations as Declared, frame.specs.Stored.Whole.AreStored, frame.specs.Stored.EntryMeanings.option_position, frame.specs.Stored.EntryMeanings.statements_of, frame.specs.Stored.EntryMeanings.declared_by, frame.specs.Stored.EntryMeanings.last_of, frame.specs.Stored.EntryMeanings.with_last, frame.specs.Stored.EntryMeanings.ReadsAs, frame.specs.Stored.EntryMeanings.replaced_of, frame.specs.Stored.EntryMeanings.last_declarations_of, frame.specs.Stored.Counts.HasMoreNames, frame.specs.Stored.Counts.HasRoom, frame.specs.Stored.Counts.kind_of, frame.specs.Stored.Counts.next_last_active, frame.specs.Stored.Counts.HasTwo, frame.specs.Stored.Ends.with_end, frame.specs.Stored.Ends.AreBlockEnds};
 
@@ -11,7 +12,8 @@ use mm_read::Stmt;
 use scope::{SymbolNumbers, declare_names};
 use std::alloc::{AllocError, Global};
 
-/// There are fewer symbols than this, so their numbers fit in 32 bits.
+/// There are fewer symbols than this. So a hypothesis fits in 32 bits: `number_of` of `entries` adds
+/// 2^31 for a `$e`.
 const SYMBOL_NUMBERS_LIMIT: usize = 2147483648;
 
 /// Declares the names of the next statement, and appends its position if it has a label. Records

@@ -158,7 +158,9 @@ fn truncate_storage(storage: &mut Storage, len: usize)
     }
 }
 
-/// Truncates the storage to its statements, and to the first `names` names and the first `replaced` replaced declarations.
+/// Truncates the numbering to the first `names` names, the list `replaced` to its first `replaced`
+/// items, and every other list to the names or the statements that are left. `entries` and
+/// `last_active` stay as they are.
 fn roll_back(storage: &mut Storage, names: usize, replaced: usize)
     ensures names { storage.new.numbering ≡ take names storage.old.numbering }
     ensures symbols { storage.new.symbols.items ≡ take (length (names_in storage.new)) storage.old.symbols.items }
@@ -212,8 +214,9 @@ fn shrink_lists(alloc: Global, storage: &mut Storage)
 impl Frames {
     /// Appends the statement that the scope accepts next.
     ///
-    /// Errors: an allocation fails; everything is as before. One step is counted, whatever the
-    /// outcome.
+    /// Errors: an allocation fails, or a number is too large: that of symbols or the position of a
+    /// mandatory `$e` from 2^31 on, any other from 2^32 on; everything is as before. One step is
+    /// counted, whatever the outcome.
     /// Cost: the statement's own size, n log n for an expression of n symbols if n is at least
     /// `LONG_EXPRESSION`; for an assertion also up to 48 hypotheses that the active `$e` bring
     /// along, and up to 64 active `$d`; for a `$}` the `$d`, `$v` and `$e` that it makes inactive;

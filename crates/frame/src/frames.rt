@@ -267,10 +267,9 @@ impl Frames {
     /// `$d`.
     ///
     /// Errors: an allocation fails. Cost: the size of its hypotheses, which are sorted, and a
-    /// constant times the smaller of two numbers. One is the number of symbols of the active `$d`.
-    /// The other is a sum over the pairs of its variables: about 64 for each, and the `$d` that no
-    /// earlier search for the pair passed, be it in an earlier call with the same facts or one
-    /// whose answer the frames keep.
+    /// constant times the cheaper of two ways. By `$d`: the symbols of the active `$d`. By pairs:
+    /// for each pair of its variables about 64 `$d`, and the `$d` that no recorded search for this
+    /// pair has passed. Searches are recorded in `facts` and in the frames.
     pub fn fill_for_citing(
         &self,
         a: usize,
@@ -354,7 +353,7 @@ impl Frames {
             set,
             self.storage.entries.hypotheses(a - 1),
         )?;
-        // The proof needs it: there are fewer than 2^32 positions.
+        // Only for the proof: the clause of `len` says that there are fewer than 2^32 positions.
         let _count = self.storage.entries.len();
         Ok(Some(MandatoryView { sets, set, own }))
     }

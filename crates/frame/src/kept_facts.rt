@@ -43,7 +43,8 @@ impl KeptFacts {
     }
 
     /// Searches for a `$d` that has x and y, among those of x that are active at a position, and
-    /// keeps the answer. All facts are discarded first if the table is more than half full.
+    /// keeps the answer if the search passes more than 16 `$d`, unless an allocation fails. All
+    /// facts are discarded first if the table is more than half full.
     ///
     /// Cost: the active `$d` that have x, times a binary search.
     pub(crate) fn search(&mut self, alloc: Global, storage: &Storage, at: usize, x: u32, y: u32)

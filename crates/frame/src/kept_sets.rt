@@ -104,7 +104,7 @@ impl KeptSets {
     }
 }
 
-/// Returns how many of the sets statements with a smaller index keep.
+/// Returns how many of the sets are kept with statements of a smaller index.
 fn count_before(items: &[KeptSet], index: usize) -> usize
     requires { RiseBy index_of items.now }
     ensures { IsCountBy index_of items.now index result }

@@ -4,7 +4,8 @@
 //! a citation means at a statement, the parts of an assertion, and which variables are disjoint.
 //! `frame` collects the `Frame` of one assertion from the active statements.
 //!
-//! Symbols are numbers, in clauses also called codes; a position counts from 1, an index from 0.
+//! `Frames` has numbers for symbols, also called codes; `frame` and `Frame` have names. A position
+//! counts from 1, an index from 0.
 //!
 //! Reading order: `storage`, `stored_entries`, `shape`, `frame_buffers`; `symbol_numbers`,
 //! `at_position`, `stacks`, `declare`, `mandatory`, `kept_sets`, `essential_sets`, `make`, `extend`

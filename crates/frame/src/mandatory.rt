@@ -110,7 +110,9 @@ const MAX_COUNTED_ESSENTIALS: usize = 64;
 /// at most twice as many symbols.
 const MAX_KEPT_DISJOINT: usize = 64;
 
-/// The largest number of mandatory hypotheses, brought along by the active `$e`, that are not kept as a set.
+/// The largest number of hypotheses, as `brought_count` counts them, for which no set is kept.
+/// `are_few` allows as many hypotheses that the active `$e` bring along, and as many `$f` of an
+/// assertion's own variables.
 pub const MAX_WITHOUT_SET: usize = 48;
 
 /// Returns how many mandatory hypotheses the active `$e` bring along, counting a `$f` once for each
@@ -136,10 +138,10 @@ pub fn brought_count(storage: &Storage) -> usize {
     count
 }
 
-/// Returns whether the mandatory hypotheses and groups of an assertion with `own` `$f` of its own variables may be few.
-/// The kept parts are right either way.
+/// Returns whether to try to keep all mandatory hypotheses and groups with an assertion whose own
+/// variables have `own` `$f`: `false` if there may be too many. Only the cost depends on it.
 ///
-/// Cost: at most a few steps, however much is active.
+/// Cost: a constant; at most 49 `$e` and 64 `$d` are gone through.
 pub fn are_few(storage: &Storage, essential_sets: &EssentialSets, own: usize) -> bool {
     let set = essential_sets.set(storage.last_active.essential);
     let count = if set == 0 {

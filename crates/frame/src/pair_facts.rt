@@ -243,9 +243,9 @@ pub struct SoughtPair {
 /// Returns whether two variables are disjoint at a position, by the facts of earlier searches and those that are kept with
 /// the statements, and records the answer as facts if the search is long.
 ///
-/// Cost: the smaller count of active `$d` that have x or that have y, times a binary search; if an earlier search went
-/// through the `$d` of the same variable for the other one, from the same `$d` or an earlier one back, and its facts are
-/// recorded, only the `$d` after that one and at most 64 more.
+/// Cost: the smaller of the counts of active `$d` that have x and that have y, times a binary search. If an earlier search
+/// for this pair through the `$d` of the same variable began at the same `$d` or an earlier one, and its facts are
+/// recorded: only the `$d` after the one at which it began, and at most 64 more.
 pub fn search_by_facts(
     storage: &Storage,
     kept: &PairFacts,
@@ -400,8 +400,8 @@ fn record_passed(
     }
 }
 
-/// Returns whether a search looks up a fact at a `$d`, having passed `passed` others and with `below` more to go after it.
-/// No fact is recorded at the last `MAX_UNRECORDED` ones.
+/// Returns whether a search looks up a fact at a `$d`, given how many `$d` it counts as passed, and with `below` more to go
+/// after this one. No fact is recorded at the last `MAX_UNRECORDED` ones.
 pub(crate) fn is_looked_up(passed: usize, below: usize) -> bool {
     below >= MAX_UNRECORDED && (passed < MAX_UNRECORDED || below % STRIDE == STRIDE - 1)
 }

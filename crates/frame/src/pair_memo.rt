@@ -128,6 +128,7 @@ fn search_on(
             return true;
         }
         let below = left.len();
+        // This `$d` is counted; the first `MAX_BEFORE_MEMO` are not.
         let passed = height.saturating_sub(below);
         if is_looked_up(passed, below) {
             if let Some(fact) = facts.known(position, x, y) {

@@ -7,7 +7,8 @@ use crate::pair_facts::PairFacts;
 use crate::pair_memo::PairMemo;
 
 impl Frames {
-    /// Makes the listed searches again, keeps their answers, and empties the list.
+    /// Makes the listed searches again, keeps their answers as `KeptFacts::search` does, and
+    /// empties the list.
     ///
     /// A search at a position that is no longer there is made at the last position, and a search
     /// for a variable that is no longer there is left out.
@@ -24,7 +25,7 @@ impl Frames {
         searches.clear();
     }
 
-    /// Makes a search again, and keeps its answer.
+    /// Makes a search again, and keeps its answer as `KeptFacts::search` does.
     fn search_again(&mut self, search: LongSearch)
         ensures { self.new ≡ self.old }
     {
@@ -39,8 +40,9 @@ impl Frames {
 }
 
 impl PairFacts {
-    /// Has the frames make the listed searches again and keep their answers, and empties the list.
-    /// It has the first searches that passed more than 256 `$d`.
+    /// Has the frames make the listed searches again and keep the answers of those that still pass
+    /// more than 16 `$d`, unless an allocation fails; empties the list. The list has the first
+    /// searches that passed more than 256 `$d`.
     ///
     /// Cost: that of the searches, of which there are at most 64.
     pub fn repeat_searches(&mut self, frames: &mut Frames)
@@ -52,9 +54,9 @@ impl PairFacts {
 }
 
 impl PairMemo {
-    /// Has the frames make the listed searches again and keep their answers, and empties the list.
-    /// It has the first searches that passed more than 256 `$d` without finding one that has both
-    /// variables.
+    /// Has the frames make the listed searches again and keep the answers of those that still pass
+    /// more than 16 `$d`, unless an allocation fails; empties the list. The list has the first
+    /// searches that passed more than 256 `$d` without finding one that has both variables.
     ///
     /// Cost: that of the searches, of which there are at most 64.
     pub fn repeat_searches(&mut self, frames: &mut Frames)

@@ -14,7 +14,7 @@ pub record IsLogPrefix {V : Type 0} (size : V → ℕ) (switch : SwitchView V) (
 abbrev pub KeepsPrefixes : {V : Type 0} → (V → ℕ) → SwitchView V → SwitchView V → Type 0
 KeepsPrefixes {V} size old new = (k : ℕ) (entries : List (Option V)) → IsLogPrefix size old k entries → IsLogPrefix size new k entries
 
--- a prefix of a node's log remains one, except at a restart of that node; after a refused event without exception
+-- a prefix of a node's log remains one, except at a restart of that node; after any error each one remains
 pub record EventKeepsPrefixes {V : Type 0} (size : V → ℕ) (e : Event V) (old new : SwitchView V) (result : Result ℕ StepFault) : Type 0 where
   pub others : (k : ℕ) (entries : List (Option V)) → e ≢ Restart k → IsLogPrefix size old k entries → IsLogPrefix size new k entries
   pub refused : OnErr result (KeepsPrefixes size old new)

@@ -1,7 +1,7 @@
 -- The store of a node: the record of its keep, and whether the node is up, or down since a call of its keep failed.
 -- Source: Lamport, Paxos Made Simple, section 2.5: an acceptor records its response in stable storage before sending it.
--- The code has the keep itself. Contracts see the record that it would load, how often it failed, and the pending event:
--- the one whose store failed.
+-- The code has the keep itself. Contracts see the record that the keep would load, how many of its calls failed, and
+-- whether the node is up or down, with the pending event (the one whose store failed), if there is one.
 use Rattle.std.specs.Prelude.{◌≡◌, ◌⊎◌, ◌+◌, ℕ, List, [], Option, Some, None}
 use Rattle.switch.specs.Words.{Packet, Change, KeptPart, changed_by, Node, kept_of, StagedEvent, change_in, posts_of}
 use Rattle.switch.specs.declared.node_store.Status.{Status as RustStatus}
@@ -35,8 +35,8 @@ abbrev pub pending_posts : {V : Type 0} → Option (StagedEvent V) → List (Pac
 pending_posts None = []
 pending_posts (Some staged) = posts_of staged.work
 
--- The record of the keep is the kept part of the node; while the node is down, it may also have the change
--- of the pending event.
+-- The record of the keep is the kept part of the node; while the node is down, the record may instead be that kept part
+-- with the change of the pending event made.
 
 -- the old record, or the old record with the change
 abbrev pub IsWithOrWithout : {V : Type 0} → KeptPart V → Option (Change V) → KeptPart V → Type 0

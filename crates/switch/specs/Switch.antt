@@ -1,5 +1,5 @@
 -- The switch that the nodes of a cluster share: its history, and for each node the record of its keep and whether it is up.
--- Source: Lamport, Paxos Made Simple, section 3; that a node with a failed store is down is this project's choice.
+-- Source: Lamport, Paxos Made Simple, section 3; that a node is down after a failed store or load is this project's choice.
 -- The code has a net and the keeps; by the invariant of the type, the state of the net is that of the world after the history.
 use Rattle.std.specs.Prelude.{◌≡◌, ◌⊎◌, ◌+◌, ◌≤◌, ◌<◌, ℕ, Bool, true, false, List, [], ◌∷◌, ◌++◌, Option, Some, None, Result, Ok, Err, length, slice_get, slice_set}
 use Rattle.switch.specs.Words.{Change, KeptPart, changed_by, new_kept, Node, kept_of, MAX_EVENTS, Event, Offer, Begin, Deliver, Restart, StepFault, Memory, Device, Down, EventsSpent, World, event_result, after, IsAfter, AreOfWorld, node_of, change_of, kept_part, StagedEvent, NetView, IsStaged, HasSpareCapacity, IsTaken, posts_of}
@@ -7,8 +7,8 @@ use Rattle.switch.specs.NodeStore.{Status, up, down, StoreState, IsRecordOf, IsW
 
 -- The switch as contracts see it.
 
--- the store of a node: the record that its keep would load, how often the keep failed, and whether the node is up, or down
--- with the event whose store failed, if one did
+-- the store of a node: the record that its keep would load, how many calls of the keep failed, and its status: up, or down
+-- with the pending event, if there is one
 pub record StoreView (V : Type 0) : Type 0 where
   pub kept : KeptPart V
   pub failures : ℕ
@@ -74,7 +74,8 @@ abbrev pub change_of_pending : {V : Type 0} → (V → ℕ) → World V → Opti
 change_of_pending size w None = None
 change_of_pending size w (Some e) = change_of size w e
 
--- the record of the keep is the kept part of its node; while the node is down, it may also have the change whose store failed
+-- the record of the keep is the kept part of its node; while the node is down, the record may instead be that kept part
+-- with the change of the pending event made
 abbrev pub IsRecordIn : {V : Type 0} → (V → ℕ) → World V → Node V → Status (Event V) → KeptPart V → Type 0
 IsRecordIn size w n up kept = kept ≡ kept_of n
 IsRecordIn size w n (down e) kept = IsWithOrWithout (kept_of n) (change_of_pending size w e) kept
@@ -116,7 +117,7 @@ abbrev pub with_event : {V : Type 0} → SwitchView V → ℕ → StoreView V �
 with_event old k view change e =
     record (with_store old k record { kept = changed_by view.kept change; failures = view.failures; status = view.status }) { history = old.history ++ e ∷ [] }
 
--- the event that is pending if the keep fails at this event; none for a restart, which stores nothing
+-- the event that is pending if the keep fails at this event, at a node that is up; none for a restart, which stores nothing there
 abbrev pub pending_on_failure : {V : Type 0} → Event V → Option (Event V)
 pending_on_failure (Offer k v) = Some (Offer k v)
 pending_on_failure (Begin k) = Some (Begin k)
@@ -134,7 +135,7 @@ abbrev pub TakesAt : {V : Type 0} → SwitchView V → SwitchView V → Event V 
 TakesAt old new e k view change x (Ok count) = (new ≡ with_event old k view change e) × (count ≡ length x.packets)
 TakesAt old new e k view change x (Err fault) = ((fault ≡ Memory) × (new ≡ old)) ⊎ ((fault ≡ Device) × FailsAt old new k view change (down (pending_on_failure e)))
 
--- the effect of an event whose node is not down; w is the world after the old history
+-- the effect of an event whose node is up, or that has no node; w is the world after the old history
 pub record IsEffectAtUpNode {V : Type 0} (size : V → ℕ) (w : World V) (old new : SwitchView V) (e : Event V) (result : Result ℕ StepFault) : Type 0 where
   pub refused : (fault : StepFault) → event_result size w e ≡ Err fault → Refuses old new result fault
   pub taken : (x : World V) → event_result size w e ≡ Ok x → (k : ℕ) → node_of w e ≡ Some k → (view : StoreView V) → slice_get old.stores k ≡ Some view → TakesAt old new e k view (change_of size w e) x result
@@ -184,7 +185,8 @@ pub record IsEffect {V : Type 0} (size : V → ℕ) (w : World V) (old new : Swi
   pub is_down : is_down_at old.stores (node_of w e) ≡ true → IsEffectAtDownNode size w old new e result
   pub is_up : is_down_at old.stores (node_of w e) ≡ false → IsEffectAtUpNode size w old new e result
 
--- the history before the event is taken, each node of the world after it has its store, and the event has its effect in that world
+-- no event of the old history meets a refusal; each node of the world after it has its store; and the event has its effect
+-- in that world
 pub record Plays {V : Type 0} (size : V → ℕ) (old new : SwitchView V) (e : Event V) (result : Result ℕ StepFault) : Type 0 where
   pub world : World V
   pub is_after : world_of size old ≡ Ok world

@@ -1,4 +1,4 @@
-//! Plays an event, the only way in which one reaches a node of a switch.
+//! Plays an event: takes it to its node, if that is up or is restarted. No other public call changes a switch.
 ghost use Rattle.std.specs.Prelude.{◌≡◌, Some, false};
 ghost use Rattle.std.specs.Result.{ForOk};
 ghost use Rattle.net.specs.KeptPart.{node_of};
@@ -15,11 +15,12 @@ impl<V: Value, K: Keep<V>> Switch<V, K> {
     /// posted so far.
     ///
     /// Errors: `Down` if the node is down and the event is not a restart; else the first fault that the event meets, in the
-    /// order that `StepFault` gives; else `Memory`, with nothing changed, or `Device` if the node's keep failed: the node is
-    /// then down. A restart of a node that is down returns `EventsSpent` if fewer than two events are left; after `Memory`
-    /// or `Device` the node stays down.
+    /// order that the comment of `StepFault` lists; else `Memory`, with nothing changed, or `Device` if the node's keep
+    /// failed: the node is then down. A restart of a node that is down returns `EventsSpent` if fewer than two events are
+    /// left; after `Memory` or `Device` the node stays down.
     ///
-    /// Cost: the step of the node, looking up one packet and storing one change; at a restart, loading the record once.
+    /// Cost: the step of the node, looking up one packet and storing one change; at a restart, loading the record once; at
+    /// the restart of a node that is down, also storing the pending change and committing the pending event.
     pub fn play(&mut self, event: Event<V>) -> Result<u64, StepFault>
         ensures plays { Plays V.bytes self.old self.new event result }
         ensures logs { EventKeepsPrefixes V.bytes event self.old self.new result }

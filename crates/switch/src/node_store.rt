@@ -18,7 +18,7 @@ pub(crate) enum Status<V> {
     Down(Option<StagedEvent<V>>),
 }
 
-/// A node's keep, and whether the node is up.
+/// A node's keep, and whether the node is up, or down and which event is pending.
 #[derive(Drop)]
 pub(crate) struct NodeStore<V: Value, K: Keep<V>> {
     keep: K,
@@ -70,7 +70,8 @@ impl<V: Value, K: Keep<V>> NodeStore<V, K> {
         }
     }
 
-    /// Loads the record. If the keep fails, the node is down and no event is pending.
+    /// Loads the record of a node that is up. If the keep fails, the node is down and no event is pending. For a node that is
+    /// down there is `bring_up`; here its pending event would be lost.
     pub fn load(&mut self) -> Result<Record<V>, Failed>
         ensures loaded { IfOk result (λ loaded. loaded.kept ≡ self.old.kept) }
         ensures same { OnOk result (self.new ≡ self.old) }

@@ -33,7 +33,7 @@ impl<V: Value, K: Keep<V>> Switch<V, K> {
         }
         let mut staged = self.net.stage(Event::Restart(k))?;
         let at = staged.at() as usize;
-        // No memory holds so many packets.
+        // The sum overflows only for more packets than any memory holds.
         let Some(packets) = self.stores[at]
             .count_pending_posts()
             .checked_add(staged.posts().len())

@@ -16,8 +16,9 @@ use std::alloc::{AllocError, Global};
 use std::marker::Model;
 use synod::{Keep, Packet, Value, Weights};
 
-/// The nodes of one replicated log, their packets and their stores. Contracts see the history and, for each node, the
-/// record that its keep would load, the number of failed calls of the keep, and whether the node is up.
+/// The nodes of one replicated log, their packets and their stores. Contracts see the weights, the history and, for each
+/// node, the record that its keep would load, how many calls of the keep failed, and whether the node is up, or down with
+/// the pending event, if there is one.
 #[derive(Drop)]
 pub struct Switch<V: Value, K: Keep<V>> {
     pub(crate) net: Net<V>,
@@ -77,7 +78,7 @@ impl<V: Value, K: Keep<V>> Switch<V, K> {
     /// Returns the events taken, in order.
     ///
     /// The nodes and the packets are those of the world after these events. The record of each keep is the kept part of its
-    /// node; while the node is down, the record may also have the change whose store failed.
+    /// node; while the node is down, the record may instead be that kept part with the change of the pending event made.
     pub fn history(&self) -> &[Event<V>]
         ensures history { result.now ≡ self.now.history }
         ensures few { length result.now ≤ MAX_EVENTS }

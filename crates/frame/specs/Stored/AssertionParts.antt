@@ -36,7 +36,7 @@ option_symbols (Some e) = e.symbols
 abbrev pub symbols_at : List Entry → ℕ → List ℕ
 symbols_at es p = option_symbols (slice_get es (p - 1))
 
--- the list has two or more
+-- the list has two or more items
 abbrev pub has_two : {A : Type 0} → List A → Bool
 has_two [] = false
 has_two (x ∷ []) = false

@@ -16,7 +16,7 @@ use Rattle.frame.specs.Stored.Stacks.{KeepsUntil}
 abbrev pub IsLabelBelow : Kind → ℕ → ℕ → Type 0
 IsLabelBelow kind label n = is_label_kind kind ≡ true → label < n
 
--- a `$f` has two symbols
+-- if the kind is that of a `$f`, there are two symbols
 abbrev pub HasTwo : Kind → List ℕ → Type 0
 HasTwo Float codes = length codes ≡ 2
 HasTwo kind codes = Unit {0}
@@ -26,7 +26,8 @@ abbrev pub AreNumbered : ℕ → ℕ → List Entry → Type 0
 AreNumbered n m [] = Unit {0}
 AreNumbered n m (e ∷ es) = AreBelow n e.symbols × IsLabelBelow e.kind e.label_count m × AreNumbered n m es × HasTwo e.kind e.symbols
 
--- the entry e has the counts of the names and of the labels before it: earlier entries use no others
+-- the counts in the entry e, at index i, are those of the symbols and labels that earlier entries
+-- declare; those entries use only numbers below these counts
 pub record KeepsCounts (names labels : List Name) (entries : List Entry) (i : ℕ) (e : Entry) : Type 0 where
   pub numbered : AreNumbered e.symbol_count e.label_count (take i entries)
   pub label_count : e.label_count ≡ length (labels_of (take i (map (stmt_of names labels) entries)))

@@ -74,7 +74,7 @@ second_is c codes = false
 abbrev pub floats : ℕ → Entry → Bool
 floats c e = is_float_kind e.kind && second_is c e.symbols
 
--- the entry is a `$v` that has the symbol
+-- the entry is a `$v` that has the symbol c, and so declares it as a variable
 abbrev pub declares : ℕ → Entry → Bool
 declares c e = is_var_kind e.kind && list_any (λ x. c == x) e.symbols
 

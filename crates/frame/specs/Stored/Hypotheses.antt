@@ -76,7 +76,7 @@ AreCollected es S codes list = AreThose (λ p. SomeFloat es S codes p ⊎ IsFrom
 abbrev pub AreWith : List Entry → Database → List ℕ → List ℕ → Type 0
 AreWith es S old new = AreThose (λ p. In p old ⊎ IsFromEssentials es S p) new
 
--- a `$f` or a `$e`
+-- the kind is that of a `$f` or a `$e`
 abbrev pub is_hypothesis_entry : Kind → Bool
 is_hypothesis_entry Float = true
 is_hypothesis_entry Ess = true

@@ -23,7 +23,7 @@ is_needed used (Ess label expr) = true
 is_needed used (Float label constant variable) = has_name variable used
 is_needed used other = false
 
--- the positions of the mandatory hypotheses, by the used variables
+-- the positions of the mandatory hypotheses, given the used variables
 abbrev pub required : List Name → List FrameStatement → List ℕ
 required used frame_statements = map (λ e. e.at) (filter (λ e. is_needed used e.stmt) frame_statements)
 

@@ -70,7 +70,7 @@ last_by_kind Disj l = l.disjoint
 last_by_kind Ess l = l.essential
 last_by_kind kind l = l.variable
 
--- the position to whose stacks a `$}` goes back: that of its `${`, or 1 for 0, which stands for no block
+-- a `$}` restores the stacks of this position: that of its `${`, or 1 if no block is open (0)
 abbrev pub opening : ℕ → ℕ
 opening zero = 1
 opening (suc b) = suc b
