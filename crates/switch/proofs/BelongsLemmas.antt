@@ -1,5 +1,5 @@
 -- A prefix of a node's log remains one after any event other than a restart of that node.
-use Rattle.switch.proofs.Words.{◌≡◌, ◌≢◌, ℕ, ◌<◌, ◌==◌, Bool, true, false, List, [], ◌∷◌, ◌++◌, length, slice_get, inl, inr, Option, Some, None, Result, Ok, Err, refl, ap, sym, ◌∙◌, subst, arith, nat_lt, ◌+◌, IsSome, OnErr, option_map, nat_tests, length-set, Packet, Change, Refusal, Node, StepResult, offer_result, begin_result, on_packet, restarted, MAX_EVENTS, Event, Offer, Begin, Deliver, Restart, StepFault, World, at_node, delivered, event_result_without_limit, event_result, log, log_after, events_result, start, IsAfter, IsPrefixOf, node_of, change_of, IfTaken, if_taken, spent_or, events_result-append, after-push, log_grows, then_begins, Status, up, down, StoreView, SwitchView, world_of, with_store, IsViewOf, AreStores, is_down, is_down_view, is_down_at, pending_on_failure, change_of_pending, pending_events, FailsAt, TakesAt, IsEffectAtUpNode, RecoversAt, Recovers, IsEffectAtDownNode, IsEffect, IsLogPrefix, KeepsPrefixes, EventKeepsPrefixes, append-nil}
+use Rattle.switch.proofs.Words.{◌≡◌, ◌≢◌, ℕ, ◌<◌, ◌==◌, Bool, true, false, List, [], ◌∷◌, ◌++◌, length, slice_get, inl, inr, Option, Some, None, Result, Ok, Err, refl, ap, sym, ◌∙◌, subst, arith, nat_lt, ◌+◌, IsSome, OnErr, option_map, nat_tests, length-set, Packet, Change, Refusal, Node, StepResult, offer_result, begin_result, on_packet, restarted, MAX_EVENTS, Event, Offer, Begin, Deliver, Restart, StepFault, World, at_node, delivered, event_result_without_limit, event_result, log, log_after, events_result, start, IsAfter, IsPrefixOf, node_of, change_of, IfTaken, if_taken, spent_or, events_result-append, after-push, log_grows, then_begins, Status, up, down, StoreView, SwitchView, world_of, with_store, ViewFitsNode, AreStores, is_down, is_down_view, is_down_at, pending_on_failure, change_of_pending, pending_events, FailsAt, IsOutcomeAt, IsEffectUnlessDown, IsRecoveryOutcome, IsEffectOfRecovery, IsEffectAtDownNode, IsEffect, IsLogPrefix, KeepsPrefixes, EventKeepsPrefixes, append-nil}
 use Rattle.switch.specs.Switch.{with_event}
 
 -- The node of an event that is taken exists.
@@ -76,7 +76,7 @@ module _ {V : Type 0} (size : V → ℕ) (old : SwitchView V) where
       -- each node that exists has a store
       view_there : (k : ℕ) → IsSome (slice_get w.nodes k) → (view : StoreView V) × (slice_get old.stores k ≡ Some view)
       view_there k there = both (slice_get w.nodes k) (slice_get old.stores k) refl there (stores k) where
-        both : (n : Option (Node V)) (o : Option (StoreView V)) → slice_get old.stores k ≡ o → IsSome n → IsViewOf size w n o → (view : StoreView V) × (slice_get old.stores k ≡ Some view)
+        both : (n : Option (Node V)) (o : Option (StoreView V)) → slice_get old.stores k ≡ o → IsSome n → ViewFitsNode size w n o → (view : StoreView V) × (slice_get old.stores k ≡ Some view)
         both n (Some view) at some is = (view, at)
         both None None at some is = let no : false ≡ true = some in cc
         both (Some n) None at some is = elim is [ ]
@@ -106,7 +106,7 @@ module _ {V : Type 0} (size : V → ℕ) (old : SwitchView V) (e : Event V) (new
   logs_same : new ≡ old → EventKeepsPrefixes size e old new result
   logs_same is = record {
     others = λ k entries other b. same_stays size old new is k entries b;
-    refused = on_err result (same_stays size old new is);
+    after_error = on_err result (same_stays size old new is);
     nodes = ap (λ (s : SwitchView V). length s.stores) is;
   }
 
@@ -114,7 +114,7 @@ module _ {V : Type 0} (size : V → ℕ) (old : SwitchView V) (e : Event V) (new
   logs_store : (j : ℕ) (view : StoreView V) → new ≡ with_store old j view → EventKeepsPrefixes size e old new result
   logs_store j view is = record {
     others = λ k entries other b. view_stays size old new j view is k entries b;
-    refused = on_err result (view_stays size old new j view is);
+    after_error = on_err result (view_stays size old new j view is);
     nodes = ap (λ (s : SwitchView V). length s.stores) is ∙ length-set old.stores j view;
   }
 
@@ -124,17 +124,17 @@ module _ {V : Type 0} (size : V → ℕ) (old : SwitchView V) (e : Event V) (new
 
 module _ {V : Type 0} (size : V → ℕ) (old : SwitchView V) (w : World V) (was : world_of size old ≡ Ok w) (stores : AreStores size w old.stores) (new : SwitchView V) where
   -- an event that happens at a node that is up keeps the logs
-  takes_logs : (e : Event V) (x : World V) → event_result size w e ≡ Ok x → (k : ℕ) (view : StoreView V) (r : Result ℕ StepFault) → TakesAt old new e k view (change_of size w e) x r → EventKeepsPrefixes size e old new r
+  takes_logs : (e : Event V) (x : World V) → event_result size w e ≡ Ok x → (k : ℕ) (view : StoreView V) (r : Result ℕ StepFault) → IsOutcomeAt old new e k view (change_of size w e) x r → EventKeepsPrefixes size e old new r
   takes_logs e x happened k view (Ok count) h = record {
     others = λ i entries other b. taken_stays size old w was new k view (change_of size w e) e x happened h.0 i entries other b;
-    refused = tt;
+    after_error = tt;
     nodes = ap (λ (s : SwitchView V). length s.stores) h.0 ∙ length-set old.stores k _;
   }
   takes_logs e x happened k view (Err fault) (inl h) = logs_same size old e new (Err fault) h.1
   takes_logs e x happened k view (Err fault) (inr h) = logs_fail size old e new (Err fault) k view (change_of size w e) (down (pending_on_failure e)) h.1
 
   -- an event whose node is up keeps the logs, whether it happens or meets a fault
-  up_logs : (e : Event V) (result : Result ℕ StepFault) → IsEffectAtUpNode size w old new e result → EventKeepsPrefixes size e old new result
+  up_logs : (e : Event V) (result : Result ℕ StepFault) → IsEffectUnlessDown size w old new e result → EventKeepsPrefixes size e old new result
   up_logs e result effect = by_world (event_result size w e) refl where
     by_world : (r : Result (World V) StepFault) → event_result size w e ≡ r → EventKeepsPrefixes size e old new result
     by_world (Err fault) meets = logs_same size old e new result (effect.refused fault meets).1
@@ -155,14 +155,14 @@ module _ {V : Type 0} (size : V → ℕ) (old : SwitchView V) (w : World V) (was
       log_goes_on size w ev m happened k not
 
   -- a restart of a node that is down keeps the logs, whether it takes the pending event first or finds no memory or a failing keep
-  recovered_logs : (j : ℕ) (view : StoreView V) (e : Option (Event V)) → ((ev : Event V) → e ≡ Some ev → node_of w ev ≡ Some j) → (r : Result ℕ StepFault) → RecoversAt size w old new j view e r → EventKeepsPrefixes size (Restart j) old new r
+  recovered_logs : (j : ℕ) (view : StoreView V) (e : Option (Event V)) → ((ev : Event V) → e ≡ Some ev → node_of w ev ≡ Some j) → (r : Result ℕ StepFault) → IsRecoveryOutcome size w old new j view e r → EventKeepsPrefixes size (Restart j) old new r
   recovered_logs j view e pending (Ok count) h = record {
     others = λ k entries other b.
         (let apart : k ≢ j = λ same. other (ap (λ (i : ℕ). let r : Event V = Restart i in r) (sym same)) in
         let mid = before size old.weights (old.history ++ pending_events e) (Restart j) h.world h.is_after in
         longer_stays size old w was new h.world (ap (λ (s : SwitchView V). world_of size s) h.rest ∙ h.is_after) counted k entries
         (then_begins (log w k) (log mid.mid k) (log h.world k) (owed_goes_on j e pending mid.mid mid.is_after k apart) (log_goes_on size mid.mid (Restart j) h.world mid.happened k other)) b);
-    refused = tt;
+    after_error = tt;
     nodes = counted;
   } where
     counted : length new.stores ≡ length old.stores
@@ -178,7 +178,7 @@ module _ {V : Type 0} (size : V → ℕ) (old : SwitchView V) (w : World V) (was
     down_logs (Begin k) result test effect = logs_same size old (Begin k) new result effect.1
     down_logs (Deliver number) result test effect = logs_same size old (Deliver number) new result effect.1
     down_logs (Restart j) result test effect = by_view (slice_get old.stores j) refl where
-      by_room : (view : StoreView V) (e : Option (Event V)) → ((ev : Event V) → e ≡ Some ev → node_of w ev ≡ Some j) → Recovers size w old new j view e result → (t : Bool) → nat_lt MAX_EVENTS (length old.history + 2) ≡ t → EventKeepsPrefixes size (Restart j) old new result
+      by_room : (view : StoreView V) (e : Option (Event V)) → ((ev : Event V) → e ≡ Some ev → node_of w ev ≡ Some j) → IsEffectOfRecovery size w old new j view e result → (t : Bool) → nat_lt MAX_EVENTS (length old.history + 2) ≡ t → EventKeepsPrefixes size (Restart j) old new result
       by_room view e own recovers true test = logs_same size old (Restart j) new result (recovers.spent (grind (arith, nat_tests))).1
       by_room view e own recovers false test = recovered_logs j view e own result (recovers.recovered (grind (arith, nat_tests)))
 

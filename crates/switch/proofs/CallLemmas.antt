@@ -1,5 +1,5 @@
 -- The answer of a call on one node, in the world after the history; contracts see only the fields.
-use Rattle.switch.proofs.Words.{◌≡◌, ℕ, ◌+◌, ◌<◌, false, List, [], ◌∷◌, ◌++◌, length, set, slice_get, inl, inr, Option, Some, None, Result, Ok, Err, refl, ap, sym, ◌∙◌, subst, arith, IfErr, OnOk, IsOkUnless, ForOk, slice_get_within, Packet, Change, KeptPart, changed_by, Node, StepResult, kept_of, MAX_EVENTS, Event, StepFault, Memory, Device, World, after_step, event_result, packets_after, History, world_of_taken, node_of_event, node_of, change_of, StagedEvent, NetView, IsStaged, IsEventAt, ChangesOnlyCapacity, IsTaken, change_in, step_of, after-push, length-nodes_of, Status, up, down, StoreState, IsRecordOf, IsWithOrWithout, Fails, pending_change, StoreView, SwitchView, pending_event, status_seen, view_of, views_of, IsPendingStaged, IsSwitch, world_of, IsRecordIn, IsViewOf, AreStores, is_down_at, with_store, pending_on_failure, TakesAt, IsEffectAtUpNode, with_event}
+use Rattle.switch.proofs.Words.{◌≡◌, ℕ, ◌+◌, ◌<◌, false, List, [], ◌∷◌, ◌++◌, length, set, slice_get, inl, inr, Option, Some, None, Result, Ok, Err, refl, ap, sym, ◌∙◌, subst, arith, IfErr, OnOk, IsOkUnless, ForOk, slice_get_within, Packet, Change, KeptPart, changed_by, Node, StepResult, kept_of, MAX_EVENTS, Event, StepFault, Memory, Device, World, after_step, event_result, packets_after, History, world_of_taken, node_of_event, node_of, change_of, StagedEvent, NetView, IsStaged, IsEventAt, ChangesOnlyCapacity, IsTaken, change_in, step_of, after-push, length-nodes_of, Status, up, down, StoreState, IsRecordOf, IsWithOrWithout, Fails, pending_change, StoreView, SwitchView, pending_event, status_seen, view_of, views_of, IsPendingStaged, IsSwitch, world_of, IsRecordIn, ViewFitsNode, AreStores, is_down_at, with_store, pending_on_failure, IsOutcomeAt, IsEffectUnlessDown, with_event}
 use Rattle.switch.proofs.StoresLemmas.{views_of-set, view_at, view_past, item_at, up_at}
 use Rattle.switch.proofs.SwitchLemmas.{switch_view, other_store, committed, node_is, at, happens_is, change_is, change_told, changes}
 
@@ -65,16 +65,16 @@ module _ {V : Type 0} (size : V → ℕ) (net : NetView V) (stores : List (Store
   record_in n k (down (Some o)) kept fits pending_staged = subst (λ (c : Option (Change V)). IsWithOrWithout (kept_of n) c kept) (change_told size net stores h o pending_staged.1) fits
 
   -- at each number there are a node and its view, or neither
-  store_seen : (k : ℕ) (o : Option (Node V)) → slice_get w.nodes k ≡ o → (p : Option (StoreState V)) → slice_get stores k ≡ p → IsViewOf size w (slice_get w.nodes k) (slice_get (views_of stores) k)
+  store_seen : (k : ℕ) (o : Option (Node V)) → slice_get w.nodes k ≡ o → (p : Option (StoreState V)) → slice_get stores k ≡ p → ViewFitsNode size w (slice_get w.nodes k) (slice_get (views_of stores) k)
   store_seen k (Some n) node (Some store) is =
-      subst (λ (o : Option (Node V)). IsViewOf size w o (slice_get (views_of stores) k)) (sym node)
-      (subst (λ (o : Option (StoreView V)). IsViewOf size w (Some n) o) (sym (view_at stores k store is))
+      subst (λ (o : Option (Node V)). ViewFitsNode size w o (slice_get (views_of stores) k)) (sym node)
+      (subst (λ (o : Option (StoreView V)). ViewFitsNode size w (Some n) o) (sym (view_at stores k store is))
       (let mine = h.each k n store node is in record_in n k store.status store.kept mine.fits mine.pending_staged))
   store_seen k None none (Some store) is = let n = node_there k store is in let no : None ≡ Some n.0 = sym none ∙ n.1 in cc
   store_seen k (Some n) node None none = let store = store_there k n node in let no : None ≡ Some store.0 = sym none ∙ store.1 in cc
   store_seen k None nowhere None none =
-      subst (λ (o : Option (Node V)). IsViewOf size w o (slice_get (views_of stores) k)) (sym nowhere)
-      (subst (λ (o : Option (StoreView V)). IsViewOf size w None o) (sym (view_past stores k none)) tt)
+      subst (λ (o : Option (Node V)). ViewFitsNode size w o (slice_get (views_of stores) k)) (sym nowhere)
+      (subst (λ (o : Option (StoreView V)). ViewFitsNode size w None o) (sym (view_past stores k none)) tt)
 
   -- the views are those of the world after the history
   pub stores_are : ForOk (world_of size now) (λ x. AreStores size x now.stores)
@@ -84,7 +84,7 @@ module _ {V : Type 0} (size : V → ℕ) (net : NetView V) (stores : List (Store
 
   module _ (e : Event V) (fault : StepFault) (r : Result (StagedEvent V) StepFault) (is_err : r ≡ Err fault) (new : SwitchView V) (same : new ≡ old) where
     -- if the answer is the fault that the event meets, or Memory if it meets none, the answer is right at a node that is up
-    not_ready : (x : Result (World V) StepFault) → event_result size w e ≡ x → IfErr x (λ met. r ≡ Err met) → OnOk x (IsOkUnless r Memory) → IsEffectAtUpNode size w old new e (Err fault)
+    not_ready : (x : Result (World V) StepFault) → event_result size w e ≡ x → IfErr x (λ met. r ≡ Err met) → OnOk x (IsOkUnless r Memory) → IsEffectUnlessDown size w old new e (Err fault)
     not_ready (Err met) happened refused memory =
         let both : Err met ≡ Err fault = sym refused ∙ is_err in
         let is_met : met ≡ fault = cc in
@@ -100,8 +100,8 @@ module _ {V : Type 0} (size : V → ℕ) (net : NetView V) (stores : List (Store
         }
 
     -- the same, with the fault given by the history with the event
-    pub ready_fails : IfErr (world_of_taken size (with_event net.history e)) (λ met. r ≡ Err met) → OnOk (world_of_taken size (with_event net.history e)) (IsOkUnless r Memory) → ForOk (world_of size now) (λ x. IsEffectAtUpNode size x now new e (Err fault))
-    ready_fails refused memory = of_world (λ s x. IsEffectAtUpNode size x s new e (Err fault))
+    pub ready_fails : IfErr (world_of_taken size (with_event net.history e)) (λ met. r ≡ Err met) → OnOk (world_of_taken size (with_event net.history e)) (IsOkUnless r Memory) → ForOk (world_of size now) (λ x. IsEffectUnlessDown size x now new e (Err fault))
+    ready_fails refused memory = of_world (λ s x. IsEffectUnlessDown size x s new e (Err fault))
         (not_ready (event_result size w e) refl (subst (λ (x : Result (World V) StepFault). IfErr x (λ met. r ≡ Err met)) (next_is e) refused) (subst (λ (x : Result (World V) StepFault). OnOk x (IsOkUnless r Memory)) (next_is e) memory))
 
   -- An event that is staged at a node that is up.
@@ -128,7 +128,7 @@ module _ {V : Type 0} (size : V → ℕ) (net : NetView V) (stores : List (Store
       kept_up = subst (λ (s : Status (StagedEvent V)). IsRecordOf d.core.node s store.kept) is_up (h.each d1.at d.core.node store (node_is size net stores h d1 d) is).fits
 
       -- if the event is taken at the node, view and world of the step, its answer is right at a node that is up
-      told : (new : SwitchView V) (result : Result ℕ StepFault) → TakesAt old new e d1.at (view_of store) (change_in d1.work) (after_step w d1.at step) result → IsEffectAtUpNode size w old new e result
+      told : (new : SwitchView V) (result : Result ℕ StepFault) → IsOutcomeAt old new e d1.at (view_of store) (change_in d1.work) (after_step w d1.at step) result → IsEffectUnlessDown size w old new e result
       told new result takes = record {
         refused = λ fault f. let no : Ok (after_step w d1.at step) ≡ Err fault = sym happens_e ∙ f in cc;
         taken = λ x f j node view found.
@@ -138,10 +138,10 @@ module _ {V : Type 0} (size : V → ℕ) (net : NetView V) (stores : List (Store
             let is_j : d1.at ≡ j = cc in
             let views : Some (view_of store) ≡ Some view = sym (view_at stores d1.at store is) ∙ ap (λ (i : ℕ). slice_get (views_of stores) i) is_j ∙ found in
             let is_view : view_of store ≡ view = cc in
-            subst (λ (y : World V). TakesAt old new e j view (change_of size w e) y result) is_x
-            (subst (λ (c : Option (Change V)). TakesAt old new e j view c (after_step w d1.at step) result) (change_is size net stores h d1 d ∙ sym at_e.change)
-            (subst (λ (p : StoreView V). TakesAt old new e j p (change_in d1.work) (after_step w d1.at step) result) is_view
-            (subst (λ (i : ℕ). TakesAt old new e i (view_of store) (change_in d1.work) (after_step w d1.at step) result) is_j takes)));
+            subst (λ (y : World V). IsOutcomeAt old new e j view (change_of size w e) y result) is_x
+            (subst (λ (c : Option (Change V)). IsOutcomeAt old new e j view c (after_step w d1.at step) result) (change_is size net stores h d1 d ∙ sym at_e.change)
+            (subst (λ (p : StoreView V). IsOutcomeAt old new e j p (change_in d1.work) (after_step w d1.at step) result) is_view
+            (subst (λ (i : ℕ). IsOutcomeAt old new e i (view_of store) (change_in d1.work) (after_step w d1.at step) result) is_j takes)));
       }
 
       -- A call of the keep failed, and o is pending.
@@ -155,8 +155,8 @@ module _ {V : Type 0} (size : V → ℕ) (net : NetView V) (stores : List (Store
         }
 
         -- Device is the right answer to the event, and its node is down with the event that it owes
-        pub failed_acts : ForOk (world_of size now) (λ x. IsEffectAtUpNode size x now (switch_view net (set stores d1.at new)) e (Err Device))
-        failed_acts = of_world (λ s x. IsEffectAtUpNode size x s (switch_view net (set stores d1.at new)) e (Err Device)) (told (switch_view net (set stores d1.at new)) (Err Device) (inr (
+        pub failed_acts : ForOk (world_of size now) (λ x. IsEffectUnlessDown size x now (switch_view net (set stores d1.at new)) e (Err Device))
+        failed_acts = of_world (λ s x. IsEffectUnlessDown size x s (switch_view net (set stores d1.at new)) e (Err Device)) (told (switch_view net (set stores d1.at new)) (Err Device) (inr (
           refl,
           record {
             kept = new.kept;
@@ -180,8 +180,8 @@ module _ {V : Type 0} (size : V → ℕ) (net : NetView V) (stores : List (Store
         world_then = ap (λ (x : History V). world_of_taken size x) t.history ∙ next_is d1.event ∙ happens_is size net stores h d1 d low
 
         -- the count of packets is the right answer to the event
-        pub played_acts : (count : ℕ) → count ≡ length (packets_after (world_of_taken size b.history)) → ForOk (world_of size now) (λ x. IsEffectAtUpNode size x now (switch_view b (set stores d1.at new)) e (Ok count))
-        played_acts count counted = of_world (λ s x. IsEffectAtUpNode size x s (switch_view b (set stores d1.at new)) e (Ok count)) (told (switch_view b (set stores d1.at new)) (Ok count) (
+        pub played_acts : (count : ℕ) → count ≡ length (packets_after (world_of_taken size b.history)) → ForOk (world_of size now) (λ x. IsEffectUnlessDown size x now (switch_view b (set stores d1.at new)) e (Ok count))
+        played_acts count counted = of_world (λ s x. IsEffectUnlessDown size x s (switch_view b (set stores d1.at new)) e (Ok count)) (told (switch_view b (set stores d1.at new)) (Ok count) (
           view_is_same _ _ _ _ _ _ (ap (λ (x : History V). x.weights) t.history) (ap (λ (x : History V). x.events) t.history ∙ ap (λ (f : Event V). net.history.events ++ f ∷ []) is_e)
               (views_of-set stores d1.at new ∙ ap (λ (s : StoreState V). set (views_of stores) d1.at (view_of s)) stored),
           counted ∙ ap (λ (r : Result (World V) StepFault). length (packets_after r)) world_then,

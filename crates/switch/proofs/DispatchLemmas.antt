@@ -1,5 +1,5 @@
 -- The count of nodes, the dispatch of an event by its node, and a call in terms of the variables of its function.
-use Rattle.switch.proofs.Words.{◌≡◌, ℕ, ◌<◌, Bool, true, false, List, length, get_or, set, slice_get, Option, Some, Result, Ok, Err, refl, ap, sym, ◌∙◌, subst, arith, ForOk, slice_get_within, slice_get_read, Change, changed_by, kept_of, MAX_EVENTS, Event, Offer, Begin, Deliver, Restart, StepFault, Device, Down, World, packets_after, History, world_of_taken, node_of, StagedEvent, NetView, IsStaged, ChangesOnlyCapacity, IsTaken, change_in, count_shown, up, down, StoreState, Fails, pending_change, SwitchView, pending_event, IsPendingStaged, IsSwitch, world_of, is_down_at, pending_on_failure, IsEffectAtUpNode, IsEffectAtDownNode, IsEffect}
+use Rattle.switch.proofs.Words.{◌≡◌, ℕ, ◌<◌, Bool, true, false, List, length, get_or, set, slice_get, Option, Some, Result, Ok, Err, refl, ap, sym, ◌∙◌, subst, arith, ForOk, slice_get_within, slice_get_read, Change, changed_by, kept_of, MAX_EVENTS, Event, Offer, Begin, Deliver, Restart, StepFault, Device, Down, World, packets_after, History, world_of_taken, node_of, StagedEvent, NetView, IsStaged, ChangesOnlyCapacity, IsTaken, change_in, count_shown, up, down, StoreState, Fails, pending_change, SwitchView, pending_event, IsPendingStaged, IsSwitch, world_of, is_down_at, pending_on_failure, IsEffectUnlessDown, IsEffectAtDownNode, IsEffect}
 use Rattle.switch.proofs.StoresLemmas.{count_views}
 use Rattle.switch.proofs.SwitchLemmas.{switch_view, still_switch}
 use Rattle.switch.proofs.CallLemmas.{still_view, after_is, is_up_at, kept_up, failed, failed_acts, played, played_acts}
@@ -21,7 +21,7 @@ module _ {V : Type 0} (size : V → ℕ) (now : SwitchView V) (e : Event V) (o :
     down_acts test effect = λ x d. record { is_down = λ yes. effect x d; is_up = λ no. (let never : true ≡ false = sym (test_at true test x d) ∙ no in cc) }
 
     -- an event whose node is not down has the effect of an event at a node that is up
-    pub up_acts : is_down_at now.stores o ≡ false → ForOk (world_of size now) (λ x. IsEffectAtUpNode size x now new e result) → ForOk (world_of size now) (λ x. IsEffect size x now new e result)
+    pub up_acts : is_down_at now.stores o ≡ false → ForOk (world_of size now) (λ x. IsEffectUnlessDown size x now new e result) → ForOk (world_of size now) (λ x. IsEffect size x now new e result)
     up_acts test effect = λ x d. record { is_down = λ yes. (let never : false ≡ true = sym (test_at false test x d) ∙ yes in cc); is_up = λ no. effect x d }
 
 -- if its store fails, an event other than a restart is itself the pending one
@@ -72,18 +72,18 @@ module _ {V : Type 0} (size : V → ℕ) (a b : NetView V) (only_capacity : Chan
 
     -- if a call of the keep failed, the net and the stores are still a switch, and Device is the right answer
     pub call_failed : (o : Option (StagedEvent V)) (change : Option (Change V)) → change ≡ change_in d1.work → pending_change o ≡ change → pending_event o ≡ pending_on_failure e → IsPendingStaged size b d1.at (down o) → (new : StoreState V) → Fails store change (down o) new
-        → IsSwitch size b (set stores k new) × ForOk (world_of size now) (λ x. IsEffectAtUpNode size x now (switch_view b (set stores k new)) e (Err Device))
+        → IsSwitch size b (set stores k new) × ForOk (world_of size now) (λ x. IsEffectUnlessDown size x now (switch_view b (set stores k new)) e (Err Device))
     call_failed o change is_change owes is_staged pending_staged new fails =
-        subst (λ (i : ℕ). IsSwitch size b (set stores i new) × ForOk (world_of size now) (λ x. IsEffectAtUpNode size x now (switch_view b (set stores i new)) e (Err Device))) (sym is_at) (
+        subst (λ (i : ℕ). IsSwitch size b (set stores i new) × ForOk (world_of size now) (λ x. IsEffectUnlessDown size x now (switch_view b (set stores i new)) e (Err Device))) (sym is_at) (
           failed size b stores hb now seen_b d1 d low e is_e store found is_up o change is_change owes is_staged pending_staged new fails,
           failed_acts size b stores hb now seen_b d1 d low e is_e store found is_up o change is_change owes is_staged pending_staged new fails,
         )
 
     -- if the keep made the change and the event was taken, the net and the stores are a switch, and the count of packets is the right answer
     pub call_played : (new : StoreState V) → new ≡ record { kept = changed_by store.kept (change_in d1.work); failures = store.failures; status = store.status } → (c : NetView V) → IsTaken b c d1 → (count : ℕ) → count ≡ length (packets_after (world_of_taken size c.history))
-        → IsSwitch size c (set stores k new) × ForOk (world_of size now) (λ x. IsEffectAtUpNode size x now (switch_view c (set stores k new)) e (Ok count))
+        → IsSwitch size c (set stores k new) × ForOk (world_of size now) (λ x. IsEffectUnlessDown size x now (switch_view c (set stores k new)) e (Ok count))
     call_played new stored c t count counted =
-        subst (λ (i : ℕ). IsSwitch size c (set stores i new) × ForOk (world_of size now) (λ x. IsEffectAtUpNode size x now (switch_view c (set stores i new)) e (Ok count))) (sym is_at) (
+        subst (λ (i : ℕ). IsSwitch size c (set stores i new) × ForOk (world_of size now) (λ x. IsEffectUnlessDown size x now (switch_view c (set stores i new)) e (Ok count))) (sym is_at) (
           played size b stores hb now seen_b d1 d low e is_e store found is_up new stored c t,
           played_acts size b stores hb now seen_b d1 d low e is_e store found is_up new stored c t count counted,
         )

@@ -1,5 +1,5 @@
 -- The restart of a node that is down: the event that it owes is taken first.
-use Rattle.switch.proofs.Words.{◌≡◌, ℕ, ◌+◌, ◌<◌, ◌≤◌, true, List, [], ◌∷◌, ◌++◌, length, get_or, set, slice_get, inl, inr, Option, Some, None, Result, Ok, Err, refl, ap, sym, ◌∙◌, subst, arith, length-append, AllByRecursion, option_map, ForOk, length-set, slice_get_read, Packet, Ask, Change, IsPost, to_others, KeptPart, changed_by, Node, StepResult, kept_of, Core, reloaded, restarted, MAX_EVENTS, Event, Restart, StepFault, Memory, Device, World, packets_after, IsAfter, History, world_of_taken, kept_part, StagedWork, steps, restarts, StagedEvent, NetView, HasSpareCapacity, IsStaged, IsReadyAt, IsOfEvent, IsEventAt, HasResult, IsTaken, posts_of, step_of, with_loaded, with_record, at_set, set_twice, comes_restart, set_same, Status, up, down, StoreState, pending_of, pending_change, pending_posts, IsRecordOf, IsWithOrWithout, Fails, StoreView, SwitchView, pending_event, status_seen, view_of, views_of, IsPendingStaged, IsStore, IsSwitch, CanCommitPending, CommitsPending, world_of, is_down_at, pending_events, with_store, RecoversAt, Recovers}
+use Rattle.switch.proofs.Words.{◌≡◌, ℕ, ◌+◌, ◌<◌, ◌≤◌, true, List, [], ◌∷◌, ◌++◌, length, get_or, set, slice_get, inl, inr, Option, Some, None, Result, Ok, Err, refl, ap, sym, ◌∙◌, subst, arith, length-append, AllByRecursion, option_map, ForOk, length-set, slice_get_read, Packet, Ask, Change, IsPost, to_others, KeptPart, changed_by, Node, StepResult, kept_of, Core, reloaded, restarted, MAX_EVENTS, Event, Restart, StepFault, Memory, Device, World, packets_after, IsAfter, History, world_of_taken, kept_part, StagedWork, steps, restarts, StagedEvent, NetView, HasSpareCapacity, IsStaged, IsReadyAt, IsOfEvent, IsEventAt, HasResult, IsTaken, posts_of, step_of, with_loaded, with_record, at_set, set_twice, comes_restart, set_same, Status, up, down, StoreState, pending_of, pending_change, pending_posts, IsRecordOf, IsWithOrWithout, Fails, StoreView, SwitchView, pending_event, status_seen, view_of, views_of, IsPendingStaged, StoreFitsNode, IsSwitch, CanCommitPending, CommitsPending, world_of, is_down_at, pending_events, with_store, IsRecoveryOutcome, IsEffectOfRecovery}
 use Rattle.switch.proofs.KeepLemmas.{either_twice}
 use Rattle.switch.proofs.StoresLemmas.{views_of-set, view_at, item_at, down_at, few_staged}
 use Rattle.switch.proofs.SwitchLemmas.{switch_view, core_node, own_number, own_weights, other_store, at, node_is, committed}
@@ -34,7 +34,7 @@ module _ {V : Type 0} (size : V → ℕ) (net : NetView V) (stores : List (Store
   node_k = ap (λ (i : ℕ). slice_get w.nodes i) is_at ∙ node_is size net stores h d1 d
 
   -- the record of the keep and the pending event fit this node
-  own : IsStore size net k d.core.node store
+  own : StoreFitsNode size net k d.core.node store
   own = h.each k d.core.node store node_k found
 
   -- the store is down, and may owe an event
@@ -57,9 +57,9 @@ module _ {V : Type 0} (size : V → ℕ) (net : NetView V) (stores : List (Store
   pending_staged = subst (λ (s : Status (StagedEvent V)). IsPendingStaged size net k s) is_down.1 own.pending_staged
 
   -- if the restart recovers the node in the view of this store, it does so in the view of the switch
-  of_view : (new : SwitchView V) (result : Result ℕ StepFault) → RecoversAt size w old new j (view_of store) (pending_event o) result
-      → ForOk (world_of size now) (λ x. (view : StoreView V) → slice_get now.stores j ≡ Some view → (e : Option (Event V)) → view.status ≡ down e → Recovers size x now new j view e result)
-  of_view new result recovers = of_world size net stores h now seen (λ s x. (view : StoreView V) → slice_get s.stores j ≡ Some view → (e : Option (Event V)) → view.status ≡ down e → Recovers size x s new j view e result)
+  of_view : (new : SwitchView V) (result : Result ℕ StepFault) → IsRecoveryOutcome size w old new j (view_of store) (pending_event o) result
+      → ForOk (world_of size now) (λ x. (view : StoreView V) → slice_get now.stores j ≡ Some view → (e : Option (Event V)) → view.status ≡ down e → IsEffectOfRecovery size x now new j view e result)
+  of_view new result recovers = of_world size net stores h now seen (λ s x. (view : StoreView V) → slice_get s.stores j ≡ Some view → (e : Option (Event V)) → view.status ≡ down e → IsEffectOfRecovery size x s new j view e result)
       (λ view at_j e stands.
       let views : Some (view_of store) ≡ Some view = sym (view_at stores k store found) ∙ ap (λ (i : ℕ). slice_get (views_of stores) i) (sym is_j) ∙ at_j in
       let is_view : view_of store ≡ view = cc in
@@ -67,11 +67,11 @@ module _ {V : Type 0} (size : V → ℕ) (net : NetView V) (stores : List (Store
       let is_f : pending_event o ≡ e = cc in
       record {
         spent = λ spent. absurd (omega (arith, spent, room));
-        recovered = λ le. subst (λ (f : Option (Event V)). RecoversAt size w old new j view f result) is_f (subst (λ (p : StoreView V). RecoversAt size w old new j p (pending_event o) result) is_view recovers);
+        recovered = λ le. subst (λ (f : Option (Event V)). IsRecoveryOutcome size w old new j view f result) is_f (subst (λ (p : StoreView V). IsRecoveryOutcome size w old new j p (pending_event o) result) is_view recovers);
       })
 
   -- if there is no memory, Memory is the right answer
-  pub no_memory : (new : SwitchView V) → new ≡ old → ForOk (world_of size now) (λ x. (view : StoreView V) → slice_get now.stores j ≡ Some view → (e : Option (Event V)) → view.status ≡ down e → Recovers size x now new j view e (Err Memory))
+  pub no_memory : (new : SwitchView V) → new ≡ old → ForOk (world_of size now) (λ x. (view : StoreView V) → slice_get now.stores j ≡ Some view → (e : Option (Event V)) → view.status ≡ down e → IsEffectOfRecovery size x now new j view e (Err Memory))
   no_memory new same = of_view new (Err Memory) (inl (
     refl,
     record {
@@ -100,7 +100,7 @@ module _ {V : Type 0} (size : V → ℕ) (net : NetView V) (stores : List (Store
     }
 
     -- Device is the right answer to the restart, and the node stays down
-    pub stays_acts : ForOk (world_of size now) (λ x. (view : StoreView V) → slice_get now.stores j ≡ Some view → (e : Option (Event V)) → view.status ≡ down e → Recovers size x now (switch_view net (set stores k new)) j view e (Err Device))
+    pub stays_acts : ForOk (world_of size now) (λ x. (view : StoreView V) → slice_get now.stores j ≡ Some view → (e : Option (Event V)) → view.status ≡ down e → IsEffectOfRecovery size x now (switch_view net (set stores k new)) j view e (Err Device))
     stays_acts = of_view (switch_view net (set stores k new)) (Err Device) (inr (
       refl,
       record {
@@ -239,7 +239,7 @@ module _ {V : Type 0} (size : V → ℕ) (net : NetView V) (stores : List (Store
 
         -- the count of packets is the right answer to the restart, and the node is up
         pub recovered_acts : (count : ℕ) → count ≡ length (packets_after (world_of_taken size z.history))
-            → ForOk (world_of size now) (λ x. (view : StoreView V) → slice_get now.stores j ≡ Some view → (e : Option (Event V)) → view.status ≡ down e → Recovers size x now (switch_view z (set stores k new)) j view e (Ok count))
+            → ForOk (world_of size now) (λ x. (view : StoreView V) → slice_get now.stores j ≡ Some view → (e : Option (Event V)) → view.status ≡ down e → IsEffectOfRecovery size x now (switch_view z (set stores k new)) j view e (Ok count))
         recovered_acts count counted =
             let x = recovered.world.world in
             let weights : z.history.weights ≡ net.history.weights = ap (λ (y : History V). y.weights) t.history ∙ mid.1 in

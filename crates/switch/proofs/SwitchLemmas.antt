@@ -1,5 +1,5 @@
 -- A switch after its net or one of its stores has changed.
-use Rattle.switch.proofs.Words.{◌≡◌, ◌≢◌, ℕ, zero, suc, ◌<◌, List, [], ◌∷◌, ◌++◌, length, set, slice_get, Option, Some, None, Ok, refl, ap, sym, ◌∙◌, subst, arith, append_assoc, AllByRecursion, option_map, length-set, Packet, Change, IsPost, KeptPart, changed_by, new_kept, Node, StepResult, kept_of, new_node, Core, MAX_EVENTS, Event, World, start, nodes_from, after_step, event_result, event_result_without_limit, after, offers_of, IsAfter, History, nodes_of, AreOfWorld, change_of, kept_part, StagedWork, steps, restarts, StagedEvent, change_in, posts_of, step_of, IsEventAt, NetView, EachChangesOnlyCapacity, ChangesOnlyCapacity, IsStaged, IsTaken, at_set, at_set_other, if_taken, node_at, holds_after, world_lasts, Happens, event_moves, taken_count, event_result-not_spent, rooms_stay, makes, nodes_of-set, nodes_found, nodes_still, staged_still, posts_same, Status, up, down, StoreState, IsRecordOf, SwitchView, views_of, new_stores, IsPendingStaged, IsStore, IsSwitch, all_append, append-nil, with_event}
+use Rattle.switch.proofs.Words.{◌≡◌, ◌≢◌, ℕ, zero, suc, ◌<◌, List, [], ◌∷◌, ◌++◌, length, set, slice_get, Option, Some, None, Ok, refl, ap, sym, ◌∙◌, subst, arith, append_assoc, AllByRecursion, option_map, length-set, Packet, Change, IsPost, KeptPart, changed_by, new_kept, Node, StepResult, kept_of, new_node, Core, MAX_EVENTS, Event, World, start, nodes_from, after_step, event_result, event_result_without_limit, after, offers_of, IsAfter, History, nodes_of, AreOfWorld, change_of, kept_part, StagedWork, steps, restarts, StagedEvent, change_in, posts_of, step_of, IsEventAt, NetView, EachChangesOnlyCapacity, ChangesOnlyCapacity, IsStaged, IsTaken, at_set, at_set_other, if_taken, node_at, holds_after, world_lasts, Happens, event_moves, taken_count, event_result-not_spent, rooms_stay, makes, nodes_of-set, nodes_found, nodes_still, staged_still, posts_same, Status, up, down, StoreState, IsRecordOf, SwitchView, views_of, new_stores, IsPendingStaged, StoreFitsNode, IsSwitch, all_append, append-nil, with_event}
 use Rattle.switch.proofs.StoresLemmas.{each_after, new_at, count_stores}
 
 abbrev pub switch_view : {V : Type 0} → NetView V → List (StoreState V) → SwitchView V
@@ -35,9 +35,9 @@ starts {V} size kept failures net weights keeps stores h is cores count new are 
       let begun : Ok (start weights) ≡ Ok h.world = sym (ap (λ (t : History V). after size t.weights t.events) is) ∙ h.is_after in
       let same : start weights ≡ h.world = cc in
       let fits : kept_of n ≡ new_kept = new_node_at weights 0 k weights n (ap (λ (w : World V). slice_get w.nodes k) same ∙ at) in
-      subst (λ (x : StoreState V). IsStore size net k n x) refl (store_is s.0 s.1 fits));
+      subst (λ (x : StoreState V). StoreFitsNode size net k n x) refl (store_is s.0 s.1 fits));
 } where
-  store_is : {V : Type 0} {size : V → ℕ} {net : NetView V} {k : ℕ} {n : Node V} {store : StoreState V} → store.kept ≡ new_kept → store.status ≡ up → kept_of n ≡ new_kept → IsStore size net k n store
+  store_is : {V : Type 0} {size : V → ℕ} {net : NetView V} {k : ℕ} {n : Node V} {store : StoreState V} → store.kept ≡ new_kept → store.status ≡ up → kept_of n ≡ new_kept → StoreFitsNode size net k n store
   store_is {V} {size} {net} {k} {n} {store} is_new is_up fits = record {
     fits = subst (λ (s : Status (StagedEvent V)). IsRecordOf n s store.kept) (sym is_up) (is_new ∙ sym fits);
     pending_staged = subst (λ (s : Status (StagedEvent V)). IsPendingStaged size net k s) (sym is_up) tt;
@@ -100,12 +100,12 @@ module _ {V : Type 0} (size : V → ℕ) (net : NetView V) (stores : List (Store
   -- One store changes.
 
   -- with a new store that fits its node, the net and the stores are a switch
-  pub other_store : (k : ℕ) (n : Node V) (store new : StoreState V) → slice_get w.nodes k ≡ Some n → slice_get stores k ≡ Some store → IsStore size net k n new → IsSwitch size net (set stores k new)
+  pub other_store : (k : ℕ) (n : Node V) (store new : StoreState V) → slice_get w.nodes k ≡ Some n → slice_get stores k ≡ Some store → StoreFitsNode size net k n new → IsSwitch size net (set stores k new)
   other_store k n store new at is own = record {
     world = h.world;
     count = length-set stores k new ∙ h.count;
-    each = each_after w.nodes stores (λ j m s. IsStore size net j m s) k store new is
-        (λ m there. (let both : Some n ≡ Some m = sym at ∙ there in let same : n ≡ m = cc in subst (λ (x : Node V). IsStore size net k x new) same own)) (λ j m s other there is_s. h.each j m s there is_s);
+    each = each_after w.nodes stores (λ j m s. StoreFitsNode size net j m s) k store new is
+        (λ m there. (let both : Some n ≡ Some m = sym at ∙ there in let same : n ≡ m = cc in subst (λ (x : Node V). StoreFitsNode size net k x new) same own)) (λ j m s other there is_s. h.each j m s there is_s);
   }
 
   -- A staged event is taken.
@@ -200,7 +200,7 @@ module _ {V : Type 0} (size : V → ℕ) (net : NetView V) (stores : List (Store
         committed store new is kept is_up = record {
           world = taken_world;
           count = length-set stores staged.at new ∙ h.count ∙ sym (ap (λ (cs : List (Core V)). length cs) t.cores ∙ length-set net.cores staged.at t.core);
-          each = each_after taken_world.world.nodes stores (λ j m s. IsStore size b j m s) staged.at store new is
+          each = each_after taken_world.world.nodes stores (λ j m s. StoreFitsNode size b j m s) staged.at store new is
               (λ m there.
               (let both : Some step.node ≡ Some m = sym (ap (λ (ns : List (Node V)). slice_get ns staged.at) nodes_then ∙ at_set w.nodes staged.at step.node d.core.node node_is) ∙ there in
               let same : step.node ≡ m = cc in

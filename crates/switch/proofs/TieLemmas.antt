@@ -1,5 +1,5 @@
 -- A call as a whole: its answer in the world after the history, and the logs after it.
-use Rattle.switch.proofs.Words.{◌≡◌, ℕ, true, false, List, Option, Some, None, Result, Ok, Err, refl, ap, sym, ◌∙◌, subst, slice_get, IsErrAnd, ForOk, Event, StepFault, Memory, World, node_of_event, node_of, StagedEvent, NetView, Status, up, down, StoreState, StoreView, SwitchView, status_seen, view_of, views_of, IsPendingStaged, IsSwitch, is_down_at, world_of, IsEffectAtUpNode, IsEffectAtDownNode, Recovers, IsEffect, Plays, EventKeepsPrefixes}
+use Rattle.switch.proofs.Words.{◌≡◌, ℕ, true, false, List, Option, Some, None, Result, Ok, Err, refl, ap, sym, ◌∙◌, subst, slice_get, IsErrAnd, ForOk, Event, StepFault, Memory, World, node_of_event, node_of, StagedEvent, NetView, Status, up, down, StoreState, StoreView, SwitchView, status_seen, view_of, views_of, IsPendingStaged, IsSwitch, is_down_at, world_of, IsEffectUnlessDown, IsEffectAtDownNode, IsEffectOfRecovery, IsEffect, Plays, EventKeepsPrefixes}
 use Rattle.switch.proofs.StoresLemmas.{view_at, view_past}
 use Rattle.switch.proofs.SwitchLemmas.{switch_view, at}
 use Rattle.switch.proofs.CallLemmas.{stores_are, after_is, node_there, node_seen}
@@ -17,11 +17,11 @@ answers_memory r fault h is = answers r fault h ∙ ap (λ (x : StepFault). let 
 
 module _ {V : Type 0} (size : V → ℕ) (now new : SwitchView V) (fault : StepFault) (r : Result ℕ StepFault) (is : r ≡ Err fault) where
   -- an answer at a node that is up is right for a result that equals the error
-  pub up_err : (e : Event V) → ForOk (world_of size now) (λ w. IsEffectAtUpNode size w now new e (Err fault)) → ForOk (world_of size now) (λ w. IsEffectAtUpNode size w now new e r)
-  up_err e effect = subst (λ (a : Result ℕ StepFault). ForOk (world_of size now) (λ w. IsEffectAtUpNode size w now new e a)) (sym is) effect
+  pub up_err : (e : Event V) → ForOk (world_of size now) (λ w. IsEffectUnlessDown size w now new e (Err fault)) → ForOk (world_of size now) (λ w. IsEffectUnlessDown size w now new e r)
+  up_err e effect = subst (λ (a : Result ℕ StepFault). ForOk (world_of size now) (λ w. IsEffectUnlessDown size w now new e a)) (sym is) effect
 
   abbrev ActsAll : ℕ → Result ℕ StepFault → Type 0
-  ActsAll k a = ForOk (world_of size now) (λ w. (view : StoreView V) → slice_get now.stores k ≡ Some view → (e : Option (Event V)) → view.status ≡ down e → Recovers size w now new k view e a)
+  ActsAll k a = ForOk (world_of size now) (λ w. (view : StoreView V) → slice_get now.stores k ≡ Some view → (e : Option (Event V)) → view.status ≡ down e → IsEffectOfRecovery size w now new k view e a)
 
   -- an answer to a restart of a node that is down is right for a result that equals the error
   pub down_err : (k : ℕ) → ActsAll k (Err fault) → ActsAll k r
@@ -66,5 +66,5 @@ module _ {V : Type 0} (size : V → ℕ) (net : NetView V) (stores : List (Store
     plays_down test new result effect = call_plays e new result (down_acts size now e o found_at new result test effect)
 
     -- if the node is up or does not exist, the call plays the event and keeps the logs
-    pub plays_up : is_down_at now.stores o ≡ false → (new : SwitchView V) (result : Result ℕ StepFault) → ForOk (world_of size now) (λ x. IsEffectAtUpNode size x now new e result) → Plays size now new e result × EventKeepsPrefixes size e now new result
+    pub plays_up : is_down_at now.stores o ≡ false → (new : SwitchView V) (result : Result ℕ StepFault) → ForOk (world_of size now) (λ x. IsEffectUnlessDown size x now new e result) → Plays size now new e result × EventKeepsPrefixes size e now new result
     plays_up test new result effect = call_plays e new result (up_acts size now e o found_at new result test effect)

@@ -17,5 +17,5 @@ KeepsPrefixes {V} size old new = (k : ℕ) (entries : List (Option V)) → IsLog
 -- a prefix of a node's log remains one, except at a restart of that node; after any error each one remains
 pub record EventKeepsPrefixes {V : Type 0} (size : V → ℕ) (e : Event V) (old new : SwitchView V) (result : Result ℕ StepFault) : Type 0 where
   pub others : (k : ℕ) (entries : List (Option V)) → e ≢ Restart k → IsLogPrefix size old k entries → IsLogPrefix size new k entries
-  pub refused : OnErr result (KeepsPrefixes size old new)
+  pub after_error : OnErr result (KeepsPrefixes size old new)
   pub nodes : length new.stores ≡ length old.stores

@@ -7,7 +7,7 @@ use Rattle.switch.specs.Words.{Packet, Change, KeptPart, changed_by, Node, kept_
 use Rattle.switch.specs.declared.node_store.Status.{Status as RustStatus}
 use Rattle.switch.specs.declared.node_store.Status.TheVariants.{Up, Down}
 
--- up; or down, with the pending event, if there is one
+-- the view of the status: up; or down, with the pending event, if there is one
 pub data Status (A : Type 0) : Type 0 where
   up : Status A
   down : Option A → Status A
@@ -16,6 +16,7 @@ abbrev pub status_of : {V : Type 0} → RustStatus V → Status (StagedEvent V)
 status_of Up = up
 status_of (Down staged) = down staged
 
+-- the view of a `NodeStore`, with the pending event as it was staged; `StoreView` of `Switch` has the event alone
 pub record StoreState (V : Type 0) : Type 0 where
   pub kept : KeptPart V  -- the record that the keep would load
   pub failures : ℕ  -- how many calls of the keep failed

@@ -53,7 +53,7 @@ IsPendingStaged size net k (down None) = Unit {0}
 IsPendingStaged size net k (down (Some staged)) = (staged.at ≡ k) × IsStaged size net staged
 
 -- the record of the keep and the pending event fit the node
-pub record IsStore {V : Type 0} (size : V → ℕ) (net : NetView V) (k : ℕ) (n : Node V) (store : StoreState V) : Type 0 where
+pub record StoreFitsNode {V : Type 0} (size : V → ℕ) (net : NetView V) (k : ℕ) (n : Node V) (store : StoreState V) : Type 0 where
   pub fits : IsRecordOf n store.status store.kept
   pub pending_staged : IsPendingStaged size net k store.status
 
@@ -61,7 +61,7 @@ pub record IsStore {V : Type 0} (size : V → ℕ) (net : NetView V) (k : ℕ) (
 pub record IsSwitch {V : Type 0} (size : V → ℕ) (net : NetView V) (stores : List (StoreState V)) : Type 0 where
   pub world : AreOfWorld size net.history net.cores net.packets
   pub count : length stores ≡ length net.cores
-  pub each : (k : ℕ) (n : Node V) (store : StoreState V) → slice_get world.world.nodes k ≡ Some n → slice_get stores k ≡ Some store → IsStore size net k n store
+  pub each : (k : ℕ) (n : Node V) (store : StoreState V) → slice_get world.world.nodes k ≡ Some n → slice_get stores k ≡ Some store → StoreFitsNode size net k n store
 
 -- The facts that the contracts of the calls state.
 
@@ -80,15 +80,16 @@ abbrev pub IsRecordIn : {V : Type 0} → (V → ℕ) → World V → Node V → 
 IsRecordIn size w n up kept = kept ≡ kept_of n
 IsRecordIn size w n (down e) kept = IsWithOrWithout (kept_of n) (change_of_pending size w e) kept
 
-abbrev pub IsViewOf : {V : Type 0} → (V → ℕ) → World V → Option (Node V) → Option (StoreView V) → Type 0
-IsViewOf size w None None = Unit {0}
-IsViewOf size w (Some n) (Some view) = IsRecordIn size w n view.status view.kept
-IsViewOf size w None (Some view) = ⊥
-IsViewOf size w (Some n) None = ⊥
+-- there is a view of a store exactly if there is a node, and its record fits the node
+abbrev pub ViewFitsNode : {V : Type 0} → (V → ℕ) → World V → Option (Node V) → Option (StoreView V) → Type 0
+ViewFitsNode size w None None = Unit {0}
+ViewFitsNode size w (Some n) (Some view) = IsRecordIn size w n view.status view.kept
+ViewFitsNode size w None (Some view) = ⊥
+ViewFitsNode size w (Some n) None = ⊥
 
 -- each node has its store
 abbrev pub AreStores : {V : Type 0} → (V → ℕ) → World V → List (StoreView V) → Type 0
-AreStores size w stores = (k : ℕ) → IsViewOf size w (slice_get w.nodes k) (slice_get stores k)
+AreStores size w stores = (k : ℕ) → ViewFitsNode size w (slice_get w.nodes k) (slice_get stores k)
 
 -- Events.
 
@@ -117,7 +118,8 @@ abbrev pub with_event : {V : Type 0} → SwitchView V → ℕ → StoreView V �
 with_event old k view change e =
     record (with_store old k record { kept = changed_by view.kept change; failures = view.failures; status = view.status }) { history = old.history ++ e ∷ [] }
 
--- the event that is pending if the keep fails at this event, at a node that is up; none for a restart, which stores nothing there
+-- the event that is pending if the keep of a node that is up fails at this event; none for a restart, which stores nothing
+-- at such a node
 abbrev pub pending_on_failure : {V : Type 0} → Event V → Option (Event V)
 pending_on_failure (Offer k v) = Some (Offer k v)
 pending_on_failure (Begin k) = Some (Begin k)
@@ -131,14 +133,14 @@ pub record FailsAt {V : Type 0} (old new : SwitchView V) (k : ℕ) (view : Store
   pub rest : new ≡ with_store old k record { kept = kept; failures = view.failures + 1; status = status_after }
 
 -- an event that meets no fault is taken, and x is the world after it; or an allocation failed, or the keep failed
-abbrev pub TakesAt : {V : Type 0} → SwitchView V → SwitchView V → Event V → ℕ → StoreView V → Option (Change V) → World V → Result ℕ StepFault → Type 0
-TakesAt old new e k view change x (Ok count) = (new ≡ with_event old k view change e) × (count ≡ length x.packets)
-TakesAt old new e k view change x (Err fault) = ((fault ≡ Memory) × (new ≡ old)) ⊎ ((fault ≡ Device) × FailsAt old new k view change (down (pending_on_failure e)))
+abbrev pub IsOutcomeAt : {V : Type 0} → SwitchView V → SwitchView V → Event V → ℕ → StoreView V → Option (Change V) → World V → Result ℕ StepFault → Type 0
+IsOutcomeAt old new e k view change x (Ok count) = (new ≡ with_event old k view change e) × (count ≡ length x.packets)
+IsOutcomeAt old new e k view change x (Err fault) = ((fault ≡ Memory) × (new ≡ old)) ⊎ ((fault ≡ Device) × FailsAt old new k view change (down (pending_on_failure e)))
 
 -- the effect of an event whose node is up, or that has no node; w is the world after the old history
-pub record IsEffectAtUpNode {V : Type 0} (size : V → ℕ) (w : World V) (old new : SwitchView V) (e : Event V) (result : Result ℕ StepFault) : Type 0 where
+pub record IsEffectUnlessDown {V : Type 0} (size : V → ℕ) (w : World V) (old new : SwitchView V) (e : Event V) (result : Result ℕ StepFault) : Type 0 where
   pub refused : (fault : StepFault) → event_result size w e ≡ Err fault → Refuses old new result fault
-  pub taken : (x : World V) → event_result size w e ≡ Ok x → (k : ℕ) → node_of w e ≡ Some k → (view : StoreView V) → slice_get old.stores k ≡ Some view → TakesAt old new e k view (change_of size w e) x result
+  pub taken : (x : World V) → event_result size w e ≡ Ok x → (k : ℕ) → node_of w e ≡ Some k → (view : StoreView V) → slice_get old.stores k ≡ Some view → IsOutcomeAt old new e k view (change_of size w e) x result
 
 -- Restarts of a node that is down.
 
@@ -161,15 +163,16 @@ pub record StaysDownAt {V : Type 0} (old new : SwitchView V) (k : ℕ) (view : S
   pub either : IsWithOrWithout view.kept change kept
   pub rest : new ≡ with_store old k record { kept = kept; failures = view.failures; status = view.status }
 
-abbrev pub RecoversAt : {V : Type 0} → (V → ℕ) → World V → SwitchView V → SwitchView V → ℕ → StoreView V → Option (Event V) → Result ℕ StepFault → Type 0
-RecoversAt size w old new k view e (Ok count) = IsRecovered size old new k view e count
-RecoversAt size w old new k view e (Err fault) =
+-- node k is up again; or an allocation or the keep failed, and it stays down
+abbrev pub IsRecoveryOutcome : {V : Type 0} → (V → ℕ) → World V → SwitchView V → SwitchView V → ℕ → StoreView V → Option (Event V) → Result ℕ StepFault → Type 0
+IsRecoveryOutcome size w old new k view e (Ok count) = IsRecovered size old new k view e count
+IsRecoveryOutcome size w old new k view e (Err fault) =
     ((fault ≡ Memory) × StaysDownAt old new k view (change_of_pending size w e)) ⊎ ((fault ≡ Device) × FailsAt old new k view (change_of_pending size w e) view.status)
 
 -- the effect of a restart at a node that is down; e is its pending event
-pub record Recovers {V : Type 0} (size : V → ℕ) (w : World V) (old new : SwitchView V) (k : ℕ) (view : StoreView V) (e : Option (Event V)) (result : Result ℕ StepFault) : Type 0 where
+pub record IsEffectOfRecovery {V : Type 0} (size : V → ℕ) (w : World V) (old new : SwitchView V) (k : ℕ) (view : StoreView V) (e : Option (Event V)) (result : Result ℕ StepFault) : Type 0 where
   pub spent : MAX_EVENTS < length old.history + 2 → Refuses old new result EventsSpent
-  pub recovered : length old.history + 2 ≤ MAX_EVENTS → RecoversAt size w old new k view e result
+  pub recovered : length old.history + 2 ≤ MAX_EVENTS → IsRecoveryOutcome size w old new k view e result
 
 -- Events in general.
 
@@ -178,12 +181,12 @@ abbrev pub IsEffectAtDownNode : {V : Type 0} → (V → ℕ) → World V → Swi
 IsEffectAtDownNode size w old new (Offer k v) result = Refuses old new result Down
 IsEffectAtDownNode size w old new (Begin k) result = Refuses old new result Down
 IsEffectAtDownNode size w old new (Deliver number) result = Refuses old new result Down
-IsEffectAtDownNode {V} size w old new (Restart k) result = (view : StoreView V) → slice_get old.stores k ≡ Some view → (e : Option (Event V)) → view.status ≡ down e → Recovers size w old new k view e result
+IsEffectAtDownNode {V} size w old new (Restart k) result = (view : StoreView V) → slice_get old.stores k ≡ Some view → (e : Option (Event V)) → view.status ≡ down e → IsEffectOfRecovery size w old new k view e result
 
 -- the effect of an event; w is the world after the old history
 pub record IsEffect {V : Type 0} (size : V → ℕ) (w : World V) (old new : SwitchView V) (e : Event V) (result : Result ℕ StepFault) : Type 0 where
   pub is_down : is_down_at old.stores (node_of w e) ≡ true → IsEffectAtDownNode size w old new e result
-  pub is_up : is_down_at old.stores (node_of w e) ≡ false → IsEffectAtUpNode size w old new e result
+  pub is_up : is_down_at old.stores (node_of w e) ≡ false → IsEffectUnlessDown size w old new e result
 
 -- no event of the old history meets a refusal; each node of the world after it has its store; and the event has its effect
 -- in that world

@@ -2,7 +2,7 @@
 ghost use Rattle.std.specs.Prelude.{◌≡◌, Some, false};
 ghost use Rattle.std.specs.Result.{ForOk};
 ghost use Rattle.net.specs.KeptPart.{node_of};
-ghost use Rattle.switch.specs.Switch.{IsEffectAtUpNode, Plays, pending_on_failure, is_down_at, world_of};
+ghost use Rattle.switch.specs.Switch.{IsEffectUnlessDown, Plays, pending_on_failure, is_down_at, world_of};
 ghost use Rattle.switch.specs.LogPrefixes.{EventKeepsPrefixes};
 
 use crate::switch::Switch;
@@ -27,8 +27,8 @@ impl<V: Value, K: Keep<V>> Switch<V, K> {
     {
         let is_down = self.is_down(self.net.node_of(&event));
         match event {
-            Event::Restart(k) if is_down => self.recover(k),
-            Event::Restart(k) => self.reload(k),
+            Event::Restart(k) if is_down => self.restart_down(k),
+            Event::Restart(k) => self.restart_up(k),
             _ if is_down => Err(StepFault::Down),
             _ => self.step(event),
         }
@@ -38,7 +38,7 @@ impl<V: Value, K: Keep<V>> Switch<V, K> {
     fn step(&mut self, event: Event<V>) -> Result<u64, StepFault>
         requires pending { pending_on_failure event ≡ Some event }
         requires up { ForOk (world_of V.bytes self.old) (λ world. is_down_at self.old.stores (node_of world event) ≡ false) }
-        ensures { ForOk (world_of V.bytes self.old) (λ world. IsEffectAtUpNode V.bytes world self.old self.new event result) }
+        ensures { ForOk (world_of V.bytes self.old) (λ world. IsEffectUnlessDown V.bytes world self.old self.new event result) }
     {
         let staged = self.net.stage(event)?;
         let at = staged.at() as usize;

@@ -1,18 +1,18 @@
-use Rattle.switch.proofs.Words.{ℕ, false, Result, Err, subst, sym, ◌∙◌, ForOk, Event, StepFault, Down, IsEffectAtDownNode, IsEffectAtUpNode, world_of}
+use Rattle.switch.proofs.Words.{ℕ, false, Result, Err, subst, sym, ◌∙◌, ForOk, Event, StepFault, Down, IsEffectAtDownNode, IsEffectUnlessDown, world_of}
 use Rattle.switch.proofs.DispatchLemmas.{no_restart, refused_down, test_at}
 use Rattle.switch.proofs.TieLemmas.{found_at, plays_down, plays_up}
 use Rattle.switch.proofs.switch.Switch.play.Goals as goal
 
 pub returns-in-Restart : goal.returns-in-Restart
 returns-in-Restart g c =
-    let p = plays_down g.V.Value.bytes _ _ c.self.invariant _ c.self.view_is c.args.event c.node_of.result c.node_of.ensures (sym c.is_down-is_down.ensures ∙ c.if-is_down.true) c.recover.new.self c.recover.result
-    (subst (λ (e : Event g.row.V.Denot). ForOk (world_of g.V.Value.bytes c.args.self.now) (λ x. IsEffectAtDownNode g.V.Value.bytes x c.args.self.now c.recover.new.self e c.recover.result)) (sym c.in-Restart.is) c.recover.ensures) in
+    let p = plays_down g.V.Value.bytes _ _ c.self.invariant _ c.self.view_is c.args.event c.node_of.result c.node_of.ensures (sym c.is_down-is_down.ensures ∙ c.if-is_down.true) c.restart_down.new.self c.restart_down.result
+    (subst (λ (e : Event g.row.V.Denot). ForOk (world_of g.V.Value.bytes c.args.self.now) (λ x. IsEffectAtDownNode g.V.Value.bytes x c.args.self.now c.restart_down.new.self e c.restart_down.result)) (sym c.in-Restart.is) c.restart_down.ensures) in
     record { plays = p.0; logs = p.1 }
 
 pub returns-in-Restart-2 : goal.returns-in-Restart-2
 returns-in-Restart-2 g c =
-    let p = plays_up g.V.Value.bytes _ _ c.self.invariant _ c.self.view_is c.args.event c.node_of.result c.node_of.ensures (sym c.is_down-is_down.ensures ∙ c.if-is_down.false) c.reload.new.self c.reload.result
-    (subst (λ (e : Event g.row.V.Denot). ForOk (world_of g.V.Value.bytes c.args.self.now) (λ x. IsEffectAtUpNode g.V.Value.bytes x c.args.self.now c.reload.new.self e c.reload.result)) (sym c.in-Restart-2.is) c.reload.ensures) in
+    let p = plays_up g.V.Value.bytes _ _ c.self.invariant _ c.self.view_is c.args.event c.node_of.result c.node_of.ensures (sym c.is_down-is_down.ensures ∙ c.if-is_down.false) c.restart_up.new.self c.restart_up.result
+    (subst (λ (e : Event g.row.V.Denot). ForOk (world_of g.V.Value.bytes c.args.self.now) (λ x. IsEffectUnlessDown g.V.Value.bytes x c.args.self.now c.restart_up.new.self e c.restart_up.result)) (sym c.in-Restart-2.is) c.restart_up.ensures) in
     record { plays = p.0; logs = p.1 }
 
 pub returns-in_default : goal.returns-in_default

@@ -6,7 +6,7 @@ use Rattle.switch.proofs.DispatchLemmas.{in_stores}
 use Rattle.switch.proofs.RecoveryLemmas.{no_memory, stays_down, stays_acts, can_commit_owed, low_m, staged_m, room_m, recovered, recovered_acts}
 use Rattle.switch.proofs.RecoveryRefused.{recover_spent, recover_unready}
 use Rattle.switch.proofs.TieLemmas.{answers, answers_memory, down_err}
-use Rattle.switch.proofs.switch.Switch.recover.Goals as goal
+use Rattle.switch.proofs.switch.Switch.restart_down.Goals as goal
 
 pub returns-then-history-gt-MAX_EVENTS : goal.returns-then-history-gt-MAX_EVENTS
 returns-then-history-gt-MAX_EVENTS g c = recover_spent g.V.Value.bytes _ _ c.self.invariant _ c.self.view_is c.args.k (omega (arith, c.if-history-gt-MAX_EVENTS.true, ap (λ (es : List (Event g.row.V.Denot)). length es) c.history.ensures.events))

@@ -4,7 +4,7 @@ use Rattle.switch.proofs.CallLemmas.{still_view, ready_fails}
 use Rattle.switch.proofs.DispatchLemmas.{in_stores, kept_is, call_failed, call_played}
 use Rattle.switch.proofs.LoadLemmas.{load_change, loaded_change, loaded_staged}
 use Rattle.switch.proofs.TieLemmas.{answers, up_err}
-use Rattle.switch.proofs.switch.Switch.reload.Goals as goal
+use Rattle.switch.proofs.switch.Switch.restart_up.Goals as goal
 
 pub invariant_of-self : goal.invariant_of-self
 invariant_of-self g c = still_switch g.V.Value.bytes _ _ c.self.invariant c.stage.new.self c.stage.ensures.only_capacity
