@@ -16,13 +16,13 @@ abbrev pub position_list : Option ℕ → List ℕ
 position_list None = []
 position_list (Some position) = position ∷ []
 
--- each position was last added in this round, in an earlier one or never; those added in this round are in the list
+-- `rounds` has for each position the last round in which it was added, or 0; the positions of this round are in the list
 pub record IsRoundTable (list rounds : List ℕ) (round : ℕ) : Type 0 where
   pub some : 0 < round
   pub past : (k : ℕ) → get_or rounds k 0 ≤ round
   pub among : (k : ℕ) → get_or rounds k 0 ≡ round → In k list
 
--- citing the statement at c adds the position a to the axioms: a is c and a `$a` is at c, or a is in the list of c
+-- citing the statement at c adds the position a to the list of axioms: a `$a` is at c and a is c, or a is in the list of c
 abbrev pub AddsAxiom : Database → List (List ℕ) → ℕ → ℕ → Type 0
 AddsAxiom S lists c a = (IsAxiomAt S c × (a ≡ c)) ⊎ In a (get_or lists (c - 1) [])
 
@@ -36,7 +36,8 @@ pub record HaveCitingAdded (at : ℕ) (positions : List ℕ) (old new : List (Li
   pub those : (k : ℕ) → In (suc k) positions → get_or new k [] ≡ get_or old k [] ++ at ∷ []
   pub others : (k : ℕ) → (In (suc k) positions → ⊥) → get_or new k [] ≡ get_or old k []
 
--- the first n statements are done: the lists have the `$a` that each of them rests on, and which of them cite each statement
+-- `axioms` has for each of the first n statements the `$a` that it rests on; `cited_by` has for every statement those of
+-- the first n that cite it
 pub record AreDone (S : Database) (n : ℕ) (axioms cited_by : List (List ℕ)) : Type 0 where
   pub within : n ≤ length S
   pub axioms_count : length axioms ≡ n

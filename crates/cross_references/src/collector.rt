@@ -1,4 +1,4 @@
-//! Collects positions, each once.
+//! Collects positions in rounds; `ordered` returns those of a round, each once.
 ghost use Rattle.std.specs.Prelude.{◌≡◌, [], true, get_or, slice_set, IfOk, OnOk};
 ghost use Rattle.frame.specs.Stored.Hypotheses.{In, AreThose, HasMore};
 
@@ -6,12 +6,13 @@ use crate::citations::sort_dedup;
 use std::alloc::{AllocError, Global};
 use std::marker::Model;
 
-/// The positions collected in the current round, each once. Contracts see their list.
+/// The positions collected since the last `begin_round`; the pass begins a round for each statement. Contracts see
+/// `list`, which may repeat positions above the `last` of `new`.
 #[derive(Drop)]
 pub struct Collector {
     alloc: Global,
     list: Vec<usize>,
-    /// The round in which each position was last added.
+    /// The round in which each position was last added, or 0.
     rounds: Vec<usize>,
     /// The number of the current round, from 1.
     round: usize,
@@ -51,7 +52,7 @@ impl Collector {
         Ok(())
     }
 
-    /// Adds a position, unless it was added in this round.
+    /// Adds a position, unless it is at most the `last` of `new` and was added in this round.
     #[tactic(auto, using(crate::proofs::ListLemmas::has_already, crate::proofs::ListLemmas::has_pushed, crate::proofs::ListLemmas::rounds_more))]
     pub fn add(&mut self, position: usize) -> Result<(), AllocError>
         ensures { OnOk result (HasMore (λ p. p ≡ position) self.old self.new) }
@@ -64,7 +65,7 @@ impl Collector {
         Ok(())
     }
 
-    /// Adds each of the positions, unless it was added in this round.
+    /// Adds each of the positions as `add` does.
     pub fn add_all(&mut self, positions: &[usize]) -> Result<(), AllocError>
         ensures { OnOk result (HasMore (λ p. In p positions.now) self.old self.new) }
     {
@@ -84,7 +85,7 @@ impl Collector {
     }
 }
 
-/// Returns whether a position was added in this round.
+/// Returns `true` only if the table has this round for a position.
 fn is_collected(rounds: &Vec<usize>, position: usize, round: usize) -> bool
     ensures { result ≡ true → get_or rounds.now.items position 0 ≡ round }
 {

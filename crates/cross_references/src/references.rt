@@ -23,11 +23,12 @@ pub struct CrossReferences {
     pub cited_by: Vec<Vec<usize>>,
 }
 
-/// Returns the cross references of a library: the answers of `Library::trace` for each `$p` and of `Library::usage` for each
-/// statement, by position.
+/// Returns the cross references of a library: the positions of the statements whose labels `Library::trace` returns for
+/// each `$p`, and `Library::usage` with `all` false for each statement with a label.
 ///
-/// Errors: an allocation fails. Cost: the size of the proofs, each read once, and for each statement that a proof cites the
-/// length of the cited statement's list of axioms. Source: Metamath, 4.2.6 and appendix B.
+/// Errors: an allocation fails. Cost: the size of the proofs, each read once; for each statement that a proof cites, the
+/// length of the cited statement's list of axioms; sorting the citations of each proof and each list of axioms; two lists
+/// and an entry of a table for each statement. Source: Metamath, 4.2.6 and appendix B.
 pub fn cross_references(alloc: Global, library: &Library) -> Result<CrossReferences, AllocError>
     ensures { IfOk result (λ found. AreReferences library.now.replica.statements
         (lists_of found.axioms.items) (lists_of found.cited_by.items)) }
@@ -84,8 +85,7 @@ fn push_citing(cited_by: &mut [Vec<usize>], position: usize, at: usize) -> Resul
     Ok(())
 }
 
-/// Returns the positions of the `$a` among the cited statements and of the `$a` that these statements rest on, in
-/// ascending order, each once.
+/// Returns the positions of the `$a` that are cited or that a cited statement rests on, in ascending order, each once.
 fn axioms_at(
     statements: &[Stmt],
     axioms: &[Vec<usize>],

@@ -32,7 +32,8 @@ pub record IsTokenSpan (text : List ℕ) (S : Database) (statement token : ℕ) 
 abbrev pub ends_statement : Name → Bool
 ends_statement w = name_eq w (codes "$.") || name_eq w (codes "${") || name_eq w (codes "$}")
 
--- the index of the first token after n tokens that end a statement
+-- the index of the first token after n tokens that end a statement, or the number of tokens if fewer
+-- than n end one
 abbrev pub index_after_ends : ℕ → List Name → ℕ
 index_after_ends zero ws = 0
 index_after_ends (suc n) [] = 0

@@ -18,8 +18,7 @@ abbrev pub after_run : Walk → Name → Span → Walk
 after_run (Inside start begins) w run = if name_eq w closer then Outside (Some (record { start = start; end = run.start })) begins else Inside start begins
 after_run (Outside last begins) w run = if name_eq w opener then Inside run.end begins else Outside None (ends_statement w)
 
--- the description of the statement that begins with the word w, as a list of one; the empty list if
--- none does
+-- if a statement begins with the word w, its description as a list of one, else the empty list
 abbrev pub begun_description : Walk → Name → List (Option Span)
 begun_description (Inside start begins) w = []
 begun_description (Outside last begins) w = if name_eq w opener then [] else if begins then last ∷ [] else []

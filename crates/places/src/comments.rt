@@ -15,13 +15,15 @@ pub enum CommentFault {
     Unclosed,
 }
 
-/// Returns the kind of the comment fault at an offset.
+/// Returns the kind of the comment fault at an offset. For `Unclosed` the clause says only that the
+/// text before the offset splits into tokens.
 ///
 /// Does not allocate. Cost: the size of the text before the offset.
 pub fn comment_fault(text: &[u8], offset: usize) -> CommentFault
     requires { IsCommentFault text.now offset }
     ensures { IsCommentFaultKind text.now offset result }
 {
+    // At the offset is `$(` or `$)`; the second byte tells which.
     if text[offset + 1] == b')' {
         return CommentFault::StrayCloser;
     }

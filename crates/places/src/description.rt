@@ -33,8 +33,8 @@ enum Walk {
 }
 
 /// Returns the span of the description of each statement, in order, of a text that reads as
-/// statements: the contents of the last comment between the previous statement and its first token,
-/// or `None` if there is no comment.
+/// statements: the contents of the last comment before the statement's first token and after the
+/// statement before it, or `None` if there is no comment.
 ///
 /// Errors: an allocation fails. Cost: the size of the text, however many statements it has.
 /// Source: Metamath, 4.4.
@@ -74,8 +74,8 @@ fn skip_runs(text: &[u8], at: usize, walk: Walk) -> usize
     }
 }
 
-/// Returns whether the walk can skip runs: whether only a run that begins with `$` changes the walk
-/// or begins a statement.
+/// Returns `true` only if every run up to the next one with `$` leaves the walk as it is and begins no
+/// statement.
 fn can_skip(walk: Walk) -> bool
     ensures { IsTrue result → CanSkip walk }
 {
@@ -137,8 +137,8 @@ fn push_begun_description(
     }
 }
 
-/// Returns the description of the statement that begins with this word, or `None` if none begins
-/// here. The description is itself `None` if the statement has none.
+/// Returns `None` if no statement begins with this word, `Some(None)` if one without a description
+/// does, else `Some` of its description.
 fn begun_description(walk: Walk, word: &[u8]) -> Option<Option<Span>>
     ensures { option_to_list result ≡ begun_description walk word.now }
 {

@@ -11,8 +11,9 @@ ghost use Rattle.places.specs.CommentFaults.{BeginsStatement};
 use mm_lex::{LexFault, Span, tokens};
 use std::alloc::Global;
 
-/// Returns the span of a token of a statement, both counted from 1, in a text that reads as
-/// statements; `None` if there are too few tokens.
+/// Returns the span of the token with number `token` in the statement with number `statement`, both
+/// from 1, in a text that reads as statements. A number above those of the statement's own tokens
+/// counts on into the later statements. Returns `None` if a number is 0 or the text has no such token.
 ///
 /// Errors: those of `mm_lex::tokens`. Cost: the size of the text.
 pub fn token_span(
@@ -31,8 +32,10 @@ pub fn token_span(
     Ok(token_span_within(text, spans.as_slice(), statement, token))
 }
 
-/// Returns the span of a token of a statement, both counted from 1, or `None` if there are too few
-/// tokens. `spans` are the spans of the text's tokens.
+/// Returns the span of the token with number `token` in the statement with number `statement`, both
+/// from 1. A number above those of the statement's own tokens counts on into the later statements.
+/// Returns `None` if `spans` has no such token. `spans` are meant to be those of all tokens, in order;
+/// the clause requires only that each is that of a word of the text.
 ///
 /// Cost: the number of tokens before it.
 pub fn token_span_within(
@@ -80,7 +83,8 @@ pub(crate) fn ends_statement(word: &[u8]) -> bool
 }
 
 /// Returns the index in `spans` of the first token of the statement that contains the token at
-/// index `token`.
+/// index `token` or, if `token` is the number of tokens, of the statement that the end of the text
+/// cuts off.
 ///
 /// Cost: the number of tokens before the token at `token`.
 pub fn statement_start(text: &[u8], spans: &[Span], token: usize) -> usize

@@ -28,7 +28,7 @@ abbrev pub step_line : Database → List Name → ℕ → Row → List ℕ
 step_line S names index row =
     number_text index ++ codes " " ++ taken_text row.step.taken ++ codes " " ++ label_or_none (stmt_at S row.step.position) ++ expr_text names row.expr ++ codes "\n"
 
--- the concatenated texts of the elements of a list, the first of which has this index
+-- `text` of each element with its index, joined; the first element has this index
 abbrev pub concat_texts : {A : Type 0} → (ℕ → A → List ℕ) → ℕ → List A → List ℕ
 concat_texts text index [] = []
 concat_texts text index (element ∷ elements) = text index element ++ concat_texts text (suc index) elements

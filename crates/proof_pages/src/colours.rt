@@ -1,4 +1,4 @@
-//! The colours of variables: one for each typecode of a `$f`.
+//! The CSS classes of variables: one for each typecode. The style sheet gives each class its colour.
 use frame::Frames;
 use mm_read::Stmt;
 use std::alloc::{AllocError, Global};

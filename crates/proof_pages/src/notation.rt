@@ -16,7 +16,7 @@ use std::alloc::AllocError;
 pub(crate) struct Notation<'a> {
     /// The statements of the database.
     pub statements: &'a [Stmt],
-    /// Their frames, which have the name of each symbol number.
+    /// The frames of these statements; they also give each symbol number its name.
     pub frames: &'a Frames,
     /// The colours of the variables.
     pub colours: &'a Colours,

@@ -1,4 +1,4 @@
-//! Rows of tables, and lists of labels. The end tags that HTML allows to omit are omitted.
+//! Rows of tables, and lists of labels. The end tags of rows, cells and items are omitted, as HTML allows.
 ghost use Rattle.std.specs.Prelude.{◌≡◌, ◌<◌, ◌++◌, length, get_or, flat_map, OnOk};
 ghost use Rattle.steps.specs.Rows.{no_row};
 ghost use Rattle.proof_pages.specs.TableRows.{link_html, row_start, number_and_links_html, row_rest, step_html, item_html, list_html, labels_html};
@@ -53,7 +53,7 @@ fn push_number_and_links(
     page.extend_from_slice(b"<td>")
 }
 
-/// Appends the label of the cited statement and the expression, and ends the row.
+/// Appends the label of the statement at a position and an expression, and ends the row.
 pub fn push_row_rest(
     page: &mut Vec<u8>,
     notation: &Notation<'_>,

@@ -27,10 +27,10 @@ impl From<AllocError> for WriteFault {
     }
 }
 
-/// The size of the buffer, in bytes, at which it is written.
+/// A buffer of at least this many bytes is written and cleared.
 const BUFFER_SIZE: usize = 65_536;
 
-/// Writes the buffered text and clears the buffer, if it has at least 64 KiB.
+/// Writes the buffered text and clears the buffer, if it has at least 64 KiB; else does nothing.
 pub(crate) fn flush_if_full<W: Write>(out: &mut W, text: &mut Vec<u8>) -> Result<(), WriteFault>
     ensures { OnOk result (WroteBuffered (W.contents out.old) (W.contents out.new) text.new.items text.old.items) }
 {
