@@ -13,7 +13,7 @@ pub struct Collector {
     alloc: Global,
     list: Vec<usize>,
     /// The round in which each position was last added, or 0.
-    rounds: Vec<usize>,
+    last_rounds: Vec<usize>,
     /// The number of the current round, from 1.
     round: usize,
 }
@@ -26,7 +26,7 @@ impl Model for Collector {
 
     ghost view = { λ a. a.list.items };
 
-    ghost invariant = { λ a. IsRoundTable a.list.items a.rounds.items a.round };
+    ghost invariant = { λ a. IsRoundTable a.list.items a.last_rounds.items a.round };
 }
 
 impl Collector {
@@ -38,7 +38,7 @@ impl Collector {
         Ok(Collector {
             alloc,
             list: Vec::new(alloc),
-            rounds: vec![in alloc; 0usize; count]?,
+            last_rounds: vec![in alloc; 0usize; count]?,
             round: 1,
         })
     }
@@ -57,11 +57,11 @@ impl Collector {
     pub fn add(&mut self, position: usize) -> Result<(), AllocError>
         ensures { OnOk result (HasMore (λ p. p ≡ position) self.old self.new) }
     {
-        if is_collected(&self.rounds, position, self.round) {
+        if is_collected(&self.last_rounds, position, self.round) {
             return Ok(());
         }
         self.list.push(position)?;
-        record_round(&mut self.rounds, position, self.round);
+        record_round(&mut self.last_rounds, position, self.round);
         Ok(())
     }
 
@@ -86,17 +86,17 @@ impl Collector {
 }
 
 /// Returns `true` only if the table has this round for a position.
-fn is_collected(rounds: &Vec<usize>, position: usize, round: usize) -> bool
-    ensures { result ≡ true → get_or rounds.now.items position 0 ≡ round }
+fn is_collected(last_rounds: &Vec<usize>, position: usize, round: usize) -> bool
+    ensures { result ≡ true → get_or last_rounds.now.items position 0 ≡ round }
 {
-    position < rounds.len() && rounds[position] == round
+    position < last_rounds.len() && last_rounds[position] == round
 }
 
 /// Records the round in which a position was added, if the table has an entry for the position.
-fn record_round(rounds: &mut Vec<usize>, position: usize, round: usize)
-    ensures { rounds.new.items ≡ slice_set rounds.old.items position round }
+fn record_round(last_rounds: &mut Vec<usize>, position: usize, round: usize)
+    ensures { last_rounds.new.items ≡ slice_set last_rounds.old.items position round }
 {
-    if position < rounds.len() {
-        rounds[position] = round;
+    if position < last_rounds.len() {
+        last_rounds[position] = round;
     }
 }

@@ -37,7 +37,7 @@ abbrev pub statement_comments : Database → List (Option Span) → List (Option
 statement_comments [] comments = []
 statement_comments (s ∷ S) comments = first_of comments ∷ statement_comments S (drop (length (stmt_tokens s)) comments)
 
--- the list has the descriptions of these statements in the text; the clause of `descriptions` supposes
--- that the text reads as them
+-- the list has the descriptions of these statements in the text; the clause of `descriptions`
+-- supposes that the text reads as them
 abbrev pub AreDescriptions : List ℕ → Database → List (Option Span) → Type 0
 AreDescriptions text S list = (tokens : List Span) × (split : SplitsInto text (runs text) tokens) × (list ≡ statement_comments S (comments_of split.first split.parts))

@@ -8,13 +8,13 @@ use Rattle.proof_pages.specs.Words.{Name, Database, stmt_at, name_at, label_or_n
 abbrev pub number_text : ℕ → List ℕ
 number_text index = decimal (index + 1)
 
-abbrev pub after_comma : ℕ → List ℕ
-after_comma index = codes "," ++ number_text index
+abbrev pub comma_and_number : ℕ → List ℕ
+comma_and_number index = codes "," ++ number_text index
 
 -- the numbers of the steps that are taken, or `-` if there are none
 abbrev pub taken_text : List ℕ → List ℕ
 taken_text [] = codes "-"
-taken_text (index ∷ indexes) = number_text index ++ flat_map after_comma indexes
+taken_text (index ∷ indexes) = number_text index ++ flat_map comma_and_number indexes
 
 -- a symbol after a space
 abbrev pub symbol_text : List Name → ℕ → List ℕ

@@ -117,18 +117,18 @@ fn push_groups(
     page.extend_from_slice(b"</ul>\n")
 }
 
-/// Appends each typecode that has a class, in the colour of its variables.
+/// Appends each typecode that has a CSS class, in the colour of its variables.
 fn push_legend(page: &mut Vec<u8>, notation: &Notation<'_>) -> Result<(), AllocError> {
-    let colours = notation.colours;
-    if colours.class_typecodes.is_empty() {
+    let css_classes = notation.css_classes;
+    if css_classes.class_typecodes.is_empty() {
         return Ok(());
     }
     page.extend_from_slice(b"<p class=\"legend\">Variables:")?;
-    let mut class = 0u32;
-    for typecode in &colours.class_typecodes {
-        class = class.saturating_add(1);
+    let mut css_class = 0u32;
+    for typecode in &css_classes.class_typecodes {
+        css_class = css_class.saturating_add(1);
         page.extend_from_slice(b" ")?;
-        push_coloured(page, class, notation.frames.symbol(*typecode))?;
+        push_coloured(page, css_class, notation.frames.symbol(*typecode))?;
     }
     page.extend_from_slice(b"</p>\n")
 }

@@ -5,12 +5,12 @@
 //! its `push_quoted`; a line of text has it as it is. A file name in a link needs no escape: `file_names` makes it from
 //! the label.
 //!
-//! Reading order: `step_lines`, `graph`, `writing`; `notation`, `rows`; `contents`, `colours`,
+//! Reading order: `step_lines`, `graph`, `writing`; `notation`, `rows`; `contents`, `css_classes`,
 //! `page_values`, `partition`, `style`, `opening`, `frame_part`, `proof_part`, `page`, `index`.
 #![tactic(auto)]
 
-mod colours;
 mod contents;
+mod css_classes;
 mod frame_part;
 mod graph;
 mod index;

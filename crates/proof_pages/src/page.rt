@@ -2,14 +2,14 @@
 ghost use Rattle.mm_read.specs.declared.stmt.Stmt.{Stmt as Statement};
 ghost use Rattle.frame.specs.FrameOf.{HasAssertion};
 
-use crate::colours::Colours;
 use crate::contents::PageContents;
+use crate::css_classes::CssClasses;
 use crate::frame_part::push_frame;
 use crate::notation::Notation;
 use crate::opening::push_opening;
 use crate::page_values::PageValues;
 use crate::proof_part::{push_cited_by, write_proof};
-use crate::writing::{WriteFault, flush};
+use crate::writing::{WriteFault, write_buffered};
 use frame::Frames;
 use std::alloc::{AllocError, Global};
 use std::io::Write;
@@ -47,7 +47,7 @@ pub fn write_site_page<W: Write>(
     write_contents(alloc, out, contents, true, false)
 }
 
-/// Finds the mandatory hypotheses and the classes of the variables, and writes the page.
+/// Finds the mandatory hypotheses and the CSS classes of the variables, and writes the page.
 fn write_contents<W: Write>(
     alloc: Global,
     out: &mut W,
@@ -58,13 +58,13 @@ fn write_contents<W: Write>(
     requires { (s : Statement) × HasAssertion contents.now.frames.now.statements contents.now.at s }
 {
     let hypotheses = hypotheses_of(alloc, contents.frames, contents.at)?;
-    let colours = colours_of(alloc, contents, &hypotheses)?;
+    let css_classes = css_classes_of(alloc, contents, &hypotheses)?;
     let values = PageValues {
         contents,
         notation: Notation {
             statements: contents.statements,
             frames: contents.frames,
-            colours: &colours,
+            css_classes: &css_classes,
             is_linked,
         },
         hypotheses: hypotheses.as_slice(),
@@ -88,7 +88,7 @@ fn write_parts<W: Write>(
     write_proof(alloc, out, &mut page, values)?;
     push_cited_by(&mut page, values)?;
     page.extend_from_slice(b"</body>\n</html>\n")?;
-    flush(out, &page)
+    write_buffered(out, &page)
 }
 
 /// Returns the positions of the mandatory hypotheses of the assertion at a position.
@@ -100,21 +100,22 @@ fn hypotheses_of(alloc: Global, frames: &Frames, at: usize) -> Result<Vec<u32>, 
     Ok(hypotheses)
 }
 
-/// Returns the classes of the variables: each variable has one whose `$f` is one of the hypotheses or is cited by a step.
-fn colours_of(
+/// Returns the CSS classes of the variables: a variable has one if its `$f` is one of the hypotheses or is cited by a
+/// step.
+fn css_classes_of(
     alloc: Global,
     contents: &PageContents<'_>,
     hypotheses: &[u32],
-) -> Result<Colours, AllocError> {
-    let mut colours = Colours::new(alloc);
+) -> Result<CssClasses, AllocError> {
+    let mut css_classes = CssClasses::new(alloc);
     for position in hypotheses {
-        colours.record(contents.statements, contents.frames, *position as usize)?;
+        css_classes.record(contents.statements, contents.frames, *position as usize)?;
     }
     if let Some(proof) = &contents.proof {
         for index in 0..proof.steps.len() {
             let position = proof.steps.position(index);
-            colours.record(contents.statements, contents.frames, position)?;
+            css_classes.record(contents.statements, contents.frames, position)?;
         }
     }
-    Ok(colours)
+    Ok(css_classes)
 }

@@ -4,7 +4,7 @@ use crate::notation::Notation;
 use crate::page_values::PageValues;
 use crate::partition::partition_by_typecode;
 use crate::rows::{push_html_step, push_labels};
-use crate::writing::{WriteFault, flush_if_full};
+use crate::writing::{WriteFault, write_if_full};
 use std::alloc::{AllocError, Global};
 use std::io::Write;
 use steps::ProofTable;
@@ -56,7 +56,7 @@ fn write_steps<W: Write>(
     )?;
     for index in 0..table.len() {
         push_html_step(page, notation, id_prefix, table, index)?;
-        flush_if_full(out, page)?;
+        write_if_full(out, page)?;
     }
     page.extend_from_slice(b"</tbody>\n</table>\n")?;
     Ok(())

@@ -62,7 +62,7 @@ pub fn push_row_rest(
 ) -> Result<(), AllocError>
     ensures { OnOk result (page.new.items ≡ page.old.items
         ++ row_rest notation.now.is_linked notation.now.statements.now notation.now.frames.now.names
-        notation.now.colours.now.classes.items position expr.now) }
+        notation.now.css_classes.now.by_symbol.items position expr.now) }
 {
     push_label_at(page, notation, position)?;
     page.extend_from_slice(b"<td>")?;
@@ -84,7 +84,7 @@ pub(crate) fn push_html_step(
     requires { index < length table.now }
     ensures { OnOk result (page.new.items ≡ page.old.items
         ++ step_html notation.now.is_linked notation.now.statements.now notation.now.frames.now.names
-        notation.now.colours.now.classes.items id_prefix.now index (get_or table.now index no_row)) }
+        notation.now.css_classes.now.by_symbol.items id_prefix.now index (get_or table.now index no_row)) }
 {
     push_row_start(page, id_prefix, index)?;
     push_number_and_links(page, id_prefix, index, table.taken(index))?;
