@@ -131,10 +131,10 @@ on-ok (Ok v) f h = f h
 on-ok (Err e) f h = tt
 
 -- a position that was added in this round is already in the list
-pub has_already : (list rounds : List ℕ) (round position : ℕ) → IsRoundTable list rounds round → get_or rounds position 0 ≡ round → HasMore (λ p. p ≡ position) list list
-has_already list rounds round position are here = record {
+pub has_already : (list last_rounds : List ℕ) (round position : ℕ) → IsRoundTable list last_rounds round → get_or last_rounds position 0 ≡ round → HasMore (λ p. p ≡ position) list list
+has_already list last_rounds round position are here = record {
   stays = λ p i. i;
-  all = λ p e. subst (λ q. In q list) (sym e) (are.among position here);
+  all = λ p e. subst (λ q. In q list) (sym e) (are.listed position here);
   only = λ p i. inl i;
 }
 
@@ -142,26 +142,26 @@ pub has_pushed : (position : ℕ) (old new : List ℕ) → new ≡ old ++ positi
 has_pushed position old new is = has-one position old new is
 
 -- a position is added to the list, with its round
-pub rounds_more : (list rounds new news : List ℕ) (round position : ℕ) → IsRoundTable list rounds round → new ≡ list ++ position ∷ [] → news ≡ slice_set rounds position round → IsRoundTable new news round
-rounds_more list rounds new news round position are is set = record {
-  some = are.some;
-  past = λ k. past k (cases_eq k position);
-  among = λ k e. among k e (cases_eq k position);
+pub rounds_more : (list last_rounds new news : List ℕ) (round position : ℕ) → IsRoundTable list last_rounds round → new ≡ list ++ position ∷ [] → news ≡ slice_set last_rounds position round → IsRoundTable new news round
+rounds_more list last_rounds new news round position are is set = record {
+  counts_from_one = are.counts_from_one;
+  not_later = λ k. past k (cases_eq k position);
+  listed = λ k e. among k e (cases_eq k position);
 }
   where
-    other : (k : ℕ) → (k ≡ position → ⊥) → get_or news k 0 ≡ get_or rounds k 0
-    other k apart = ap (λ l. get_or l k 0) set ∙ get_or-set_other rounds position k round 0 apart
+    other : (k : ℕ) → (k ≡ position → ⊥) → get_or news k 0 ≡ get_or last_rounds k 0
+    other k apart = ap (λ l. get_or l k 0) set ∙ get_or-set_other last_rounds position k round 0 apart
 
     same : (k : ℕ) → k ≡ position → (get_or news k 0 ≡ round) ⊎ (get_or news k 0 ≡ 0)
-    same k e = elim (cases_lt position (length rounds)) [
-      | inl less ↦ inl (ap (λ l. get_or l k 0) set ∙ (ap (λ j. get_or (slice_set rounds position round) j 0) e ∙ get_or-set_same rounds position round 0 less))
-      | inr more ↦ inr (ap (λ l. get_or l k 0) set ∙ get_or_past (slice_set rounds position round) k 0 (let l = length-set rounds position round in omega (arith, l, more, e)))
+    same k e = elim (cases_lt position (length last_rounds)) [
+      | inl less ↦ inl (ap (λ l. get_or l k 0) set ∙ (ap (λ j. get_or (slice_set last_rounds position round) j 0) e ∙ get_or-set_same last_rounds position round 0 less))
+      | inr more ↦ inr (ap (λ l. get_or l k 0) set ∙ get_or_past (slice_set last_rounds position round) k 0 (let l = length-set last_rounds position round in omega (arith, l, more, e)))
     ]
 
     past : (k : ℕ) → (k ≡ position) ⊎ (k ≡ position → ⊥) → get_or news k 0 ≤ round
     past k (inl e) = elim (same k e) [ inl r ↦ omega (arith, r) | inr z ↦ omega (arith, z) ]
-    past k (inr apart) = let p = are.past k in let o = other k apart in omega (arith, p, o)
+    past k (inr apart) = let p = are.not_later k in let o = other k apart in omega (arith, p, o)
 
     among : (k : ℕ) → get_or news k 0 ≡ round → (k ≡ position) ⊎ (k ≡ position → ⊥) → In k new
     among k e (inl here) = subst (In k) (sym is) (last-in k position list (inl here))
-    among k e (inr apart) = subst (In k) (sym is) (last-in k position list (inr (are.among k (sym (other k apart) ∙ e))))
+    among k e (inr apart) = subst (In k) (sym is) (last-in k position list (inr (are.listed k (sym (other k apart) ∙ e))))

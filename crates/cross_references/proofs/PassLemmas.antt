@@ -1,5 +1,5 @@
 -- One step of the pass over the statements.
-use Rattle.cross_references.proofs.Words.{◌≡◌, ◌⊎◌, ◌↔◌, ℕ, zero, suc, ◌+◌, ◌-◌, ◌<◌, ◌≤◌, Bool, true, false, IsTrue, List, [], ◌∷◌, ◌++◌, length, map, take, drop, get_or, replicate, slice_set, Some, sym, ◌∙◌, ap, subst, refl, arith, inl, inr, take_all, length-append, append-nil, cases_eq, cases_lt, Vec, drop_all, get_or-map, map-append, map-set, get_or-set_other, get_or-set_same, get_or_append_left, get_or_past, length-map, length-set, length-replicate, Ascends, has_position, In, AreThose, HasMore, OfSome, last-in, last-out, those-by, in-has, has-in, Good, Cites, RestsOn, directly, through, Uses, IsAxiomAt, IsUser, is_axiom, cites-below, Database, Stmt, stmt_at, stands-within, ArePositionsWhere, AreListsOf, AreReferences, lists_of, AddsAxiom, AreWithin, HaveCitingAdded, AreDone}
+use Rattle.cross_references.proofs.Words.{◌≡◌, ◌⊎◌, ◌↔◌, ℕ, zero, suc, ◌+◌, ◌-◌, ◌<◌, ◌≤◌, Bool, true, false, IsTrue, List, [], ◌∷◌, ◌++◌, length, map, take, drop, get_or, replicate, slice_set, Some, sym, ◌∙◌, ap, subst, refl, arith, inl, inr, take_all, length-append, append-nil, cases_eq, cases_lt, Vec, drop_all, get_or-map, map-append, map-set, get_or-set_other, get_or-set_same, get_or_append_left, get_or_past, length-map, length-set, length-replicate, Ascends, has_position, In, AreThose, HasMore, OfSome, last-in, last-out, those-by, in-has, has-in, Good, Cites, RestsOn, directly, through, Uses, IsAxiomAt, IsUser, is_axiom, cites-below, Database, Stmt, stmt_at, stands-within, ArePositionsWhere, AreListsOf, AreReferences, lists_of, AddsAxiom, AreWithin, AreExtendedAt, AreListsOfFirst}
 use Rattle.cross_references.proofs.ListLemmas.{has-as, has-both, in-more, more-in, next-apart, those-where, ascends-last}
 
 -- a statement that is cited is an earlier one
@@ -71,7 +71,7 @@ module _ (S : Database) (n k : ℕ) (old new : List ℕ) (are : AreThose (CiteUp
         | inr apart ↦ (let h = u.0 in omega (arith, h, apart), u.1)
       ]))
 
-citing-next : (S : Database) (n k : ℕ) (cited : List ℕ) (old new : List (List ℕ)) → AreThose (Cites S (suc n)) cited → HaveCitingAdded (suc n) cited old new
+citing-next : (S : Database) (n k : ℕ) (cited : List ℕ) (old new : List (List ℕ)) → AreThose (Cites S (suc n)) cited → AreExtendedAt (suc n) cited old new
     → AreThose (CiteUpto S n k) (get_or old k []) → AreThose (CiteUpto S (suc n) k) (get_or new k [])
 citing-next S n k cited old new those have are = by (has_position (suc k) cited) refl
   where
@@ -86,7 +86,7 @@ citing-next S n k cited old new those have are = by (has_position (suc k) cited)
 
 -- the citing statement is added to the list of one more position
 pub citing-pushed : (at : ℕ) (positions : List ℕ) (i p : ℕ) (first old new : List (List ℕ)) → Ascends positions → i < length positions → p ≡ get_or positions i 0 → 0 < p → p ≤ length first
-    → new ≡ slice_set old (p - 1) (get_or old (p - 1) [] ++ at ∷ []) → HaveCitingAdded at (take i positions) first old → HaveCitingAdded at (take (i + 1) positions) first new
+    → new ≡ slice_set old (p - 1) (get_or old (p - 1) [] ++ at ∷ []) → AreExtendedAt at (take i positions) first old → AreExtendedAt at (take (i + 1) positions) first new
 citing-pushed at positions i zero first old new asc h is some within set have = absurd (omega (arith, some))
 citing-pushed at positions i (suc m) first old new asc h is some within set have = record {
   count = ap length made ∙ (length-set old m (get_or old m [] ++ at ∷ []) ∙ have.count);
@@ -120,11 +120,11 @@ citing-pushed at positions i (suc m) first old new asc h is some within set have
         elsewhere k (λ e. none (more-in positions i (suc k) h (inr (ap suc e ∙ is))))
         ∙ have.others k (λ before. none (more-in positions i (suc k) h (inl before)))
 
-pub citing-none : (at : ℕ) (lists : List (List ℕ)) → HaveCitingAdded at [] lists lists
+pub citing-none : (at : ℕ) (lists : List (List ℕ)) → AreExtendedAt at [] lists lists
 citing-none at lists = record { count = refl; those = λ k i. absurd i; others = λ k none. refl }
 
-pub citing-all : (at : ℕ) (positions : List ℕ) (i : ℕ) (old new : List (List ℕ)) → length positions ≤ i → HaveCitingAdded at (take i positions) old new → HaveCitingAdded at positions old new
-citing-all at positions i old new h have = subst (λ ps. HaveCitingAdded at ps old new) (take_all i positions h) have
+pub citing-all : (at : ℕ) (positions : List ℕ) (i : ℕ) (old new : List (List ℕ)) → length positions ≤ i → AreExtendedAt at (take i positions) old new → AreExtendedAt at positions old new
+citing-all at positions i old new h have = subst (λ ps. AreExtendedAt at ps old new) (take_all i positions h) have
 
 -- ---- all statements
 
@@ -148,7 +148,7 @@ module _ (S : Database) where
   cites-some : (j a : ℕ) → Cites S j a → (1 ≤ j) × (j ≤ length S)
   cites-some j a c = stands-within S j c.has.stmt c.has.provable.stands
 
-  pub done-start : (axioms cited_by : List (List ℕ)) → axioms ≡ [] → cited_by ≡ replicate (length S) [] → AreDone S 0 axioms cited_by
+  pub done-start : (axioms cited_by : List (List ℕ)) → axioms ≡ [] → cited_by ≡ replicate (length S) [] → AreListsOfFirst S 0 axioms cited_by
   done-start axioms cited_by none empty = record {
     within = omega arith;
     axioms_count = ap length none;
@@ -162,9 +162,9 @@ module _ (S : Database) where
   }
 
   pub done-next : (n m : ℕ) (axioms cited_by new news : List (List ℕ)) (cited list : List ℕ) → Good S → m ≡ suc n → n < length S → AreThose (Cites S (suc n)) cited
-      → HaveCitingAdded (suc n) cited cited_by news → AreThose (OfSome (AddsAxiom S axioms) cited) list → new ≡ axioms ++ list ∷ [] → AreDone S n axioms cited_by → AreDone S m new news
+      → AreExtendedAt (suc n) cited cited_by news → AreThose (OfSome (AddsAxiom S axioms) cited) list → new ≡ axioms ++ list ∷ [] → AreListsOfFirst S n axioms cited_by → AreListsOfFirst S m new news
   done-next n m axioms cited_by new news cited list good is h those have given more done =
-      subst (λ q. AreDone S q new news) (sym is) (subst (λ l. AreDone S (suc n) l news) (sym more) (record {
+      subst (λ q. AreListsOfFirst S q new news) (sym is) (subst (λ l. AreListsOfFirst S (suc n) l news) (sym more) (record {
         within = omega (arith, h);
         axioms_count = let c = done.axioms_count in let l = length-append axioms (list ∷ []) in omega (arith, c, l);
         cited_by_count = have.count ∙ done.cited_by_count;
@@ -188,7 +188,7 @@ module _ (S : Database) where
             (subst (AreThose (Uses S (suc n))) (sym (ap (λ q. get_or (axioms ++ list ∷ []) q []) (sym done.axioms_count) ∙ last axioms)) own))
       ]
 
-  pub done-all : (n : ℕ) (axioms cited_by : List (List ℕ)) → length S ≤ n → AreDone S n axioms cited_by → AreReferences S axioms cited_by
+  pub done-all : (n : ℕ) (axioms cited_by : List (List ℕ)) → length S ≤ n → AreListsOfFirst S n axioms cited_by → AreReferences S axioms cited_by
   done-all n axioms cited_by h done = record {
     axioms_listed = record {
       count = let c = done.axioms_count in let w = done.within in omega (arith, c, w, h);
@@ -246,11 +246,11 @@ lent-lists n s old same all =
 
 -- ---- the results of the calls in the form of the pass
 
-pub have-as : (at m : ℕ) (ps qs : List ℕ) (lent old new : List (Vec ℕ)) → m ≡ at → ps ≡ qs → lent ≡ old → HaveCitingAdded m ps (lists_of lent) (lists_of new) → HaveCitingAdded at qs (lists_of old) (lists_of new)
+pub have-as : (at m : ℕ) (ps qs : List ℕ) (lent old new : List (Vec ℕ)) → m ≡ at → ps ≡ qs → lent ≡ old → AreExtendedAt m ps (lists_of lent) (lists_of new) → AreExtendedAt at qs (lists_of old) (lists_of new)
 have-as at m ps qs lent old new same is all have =
-    subst (λ a. HaveCitingAdded a qs (lists_of old) (lists_of new)) same
-    (subst (λ (l : List ℕ). HaveCitingAdded m l (lists_of old) (lists_of new)) is
-    (subst (λ (us : List (Vec ℕ)). HaveCitingAdded m ps (lists_of us) (lists_of new)) all have))
+    subst (λ a. AreExtendedAt a qs (lists_of old) (lists_of new)) same
+    (subst (λ (l : List ℕ). AreExtendedAt m l (lists_of old) (lists_of new)) is
+    (subst (λ (us : List (Vec ℕ)). AreExtendedAt m ps (lists_of us) (lists_of new)) all have))
 
 pub added-as : (S T : Database) (ps qs list : List ℕ) (lent axioms : List (Vec ℕ)) → T ≡ S → ps ≡ qs → lent ≡ axioms → AreThose (OfSome (AddsAxiom T (lists_of lent)) ps) list → AreThose (OfSome (AddsAxiom S (lists_of axioms)) qs) list
 added-as S T ps qs list lent axioms same is all given =

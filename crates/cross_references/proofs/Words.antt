@@ -1,5 +1,5 @@
 -- Re-exports of the definitions and lemmas with which this crate is proved.
-pub use Rattle.cross_references.specs.PassState.{AreDone, IsRoundTable, AreWithin, AddsAxiom, HaveCitingAdded, position_list, lists_of}
+pub use Rattle.cross_references.specs.PassState.{AreListsOfFirst, IsRoundTable, AreWithin, AddsAxiom, AreExtendedAt, position_list, lists_of}
 pub use Rattle.cross_references.specs.References.{AreListsOf, AreReferences, ArePositionsWhere}
 pub use Rattle.entries.specs.PositionSets.{AreAbove, Ascends, has_position}
 pub use Rattle.frame.proofs.AscendingLists.{in-place, place-in}

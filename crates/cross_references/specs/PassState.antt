@@ -16,13 +16,14 @@ abbrev pub position_list : Option ℕ → List ℕ
 position_list None = []
 position_list (Some position) = position ∷ []
 
--- each position was last added in this round, in an earlier one or never; those added in this round are in the list
-pub record IsRoundTable (list rounds : List ℕ) (round : ℕ) : Type 0 where
-  pub some : 0 < round
-  pub past : (k : ℕ) → get_or rounds k 0 ≤ round
-  pub among : (k : ℕ) → get_or rounds k 0 ≡ round → In k list
+-- `last_rounds` has for each position the last round in which it was added, or 0; the positions of this round are in
+-- the list
+pub record IsRoundTable (list last_rounds : List ℕ) (round : ℕ) : Type 0 where
+  pub counts_from_one : 0 < round
+  pub not_later : (k : ℕ) → get_or last_rounds k 0 ≤ round
+  pub listed : (k : ℕ) → get_or last_rounds k 0 ≡ round → In k list
 
--- citing the statement at c adds the position a to the axioms: a is c and a `$a` is at c, or a is in the list of c
+-- citing the statement at c adds the position a to the list of axioms: a `$a` is at c and a is c, or a is in the list of c
 abbrev pub AddsAxiom : Database → List (List ℕ) → ℕ → ℕ → Type 0
 AddsAxiom S lists c a = (IsAxiomAt S c × (a ≡ c)) ⊎ In a (get_or lists (c - 1) [])
 
@@ -30,14 +31,15 @@ AddsAxiom S lists c a = (IsAxiomAt S c × (a ≡ c)) ⊎ In a (get_or lists (c -
 abbrev pub AreWithin : ℕ → List ℕ → Type 0
 AreWithin count positions = (p : ℕ) → In p positions → (0 < p) × (p ≤ count)
 
--- the citing statement at `at` was added to the lists of exactly these positions
-pub record HaveCitingAdded (at : ℕ) (positions : List ℕ) (old new : List (List ℕ)) : Type 0 where
+-- the lists of exactly these positions are extended at their ends by the position `at` of a citing statement
+pub record AreExtendedAt (at : ℕ) (positions : List ℕ) (old new : List (List ℕ)) : Type 0 where
   pub count : length new ≡ length old
   pub those : (k : ℕ) → In (suc k) positions → get_or new k [] ≡ get_or old k [] ++ at ∷ []
   pub others : (k : ℕ) → (In (suc k) positions → ⊥) → get_or new k [] ≡ get_or old k []
 
--- the first n statements are done: the lists have the `$a` that each of them rests on, and which of them cite each statement
-pub record AreDone (S : Database) (n : ℕ) (axioms cited_by : List (List ℕ)) : Type 0 where
+-- `axioms` has for each of the first n statements the `$a` that it rests on; `cited_by` has for every statement those of
+-- the first n that cite it
+pub record AreListsOfFirst (S : Database) (n : ℕ) (axioms cited_by : List (List ℕ)) : Type 0 where
   pub within : n ≤ length S
   pub axioms_count : length axioms ≡ n
   pub cited_by_count : length cited_by ≡ length S

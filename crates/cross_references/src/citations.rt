@@ -23,6 +23,7 @@ pub fn cited_at(alloc: Global, library: &Library, index: usize) -> Result<Vec<us
     let Stmt::Prove { label, .. } = &library.statements()[index] else {
         return Ok(Vec::new(alloc));
     };
+    // A `$p` of a library has items, so only an allocation can fail here.
     let Ok((_, items)) = library.items(label.as_bytes()) else {
         return Err(AllocError);
     };
@@ -42,7 +43,7 @@ fn cited_positions(alloc: Global, frames: &Frames, items: &Items) -> Result<Vec<
     Ok(cited)
 }
 
-/// Appends the positions that the numbers of items cite.
+/// Appends the positions that the items with these numbers cite.
 fn push_positions(
     cited: &mut Vec<usize>,
     positions: &[Option<usize>],
@@ -66,7 +67,8 @@ fn push_if_some(cited: &mut Vec<usize>, position: Option<usize>) -> Result<(), A
     Ok(())
 }
 
-/// Returns the position that the item with a number cites, if it cites one.
+/// Returns the position that the item with a number cites. The number n of a citation is one more than the index of its
+/// label, and so of its position; any other number cites nothing.
 fn cited_position(positions: &[Option<usize>], number: u32) -> Option<usize>
     ensures { result ≡ cited_position positions.now number }
 {

@@ -1,4 +1,4 @@
-//! Collects positions, each once.
+//! Collects positions in rounds; `ordered` returns those of a round, each once.
 ghost use Rattle.std.specs.Prelude.{◌≡◌, [], true, get_or, slice_set, IfOk, OnOk};
 ghost use Rattle.frame.specs.Stored.Hypotheses.{In, AreThose, HasMore};
 
@@ -6,13 +6,14 @@ use crate::citations::sort_dedup;
 use std::alloc::{AllocError, Global};
 use std::marker::Model;
 
-/// The positions collected in the current round, each once. Contracts see their list.
+/// The positions collected since the last `begin_round`; the pass begins a round for each statement. Contracts see
+/// `list`, which may repeat positions above the `last` of `new`.
 #[derive(Drop)]
 pub struct Collector {
     alloc: Global,
     list: Vec<usize>,
-    /// The round in which each position was last added.
-    rounds: Vec<usize>,
+    /// The round in which each position was last added, or 0.
+    last_rounds: Vec<usize>,
     /// The number of the current round, from 1.
     round: usize,
 }
@@ -25,7 +26,7 @@ impl Model for Collector {
 
     ghost view = { λ a. a.list.items };
 
-    ghost invariant = { λ a. IsRoundTable a.list.items a.rounds.items a.round };
+    ghost invariant = { λ a. IsRoundTable a.list.items a.last_rounds.items a.round };
 }
 
 impl Collector {
@@ -37,7 +38,7 @@ impl Collector {
         Ok(Collector {
             alloc,
             list: Vec::new(alloc),
-            rounds: vec![in alloc; 0usize; count]?,
+            last_rounds: vec![in alloc; 0usize; count]?,
             round: 1,
         })
     }
@@ -51,20 +52,20 @@ impl Collector {
         Ok(())
     }
 
-    /// Adds a position, unless it was added in this round.
+    /// Adds a position, unless it is at most the `last` of `new` and was added in this round.
     #[tactic(auto, using(crate::proofs::ListLemmas::has_already, crate::proofs::ListLemmas::has_pushed, crate::proofs::ListLemmas::rounds_more))]
     pub fn add(&mut self, position: usize) -> Result<(), AllocError>
         ensures { OnOk result (HasMore (λ p. p ≡ position) self.old self.new) }
     {
-        if is_collected(&self.rounds, position, self.round) {
+        if is_collected(&self.last_rounds, position, self.round) {
             return Ok(());
         }
         self.list.push(position)?;
-        record_round(&mut self.rounds, position, self.round);
+        record_round(&mut self.last_rounds, position, self.round);
         Ok(())
     }
 
-    /// Adds each of the positions, unless it was added in this round.
+    /// Adds each of the positions as `add` does.
     pub fn add_all(&mut self, positions: &[usize]) -> Result<(), AllocError>
         ensures { OnOk result (HasMore (λ p. In p positions.now) self.old self.new) }
     {
@@ -84,18 +85,18 @@ impl Collector {
     }
 }
 
-/// Returns whether a position was added in this round.
-fn is_collected(rounds: &Vec<usize>, position: usize, round: usize) -> bool
-    ensures { result ≡ true → get_or rounds.now.items position 0 ≡ round }
+/// Returns `true` only if the table has this round for a position.
+fn is_collected(last_rounds: &Vec<usize>, position: usize, round: usize) -> bool
+    ensures { result ≡ true → get_or last_rounds.now.items position 0 ≡ round }
 {
-    position < rounds.len() && rounds[position] == round
+    position < last_rounds.len() && last_rounds[position] == round
 }
 
 /// Records the round in which a position was added, if the table has an entry for the position.
-fn record_round(rounds: &mut Vec<usize>, position: usize, round: usize)
-    ensures { rounds.new.items ≡ slice_set rounds.old.items position round }
+fn record_round(last_rounds: &mut Vec<usize>, position: usize, round: usize)
+    ensures { last_rounds.new.items ≡ slice_set last_rounds.old.items position round }
 {
-    if position < rounds.len() {
-        rounds[position] = round;
+    if position < last_rounds.len() {
+        last_rounds[position] = round;
     }
 }

@@ -5,7 +5,7 @@ ghost use Rattle.frame.specs.Stored.Hypotheses.{AreThose, HasMore, OfSome};
 ghost use Rattle.library.specs.Good.{Good};
 ghost use Rattle.library.specs.Uses.{Cites, Uses, is_axiom};
 ghost use Rattle.cross_references.specs.References.{AreReferences};
-ghost use Rattle.cross_references.specs.PassState.{lists_of, AddsAxiom, AreWithin, HaveCitingAdded, AreDone};
+ghost use Rattle.cross_references.specs.PassState.{lists_of, AddsAxiom, AreWithin, AreExtendedAt, AreListsOfFirst};
 
 use crate::citations::cited_at;
 use crate::collector::Collector;
@@ -23,11 +23,12 @@ pub struct CrossReferences {
     pub cited_by: Vec<Vec<usize>>,
 }
 
-/// Returns the cross references of a library: the answers of `Library::trace` for each `$p` and of `Library::usage` for each
-/// statement, by position.
+/// Returns the cross references of a library: the positions of the statements whose labels `Library::trace` returns for
+/// each `$p`, and `Library::usage` with `all` false for each statement with a label.
 ///
-/// Errors: an allocation fails. Cost: the size of the proofs, each read once, and for each statement that a proof cites the
-/// length of the cited statement's list of axioms. Source: Metamath, 4.2.6 and appendix B.
+/// Errors: an allocation fails. Cost: the size of the proofs, each read once; for each statement that a proof cites, the
+/// length of the cited statement's list of axioms; sorting the citations of each proof and each list of axioms; two lists
+/// and an entry of a table for each statement. Source: Metamath, 4.2.6 and appendix B.
 pub fn cross_references(alloc: Global, library: &Library) -> Result<CrossReferences, AllocError>
     ensures { IfOk result (λ found. AreReferences library.now.replica.statements
         (lists_of found.axioms.items) (lists_of found.cited_by.items)) }
@@ -38,8 +39,8 @@ pub fn cross_references(alloc: Global, library: &Library) -> Result<CrossReferen
     let mut cited_by = empty_lists(alloc, count)?;
     for index in 0..count {
         let cited = cited_at(alloc, library, index)?;
-        add_citing(&mut cited_by, cited.as_slice(), index + 1)?;
-        let list = axioms_at(
+        append_citing_position_to_all(&mut cited_by, cited.as_slice(), index + 1)?;
+        let list = axioms_of_cited(
             library.statements(),
             &axioms,
             cited.as_slice(),
@@ -62,19 +63,27 @@ fn empty_lists(alloc: Global, count: usize) -> Result<Vec<Vec<usize>>, AllocErro
 }
 
 /// Appends the position `at` of a citing statement to the list of each of the cited positions.
-fn add_citing(cited_by: &mut [Vec<usize>], cited: &[usize], at: usize) -> Result<(), AllocError>
+fn append_citing_position_to_all(
+    cited_by: &mut [Vec<usize>],
+    cited: &[usize],
+    at: usize,
+) -> Result<(), AllocError>
     requires ascends { Ascends cited.now }
     requires within { AreWithin (length cited_by.old) cited.now }
-    ensures { OnOk result (HaveCitingAdded at cited.now (lists_of cited_by.old) (lists_of cited_by.new)) }
+    ensures { OnOk result (AreExtendedAt at cited.now (lists_of cited_by.old) (lists_of cited_by.new)) }
 {
     for position in cited {
-        push_citing(cited_by, *position, at)?;
+        append_citing_position(cited_by, *position, at)?;
     }
     Ok(())
 }
 
 /// Appends the position `at` of a citing statement to the list of a position.
-fn push_citing(cited_by: &mut [Vec<usize>], position: usize, at: usize) -> Result<(), AllocError>
+fn append_citing_position(
+    cited_by: &mut [Vec<usize>],
+    position: usize,
+    at: usize,
+) -> Result<(), AllocError>
     requires { (0 < position) × (position ≤ length cited_by.old) }
     ensures { OnOk result (lists_of cited_by.new ≡ slice_set (lists_of cited_by.old) (position - 1)
         (get_or (lists_of cited_by.old) (position - 1) [] ++ at ∷ [])) }
@@ -84,9 +93,8 @@ fn push_citing(cited_by: &mut [Vec<usize>], position: usize, at: usize) -> Resul
     Ok(())
 }
 
-/// Returns the positions of the `$a` among the cited statements and of the `$a` that these statements rest on, in
-/// ascending order, each once.
-fn axioms_at(
+/// Returns the positions of the `$a` that are cited or that a cited statement rests on, in ascending order, each once.
+fn axioms_of_cited(
     statements: &[Stmt],
     axioms: &[Vec<usize>],
     cited: &[usize],
@@ -114,12 +122,16 @@ fn add_axioms_of(
     requires statements { length axioms.now ≤ length statements.now }
     ensures { OnOk result (HasMore (AddsAxiom statements.now (lists_of axioms.now) position) collector.old collector.new) }
 {
-    add_axiom(&statements[position - 1], position, collector)?;
+    add_if_axiom(&statements[position - 1], position, collector)?;
     collector.add_all(axioms[position - 1].as_slice())
 }
 
 /// Collects the position of a statement if the statement is a `$a`.
-fn add_axiom(statement: &Stmt, position: usize, collector: &mut Collector) -> Result<(), AllocError>
+fn add_if_axiom(
+    statement: &Stmt,
+    position: usize,
+    collector: &mut Collector,
+) -> Result<(), AllocError>
     ensures { OnOk result (HasMore (λ p. IsTrue (is_axiom statement.now) × (p ≡ position)) collector.old collector.new) }
 {
     match statement {

@@ -6,7 +6,7 @@ ghost use Rattle.mm_lex.specs.Tokens.{IsWordAt};
 use crate::written_lines::{Lines, token_in};
 use mm_lex::{LexFault, Span, tokens};
 use mm_read::{ReadFault, read};
-use places::statement_start;
+use places::statement_start_index;
 use std::alloc::Global;
 
 /// Writes the misplaced token, the tokens allowed in its place, and where its statement begins.
@@ -42,7 +42,7 @@ fn explain_token(lines: &mut Lines<'_>, text: &[u8], spans: &[Span], index: usiz
     requires words { All (IsWordAt text.now) spans.now }
     requires within { index ≤ length spans.now }
 {
-    let start = statement_start(text, spans, index);
+    let start = statement_start_index(text, spans, index);
     let expected = allowed_tokens(text, &spans[start..index]);
     match spans.get(index) {
         Some(span) => {

@@ -3,7 +3,7 @@ ghost use Rattle.mm_lex.specs.TextFaults.{IsCommentFault};
 
 use crate::written_lines::Lines;
 use mm_lex::{LexFault, tokens};
-use places::{CommentFault, comment_fault};
+use places::{CommentFaultKind, comment_fault_kind};
 use std::alloc::Global;
 
 /// Writes the fault of the bytes or the comments of the text.
@@ -41,14 +41,14 @@ fn explain_comment(lines: &mut Lines<'_>, text: &[u8], offset: usize)
     requires { IsCommentFault text.now offset }
 {
     lines.push_place(text, offset);
-    match comment_fault(text, offset) {
-        CommentFault::StrayCloser => lines.push(b": this $) closes no comment\n"),
-        CommentFault::Nested { outer } => {
+    match comment_fault_kind(text, offset) {
+        CommentFaultKind::StrayCloser => lines.push(b": this $) closes no comment\n"),
+        CommentFaultKind::Nested { outer } => {
             lines.push(b": a comment begins inside a comment\n  which begins at ");
             lines.push_place(text, outer);
             lines.push(b"\n");
         }
-        CommentFault::Unclosed => {
+        CommentFaultKind::Unclosed => {
             lines.push(b": this comment is never closed\n");
             explain_comment_end_within_token(lines, text, offset);
         }

@@ -1,32 +1,32 @@
 -- The walk over the runs of a text finds the description of each statement.
-use Rattle.places.proofs.Words.{◌≡◌, ℕ, suc, ◌<◌, ◌≤◌, Bool, true, false, not, ◌&&◌, ◌||◌, cond, List, [], ◌∷◌, ◌++◌, length, drop, flat_map, Option, Some, None, codes, refl, sym, ◌∙◌, ap, arith, append_assoc, length-append, list_all, and_parts, and_from, both_ways, append-nil, map-append, length-map, length-drop, list_all-append, Span, Name, name_eq, runs, word, is_symbol, is_label, opener, closer, is_plain, AllPlain, Part, part_spans, IsPart, AreParts, SplitsInto, words, runs_after, name_same, Stmt, Open, Close, Const, Var, Disj, Float, Ess, Axiom, Prove, Database, is_shaped, AreShaped, are_symbols, has_two, stmt_tokens, tokens_of, Reads, symbols_of, Walk, Inside, Outside, ends_statement, contents, comments_before, comments_in, comments_of, first_of, statement_comments, AreDescriptions, at_start, after_run, begun_description, walk_over}
+use Rattle.places.proofs.Words.{◌≡◌, ℕ, suc, ◌<◌, ◌≤◌, Bool, true, false, not, ◌&&◌, ◌||◌, cond, List, [], ◌∷◌, ◌++◌, length, drop, flat_map, Option, Some, None, codes, refl, sym, ◌∙◌, ap, arith, append_assoc, length-append, list_all, and_parts, and_from, both_ways, append-nil, map-append, length-map, length-drop, list_all-append, Span, Name, name_eq, runs, word, is_symbol, is_label, opener, closer, is_plain, AllPlain, Part, part_spans, IsPart, AreParts, SplitsInto, words, runs_after, name_same, Stmt, Open, Close, Const, Var, Disj, Float, Ess, Axiom, Prove, Database, is_shaped, AreShaped, are_symbols, has_two, stmt_tokens, tokens_of, Reads, symbols_of, WalkState, Inside, Outside, ends_statement, contents, comments_before, comments_in, comments_of, first_of, statement_comments, AreDescriptions, at_start, state_after_run, description_of_begun_statement, walk_over}
 use Rattle.places.proofs.TokenSpanLemmas.{symbol_goes_on, label_goes_on}
 
 -- ---- the loop
 
 -- the list, with what the walk over the rest adds, is the whole list
-abbrev pub IsListed : List ℕ → ℕ → Walk → List (Option Span) → Type 0
+abbrev pub IsListed : List ℕ → ℕ → WalkState → List (Option Span) → Type 0
 IsListed text at walk list = list ++ walk_over text walk (runs_after text at) ≡ walk_over text at_start (runs text)
 
 pub listed_none : (text : List ℕ) (list : List (Option Span)) → list ≡ [] → IsListed text 0 at_start list
 listed_none text list none = ap (λ l. l ++ walk_over text at_start (runs_after text 0)) none
 
-pub listed_on : (text : List ℕ) (at : ℕ) (walk next : Walk) (run : Span) (w : Name) (old new : List (Option Span))
+pub listed_on : (text : List ℕ) (at : ℕ) (walk next : WalkState) (run : Span) (w : Name) (old new : List (Option Span))
     → IsListed text at walk old → runs_after text at ≡ run ∷ runs_after text run.end → w ≡ word text run
-    → new ≡ old ++ begun_description walk w → next ≡ after_run walk w run → IsListed text run.end next new
+    → new ≡ old ++ description_of_begun_statement walk w → next ≡ state_after_run walk w run → IsListed text run.end next new
 listed_on text at walk next run w old new is runs_are same added step =
     let rest = runs_after text run.end in
-    let here : walk_over text walk (run ∷ rest) ≡ begun_description walk w ++ walk_over text next rest
-    = ap (λ v. begun_description walk v ++ walk_over text (after_run walk v run) rest) (sym same) ∙ ap (λ k. begun_description walk w ++ walk_over text k rest) (sym step) in
+    let here : walk_over text walk (run ∷ rest) ≡ description_of_begun_statement walk w ++ walk_over text next rest
+    = ap (λ v. description_of_begun_statement walk v ++ walk_over text (state_after_run walk v run) rest) (sym same) ∙ ap (λ k. description_of_begun_statement walk w ++ walk_over text k rest) (sym step) in
     ap (λ l. l ++ walk_over text next rest) added
-    ∙ (append_assoc old (begun_description walk w) (walk_over text next rest)
+    ∙ (append_assoc old (description_of_begun_statement walk w) (walk_over text next rest)
     ∙ (ap (λ v. old ++ v) (sym here) ∙ (ap (λ r. old ++ walk_over text walk r) (sym runs_are) ∙ is)))
 
-pub listed_all : (text : List ℕ) (at : ℕ) (walk : Walk) (list : List (Option Span)) → IsListed text at walk list → runs_after text at ≡ [] → list ≡ walk_over text at_start (runs text)
+pub listed_all : (text : List ℕ) (at : ℕ) (walk : WalkState) (list : List (Option Span)) → IsListed text at walk list → runs_after text at ≡ [] → list ≡ walk_over text at_start (runs text)
 listed_all text at walk list is none = sym (append-nil list) ∙ (ap (λ r. list ++ walk_over text walk r) (sym none) ∙ is)
 
 -- the walk continues from a later offset
-pub listed_later : (text : List ℕ) (at later : ℕ) (walk : Walk) (list : List (Option Span)) → IsListed text at walk list
+pub listed_later : (text : List ℕ) (at later : ℕ) (walk : WalkState) (list : List (Option Span)) → IsListed text at walk list
     → walk_over text walk (runs_after text at) ≡ walk_over text walk (runs_after text later) → IsListed text later walk list
 listed_later text at later walk list is same = ap (λ r. list ++ r) (sym same) ∙ is
 

@@ -1,5 +1,5 @@
 -- A walk that can skip passes over runs that do not begin with `$`.
-use Rattle.places.proofs.Words.{◌≡◌, ℕ, zero, suc, ◌+◌, ◌-◌, ◌<◌, ◌≤◌, Bool, true, false, cond, List, [], ◌∷◌, ◌++◌, length, take, drop, Some, None, refl, ◌∙◌, ap, arith, eqb, get_or, sym, drop-drop, get_or-drop, get_or-take, length-drop, take-append-drop, Span, Name, is_white, name_eq, runs_from, starts_white, with_byte, word, runs_after, closer, opener, Walk, Inside, Outside, ends_statement, CanSkip, SkipsRuns, walk_over}
+use Rattle.places.proofs.Words.{◌≡◌, ℕ, zero, suc, ◌+◌, ◌-◌, ◌<◌, ◌≤◌, Bool, true, false, cond, List, [], ◌∷◌, ◌++◌, length, take, drop, Some, None, refl, ◌∙◌, ap, arith, eqb, get_or, sym, drop-drop, get_or-drop, get_or-take, length-drop, take-append-drop, Span, Name, is_white, name_eq, runs_from, starts_white, with_byte, word, runs_after, closer, opener, WalkState, Inside, Outside, ends_statement, CanSkip, SkipsRuns, walk_over}
 use Rattle.std.proofs.lemmas.List.{length-take}
 
 -- ---- words that do not begin with `$`
@@ -46,7 +46,7 @@ module _ (text : List ℕ) where
           differs (ap (λ k. get_or text k 0) (sym same) ∙ (sym (get_or-drop s.start text 0 0) ∙ (sym (get_or-take (suc n) (drop s.start text) 0 0 some) ∙ e)))
 
   -- one run that does not begin with `$`
-  pass_run : (walk : Walk) → CanSkip walk → (s : Span) (spans : List Span) → (get_or text s.start 0 ≡ 36 → ⊥) → walk_over text walk (s ∷ spans) ≡ walk_over text walk spans
+  pass_run : (walk : WalkState) → CanSkip walk → (s : Span) (spans : List Span) → (get_or text s.start 0 ≡ 36 → ⊥) → walk_over text walk (s ∷ spans) ≡ walk_over text walk spans
   pass_run (Inside start begins) skips s spans differs =
       ap (λ b. walk_over text (cond b (Outside (Some (record { start = start; end = s.start })) begins) (Inside start begins)) spans) (no_closer (word text s) (first_byte s differs))
   pass_run (Outside None begins) skips s spans differs =
@@ -80,7 +80,7 @@ begins_with at true spans = refl
 begins_with at false [] = refl
 begins_with at false (s ∷ spans) = refl
 
-module _ (text : List ℕ) (walk : Walk) (skips : CanSkip walk) where
+module _ (text : List ℕ) (walk : WalkState) (skips : CanSkip walk) where
   -- a visible byte in front that is not `$` is passed over, with the run that it lengthens if that run did not begin with `$`
   pass_byte : (at : ℕ) (t : Bool) (spans : List Span) → (get_or text at 0 ≡ 36 → ⊥) → (t ≡ false → BeginsAt (at + 1) spans) → (get_or text (at + 1) 0 ≡ 36 → t ≡ false → ⊥)
       → walk_over text walk (with_byte at t spans) ≡ walk_over text walk spans

@@ -144,7 +144,7 @@ some_span text spans S statement token are written i at h None e = absurd (bad (
     bad : {x : Span} → None ≡ Some x → ⊥
     bad e = cc
 some_span text spans S statement token are written i at h (Some p) e =
-    record { tokens = spans; are = are; written = written; here = ap (slice_get spans) (sym at) ∙ sym e }
+    record { tokens = spans; all_tokens = are; written = written; at_index = ap (slice_get spans) (sym at) ∙ sym e }
 
 -- the span that is found is the span of the token of the statement
 pub span_is : (text : List ℕ) (spans : List Span) (S : Database) (statement token : ℕ) → AreTokens text spans → Reads text S → (h : HasToken S statement token)
@@ -161,6 +161,6 @@ span_is text spans S statement token are reads h span e =
     let room = room_for (statement - 1) S h.stmt h.stands in
     let count : length (words text spans) ≡ length spans = length-map spans (word text) in
     let all : length (words text spans) ≡ length (tokens_of S) = ap length written in
-    let some = h.first in
+    let some = h.token_from_one in
     let most = h.within in
     some_span text spans S statement token are written i is (omega (arith, is, room, count, all, some, most)) span e

@@ -16,9 +16,9 @@ pub use Rattle.places.specs.CommentFaults.{BeginsStatement}
 pub use Rattle.places.specs.Descriptions.{AreDescriptions, statement_comments, comments_before, comments_in, comments_of, contents, first_of}
 pub use Rattle.places.specs.Lines.{line_feed}
 pub use Rattle.places.specs.TokenSpans.{HasToken, IsTokenSpan, index_after_ends, ends_statement, token_index}
-pub use Rattle.places.specs.Walk.{CanSkip, SkipsRuns, after_run, at_start, begun_description, walk_over}
-pub use Rattle.places.specs.declared.description.Walk.{Walk}
-pub use Rattle.places.specs.declared.description.Walk.TheVariants.{Inside, Outside}
+pub use Rattle.places.specs.Walk.{CanSkip, SkipsRuns, state_after_run, at_start, description_of_begun_statement, walk_over}
+pub use Rattle.places.specs.declared.description.WalkState.{WalkState}
+pub use Rattle.places.specs.declared.description.WalkState.TheVariants.{Inside, Outside}
 pub use Rattle.std.proofs.Common.{Bool, IsFalse, IsSomeAnd, IsTrue, List, None, Option, Some, [], ap, append_assoc, arith, below_more, codes, cond, drop, eqb, false, flat_map, get_or, length, length-append, length-take, not, refl, rules, slice_get, slice_index, subst, suc, sym, take, true, zero, zero-add, ℕ, ◌&&◌, ◌++◌, ◌+◌, ◌-◌, ◌<◌, ◌==◌, ◌||◌, ◌∙◌, ◌∷◌, ◌≡◌, ◌≤◌}
 pub use Rattle.std.proofs.Math.Seq.{drop-cons}
 pub use Rattle.std.proofs.lemmas.Bool.{and_from, and_parts, both_ways}

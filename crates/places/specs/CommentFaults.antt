@@ -7,20 +7,20 @@ use Rattle.mm_lex.specs.declared.span.Span.{Span}
 use Rattle.mm_lex.specs.Alphabet.{Name, runs}
 use Rattle.mm_lex.specs.Tokens.{AreTokens}
 use Rattle.mm_lex.specs.TextFaults.{IsStrayCloser, IsCommentFault}
-use Rattle.places.specs.declared.comments.CommentFault.{CommentFault}
-use Rattle.places.specs.declared.comments.CommentFault.TheVariants.{StrayCloser, Nested, Unclosed}
+use Rattle.places.specs.declared.comments.CommentFaultKind.{CommentFaultKind}
+use Rattle.places.specs.declared.comments.CommentFaultKind.TheVariants.{StrayCloser, Nested, Unclosed}
 use Rattle.places.specs.TokenSpans.{ends_statement}
 
 -- the fault at the offset is of this kind: a `$)` outside a comment; a `$(` inside a comment that
--- begins at `outer`; a `$(` outside comments
-abbrev pub IsCommentFaultKind : List ℕ → ℕ → CommentFault → Type 0
+-- begins at `outer`; for the third kind, the text before the offset splits into tokens
+abbrev pub IsCommentFaultKind : List ℕ → ℕ → CommentFaultKind → Type 0
 IsCommentFaultKind text offset StrayCloser = IsStrayCloser text (runs text) offset
 IsCommentFaultKind text offset (Nested outer) = IsCommentFault (take offset text) outer
 IsCommentFaultKind text offset Unclosed = (tokens : List Span) × AreTokens (take offset text) tokens
 
--- the statement of the token at this index begins at `start`: there stands the first token, or one
--- after a token that ends a statement, and none of the tokens between ends one
-pub record BeginsStatement (tokens : List Name) (token start : ℕ) : Type 0 where
-  pub before : start ≤ token
+-- the statement of the token at this index begins at `start`: `start` is 0 or follows a token that
+-- ends a statement, and no token from `start` to before `token_index` ends one
+pub record BeginsStatement (tokens : List Name) (token_index start : ℕ) : Type 0 where
+  pub before : start ≤ token_index
   pub after : 0 < start → IsTrue (ends_statement (slice_index_or tokens (start - 1) []))
-  pub none : (k : ℕ) → start ≤ k → k < token → IsFalse (ends_statement (slice_index_or tokens k []))
+  pub none : (k : ℕ) → start ≤ k → k < token_index → IsFalse (ends_statement (slice_index_or tokens k []))

@@ -1,5 +1,5 @@
--- The descriptions of the statements of a text: for each statement, the last comment between the
--- previous statement and its first token.
+-- The descriptions of the statements of a text: for each statement, the last comment before its
+-- first token and after the statement before it.
 -- Source: Metamath, 4.4 (a description is the comment right before the label).
 -- The code goes once over the runs; here the text is split at its comments, and each token is
 -- paired with the comment right before it.
@@ -13,8 +13,8 @@ use Rattle.mm_read.specs.Statements.{Database, stmt_tokens}
 abbrev pub contents : Part → Span
 contents p = record { start = p.begin.end; end = p.end.start }
 
--- the comment right before each of these tokens: `comment` for the first of them, none for the
--- others
+-- the comment right before each of these tokens: `comment` for the first of these tokens, none for
+-- each other one
 abbrev pub comments_before : Option Span → List Span → List (Option Span)
 comments_before comment [] = []
 comments_before comment (t ∷ tokens) = comment ∷ comments_before None tokens
@@ -37,6 +37,7 @@ abbrev pub statement_comments : Database → List (Option Span) → List (Option
 statement_comments [] comments = []
 statement_comments (s ∷ S) comments = first_of comments ∷ statement_comments S (drop (length (stmt_tokens s)) comments)
 
--- the list has the descriptions of these statements, which the text reads as
+-- the list has the descriptions of these statements in the text; the clause of `descriptions`
+-- supposes that the text reads as them
 abbrev pub AreDescriptions : List ℕ → Database → List (Option Span) → Type 0
 AreDescriptions text S list = (tokens : List Span) × (split : SplitsInto text (runs text) tokens) × (list ≡ statement_comments S (comments_of split.first split.parts))

@@ -12,9 +12,9 @@ use Rattle.mm_read.specs.Statements.{Database, stmt_tokens, tokens_of}
 -- the statement of this number has a token of this number, both counted from 1
 pub record HasToken (S : Database) (statement token : ℕ) : Type 0 where
   pub stmt : Stmt
-  pub some : 1 ≤ statement
+  pub statement_from_one : 1 ≤ statement
   pub stands : slice_get S (statement - 1) ≡ Some stmt
-  pub first : 1 ≤ token
+  pub token_from_one : 1 ≤ token
   pub within : token ≤ length (stmt_tokens stmt)
 
 -- the index of that token in the text: the tokens of the earlier statements precede it
@@ -24,15 +24,16 @@ token_index S statement token = length (tokens_of (take (statement - 1) S)) + (t
 -- the token of the statement has this span
 pub record IsTokenSpan (text : List ℕ) (S : Database) (statement token : ℕ) (span : Span) : Type 0 where
   pub tokens : List Span
-  pub are : AreTokens text tokens
+  pub all_tokens : AreTokens text tokens
   pub written : words text tokens ≡ tokens_of S
-  pub here : slice_get tokens (token_index S statement token) ≡ Some span
+  pub at_index : slice_get tokens (token_index S statement token) ≡ Some span
 
 -- this token ends a statement
 abbrev pub ends_statement : Name → Bool
 ends_statement w = name_eq w (codes "$.") || name_eq w (codes "${") || name_eq w (codes "$}")
 
--- the index of the first token after n tokens that end a statement
+-- the index of the first token after n tokens that end a statement, or the number of tokens if
+-- fewer than n end one
 abbrev pub index_after_ends : ℕ → List Name → ℕ
 index_after_ends zero ws = 0
 index_after_ends (suc n) [] = 0

@@ -6,7 +6,7 @@ use mm_lex::{LexFault, count_tokens};
 
 /// Why the comments of a text are malformed.
 #[derive(Clone, Copy, Debug, Drop, PartialEq, Eq)]
-pub enum CommentFault {
+pub enum CommentFaultKind {
     /// A `$)` outside a comment.
     StrayCloser,
     /// A `$(` inside the comment that begins at the offset `outer`.
@@ -15,19 +15,21 @@ pub enum CommentFault {
     Unclosed,
 }
 
-/// Returns the kind of the comment fault at an offset.
+/// Returns the kind of the comment fault at an offset. For `Unclosed` the clause says only that the
+/// text before the offset splits into tokens.
 ///
 /// Does not allocate. Cost: the size of the text before the offset.
-pub fn comment_fault(text: &[u8], offset: usize) -> CommentFault
+pub fn comment_fault_kind(text: &[u8], offset: usize) -> CommentFaultKind
     requires { IsCommentFault text.now offset }
     ensures { IsCommentFaultKind text.now offset result }
 {
+    // At the offset is `$(` or `$)`; the second byte tells which.
     if text[offset + 1] == b')' {
-        return CommentFault::StrayCloser;
+        return CommentFaultKind::StrayCloser;
     }
     match count_tokens(&text[..offset], 0) {
-        Ok(_) => CommentFault::Unclosed,
-        Err(LexFault::Comment { offset: outer }) => CommentFault::Nested { outer },
+        Ok(_) => CommentFaultKind::Unclosed,
+        Err(LexFault::Comment { offset: outer }) => CommentFaultKind::Nested { outer },
         Err(_) => unreachable!(),
     }
 }

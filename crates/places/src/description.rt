@@ -6,7 +6,7 @@ ghost use Rattle.mm_lex.specs.Comments.{runs_after};
 ghost use Rattle.mm_read.specs.Statements.{Database};
 ghost use Rattle.mm_read.specs.Reads.{Reads};
 ghost use Rattle.places.specs.Descriptions.{AreDescriptions};
-ghost use Rattle.places.specs.Walk.{CanSkip, SkipsRuns, after_run, begun_description, walk_over};
+ghost use Rattle.places.specs.Walk.{CanSkip, SkipsRuns, state_after_run, description_of_begun_statement, walk_over};
 
 use crate::statement_tokens::ends_statement;
 use memchr::memchr;
@@ -16,25 +16,25 @@ use std::alloc::{AllocError, Global};
 
 /// The state of a walk over the runs of a text, between two runs.
 #[derive(Clone, Copy, Drop)]
-enum Walk {
+enum WalkState {
     /// Inside the comment whose contents begin at `start`.
     Inside {
         start: usize,
         /// Whether the next token begins a statement.
-        begins: bool,
+        next_begins_statement: bool,
     },
     /// Outside comments.
     Outside {
         /// The contents of the last comment since the last token.
-        last: Option<Span>,
+        last_comment: Option<Span>,
         /// Whether the next token begins a statement.
-        begins: bool,
+        next_begins_statement: bool,
     },
 }
 
 /// Returns the span of the description of each statement, in order, of a text that reads as
-/// statements: the contents of the last comment between the previous statement and its first token,
-/// or `None` if there is no comment.
+/// statements: the contents of the last comment before the statement's first token and after the
+/// statement before it, or `None` if there is no comment.
 ///
 /// Errors: an allocation fails. Cost: the size of the text, however many statements it has.
 /// Source: Metamath, 4.4.
@@ -43,15 +43,15 @@ pub fn descriptions(alloc: Global, text: &[u8]) -> Result<Vec<Option<Span>>, All
         → IfOk result (λ list. AreDescriptions text.now S list.items) }
 {
     let mut list = Vec::new(alloc);
-    let mut walk = Walk::Outside {
-        last: None,
-        begins: true,
+    let mut walk = WalkState::Outside {
+        last_comment: None,
+        next_begins_statement: true,
     };
     let mut at = 0;
     while let Some(span) = next_run(text, skip_runs(text, at, walk)) {
         let word = &text[span.start..span.end];
-        push_begun_description(&mut list, walk, word)?;
-        walk = after_run(walk, word, span);
+        push_description_if_begun(&mut list, walk, word)?;
+        walk = state_after_run(walk, word, span);
         at = span.end;
     }
     Ok(list)
@@ -61,33 +61,36 @@ pub fn descriptions(alloc: Global, text: &[u8]) -> Result<Vec<Option<Span>>, All
 /// nothing.
 ///
 /// Does not allocate. Cost: the bytes up to the next `$`.
-fn skip_runs(text: &[u8], at: usize, walk: Walk) -> usize
+fn skip_runs(text: &[u8], at: usize, walk: WalkState) -> usize
     requires { at ≤ length text.now }
     ensures within { (at ≤ result) × (result ≤ length text.now) }
     ensures same { walk_over text.now walk (runs_after text.now at)
         ≡ walk_over text.now walk (runs_after text.now result) }
 {
     if can_skip(walk) {
-        skip_to_dollar(text, at)
+        skip_to_run_with_dollar(text, at)
     } else {
         at
     }
 }
 
-/// Returns whether the walk can skip runs: whether only a run that begins with `$` changes the walk
-/// or begins a statement.
-fn can_skip(walk: Walk) -> bool
+/// Returns `true` only if every run up to the next one with `$` leaves the walk as it is and begins
+/// no statement.
+fn can_skip(walk: WalkState) -> bool
     ensures { IsTrue result → CanSkip walk }
 {
     match walk {
-        Walk::Inside { .. } => true,
-        Walk::Outside { last, begins } => last.is_none() && !begins,
+        WalkState::Inside { .. } => true,
+        WalkState::Outside {
+            last_comment,
+            next_begins_statement,
+        } => last_comment.is_none() && !next_begins_statement,
     }
 }
 
 /// Returns the offset after the last white byte between `at` and the next `$` or the end of the
 /// text, or `at` if there is no such byte.
-fn skip_to_dollar(text: &[u8], at: usize) -> usize
+fn skip_to_run_with_dollar(text: &[u8], at: usize) -> usize
     requires { at ≤ length text.now }
     ensures { SkipsRuns text.now at result }
 {
@@ -99,7 +102,7 @@ fn skip_to_dollar(text: &[u8], at: usize) -> usize
 /// Returns the number of bytes before the first `$`, or of all bytes if there is none.
 fn count_before_dollar(text: &[u8]) -> usize
     ensures within { result ≤ length text.now }
-    ensures plain { (k : ℕ) → k < result → slice_index text.now k ≡ 36 → ⊥ }
+    ensures no_dollar { (k : ℕ) → k < result → slice_index text.now k ≡ 36 → ⊥ }
 {
     match memchr(b'$', text) {
         Some(dollar) => dollar,
@@ -121,14 +124,14 @@ fn after_last_white(text: &[u8]) -> usize
 }
 
 /// Appends the description of the statement that begins with this word, if one does.
-fn push_begun_description(
+fn push_description_if_begun(
     list: &mut Vec<Option<Span>>,
-    walk: Walk,
+    walk: WalkState,
     word: &[u8],
 ) -> Result<(), AllocError>
-    ensures { OnOk result (list.new.items ≡ list.old.items ++ begun_description walk word.now) }
+    ensures { OnOk result (list.new.items ≡ list.old.items ++ description_of_begun_statement walk word.now) }
 {
-    match begun_description(walk, word) {
+    match description_of_begun_statement(walk, word) {
         Some(description) => {
             list.push(description)?;
             Ok(())
@@ -137,18 +140,21 @@ fn push_begun_description(
     }
 }
 
-/// Returns the description of the statement that begins with this word, or `None` if none begins
-/// here. The description is itself `None` if the statement has none.
-fn begun_description(walk: Walk, word: &[u8]) -> Option<Option<Span>>
-    ensures { option_to_list result ≡ begun_description walk word.now }
+/// Returns `None` if no statement begins with this word, `Some(None)` if one without a description
+/// does, else `Some` of its description.
+fn description_of_begun_statement(walk: WalkState, word: &[u8]) -> Option<Option<Span>>
+    ensures { option_to_list result ≡ description_of_begun_statement walk word.now }
 {
     match walk {
-        Walk::Inside { .. } => None,
-        Walk::Outside { last, begins } => {
+        WalkState::Inside { .. } => None,
+        WalkState::Outside {
+            last_comment,
+            next_begins_statement,
+        } => {
             if word == b"$(".as_slice() {
                 None
-            } else if begins {
-                Some(last)
+            } else if next_begins_statement {
+                Some(last_comment)
             } else {
                 None
             }
@@ -157,31 +163,40 @@ fn begun_description(walk: Walk, word: &[u8]) -> Option<Option<Span>>
 }
 
 /// Returns the state of the walk after this run, whose word is `word`.
-fn after_run(walk: Walk, word: &[u8], run: Span) -> Walk
-    ensures { result ≡ after_run walk word.now run }
+fn state_after_run(walk: WalkState, word: &[u8], run: Span) -> WalkState
+    ensures { result ≡ state_after_run walk word.now run }
 {
     match walk {
-        Walk::Inside { start, begins } => {
+        WalkState::Inside {
+            start,
+            next_begins_statement,
+        } => {
             if word == b"$)".as_slice() {
-                let last = Some(Span {
+                let last_comment = Some(Span {
                     start,
                     end: run.start,
                 });
-                Walk::Outside { last, begins }
+                WalkState::Outside {
+                    last_comment,
+                    next_begins_statement,
+                }
             } else {
                 walk
             }
         }
-        Walk::Outside { begins, .. } => {
+        WalkState::Outside {
+            next_begins_statement,
+            ..
+        } => {
             if word == b"$(".as_slice() {
-                Walk::Inside {
+                WalkState::Inside {
                     start: run.end,
-                    begins,
+                    next_begins_statement,
                 }
             } else {
-                Walk::Outside {
-                    last: None,
-                    begins: ends_statement(word),
+                WalkState::Outside {
+                    last_comment: None,
+                    next_begins_statement: ends_statement(word),
                 }
             }
         }

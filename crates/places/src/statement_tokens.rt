@@ -11,8 +11,10 @@ ghost use Rattle.places.specs.CommentFaults.{BeginsStatement};
 use mm_lex::{LexFault, Span, tokens};
 use std::alloc::Global;
 
-/// Returns the span of a token of a statement, both counted from 1, in a text that reads as
-/// statements; `None` if there are too few tokens.
+/// Returns the span of the token with number `token` in the statement with number `statement`, both
+/// from 1, in a text that reads as statements. A number above those of the statement's own tokens
+/// counts on into the later statements. Returns `None` if a number is 0 or the text has no such
+/// token.
 ///
 /// Errors: those of `mm_lex::tokens`. Cost: the size of the text.
 pub fn token_span(
@@ -31,8 +33,10 @@ pub fn token_span(
     Ok(token_span_within(text, spans.as_slice(), statement, token))
 }
 
-/// Returns the span of a token of a statement, both counted from 1, or `None` if there are too few
-/// tokens. `spans` are the spans of the text's tokens.
+/// Returns the span of the token with number `token` in the statement with number `statement`, both
+/// from 1. A number above those of the statement's own tokens counts on into the later statements.
+/// Returns `None` if `spans` has no such token. `spans` are meant to be those of all tokens, in
+/// order; the clause requires only that each is that of a word of the text.
 ///
 /// Cost: the number of tokens before it.
 pub fn token_span_within(
@@ -45,7 +49,7 @@ pub fn token_span_within(
     requires some { (1 ≤ statement) × (1 ≤ token) }
     ensures { result ≡ slice_get spans.now (index_after_ends (statement - 1) (words text.now spans.now) + (token - 1)) }
 {
-    let first = first_token(text, spans, statement);
+    let first = first_token_index(text, spans, statement);
     let rest = &spans[first..];
     rest.get(token - 1).copied()
 }
@@ -54,7 +58,7 @@ pub fn token_span_within(
 /// tokens if there are fewer statements.
 ///
 /// Cost: the number of tokens before it.
-pub(crate) fn first_token(text: &[u8], spans: &[Span], statement: usize) -> usize
+pub(crate) fn first_token_index(text: &[u8], spans: &[Span], statement: usize) -> usize
     requires words { All (IsWordAt text.now) spans.now }
     requires some { 1 ≤ statement }
     ensures first { result ≡ index_after_ends (statement - 1) (words text.now spans.now) }
@@ -80,16 +84,17 @@ pub(crate) fn ends_statement(word: &[u8]) -> bool
 }
 
 /// Returns the index in `spans` of the first token of the statement that contains the token at
-/// index `token`.
+/// `token_index` or, if `token_index` is the number of tokens, of the statement that the end of the
+/// text cuts off.
 ///
-/// Cost: the number of tokens before the token at `token`.
-pub fn statement_start(text: &[u8], spans: &[Span], token: usize) -> usize
+/// Cost: the number of tokens before the token at `token_index`.
+pub fn statement_start_index(text: &[u8], spans: &[Span], token_index: usize) -> usize
     requires words { All (IsWordAt text.now) spans.now }
-    requires within { token ≤ length spans.now }
-    ensures { BeginsStatement (words text.now spans.now) token result }
+    requires within { token_index ≤ length spans.now }
+    ensures { BeginsStatement (words text.now spans.now) token_index result }
 {
     let mut start = 0;
-    for (i, span) in spans[..token].iter().enumerate() {
+    for (i, span) in spans[..token_index].iter().enumerate() {
         if ends_statement(&text[span.start..span.end]) {
             start = i + 1;
         }

@@ -1,5 +1,5 @@
 -- Writes one after another, and the texts of rows one after another.
-use Rattle.proof_pages.proofs.Words.{◌≡◌, ℕ, suc, ◌+◌, ◌<◌, ◌≤◌, List, [], ◌∷◌, ◌++◌, length, take, get_or, Option, Some, None, Result, Ok, Err, OnOk, Appends, sym, ◌∙◌, ap, subst, arith, append-nil, append_assoc, take_more, take_all, length-take-le, concat_texts, WroteBuffered}
+use Rattle.proof_pages.proofs.Words.{◌≡◌, ℕ, suc, ◌+◌, ◌<◌, ◌≤◌, List, [], ◌∷◌, ◌++◌, length, take, get_or, Option, Some, None, Result, Ok, Err, OnOk, Appends, sym, ◌∙◌, ap, subst, arith, append-nil, append_assoc, take_more, take_all, length-take-le, concat_texts, IsWrittenThenBuffered}
 
 -- writing one text and then another writes both
 pub appends_on : (a b c : Option (List ℕ)) (x y : List ℕ) → Appends a b x → Appends b c y → Appends a c (x ++ y)
@@ -9,7 +9,7 @@ appends_on (Some xs) (Some ys) None x y h k = absurd k
 appends_on (Some xs) (Some ys) (Some zs) x y h k = k ∙ (ap (λ s. s ++ y) h ∙ append_assoc xs x y)
 
 -- a text is added to the buffer, and part of the buffer may be written
-pub wrote_on : (a b c : Option (List ℕ)) (buffered text later more : List ℕ) → WroteBuffered a b buffered text → WroteBuffered b c later (buffered ++ more) → WroteBuffered a c later (text ++ more)
+pub wrote_on : (a b c : Option (List ℕ)) (buffered text later more : List ℕ) → IsWrittenThenBuffered a b buffered text → IsWrittenThenBuffered b c later (buffered ++ more) → IsWrittenThenBuffered a c later (text ++ more)
 wrote_on a b c buffered text later more w v = record {
   written_bytes = w.written_bytes ++ v.written_bytes;
   appends = appends_on a b c w.written_bytes v.written_bytes w.appends v.appends;
@@ -17,7 +17,7 @@ wrote_on a b c buffered text later more w v = record {
 }
 
 -- when the buffered part is written, the text is written
-pub wrote_all : (a b c : Option (List ℕ)) (buffered text : List ℕ) → WroteBuffered a b buffered text → Appends b c buffered → Appends a c text
+pub wrote_all : (a b c : Option (List ℕ)) (buffered text : List ℕ) → IsWrittenThenBuffered a b buffered text → Appends b c buffered → Appends a c text
 wrote_all a b c buffered text w h = subst (λ s. Appends a c s) w.whole (appends_on a b c w.written_bytes buffered w.appends h)
 
 texts-more : {A : Type 0} (f : ℕ → A → List ℕ) (index : ℕ) (rows : List A) (r : A) → concat_texts f index (rows ++ r ∷ []) ≡ concat_texts f index rows ++ f (index + length rows) r
@@ -35,15 +35,15 @@ texts_grow f rows i d h =
     ∙ ap (λ n. concat_texts f 0 (take i rows) ++ f n (get_or rows i d)) (let e = length-take-le i rows (omega (arith, h)) in omega (arith, e)))
 
 -- the text of one more row is added, and part of the buffer may be written
-pub row_on : {A : Type 0} (f : ℕ → A → List ℕ) (rows : List A) (i : ℕ) (d : A) (head : List ℕ) (a b c : Option (List ℕ)) (buffered later new : List ℕ) → i < length rows → WroteBuffered a b buffered (head ++ concat_texts f 0 (take i rows))
-    → new ≡ buffered ++ f i (get_or rows i d) → WroteBuffered b c later new → WroteBuffered a c later (head ++ concat_texts f 0 (take (i + 1) rows))
+pub row_on : {A : Type 0} (f : ℕ → A → List ℕ) (rows : List A) (i : ℕ) (d : A) (head : List ℕ) (a b c : Option (List ℕ)) (buffered later new : List ℕ) → i < length rows → IsWrittenThenBuffered a b buffered (head ++ concat_texts f 0 (take i rows))
+    → new ≡ buffered ++ f i (get_or rows i d) → IsWrittenThenBuffered b c later new → IsWrittenThenBuffered a c later (head ++ concat_texts f 0 (take (i + 1) rows))
 row_on f rows i d head a b c buffered later new h w e v =
-    subst (λ t. WroteBuffered a c later t) (append_assoc head (concat_texts f 0 (take i rows)) (f i (get_or rows i d)) ∙ sym (ap (λ t. head ++ t) (texts_grow f rows i d h)))
-    (wrote_on a b c buffered (head ++ concat_texts f 0 (take i rows)) later (f i (get_or rows i d)) w (subst (λ s. WroteBuffered b c later s) e v))
+    subst (λ t. IsWrittenThenBuffered a c later t) (append_assoc head (concat_texts f 0 (take i rows)) (f i (get_or rows i d)) ∙ sym (ap (λ t. head ++ t) (texts_grow f rows i d h)))
+    (wrote_on a b c buffered (head ++ concat_texts f 0 (take i rows)) later (f i (get_or rows i d)) w (subst (λ s. IsWrittenThenBuffered b c later s) e v))
 
 -- when all rows are added, the rest of the buffer is written with the tail
 pub end_on : {T E A : Type 0} (r : Result T E) (f : ℕ → A → List ℕ) (rows : List A) (i : ℕ) (head tail : List ℕ) (a b c : Option (List ℕ)) (buffered bytes : List ℕ) → length rows ≤ i
-    → WroteBuffered a b buffered (head ++ concat_texts f 0 (take i rows)) → bytes ≡ buffered ++ tail → OnOk r (Appends b c bytes) → OnOk r (Appends a c (head ++ concat_texts f 0 rows ++ tail))
+    → IsWrittenThenBuffered a b buffered (head ++ concat_texts f 0 (take i rows)) → bytes ≡ buffered ++ tail → OnOk r (Appends b c bytes) → OnOk r (Appends a c (head ++ concat_texts f 0 rows ++ tail))
 end_on (Ok v) f rows i head tail a b c buffered bytes h w e k =
     subst (λ rs. Appends a c (head ++ concat_texts f 0 rs ++ tail)) (take_all i rows h)
     (wrote_all a b c (buffered ++ tail) (head ++ concat_texts f 0 (take i rows) ++ tail)

@@ -7,21 +7,21 @@ use Rattle.proof_pages.specs.declared.index.TheConstants.{INDEX_START}
 use Rattle.proof_pages.specs.Notations.{page_link}
 use Rattle.proof_pages.specs.StepLines.{concat_texts}
 
--- the kind: axiom or theorem
-abbrev pub kind_cell : List ℕ → List ℕ
-kind_cell kind = codes "<tr><td>" ++ kind ++ codes "<td>"
+-- the start of a row, and in it the kind: axiom or theorem
+abbrev pub row_start_with_kind : List ℕ → List ℕ
+row_start_with_kind kind = codes "<tr><td>" ++ kind ++ codes "<td>"
 
 abbrev pub expr_cell : Expr → List ℕ
 expr_cell expr = codes "<td>" ++ html_text (spaced expr) ++ codes "\n"
 
--- kind, label as a link to the page of the assertion at this position, expression
-abbrev pub index_cells : List ℕ → Name → Expr → ℕ → List ℕ
-index_cells kind label expr position = kind_cell kind ++ page_link label position ++ expr_cell expr
+-- the row of an assertion: kind, label as a link to the page of the assertion at this position, expression
+abbrev pub assertion_row : List ℕ → Name → Expr → ℕ → List ℕ
+assertion_row kind label expr position = row_start_with_kind kind ++ page_link label position ++ expr_cell expr
 
 -- the row of the statement at this index, counted from 0, if it is an assertion
 abbrev pub index_row : ℕ → Stmt → List ℕ
-index_row index (Axiom label expr) = index_cells (codes "axiom") label expr (index + 1)
-index_row index (Prove label expr proof) = index_cells (codes "theorem") label expr (index + 1)
+index_row index (Axiom label expr) = assertion_row (codes "axiom") label expr (index + 1)
+index_row index (Prove label expr proof) = assertion_row (codes "theorem") label expr (index + 1)
 index_row index s = []
 
 -- a row for each assertion, in order

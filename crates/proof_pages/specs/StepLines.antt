@@ -8,13 +8,13 @@ use Rattle.proof_pages.specs.Words.{Name, Database, stmt_at, name_at, label_or_n
 abbrev pub number_text : ℕ → List ℕ
 number_text index = decimal (index + 1)
 
-abbrev pub after_comma : ℕ → List ℕ
-after_comma index = codes "," ++ number_text index
+abbrev pub comma_and_number : ℕ → List ℕ
+comma_and_number index = codes "," ++ number_text index
 
 -- the numbers of the steps that are taken, or `-` if there are none
 abbrev pub taken_text : List ℕ → List ℕ
 taken_text [] = codes "-"
-taken_text (index ∷ indexes) = number_text index ++ flat_map after_comma indexes
+taken_text (index ∷ indexes) = number_text index ++ flat_map comma_and_number indexes
 
 -- a symbol after a space
 abbrev pub symbol_text : List Name → ℕ → List ℕ
@@ -28,7 +28,7 @@ abbrev pub step_line : Database → List Name → ℕ → Row → List ℕ
 step_line S names index row =
     number_text index ++ codes " " ++ taken_text row.step.taken ++ codes " " ++ label_or_none (stmt_at S row.step.position) ++ expr_text names row.expr ++ codes "\n"
 
--- the concatenated texts of the elements of a list, the first of which has this index
+-- `text` of each element with its index, joined; the first element has this index
 abbrev pub concat_texts : {A : Type 0} → (ℕ → A → List ℕ) → ℕ → List A → List ℕ
 concat_texts text index [] = []
 concat_texts text index (element ∷ elements) = text index element ++ concat_texts text (suc index) elements

@@ -20,12 +20,12 @@ number_and_links_html id_prefix index taken = number_text index ++ codes "<td>" 
 
 -- label, expression
 abbrev pub row_rest : Bool → Database → List Name → List ℕ → ℕ → List ℕ → List ℕ
-row_rest linked S names classes position expr = label_at_html linked S position ++ codes "<td>" ++ expr_html names classes expr ++ codes "\n"
+row_rest linked S names css_classes position expr = label_at_html linked S position ++ codes "<td>" ++ expr_html names css_classes expr ++ codes "\n"
 
 -- number, links to the steps taken, label, expression
 abbrev pub step_html : Bool → Database → List Name → List ℕ → List ℕ → ℕ → Row → List ℕ
-step_html linked S names classes id_prefix index row =
-    row_start id_prefix index ++ number_and_links_html id_prefix index row.step.taken ++ row_rest linked S names classes row.step.position row.expr
+step_html linked S names css_classes id_prefix index row =
+    row_start id_prefix index ++ number_and_links_html id_prefix index row.step.taken ++ row_rest linked S names css_classes row.step.position row.expr
 
 -- the label of the statement at a position as an item of a list
 abbrev pub item_html : Bool → Database → ℕ → List ℕ

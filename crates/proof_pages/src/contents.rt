@@ -8,10 +8,11 @@ use steps::ProofTable;
 pub struct PageContents<'a> {
     /// All statements of the database.
     pub statements: &'a [Stmt],
+    /// The frames of these statements (no clause requires it).
     pub frames: &'a Frames,
     /// The position of the assertion.
     pub at: usize,
-    /// The steps of its proof, if it has one.
+    /// The steps of its proof, if it is a theorem (no clause requires it).
     pub proof: Option<ProofSteps<'a>>,
     /// The axioms, citing theorems and description that the page shows.
     pub related: RelatedItems<'a>,

@@ -1,4 +1,4 @@
-//! The frame of an assertion on its page.
+//! The frame of an assertion on its page, and a legend of its colours.
 ghost use Rattle.mm_read.specs.declared.stmt.Stmt.{Stmt as Statement};
 ghost use Rattle.frame.specs.FrameOf.{HasAssertion};
 
@@ -10,7 +10,8 @@ use entries::Groups;
 use frame::FrameBuffers;
 use std::alloc::{AllocError, Global};
 
-/// Appends the mandatory hypotheses, the disjoint variables, and the colour of each typecode.
+/// Appends the mandatory hypotheses, the disjoint variables, and a legend: the typecode of each `$f` that is a
+/// hypothesis or that a step cites, in the colour of its variables.
 pub fn push_frame(
     alloc: Global,
     page: &mut Vec<u8>,
@@ -116,18 +117,18 @@ fn push_groups(
     page.extend_from_slice(b"</ul>\n")
 }
 
-/// Appends each typecode in the colour of its variables.
+/// Appends each typecode that has a CSS class, in the colour of its variables.
 fn push_legend(page: &mut Vec<u8>, notation: &Notation<'_>) -> Result<(), AllocError> {
-    let colours = notation.colours;
-    if colours.class_typecodes.is_empty() {
+    let css_classes = notation.css_classes;
+    if css_classes.class_typecodes.is_empty() {
         return Ok(());
     }
     page.extend_from_slice(b"<p class=\"legend\">Variables:")?;
-    let mut class = 0u32;
-    for typecode in &colours.class_typecodes {
-        class = class.saturating_add(1);
+    let mut css_class = 0u32;
+    for typecode in &css_classes.class_typecodes {
+        css_class = css_class.saturating_add(1);
         page.extend_from_slice(b" ")?;
-        push_coloured(page, class, notation.frames.symbol(*typecode))?;
+        push_coloured(page, css_class, notation.frames.symbol(*typecode))?;
     }
     page.extend_from_slice(b"</p>\n")
 }

@@ -2,17 +2,17 @@
 ghost use Rattle.std.specs.Prelude.{◌≡◌, ◌<◌, ◌++◌, length, slice_get, Some, OnOk};
 ghost use Rattle.std.specs.Io.KnownBytes.{Appends};
 ghost use Rattle.mm_read.specs.declared.stmt.Stmt.{Stmt as Statement};
-ghost use Rattle.proof_pages.specs.Indexes.{kind_cell, expr_cell, index_cells, index_row, index_text};
+ghost use Rattle.proof_pages.specs.Indexes.{row_start_with_kind, expr_cell, assertion_row, index_row, index_text};
 
 use crate::notation::push_page_link;
-use crate::writing::{WriteFault, flush, flush_if_full};
+use crate::writing::{WriteFault, write_buffered, write_if_full};
 use markup::push_html;
 use mm_lex::Words;
 use mm_read::Stmt;
 use std::alloc::{AllocError, Global};
 use std::io::Write;
 
-/// The start of the index, before its rows.
+/// The start of the index, before its rows. Its title says "statements"; the rows are those of the assertions.
 pub const INDEX_START: &[u8] =
     b"<!DOCTYPE html>\n<html lang=\"en\">\n<head>\n<meta charset=\"utf-8\">\n<meta name=\"viewport\" content=\"width=device-width, initial-scale=1\">\n<title>All statements</title>\n<link rel=\"stylesheet\" href=\"style.css\">\n</head>\n<body>\n<h1>All statements</h1>\n<table>\n<thead>\n<tr><th>Kind</th><th>Label</th><th>Expression</th></tr>\n</thead>\n<tbody>\n";
 
@@ -33,10 +33,10 @@ pub fn write_index<W: Write>(
     text.extend_from_slice(INDEX_START)?;
     for index in 0..statements.len() {
         push_row_at(&mut text, statements, index)?;
-        flush_if_full(out, &mut text)?;
+        write_if_full(out, &mut text)?;
     }
     text.extend_from_slice(b"</tbody>\n</table>\n</body>\n</html>\n")?;
-    flush(out, &text)
+    write_buffered(out, &text)
 }
 
 /// Appends the row of the statement at an index.
@@ -55,17 +55,17 @@ fn push_row(text: &mut Vec<u8>, statement: &Stmt, index: usize) -> Result<(), Al
     let position = index.checked_add(1).ok_or(AllocError)?;
     match statement {
         Stmt::Axiom { label, expr } => {
-            push_cells(text, b"axiom", label.as_bytes(), expr, position)
+            push_assertion_row(text, b"axiom", label.as_bytes(), expr, position)
         }
         Stmt::Prove { label, expr, .. } => {
-            push_cells(text, b"theorem", label.as_bytes(), expr, position)
+            push_assertion_row(text, b"theorem", label.as_bytes(), expr, position)
         }
         _ => Ok(()),
     }
 }
 
-/// Appends the cells of an assertion.
-fn push_cells(
+/// Appends the row of an assertion.
+fn push_assertion_row(
     text: &mut Vec<u8>,
     kind: &[u8],
     label: &[u8],
@@ -73,15 +73,15 @@ fn push_cells(
     position: usize,
 ) -> Result<(), AllocError>
     ensures { OnOk result (text.new.items
-        ≡ text.old.items ++ index_cells kind.now label.now expr.now position) }
+        ≡ text.old.items ++ assertion_row kind.now label.now expr.now position) }
 {
-    push_kind(text, kind)?;
+    push_row_start_with_kind(text, kind)?;
     push_page_link(text, label, position)?;
     push_expr_cell(text, expr)
 }
 
-fn push_kind(text: &mut Vec<u8>, kind: &[u8]) -> Result<(), AllocError>
-    ensures { OnOk result (text.new.items ≡ text.old.items ++ kind_cell kind.now) }
+fn push_row_start_with_kind(text: &mut Vec<u8>, kind: &[u8]) -> Result<(), AllocError>
+    ensures { OnOk result (text.new.items ≡ text.old.items ++ row_start_with_kind kind.now) }
 {
     text.extend_from_slice(b"<tr><td>")?;
     text.extend_from_slice(kind)?;

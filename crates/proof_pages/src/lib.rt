@@ -1,15 +1,16 @@
 //! Writes proofs for readers: the steps as lines of text, as a graph in the DOT language of Graphviz, and as an HTML
 //! page, alone or as part of a site.
 //!
-//! Every byte of a database is escaped: by `push_html` of `markup` in a page, by its `push_quoted` in a graph. Only a
-//! file name in a link needs no escape: `file_names` makes it from the label.
+//! Each label, symbol and description of a database is escaped in a page, by `push_html` of `markup`, and in a graph, by
+//! its `push_quoted`; a line of text has it as it is. A file name in a link needs no escape: `file_names` makes it from
+//! the label.
 //!
-//! Reading order: `step_lines`, `graph`, `writing`; `notation`, `rows`; `contents`, `colours`,
+//! Reading order: `step_lines`, `graph`, `writing`; `notation`, `rows`; `contents`, `css_classes`,
 //! `page_values`, `partition`, `style`, `opening`, `frame_part`, `proof_part`, `page`, `index`.
 #![tactic(auto)]
 
-mod colours;
 mod contents;
+mod css_classes;
 mod frame_part;
 mod graph;
 mod index;

@@ -1,9 +1,9 @@
 //! Symbols and labels on a page.
 ghost use Rattle.std.specs.Prelude.{◌≡◌, ◌++◌, Some, flat_map, OnOk};
 ghost use Rattle.verify.specs.Proves.{label_or_none};
-ghost use Rattle.proof_pages.specs.Notations.{first_class_html, variable_html, coloured, symbol_html, expr_html, link_start, page_link, label_html, label_at_html};
+ghost use Rattle.proof_pages.specs.Notations.{first_css_class_html, variable_html, coloured, symbol_html, expr_html, link_start, page_link, label_html, label_at_html};
 
-use crate::colours::Colours;
+use crate::css_classes::CssClasses;
 use file_names::push_file_name;
 use frame::{Frames, is_assertion};
 use markup::push_html;
@@ -16,62 +16,62 @@ use std::alloc::AllocError;
 pub(crate) struct Notation<'a> {
     /// The statements of the database.
     pub statements: &'a [Stmt],
-    /// Their frames, which have the name of each symbol number.
+    /// The frames of these statements; they also give each symbol number its name.
     pub frames: &'a Frames,
-    /// The colours of the variables.
-    pub colours: &'a Colours,
+    /// The CSS classes of the variables.
+    pub css_classes: &'a CssClasses,
     /// Whether the label of an assertion is a link to its page.
     pub is_linked: bool,
 }
 
-/// Appends a name in the colour of its class; class 0 has no colour.
-pub fn push_coloured(page: &mut Vec<u8>, class: u32, name: &[u8]) -> Result<(), AllocError>
-    ensures { OnOk result (page.new.items ≡ page.old.items ++ coloured class name.now) }
+/// Appends a name in the colour of its CSS class; 0 is no class.
+pub fn push_coloured(page: &mut Vec<u8>, css_class: u32, name: &[u8]) -> Result<(), AllocError>
+    ensures { OnOk result (page.new.items ≡ page.old.items ++ coloured css_class name.now) }
 {
-    if class == 0 {
+    if css_class == 0 {
         push_html(page, name)
-    } else if class == 1 {
-        push_first_class(page, name)
+    } else if css_class == 1 {
+        push_first_css_class(page, name)
     } else {
-        push_variable(page, class, name)
+        push_variable(page, css_class, name)
     }
 }
 
-/// Appends a name in the colour of the first class, which needs no attribute.
-fn push_first_class(page: &mut Vec<u8>, name: &[u8]) -> Result<(), AllocError>
-    ensures { OnOk result (page.new.items ≡ page.old.items ++ first_class_html name.now) }
+/// Appends a name in the colour of the first CSS class, which needs no attribute.
+fn push_first_css_class(page: &mut Vec<u8>, name: &[u8]) -> Result<(), AllocError>
+    ensures { OnOk result (page.new.items ≡ page.old.items ++ first_css_class_html name.now) }
 {
     page.extend_from_slice(b"<var>")?;
     push_html(page, name)?;
     page.extend_from_slice(b"</var>")
 }
 
-fn push_variable(page: &mut Vec<u8>, class: u32, name: &[u8]) -> Result<(), AllocError>
-    ensures { OnOk result (page.new.items ≡ page.old.items ++ variable_html class name.now) }
+fn push_variable(page: &mut Vec<u8>, css_class: u32, name: &[u8]) -> Result<(), AllocError>
+    ensures { OnOk result (page.new.items ≡ page.old.items ++ variable_html css_class name.now) }
 {
     page.extend_from_slice(b"<var class=\"k")?;
-    push_number(page, class as u64)?;
+    push_number(page, css_class as u64)?;
     page.extend_from_slice(b"\">")?;
     push_html(page, name)?;
     page.extend_from_slice(b"</var>")
 }
 
-/// Appends a symbol after a space, in the colour of its class.
+/// Appends a symbol after a space, in the colour of its CSS class.
 fn push_html_symbol(
     page: &mut Vec<u8>,
     notation: &Notation<'_>,
     symbol: u32,
 ) -> Result<(), AllocError>
     ensures { OnOk result (page.new.items ≡ page.old.items
-        ++ symbol_html notation.now.frames.now.names notation.now.colours.now.classes.items symbol) }
+        ++ symbol_html notation.now.frames.now.names notation.now.css_classes.now.by_symbol.items symbol) }
 {
-    let colours = notation.colours;
-    let class = match colours.classes.get(symbol as usize) {
-        Some(class) => *class,
+    let css_classes = notation.css_classes;
+    let css_class = match css_classes.by_symbol.get(symbol as usize) {
+        Some(css_class) => *css_class,
         None => 0,
     };
     page.extend_from_slice(b" ")?;
-    push_coloured(page, class, notation.frames.symbol(symbol))
+    push_coloured(page, css_class, notation.frames.symbol(symbol))
 }
 
 /// Appends the symbols of an expression, each after a space.
@@ -81,7 +81,7 @@ pub fn push_html_expr(
     expr: &[u32],
 ) -> Result<(), AllocError>
     ensures { OnOk result (page.new.items ≡ page.old.items
-        ++ expr_html notation.now.frames.now.names notation.now.colours.now.classes.items expr.now) }
+        ++ expr_html notation.now.frames.now.names notation.now.css_classes.now.by_symbol.items expr.now) }
 {
     for symbol in expr {
         push_html_symbol(page, notation, *symbol)?;

@@ -2,24 +2,25 @@
 ghost use Rattle.mm_read.specs.declared.stmt.Stmt.{Stmt as Statement};
 ghost use Rattle.frame.specs.FrameOf.{HasAssertion};
 
-use crate::colours::Colours;
 use crate::contents::PageContents;
+use crate::css_classes::CssClasses;
 use crate::frame_part::push_frame;
 use crate::notation::Notation;
 use crate::opening::push_opening;
 use crate::page_values::PageValues;
 use crate::proof_part::{push_cited_by, write_proof};
-use crate::writing::{WriteFault, flush};
+use crate::writing::{WriteFault, write_buffered};
 use frame::Frames;
 use std::alloc::{AllocError, Global};
 use std::io::Write;
 
-/// Writes the page of an assertion as a file of its own: the assertion with its description, if `contents` has one,
-/// its hypotheses and its disjoint variables; its essential steps, also all steps if `shows_all_steps`, the axioms that it
-/// rests on, and the theorems that cite it.
+/// Writes a page that stands alone: the assertion, its description if `contents` has one, its hypotheses and disjoint
+/// variables; if `contents` has a proof, the essential steps, with `shows_all_steps` also all steps, and the axioms that
+/// the assertion rests on; then the theorems that cite it.
 ///
-/// Errors: `Memory`, `Output`; part of the page may be written then. Cost: the size of the page, and the number of all
-/// steps; buffers at most 64 KiB and one part of the page.
+/// Errors: `Memory`, `Output`; part of the page may be written then. Cost: the size of the page, the number of all
+/// steps, and tables up to the greatest symbol number; buffers at most 64 KiB, one row of steps, and all that
+/// the page has besides the steps.
 pub fn write_page<W: Write>(
     alloc: Global,
     out: &mut W,
@@ -32,8 +33,8 @@ pub fn write_page<W: Write>(
 }
 
 /// Writes the page of an assertion as part of a site: the page of `write_page` with only the
-/// essential steps, and with its kind and links to the style sheet, to the index and to the pages of
-/// the assertions that it names.
+/// essential steps, with the word "Theorem" if `contents` has a proof and else "Axiom", and with links to
+/// the style sheet, to the index and to the pages of the assertions that it names.
 ///
 /// Errors and cost: those of `write_page`.
 pub fn write_site_page<W: Write>(
@@ -46,7 +47,7 @@ pub fn write_site_page<W: Write>(
     write_contents(alloc, out, contents, true, false)
 }
 
-/// Finds the hypotheses and the colours, and writes the page.
+/// Finds the mandatory hypotheses and the CSS classes of the variables, and writes the page.
 fn write_contents<W: Write>(
     alloc: Global,
     out: &mut W,
@@ -57,13 +58,13 @@ fn write_contents<W: Write>(
     requires { (s : Statement) × HasAssertion contents.now.frames.now.statements contents.now.at s }
 {
     let hypotheses = hypotheses_of(alloc, contents.frames, contents.at)?;
-    let colours = colours_of(alloc, contents, &hypotheses)?;
+    let css_classes = css_classes_of(alloc, contents, &hypotheses)?;
     let values = PageValues {
         contents,
         notation: Notation {
             statements: contents.statements,
             frames: contents.frames,
-            colours: &colours,
+            css_classes: &css_classes,
             is_linked,
         },
         hypotheses: hypotheses.as_slice(),
@@ -87,10 +88,10 @@ fn write_parts<W: Write>(
     write_proof(alloc, out, &mut page, values)?;
     push_cited_by(&mut page, values)?;
     page.extend_from_slice(b"</body>\n</html>\n")?;
-    flush(out, &page)
+    write_buffered(out, &page)
 }
 
-/// Returns the mandatory hypotheses of the assertion at a position, by position.
+/// Returns the positions of the mandatory hypotheses of the assertion at a position.
 fn hypotheses_of(alloc: Global, frames: &Frames, at: usize) -> Result<Vec<u32>, AllocError>
     requires { (s : Statement) × HasAssertion frames.now.statements at s }
 {
@@ -99,21 +100,22 @@ fn hypotheses_of(alloc: Global, frames: &Frames, at: usize) -> Result<Vec<u32>, 
     Ok(hypotheses)
 }
 
-/// Returns the colours of the variables of the `$f` among the hypotheses and among the statements that the steps cite.
-fn colours_of(
+/// Returns the CSS classes of the variables: a variable has one if its `$f` is one of the hypotheses or is cited by a
+/// step.
+fn css_classes_of(
     alloc: Global,
     contents: &PageContents<'_>,
     hypotheses: &[u32],
-) -> Result<Colours, AllocError> {
-    let mut colours = Colours::new(alloc);
+) -> Result<CssClasses, AllocError> {
+    let mut css_classes = CssClasses::new(alloc);
     for position in hypotheses {
-        colours.record(contents.statements, contents.frames, *position as usize)?;
+        css_classes.record(contents.statements, contents.frames, *position as usize)?;
     }
     if let Some(proof) = &contents.proof {
         for index in 0..proof.steps.len() {
             let position = proof.steps.position(index);
-            colours.record(contents.statements, contents.frames, position)?;
+            css_classes.record(contents.statements, contents.frames, position)?;
         }
     }
-    Ok(colours)
+    Ok(css_classes)
 }

@@ -1,4 +1,4 @@
-//! Positions split by a test, for the part of a page that is shown and the part that is collapsed.
+//! Splits positions into those that a page shows and those that it collapses.
 use frame::Frames;
 use mm_read::Stmt;
 use std::alloc::{AllocError, Global};

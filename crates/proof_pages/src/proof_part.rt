@@ -4,12 +4,12 @@ use crate::notation::Notation;
 use crate::page_values::PageValues;
 use crate::partition::partition_by_typecode;
 use crate::rows::{push_html_step, push_labels};
-use crate::writing::{WriteFault, flush_if_full};
+use crate::writing::{WriteFault, write_if_full};
 use std::alloc::{AllocError, Global};
 use std::io::Write;
 use steps::ProofTable;
 
-/// Writes the proof and the axioms that it rests on, if there is a proof; the end may stay buffered.
+/// Writes the proof and the axioms that it rests on, if there is a proof. Bytes not yet written to `out` stay in `page`.
 pub fn write_proof<W: Write>(
     alloc: Global,
     out: &mut W,
@@ -26,7 +26,7 @@ pub fn write_proof<W: Write>(
     }
 }
 
-/// Writes the essential steps, and all steps in a collapsed section if the page is to have them.
+/// Writes the essential steps, and with `shows_all_steps` all steps in a collapsed section.
 fn write_tables<W: Write>(
     out: &mut W,
     page: &mut Vec<u8>,
@@ -43,7 +43,7 @@ fn write_tables<W: Write>(
     Ok(())
 }
 
-/// Writes the steps as a table; the end may stay buffered.
+/// Writes the steps as a table. Bytes not yet written to `out` stay in `page`.
 fn write_steps<W: Write>(
     out: &mut W,
     page: &mut Vec<u8>,
@@ -56,7 +56,7 @@ fn write_steps<W: Write>(
     )?;
     for index in 0..table.len() {
         push_html_step(page, notation, id_prefix, table, index)?;
-        flush_if_full(out, page)?;
+        write_if_full(out, page)?;
     }
     page.extend_from_slice(b"</tbody>\n</table>\n")?;
     Ok(())

@@ -1,4 +1,4 @@
-//! Rows of tables, and lists of labels. The end tags that HTML allows to omit are omitted.
+//! Rows of tables, and lists of labels. The end tags of rows, cells and items are omitted, as HTML allows.
 ghost use Rattle.std.specs.Prelude.{◌≡◌, ◌<◌, ◌++◌, length, get_or, flat_map, OnOk};
 ghost use Rattle.steps.specs.Rows.{no_row};
 ghost use Rattle.proof_pages.specs.TableRows.{link_html, row_start, number_and_links_html, row_rest, step_html, item_html, list_html, labels_html};
@@ -53,7 +53,7 @@ fn push_number_and_links(
     page.extend_from_slice(b"<td>")
 }
 
-/// Appends the label of the cited statement and the expression, and ends the row.
+/// Appends the label of the statement at a position and an expression, and ends the row.
 pub fn push_row_rest(
     page: &mut Vec<u8>,
     notation: &Notation<'_>,
@@ -62,7 +62,7 @@ pub fn push_row_rest(
 ) -> Result<(), AllocError>
     ensures { OnOk result (page.new.items ≡ page.old.items
         ++ row_rest notation.now.is_linked notation.now.statements.now notation.now.frames.now.names
-        notation.now.colours.now.classes.items position expr.now) }
+        notation.now.css_classes.now.by_symbol.items position expr.now) }
 {
     push_label_at(page, notation, position)?;
     page.extend_from_slice(b"<td>")?;
@@ -84,7 +84,7 @@ pub(crate) fn push_html_step(
     requires { index < length table.now }
     ensures { OnOk result (page.new.items ≡ page.old.items
         ++ step_html notation.now.is_linked notation.now.statements.now notation.now.frames.now.names
-        notation.now.colours.now.classes.items id_prefix.now index (get_or table.now index no_row)) }
+        notation.now.css_classes.now.by_symbol.items id_prefix.now index (get_or table.now index no_row)) }
 {
     push_row_start(page, id_prefix, index)?;
     push_number_and_links(page, id_prefix, index, table.taken(index))?;

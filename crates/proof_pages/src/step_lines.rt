@@ -3,7 +3,7 @@ ghost use Rattle.std.specs.Prelude.{◌≡◌, ◌<◌, ◌++◌, codes, length,
 ghost use Rattle.scope.specs.Active.{stmt_at};
 ghost use Rattle.verify.specs.Proves.{label_or_none};
 ghost use Rattle.steps.specs.Rows.{no_row};
-ghost use Rattle.proof_pages.specs.StepLines.{number_text, after_comma, taken_text, symbol_text, expr_text, step_line};
+ghost use Rattle.proof_pages.specs.StepLines.{number_text, comma_and_number, taken_text, symbol_text, expr_text, step_line};
 
 use frame::Frames;
 use numbers::push_number;
@@ -31,18 +31,18 @@ pub fn push_step_number(text: &mut Vec<u8>, index: usize) -> Result<(), AllocErr
     push_number(text, number)
 }
 
-fn push_after_comma(text: &mut Vec<u8>, index: usize) -> Result<(), AllocError>
-    ensures { OnOk result (text.new.items ≡ text.old.items ++ after_comma index) }
+fn push_comma_and_number(text: &mut Vec<u8>, index: usize) -> Result<(), AllocError>
+    ensures { OnOk result (text.new.items ≡ text.old.items ++ comma_and_number index) }
 {
     text.extend_from_slice(b",")?;
     push_step_number(text, index)
 }
 
 fn push_others(text: &mut Vec<u8>, indexes: &[usize]) -> Result<(), AllocError>
-    ensures { OnOk result (text.new.items ≡ text.old.items ++ flat_map after_comma indexes.now) }
+    ensures { OnOk result (text.new.items ≡ text.old.items ++ flat_map comma_and_number indexes.now) }
 {
     for index in indexes {
-        push_after_comma(text, *index)?;
+        push_comma_and_number(text, *index)?;
     }
     Ok(())
 }

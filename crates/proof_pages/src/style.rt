@@ -1,4 +1,5 @@
-//! The style of pages: light and dark, for wide screens and narrow ones. The first eight classes of variables have a colour.
+//! The style of pages: light and dark, for wide screens and narrow ones. The variables of the first eight CSS classes have
+//! colours of their own; those of any later class have the colour of the first.
 
 /// Returns the style sheet that the pages of a site share.
 pub fn style_sheet() -> &'static [u8] {

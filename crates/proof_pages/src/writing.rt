@@ -3,7 +3,7 @@ ghost use Rattle.std.specs.Prelude.{◌≡◌, [], codes, OnOk};
 ghost use Rattle.std.specs.Io.KnownBytes.{Appends};
 ghost use Rattle.proof_pages.specs.StepLines.{step_line, concat_texts};
 ghost use Rattle.proof_pages.specs.Graphs.{graph_text};
-ghost use Rattle.proof_pages.specs.Writing.{WroteBuffered};
+ghost use Rattle.proof_pages.specs.Writing.{IsWrittenThenBuffered};
 
 use crate::graph::{push_graph_header, push_node};
 use crate::step_lines::push_step;
@@ -27,23 +27,23 @@ impl From<AllocError> for WriteFault {
     }
 }
 
-/// The size of the buffer, in bytes, at which it is written.
-const BUFFER_SIZE: usize = 65_536;
+/// A buffer of at least this many bytes is written and cleared.
+const WRITE_THRESHOLD: usize = 65_536;
 
-/// Writes the buffered text and clears the buffer, if it has at least 64 KiB.
-pub(crate) fn flush_if_full<W: Write>(out: &mut W, text: &mut Vec<u8>) -> Result<(), WriteFault>
-    ensures { OnOk result (WroteBuffered (W.contents out.old) (W.contents out.new) text.new.items text.old.items) }
+/// Writes the buffered text and clears the buffer, if it has at least 64 KiB; else does nothing.
+pub(crate) fn write_if_full<W: Write>(out: &mut W, text: &mut Vec<u8>) -> Result<(), WriteFault>
+    ensures { OnOk result (IsWrittenThenBuffered (W.contents out.old) (W.contents out.new) text.new.items text.old.items) }
 {
-    if text.len() < BUFFER_SIZE {
+    if text.len() < WRITE_THRESHOLD {
         return Ok(());
     }
-    flush(out, text)?;
+    write_buffered(out, text)?;
     text.clear();
     Ok(())
 }
 
 /// Writes the buffered text.
-pub(crate) fn flush<W: Write>(out: &mut W, text: &[u8]) -> Result<(), WriteFault>
+pub(crate) fn write_buffered<W: Write>(out: &mut W, text: &[u8]) -> Result<(), WriteFault>
     ensures { OnOk result (Appends (W.contents out.old) (W.contents out.new) text.now) }
 {
     match out.write_all(text) {
@@ -69,9 +69,9 @@ pub fn write_plain<W: Write>(
     let mut text = Vec::new(alloc);
     for index in 0..table.len() {
         push_step(&mut text, frames, table, index)?;
-        flush_if_full(out, &mut text)?;
+        write_if_full(out, &mut text)?;
     }
-    flush(out, &text)
+    write_buffered(out, &text)
 }
 
 /// Writes the steps as a graph in the DOT language of Graphviz.
@@ -91,8 +91,8 @@ pub fn write_dot<W: Write>(
     push_graph_header(&mut text, label)?;
     for index in 0..table.len() {
         push_node(&mut text, frames, table, index)?;
-        flush_if_full(out, &mut text)?;
+        write_if_full(out, &mut text)?;
     }
     text.extend_from_slice(b"}\n")?;
-    flush(out, &text)
+    write_buffered(out, &text)
 }

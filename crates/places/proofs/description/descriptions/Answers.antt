@@ -10,7 +10,7 @@ loop-span-preserved c = record {
   within = c.in-Some.ensures.is_run.within;
   listed = listed_on c.args.text.now c.skip_runs.result c.loop-span.walk _ c.in-Some.span _ _ _
       (listed_later c.args.text.now c.loop-span.at c.skip_runs.result c.loop-span.walk _ c.loop-span.invariant.listed c.skip_runs.ensures.same)
-      c.in-Some.ensures.run refl c.in_ok-push_begun_description.ensures c.after_run-walk.ensures;
+      c.in-Some.ensures.run refl c.in_ok-push_description_if_begun.ensures c.state_after_run-walk.ensures;
 }
 
 pub returns : goal.returns

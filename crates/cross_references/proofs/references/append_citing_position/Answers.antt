@@ -1,6 +1,6 @@
 use Rattle.cross_references.proofs.Words.{◌-◌, arith}
 use Rattle.cross_references.proofs.PassLemmas.{list-set}
-use Rattle.cross_references.proofs.references.push_citing.Goals as goal
+use Rattle.cross_references.proofs.references.append_citing_position.Goals as goal
 
 pub returns : goal.returns
 returns c =

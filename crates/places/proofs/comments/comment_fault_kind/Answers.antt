@@ -1,5 +1,5 @@
 use Rattle.mm_lex.proofs.LanesLemmas.{allowed-take}
-use Rattle.places.proofs.comments.comment_fault.Goals as goal
+use Rattle.places.proofs.comments.comment_fault_kind.Goals as goal
 
 pub count_tokens-requires-clause-allowed : goal.count_tokens-requires-clause-allowed
 count_tokens-requires-clause-allowed c = allowed-take c.args.offset c.args.text.now c.requires.0

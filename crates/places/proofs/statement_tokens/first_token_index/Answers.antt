@@ -1,7 +1,7 @@
 use Rattle.places.proofs.Words.{◌<◌, ◌-◌, ◌∙◌, sym, ap, cond, arith, Span}
 use Rattle.places.proofs.TokenSpanLemmas.{one_token}
-use Rattle.places.proofs.statement_tokens.first_token.Goals as goal
-use Rattle.places.proofs.statement_tokens.first_token.Goals.{then-ends_statement, else-ends_statement}
+use Rattle.places.proofs.statement_tokens.first_token_index.Goals as goal
+use Rattle.places.proofs.statement_tokens.first_token_index.Goals.{then-ends_statement, else-ends_statement}
 
 pub loop-i-preserved : goal.loop-i-preserved
 loop-i-preserved c =

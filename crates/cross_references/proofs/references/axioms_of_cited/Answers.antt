@@ -1,6 +1,6 @@
 use Rattle.cross_references.proofs.Words.{[], arith, refl, OfSome, on_ok, lists_of, AddsAxiom}
 use Rattle.cross_references.proofs.ListLemmas.{in-at, has-some-next, has-some-all, those-collected}
-use Rattle.cross_references.proofs.references.axioms_at.Goals as goal
+use Rattle.cross_references.proofs.references.axioms_of_cited.Goals as goal
 
 pub add_axioms_of-requires-clause-axioms : goal.add_axioms_of-requires-clause-axioms
 add_axioms_of-requires-clause-axioms c = c.requires.axioms _ (in-at c.args.cited.now c.loop-position.position-index (omega (arith, c.loop-position-test.true)))

@@ -1,6 +1,6 @@
 use Rattle.cross_references.proofs.Words.{◌≡◌, IsTrue, ap, is_axiom}
 use Rattle.cross_references.proofs.ListLemmas.{has-as, on-ok}
-use Rattle.cross_references.proofs.references.add_axiom.Goals as goal
+use Rattle.cross_references.proofs.references.add_if_axiom.Goals as goal
 
 pub returns-in-Axiom : goal.returns-in-Axiom
 returns-in-Axiom c =

@@ -1,10 +1,10 @@
 use Rattle.cross_references.proofs.Words.{length, arith, refl, length-map, lists_of}
 use Rattle.cross_references.proofs.ListLemmas.{in-at}
 use Rattle.cross_references.proofs.PassLemmas.{citing-pushed, lists-count}
-use Rattle.cross_references.proofs.references.add_citing.Goals as goal
+use Rattle.cross_references.proofs.references.append_citing_position_to_all.Goals as goal
 
-pub push_citing-requires : goal.push_citing-requires
-push_citing-requires c =
+pub append_citing_position-requires : goal.append_citing_position-requires
+append_citing_position-requires c =
     let w = c.requires.within _ (in-at c.args.cited.now c.loop-position.position-index (omega (arith, c.loop-position-test.true))) in
     (w.0, omega (arith, w.1, c.loop-position.auto.cited_by))
 
@@ -12,5 +12,5 @@ pub loop-position-preserved : goal.loop-position-preserved
 loop-position-preserved c =
     let w = c.requires.within _ (in-at c.args.cited.now c.loop-position.position-index (omega (arith, c.loop-position-test.true))) in
     let count = lists-count c.args.cited_by.now in
-    citing-pushed c.args.at c.args.cited.now c.loop-position.position-index _ (lists_of c.args.cited_by.now) (lists_of c.loop-position.cited_by) (lists_of c.push_citing.new.cited_by)
-    c.requires.ascends (omega (arith, c.loop-position-test.true)) refl w.0 (omega (arith, w.1, count)) c.in_ok-push_citing.ensures c.loop-position.invariant
+    citing-pushed c.args.at c.args.cited.now c.loop-position.position-index _ (lists_of c.args.cited_by.now) (lists_of c.loop-position.cited_by) (lists_of c.append_citing_position.new.cited_by)
+    c.requires.ascends (omega (arith, c.loop-position-test.true)) refl w.0 (omega (arith, w.1, count)) c.in_ok-append_citing_position.ensures c.loop-position.invariant
