@@ -13,8 +13,8 @@ use numbers::push_number;
 use std::alloc::{AllocError, Global};
 use world::Carried;
 
-/// Returns the lines of `play` that reproduce the events. Each event is one line, except that a
-/// text with a line feed is offered by a line `offer-bytes` and the bytes after it.
+/// Returns the lines of `play` for the events, in order. Each event is one line, except that a text
+/// with a line feed is offered by a line `offer-bytes` and the bytes after it.
 ///
 /// Errors: an allocation fails. Cost: the size of the lines.
 pub fn event_lines(alloc: Global, events: &[Event<Carried>]) -> Result<Vec<u8>, AllocError>
@@ -29,7 +29,8 @@ pub fn event_lines(alloc: Global, events: &[Event<Carried>]) -> Result<Vec<u8>, 
     Ok(text)
 }
 
-/// Appends a line `events N`, where N is the count of the lines of the events, and these lines.
+/// Appends a line `events N` and the lines of the events. N is the number of their line feeds, those in
+/// offered texts included.
 ///
 /// Errors: an allocation fails. Cost: the size of the lines.
 pub fn push_events(

@@ -42,7 +42,7 @@ fn push_text_offer(text: &mut Vec<u8>, node: u8, submission: &Submission) -> Res
     }
 }
 
-/// Appends the line `offer-bytes` of a text, and the bytes of the text.
+/// Appends the line `offer-bytes` of a text, the bytes of the text, and a line feed.
 fn push_offer_bytes_text(
     text: &mut Vec<u8>,
     node: u8,

@@ -1,13 +1,13 @@
 -- Consecutive statements as jobs of a pool.
 -- Source: none; for the private functions of `statement_range` and `search`.
--- The code keeps a reference to all statements.
+-- The code also has the frames, of which the model has only the names.
 use Rattle.std.specs.Prelude.{◌≡◌, ℕ, ◌+◌, ◌-◌, ◌≤◌, List, length, Option}
 use Rattle.mm_lex.specs.Alphabet.{Name}
 use Rattle.library.specs.Words.{Database, bares}
 use Rattle.library.specs.Judging.{IsProvedIfProvable}
 use Rattle.verify_pool.specs.Least.{IsLeast}
 
--- statements, the list of names to which their frames give numbers, and the range after position `start`, up to `end`
+-- all statements, the names to which their frames give numbers, and a range: the positions after `start`, up to `end`
 pub record RangeView : Type 0 where
   pub statements : Database
   pub names : List Name

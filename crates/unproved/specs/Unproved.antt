@@ -1,6 +1,6 @@
 -- The `$p` that are not proved.
--- Source: Metamath, 4.2.6 and appendix B; that each is judged by itself is this project's choice.
--- The code judges a range of statements in parallel, and continues after each `$p` that is not proved.
+-- Source: Metamath, 4.2.6 and appendix B; that each is judged, whether or not earlier ones are proved, is this project's choice.
+-- The code judges ranges of statements one after another, and continues after each `$p` that is not proved.
 use Rattle.std.specs.Prelude.{◌≡◌, ℕ, ◌-◌, ◌<◌, ◌≤◌, List, [], ◌∷◌, get_or, slice_set, IsTrue, IsFalse, Some}
 use Rattle.library.specs.Words.{AllLegal, AreShaped, Stmt, Database, Prove, Axiom, bares, proof_of, stmt_at, is_unfinished}
 use Rattle.mm_read.specs.declared.stmt.Stmt.TheVariants.{Open}
@@ -37,7 +37,7 @@ assumed S (at ∷ list) = assumed (slice_set S (at - 1) (as_axiom (get_or S (at 
 abbrev pub IsPositionOf : ℕ → ℕ → Type 0
 IsPositionOf count at = (1 ≤ at) × (at ≤ count)
 
--- well-shaped and legal statements, with their rules and frames
+-- S is well shaped and legal, and the rules and the frames have been given exactly its statements, without their proofs
 pub record IsLegalDatabase (rules frames S : Database) : Type 0 where
   pub rules_are : rules ≡ bares S
   pub same : frames ≡ bares S

@@ -42,7 +42,7 @@ impl Model for LegalDatabase {
 }
 
 impl LegalDatabase {
-    /// Makes the frames of the statements of a text. Returns `None` if a statement is not legal or a
+    /// Makes a `LegalDatabase` of these statements, or returns `None` if one of them is not legal or a
     /// block is open at the end.
     ///
     /// Errors: an allocation fails. Cost: the size of the statements.
@@ -81,10 +81,12 @@ impl LegalDatabase {
     }
 
     /// Returns the positions, from 1 and ascending, of every `$p` that is not proved, each judged
-    /// against earlier statements. No answer depends on the number of workers.
+    /// against earlier statements. The list does not depend on the number of workers; whether `AllocError`
+    /// is returned may.
     ///
-    /// Errors: an allocation fails. Cost: that of the proofs, divided among the workers; in each range of
-    /// at most 2,048 statements the proofs after the first wrong one are judged again, on the calling thread.
+    /// Errors: an allocation fails. Cost: that of the proofs, divided among the workers. In each range of at
+    /// most 2,048 statements the calling thread may judge proofs again: those after the first wrong one, heavy
+    /// ones that a worker puts off, or all of them if an allocation fails for a worker.
     /// Source: Metamath, 4.2.6 and appendix B.
     pub fn unproved<R: Threads + Sync>(
         &self,
@@ -143,8 +145,8 @@ impl LegalDatabase {
         statements
     }
 
-    /// Returns the cause of refusing a text in which the `$p` at this position is not proved:
-    /// `Unfinished` if a token of its proof has the byte `?`, else `Proof`.
+    /// Returns the cause that names this position: `Unfinished` if a token of the proof there has the byte
+    /// `?`, else `Proof`. It is meant for a `$p` that is not proved.
     pub fn cause(&self, at: usize) -> Cause
         requires { IsPositionOf (length self.now) at }
         ensures { CauseAt self.now at result }
@@ -213,6 +215,7 @@ fn add_all(rules: &mut Rules, frames: &mut Frames, statements: &[Stmt]) -> Resul
         → IsLegalDatabase rules.new.statements frames.new.statements statements.now }
     ensures broken { result ≡ Ok false → ¬ AllLegal statements.now }
 {
+    // Room for as many labels as if every other statement had one.
     frames.reserve(statements.len() / 2);
     let mut steps = Steps::new();
     for statement in statements {

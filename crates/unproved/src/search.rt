@@ -12,7 +12,7 @@ use std::alloc::{AllocError, Global};
 use std::thread::Threads;
 use verify_pool::{Checkers, OpenGate, Workers, judge_all, judge_here};
 
-/// The largest number of statements in a range. The proofs of a range are judged in parallel.
+/// The largest number of statements in a range. Ranges are judged one after another.
 const MAX_IN_RANGE: usize = 2_048;
 
 /// Fewer statements than this are judged on the calling thread: starting threads would cost more.
@@ -30,8 +30,9 @@ pub(crate) struct Search<'a, R: Threads + Sync> {
 
 /// Returns the positions of the `$p` that are not proved, in order.
 ///
-/// Errors: an allocation fails. Cost: that of the proofs, divided among the workers, and once more
-/// that of the proofs that follow a wrong one in its range.
+/// Errors: an allocation fails. Cost: that of the proofs, divided among the workers. The calling thread
+/// may judge proofs again: those after a wrong one in its range, heavy ones that a worker puts off, or all
+/// of a range if an allocation fails for a worker.
 pub(crate) fn find_unproved<R: Threads + Sync>(
     search: &Search<'_, R>,
 ) -> Result<Vec<usize>, AllocError>
@@ -50,8 +51,8 @@ pub(crate) fn find_unproved<R: Threads + Sync>(
     Ok(list)
 }
 
-/// Returns the position of the last statement of the next range: that of the first `$p` with an
-/// unfinished proof, or else `start + MAX_IN_RANGE`, but at most that of the last statement of all.
+/// Returns the position where the range after `start` ends. A range ends with its first `$p` whose proof
+/// is unfinished; if it has none, after `MAX_IN_RANGE` statements or with the last statement of all.
 fn range_end(statements: &[Stmt], start: usize) -> usize
     requires { start < length statements.now }
     ensures later { start < result }

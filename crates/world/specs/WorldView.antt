@@ -54,7 +54,7 @@ pub record IsOfLog (log : List (Option Entry)) (node : NodeLibrary) : Type 0 whe
   pub within : node.applied ≤ length log
   pub library : IsLibraryOf (take node.applied log) node.library
 
--- there is one library for each node, each of its node's log
+-- there is one library for each node, made of the first entries of that node's log
 pub record AreLibrariesOfLogs (w : WorldView) : Type 0 where
   pub one_each : length w.libraries ≡ length w.history.weights
   pub of_logs : (k : ℕ) (node : NodeLibrary) → slice_get w.libraries k ≡ Some node → IsOfLog (log_entries w.history k) node
@@ -77,7 +77,8 @@ pub record IsApplied (old : WorldView) (k : ℕ) (entry : Option Entry) (verdict
   pub applies : Applies before.library entry verdict library
   pub becomes : new ≡ record { history = old.history; libraries = slice_set old.libraries k (record { applied = before.applied + 1; library = library }) }
 
--- the entry is applied with this verdict, or there is none; or an allocation fails, and nothing changes
+-- the entry is applied with this verdict, or `Memory` is returned and nothing changes; if there is no entry, `None` is returned
+-- and nothing changes
 abbrev pub AppliesNext : NodeLibrary → NodeLibrary → Option (Option Entry) → Result (Option Verdict) StepFault → Type 0
 AppliesNext old new None (Ok None) = new ≡ old
 AppliesNext old new None (Ok (Some verdict)) = ⊥

@@ -1,4 +1,4 @@
-//! Entries as the values that nodes agree on (`Carried`), and events on entries as events on values.
+//! Entries as the values that nodes agree on (`Carried`), and events that carry them.
 ghost use Rattle.std.specs.Prelude.{◌≡◌, IfOk};
 ghost use Rattle.world.specs.Carried.{value_event, entry_of, entries_of};
 ghost use Rattle.world.specs.WorldView.{node_restarted};

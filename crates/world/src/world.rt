@@ -43,7 +43,7 @@ impl World {
 
     /// Creates a world of new nodes, each with an empty library.
     ///
-    /// Errors: `Memory`.
+    /// Errors: `Memory`. Cost: a constant for each node.
     pub fn new(alloc: Global, weights: Weights) -> Result<Self, StepFault>
         ensures new { IfOk result (λ world. world ≡ new_world weights) }
         ensures only_memory { IsOkUnless result Memory }
@@ -58,6 +58,7 @@ impl World {
     /// Takes an event. Returns the number of packets posted so far. A restart discards the library of its node.
     ///
     /// Errors: the first fault that the event meets, or `Memory` if it meets none; the world is then as before.
+    /// Cost: that of `Net::step`; a restart also drops the library of its node.
     pub fn step(&mut self, event: Event<Entry>) -> Result<u64, StepFault>
         ensures taken { OnOk result (self.new ≡ after_event self.old (value_event event)) }
         ensures posted { IfOk result (λ count. count ≡ length (packets_after (world_of carried_size self.new.history))) }
@@ -93,6 +94,8 @@ impl World {
     }
 
     /// Returns the library of node `k`: that of the first entries of its log, as many as were applied. Does not allocate.
+    ///
+    /// Errors: `NoNode`.
     pub fn library(&self, k: u8) -> Result<&Library, StepFault>
         ensures library { IfOk result (λ library. IsSomeAnd (slice_get self.now.libraries k) (λ node. library.now.replica ≡ node.library)) }
         ensures no_node { length self.now.history.weights ≤ k → result ≡ Err NoNode }
@@ -115,6 +118,8 @@ impl World {
     }
 
     /// Returns the log of node `k`: what it learned, up to its first gap.
+    ///
+    /// Errors: `NoNode`; else `Memory`. Cost: the size of the log; each entry is copied.
     pub fn log(&self, k: u8) -> Result<Vec<Option<Entry>>, StepFault>
         ensures log { IfOk result (λ entries. entries.items ≡ log_entries self.now.history k) }
         ensures no_node { length self.now.history.weights ≤ k → result ≡ Err NoNode }
@@ -124,6 +129,8 @@ impl World {
     }
 
     /// Returns the state that node `k` reports. Does not allocate.
+    ///
+    /// Errors: `NoNode`.
     pub fn state(&self, k: u8) -> Result<NodeState, StepFault>
         ensures state { IfOk result (λ state. state_after (world_of carried_size self.now.history) k ≡ Some state) }
         ensures no_node { length self.now.history.weights ≤ k → result ≡ Err NoNode }
@@ -133,6 +140,8 @@ impl World {
     }
 
     /// Returns the number of entries of node `k`'s log that its library applied. Does not allocate.
+    ///
+    /// Errors: `NoNode`.
     pub fn applied(&self, k: u8) -> Result<u32, StepFault>
         ensures applied { IfOk result (λ applied. IsSomeAnd (slice_get self.now.libraries k) (λ node. applied ≡ node.applied)) }
         ensures no_node { length self.now.history.weights ≤ k → result ≡ Err NoNode }
@@ -145,6 +154,8 @@ impl World {
     }
 
     /// Returns the packet of that number, from 0 in the order of posting. Does not allocate.
+    ///
+    /// Errors: `NoPacket`.
     pub fn packet(&self, number: u64) -> Result<&Packet<Carried>, StepFault>
         ensures found { IfOk result (λ packet. slice_get (packets_after (world_of carried_size self.now.history)) number ≡ Some packet.now) }
         ensures no_packet { (result ≡ Err NoPacket) ↔ (slice_get (packets_after (world_of carried_size self.now.history)) number ≡ None) }
