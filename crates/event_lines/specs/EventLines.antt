@@ -28,45 +28,45 @@ abbrev pub number_line : List ℕ → ℕ → List ℕ
 number_line verb n = verb ++ spaced (decimal n ∷ []) ++ codes "\n"
 
 -- a node, an author and a serial number
-abbrev pub entry_words : ℕ → ℕ → ℕ → List (List ℕ)
-entry_words node author serial = decimal node ∷ decimal author ∷ decimal serial ∷ []
+abbrev pub node_author_serial_words : ℕ → ℕ → ℕ → List (List ℕ)
+node_author_serial_words node author serial = decimal node ∷ decimal author ∷ decimal serial ∷ []
 
 -- the line `offer`, with the text on it
 abbrev pub offer_line : ℕ → Submission → List ℕ
-offer_line node s = codes "offer" ++ spaced (entry_words node s.author s.serial) ++ codes " " ++ s.text ++ codes "\n"
+offer_line node s = codes "offer" ++ spaced (node_author_serial_words node s.author s.serial) ++ codes " " ++ s.text ++ codes "\n"
 
 -- the line `offer-bytes`, which ends with the count of the bytes of the text
 abbrev pub offer_bytes_line : ℕ → Submission → List ℕ
-offer_bytes_line node s = codes "offer-bytes" ++ spaced (entry_words node s.author s.serial) ++ spaced (decimal (length s.text) ∷ []) ++ codes "\n"
+offer_bytes_line node s = codes "offer-bytes" ++ spaced (node_author_serial_words node s.author s.serial) ++ spaced (decimal (length s.text) ∷ []) ++ codes "\n"
 
 -- the line `offer-bytes`, the bytes of the text, and a line feed
-abbrev pub offer_bytes_text : ℕ → Submission → List ℕ
-offer_bytes_text node s = offer_bytes_line node s ++ s.text ++ codes "\n"
+abbrev pub offer_bytes_lines : ℕ → Submission → List ℕ
+offer_bytes_lines node s = offer_bytes_line node s ++ s.text ++ codes "\n"
 
 -- the lines that offer a text: `offer-bytes` if it has a line feed, else `offer`
 abbrev pub text_offer_lines : ℕ → Submission → List ℕ
-text_offer_lines node s = if list_any (λ b. b == LINE_FEED) s.text then offer_bytes_text node s else offer_line node s
+text_offer_lines node s = if list_any (λ b. b == LINE_FEED) s.text then offer_bytes_lines node s else offer_line node s
 
 -- the lines that offer an entry at a node
 abbrev pub offer_lines : ℕ → Entry → List ℕ
 offer_lines node (Text submission) = text_offer_lines node submission
-offer_lines node (Charter author serial names) = codes "charter" ++ spaced (entry_words node author serial) ++ spaced (map decimal names) ++ codes "\n"
+offer_lines node (Charter author serial names) = codes "charter" ++ spaced (node_author_serial_words node author serial) ++ spaced (map decimal names) ++ codes "\n"
 
 -- the lines of an event
-abbrev pub event_text : Event Carried → List ℕ
-event_text (Offer node value) = offer_lines node value.0
-event_text (Begin node) = number_line (codes "begin") node
-event_text (Deliver number) = number_line (codes "deliver") number
-event_text (Restart node) = number_line (codes "restart") node
+abbrev pub lines_of_event : Event Carried → List ℕ
+lines_of_event (Offer node value) = offer_lines node value.0
+lines_of_event (Begin node) = number_line (codes "begin") node
+lines_of_event (Deliver number) = number_line (codes "deliver") number
+lines_of_event (Restart node) = number_line (codes "restart") node
 
 -- the lines of all events, in order
-abbrev pub events_text : List (Event Carried) → List ℕ
-events_text events = flat_map event_text events
+abbrev pub lines_of_events : List (Event Carried) → List ℕ
+lines_of_events events = flat_map lines_of_event events
 
 -- the line `events N`, where N is the number of line feeds of the lines of the events, and these lines
-abbrev pub history_text : List (Event Carried) → List ℕ
-history_text events =
-    codes "events " ++ decimal (count_by (λ b. b == LINE_FEED) (events_text events)) ++ codes "\n" ++ events_text events
+abbrev pub counted_event_lines : List (Event Carried) → List ℕ
+counted_event_lines events =
+    codes "events " ++ decimal (count_by (λ b. b == LINE_FEED) (lines_of_events events)) ++ codes "\n" ++ lines_of_events events
 
 -- the line of `play` for an event
 abbrev pub play_line_of_event : Event Carried → PlayLine

@@ -9,4 +9,4 @@ use Rattle.unproved.specs.Unproved.{AreUnproved, assumed}
 -- stays the same, and every other proof stays right
 abbrev pub AssumedIsGood : Type 0
 AssumedIsGood =
-    (S : Database) (list : List ℕ) → AllLegal S → AreUnproved S 0 (length S) list → Good (assumed S list)
+    (S : Database) (positions : List ℕ) → AllLegal S → AreUnproved S 0 (length S) positions → Good (assumed S positions)

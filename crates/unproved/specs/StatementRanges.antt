@@ -15,8 +15,8 @@ pub record RangeView : Type 0 where
   pub end : ℕ
 
 -- `start` is at most `end`, which is at most the number of statements, and the frames are those of the statements
-pub record IsRange (frames S : Database) (start end : ℕ) : Type 0 where
-  pub same : frames ≡ bares S
+pub record IsRangeWithFrames (frame_statements S : Database) (start end : ℕ) : Type 0 where
+  pub frames_are : frame_statements ≡ bares S
   pub order : start ≤ end
   pub within : end ≤ length S
 
@@ -25,6 +25,6 @@ abbrev pub IsProvedIn : RangeView → ℕ → Type 0
 IsProvedIn range k = IsProvedIfProvable range.statements (range.start + k + 1)
 
 -- the answer is the index, in the range, of the first `$p` that is not proved
-abbrev pub IsLeastIn : Database → ℕ → ℕ → Option ℕ → Type 0
-IsLeastIn S start end answer =
+abbrev pub IsFirstUnprovedIn : Database → ℕ → ℕ → Option ℕ → Type 0
+IsFirstUnprovedIn S start end answer =
     IsLeast (λ k. IsProvedIfProvable S (start + k + 1)) (end - start) answer

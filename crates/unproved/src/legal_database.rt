@@ -93,8 +93,8 @@ impl LegalDatabase {
         rt: &R,
         workers: Workers,
     ) -> Result<Vec<usize>, AllocError>
-        ensures list { IfOk result (λ list. AreUnproved self.now 0 (length self.now) list.items) }
-        ensures within { IfOk result (λ list. All (IsPositionOf (length self.now)) list.items) }
+        ensures positions { IfOk result (λ positions. AreUnproved self.now 0 (length self.now) positions.items) }
+        ensures within { IfOk result (λ positions. All (IsPositionOf (length self.now)) positions.items) }
     {
         let search = Search {
             rt,
@@ -111,12 +111,12 @@ impl LegalDatabase {
     ///
     /// Errors: an allocation fails. Cost: the size of the statements.
     #[tactic(auto, using(crate::proofs::AssumedGoodLemmas::good_assumed, crate::proofs::UnprovedLemmas::all_within))]
-    pub fn assume(self, unproved: &[usize]) -> Result<Library, AllocError>
+    pub fn into_assumed_library(self, unproved: &[usize]) -> Result<Library, AllocError>
         requires { AreUnproved self 0 (length self) unproved.now }
         ensures { IfOk result (λ library. library.replica ≡ holding (assumed self unproved.now)) }
     {
         let alloc = self.alloc;
-        let statements = self.assumed(unproved);
+        let statements = self.into_assumed_statements(unproved);
         library_of_good(alloc, statements)
     }
 
@@ -135,13 +135,13 @@ impl LegalDatabase {
     }
 
     /// Returns the statements, with each `$p` at one of these positions replaced by a `$a`.
-    fn assumed(self, unproved: &[usize]) -> Vec<Stmt>
+    fn into_assumed_statements(self, unproved: &[usize]) -> Vec<Stmt>
         requires { All (IsPositionOf (length self)) unproved.now }
         ensures is { result.items ≡ assumed self unproved.now }
         ensures shaped { AreShaped result.items }
     {
         let LegalDatabase { mut statements, .. } = self;
-        assume_all(&mut statements, unproved);
+        make_axioms(&mut statements, unproved);
         statements
     }
 
@@ -177,19 +177,19 @@ fn library_of_good(alloc: Global, statements: Vec<Stmt>) -> Result<Library, Allo
 }
 
 /// Replaces each `$p` at one of these positions by a `$a`.
-fn assume_all(statements: &mut Vec<Stmt>, unproved: &[usize])
+fn make_axioms(statements: &mut Vec<Stmt>, unproved: &[usize])
     requires within { All (IsPositionOf (length statements.old.items)) unproved.now }
     requires shaped { AreShaped statements.old.items }
     ensures is { statements.new.items ≡ assumed statements.old.items unproved.now }
     ensures shaped { AreShaped statements.new.items }
 {
     for at in unproved {
-        assume(&mut statements[*at - 1]);
+        make_axiom(&mut statements[*at - 1]);
     }
 }
 
 /// Replaces a `$p` by a `$a` with the same label and expression.
-fn assume(statement: &mut Stmt)
+fn make_axiom(statement: &mut Stmt)
     ensures { statement.new ≡ as_axiom statement.old }
 {
     let old = replace(statement, Stmt::Open);

@@ -17,13 +17,13 @@ pub(crate) struct StatementRange<'a> {
 }
 
 impl<'a> Model for StatementRange<'a> {
-    ghost use Rattle.unproved.specs.StatementRanges.{IsRange, RangeView};
+    ghost use Rattle.unproved.specs.StatementRanges.{IsRangeWithFrames, RangeView};
 
     ghost Value = { RangeView };
 
     ghost view = { λ a. record { statements = a.statements.now; names = a.frames.now.names; start = a.start; end = a.end } };
 
-    ghost invariant = { λ a. IsRange a.frames.now.statements a.statements.now a.start a.end };
+    ghost invariant = { λ a. IsRangeWithFrames a.frames.now.statements a.statements.now a.start a.end };
 }
 
 impl<'a> Work for StatementRange<'a> {

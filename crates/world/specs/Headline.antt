@@ -12,8 +12,8 @@ pub record IsLibraryIn (history : History Carried) (library : ReplicaState) : Ty
   pub world : World Carried
   pub moment : IsMoment carried_size history world
   pub node : ℕ
-  pub applied : ℕ
-  pub of_log : IsLibraryOf (take applied (entries_of (log world node))) library
+  pub count : ℕ
+  pub of_log : IsLibraryOf (take count (entries_of (log world node))) library
 
 -- the expression of the assertion at that position has a derivation from the hypotheses active there; each of its steps is an
 -- instance of an earlier assertion, by a substitution that meets the disjoint variable conditions

@@ -63,7 +63,7 @@ pub(crate) fn to_value_event(event: Event<Entry>) -> Event<Carried>
 }
 
 /// Returns the node that the event restarts, if it is a restart.
-pub(crate) fn restarted(event: &Event<Carried>) -> Option<u8>
+pub(crate) fn restarted_node(event: &Event<Carried>) -> Option<u8>
     ensures { result ≡ node_restarted event.now }
 {
     match event {

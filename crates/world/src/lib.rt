@@ -5,17 +5,17 @@
 //! `World`, `cluster` uses `NodeLibrary`; `run` serves tests.
 //!
 //! Reading order: the definitions in `specs/Carried`, `WorldView` and `Headline`; then the modules `carried`, `node_library`,
-//! `world`, `replay` and `laws`.
+//! `world`, `run_of_events` and `laws`.
 #![tactic(auto)]
 
 mod carried;
 mod laws;
 mod node_library;
-mod replay;
+mod run_of_events;
 mod world;
 
 pub use carried::Carried;
 pub use laws::headline;
 pub use node_library::NodeLibrary;
-pub use replay::run;
+pub use run_of_events::run;
 pub use world::World;

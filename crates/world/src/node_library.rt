@@ -71,10 +71,10 @@ impl NodeLibrary {
         requires { IsSome next → self.old.applied < SLOTS }
         ensures { AppliesNext self.old self.new (option_map (λ e. entry_of e.now) next.entry) result }
     {
-        let Some(entry) = next else {
+        let Some(value) = next else {
             return Ok(None);
         };
-        let verdict = self.library.apply(library_entry(entry))?;
+        let verdict = self.library.apply(library_entry(value))?;
         self.applied += 1;
         Ok(Some(verdict))
     }
@@ -94,22 +94,22 @@ impl NodeLibrary {
         requires { IsSome next → self.old.applied < SLOTS }
         ensures { AppliesNext self.old self.new (option_map (λ e. entry_of e.now) next.entry) result }
     {
-        let Some(entry) = next else {
+        let Some(value) = next else {
             return Ok(None);
         };
         let verdict = self
             .library
-            .apply_with(rt, library_entry(entry), workers, gate)?;
+            .apply_with(rt, library_entry(value), workers, gate)?;
         self.applied += 1;
         Ok(Some(verdict))
     }
 }
 
 /// Returns the entry that a library applies; `None` is the no-operation.
-fn library_entry(entry: &Option<Carried>) -> Option<&Entry>
-    ensures { option_map (λ e. e.now) result ≡ entry_of entry.now }
+fn library_entry(value: &Option<Carried>) -> Option<&Entry>
+    ensures { option_map (λ e. e.now) result ≡ entry_of value.now }
 {
-    match entry {
+    match value {
         Some(carried) => Some(&carried.0),
         None => None,
     }
@@ -127,10 +127,14 @@ pub(crate) fn new_libraries(alloc: Global, nodes: u8) -> Result<Vec<NodeLibrary>
 }
 
 /// Discards the library of the node that restarts, if one does.
-pub(crate) fn reset_library(alloc: Global, libraries: &mut Vec<NodeLibrary>, restarted: Option<u8>)
-    ensures { libraries.new.items ≡ with_library_reset libraries.old.items restarted }
+pub(crate) fn reset_library(
+    alloc: Global,
+    libraries: &mut Vec<NodeLibrary>,
+    restarted_node: Option<u8>,
+)
+    ensures { libraries.new.items ≡ with_library_reset libraries.old.items restarted_node }
 {
-    if let Some(k) = restarted {
+    if let Some(k) = restarted_node {
         if let Some(node_library) = libraries.get_mut(k as usize) {
             node_library.reset(alloc);
         }

@@ -7,7 +7,7 @@ ghost use Rattle.world.specs.Carried.{value_event, carried_size};
 ghost use Rattle.world.specs.WorldView.{log_entries, AppliesNext};
 ghost use Rattle.net.specs.declared.fault.StepFault.TheVariants.{NoNode, NoPacket, Memory};
 
-use crate::carried::{Carried, entries, restarted, to_value_event};
+use crate::carried::{Carried, entries, restarted_node, to_value_event};
 use crate::node_library::{NodeLibrary, new_libraries, reset_library};
 use library::{Entry, Library, Verdict};
 use net::{Event, MAX_EVENTS, Net, StepFault};
@@ -66,12 +66,12 @@ impl World {
         // A fault of the event is returned even if every allocation fails.
         ensures refused { IfErr (world_of carried_size (with_event self.old.history (value_event event))) (λ fault. result ≡ Err fault) }
         ensures only_memory { OnOk (world_of carried_size (with_event self.old.history (value_event event))) (IsOkUnless result Memory) }
-        ensures same { OnErr result (self.new ≡ self.old) }
+        ensures err { OnErr result (self.new ≡ self.old) }
     {
         let event = to_value_event(event);
-        let restarted = restarted(&event);
+        let restarted_node = restarted_node(&event);
         let posted = self.net.step(event)?;
-        reset_library(self.alloc, &mut self.libraries, restarted);
+        reset_library(self.alloc, &mut self.libraries, restarted_node);
         Ok(posted)
     }
 
@@ -84,20 +84,20 @@ impl World {
         ensures none { k < length self.old.history.weights → next_entry self.old k ≡ None → result ≡ Ok None }
         ensures no_node { length self.old.history.weights ≤ k → result ≡ Err NoNode }
         ensures only_memory { k < length self.old.history.weights → IsOkUnless result Memory }
-        ensures same { next_entry self.old k ≡ None → self.new ≡ self.old }
+        ensures same_if_none { next_entry self.old k ≡ None → self.new ≡ self.old }
         ensures err { OnErr result (self.new ≡ self.old) }
     {
         let Some(node_library) = self.libraries.get_mut(k as usize) else {
             return Err(StepFault::NoNode);
         };
-        apply_from(node_library, &self.net, k)
+        apply_next_of_log(node_library, &self.net, k)
     }
 
     /// Returns the library of node `k`: that of the first entries of its log, as many as were applied. Does not allocate.
     ///
     /// Errors: `NoNode`.
     pub fn library(&self, k: u8) -> Result<&Library, StepFault>
-        ensures library { IfOk result (λ library. IsSomeAnd (slice_get self.now.libraries k) (λ node. library.now.replica ≡ node.library)) }
+        ensures library { IfOk result (λ library. IsSomeAnd (slice_get self.now.libraries k) (λ node_library. library.now.replica ≡ node_library.library)) }
         ensures no_node { length self.now.history.weights ≤ k → result ≡ Err NoNode }
         ensures node { k < length self.now.history.weights → IsOk result }
         ensures of_logs { AreLibrariesOfLogs self.now }
@@ -143,7 +143,7 @@ impl World {
     ///
     /// Errors: `NoNode`.
     pub fn applied(&self, k: u8) -> Result<u32, StepFault>
-        ensures applied { IfOk result (λ applied. IsSomeAnd (slice_get self.now.libraries k) (λ node. applied ≡ node.applied)) }
+        ensures applied { IfOk result (λ applied. IsSomeAnd (slice_get self.now.libraries k) (λ node_library. applied ≡ node_library.applied)) }
         ensures no_node { length self.now.history.weights ≤ k → result ≡ Err NoNode }
         ensures node { k < length self.now.history.weights → IsOk result }
     {
@@ -166,7 +166,7 @@ impl World {
 }
 
 /// Applies the next entry of node `k`'s log to its library.
-fn apply_from(
+fn apply_next_of_log(
     node_library: &mut NodeLibrary,
     net: &Net<Carried>,
     k: u8,
