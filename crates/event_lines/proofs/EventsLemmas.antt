@@ -1,5 +1,5 @@
 -- A script that is made of the lines of events.
-use Rattle.event_lines.proofs.Words.{◌≡◌, ℕ, ◌+◌, ◌^◌, ◌<◌, ◌==◌, Bool, true, false, List, [], ◌∷◌, ◌++◌, codes, count_by, decimal, map, flat_map, Some, Result, Ok, refl, AllByRecursion, list_any, sym, ◌∙◌, ap, arith, length, take, drop, get_or, append_assoc, append-nil, length-append, subst, take_at, drop_at, get_or_at, Entry, Text, Charter, AreNames, Submission, Event, Offer, Begin, Deliver, Restart, Carried, PlayLine, Node, split_at, prepended, script_from, script_of, with_line, play_line_of, bytes_before, text_passed, bytes_found, bytes_rest, EventIsInRange, EntryIsInRange, TextIsInRange, event_text, events_text, offer_lines, text_offer_lines, play_line_of_event, spaced, entry_words}
+use Rattle.event_lines.proofs.Words.{◌≡◌, ℕ, ◌+◌, ◌^◌, ◌<◌, ◌==◌, Bool, true, false, List, [], ◌∷◌, ◌++◌, codes, count_by, decimal, map, flat_map, Some, Result, Ok, refl, AllByRecursion, list_any, sym, ◌∙◌, ap, arith, length, take, drop, get_or, append_assoc, append-nil, length-append, subst, take_at, drop_at, get_or_at, Entry, Text, Charter, AreNames, Submission, Event, Offer, Begin, Deliver, Restart, Carried, PlayLine, Node, split_at, prepended, script_from, script_of, with_line, play_line_of, bytes_before, text_passed, bytes_found, bytes_rest, EventIsInRange, EntryIsInRange, TextIsInRange, lines_of_event, lines_of_events, offer_lines, text_offer_lines, play_line_of_event, spaced, node_author_serial_words}
 use Rattle.commands.specs.declared.node_line.NodeLine.TheVariants.{Offer as OfferLine}
 use Rattle.event_lines.proofs.DecimalLemmas.{without-decimal}
 use Rattle.event_lines.proofs.WordsLemmas.{Without, without-append, without-spaced, split_before}
@@ -87,52 +87,52 @@ spaced-append [] ys = refl
 spaced-append (x ∷ xs) ys = ap (λ l. (codes " " ++ x) ++ l) (spaced-append xs ys) ∙ sym (append_assoc (codes " " ++ x) (spaced xs) (spaced ys))
 
 module _ (k a s : ℕ) (node : k < 256) (author : a < 2 ^ 64) (serial : s < 2 ^ 64) where
-  entry_words_free : (c : ℕ) → c < 48 → (words : List (List ℕ)) → AllByRecursion (Without c) words → AllByRecursion (Without c) (entry_words k a s ++ words)
-  entry_words_free c low words others = (free_of c k low (wide k node), (free_of c a low author, (free_of c s low serial, others)))
+  node_author_serial_words_free : (c : ℕ) → c < 48 → (words : List (List ℕ)) → AllByRecursion (Without c) words → AllByRecursion (Without c) (node_author_serial_words k a s ++ words)
+  node_author_serial_words_free c low words others = (free_of c k low (wide k node), (free_of c a low author, (free_of c s low serial, others)))
 
   -- an offer of a text without line feeds
   read_offer : (text : List ℕ) → Without 10 text
-      → IsRead (codes "offer" ++ spaced (entry_words k a s) ++ codes " " ++ text ++ codes "\n")
+      → IsRead (codes "offer" ++ spaced (node_author_serial_words k a s) ++ codes " " ++ text ++ codes "\n")
       (Node (OfferLine (record { node = k; entry = Text (record { author = a; serial = s; text = text }) })))
   read_offer text none =
-      let place : List ℕ = spaced (entry_words k a s) in
+      let place : List ℕ = spaced (node_author_serial_words k a s) in
       let line : List ℕ = codes "offer" ++ (place ++ codes " " ++ text) in
       let form : line ≡ codes "offer" ++ place ++ codes " " ++ text
       = sym (append_assoc (codes "offer" ++ place) (codes " ") text ∙ (append_assoc (codes "offer") place (codes " " ++ text) ∙ ap (λ l. codes "offer" ++ l) (sym (append_assoc place (codes " ") text)))) in
       let free : Without 10 line = without-append 10 (codes "offer") (place ++ codes " " ++ text) refl
-      (without-append 10 (place ++ codes " ") text (without-append 10 place (codes " ") (without-spaced 10 (entry_words k a s) refl (entry_words_free 10 (omega arith) [] tt)) refl) none) in
+      (without-append 10 (place ++ codes " ") text (without-append 10 place (codes " ") (without-spaced 10 (node_author_serial_words k a s) refl (node_author_serial_words_free 10 (omega arith) [] tt)) refl) none) in
       let P : List ℕ → Type 0 = λ l. IsRead (l ++ codes "\n") (Node (OfferLine (record { node = k; entry = Text (record { author = a; serial = s; text = text }) }))) in
-      subst P form (read_without_text line free (longer (codes "offer") (place ++ codes " " ++ text) (omega arith)) _ (λ lines. offer_says k a s lines node author serial text (entry_words_free 32 (omega arith) [] tt)))
+      subst P form (read_without_text line free (longer (codes "offer") (place ++ codes " " ++ text) (omega arith)) _ (λ lines. offer_says k a s lines node author serial text (node_author_serial_words_free 32 (omega arith) [] tt)))
 
   -- an offer of the bytes of a text
   read_bytes_offer : (text : List ℕ) → length text < 2 ^ 64
-      → IsRead (codes "offer-bytes" ++ spaced (entry_words k a s) ++ spaced (decimal (length text) ∷ []) ++ codes "\n" ++ text ++ codes "\n")
+      → IsRead (codes "offer-bytes" ++ spaced (node_author_serial_words k a s) ++ spaced (decimal (length text) ∷ []) ++ codes "\n" ++ text ++ codes "\n")
       (Node (OfferLine (record { node = k; entry = Text (record { author = a; serial = s; text = text }) })))
   read_bytes_offer text small =
       let n : List (List ℕ) = decimal (length text) ∷ [] in
-      let line : List ℕ = codes "offer-bytes" ++ spaced (entry_words k a s ++ n) in
-      let form : line ≡ codes "offer-bytes" ++ spaced (entry_words k a s) ++ spaced n
-      = ap (λ l. codes "offer-bytes" ++ l) (spaced-append (entry_words k a s) n) ∙ sym (append_assoc (codes "offer-bytes") (spaced (entry_words k a s)) (spaced n)) in
-      let free : Without 10 line = without-append 10 (codes "offer-bytes") (spaced (entry_words k a s ++ n)) refl
-      (without-spaced 10 (entry_words k a s ++ n) refl (entry_words_free 10 (omega arith) n (free_of 10 (length text) (omega arith) small, tt))) in
+      let line : List ℕ = codes "offer-bytes" ++ spaced (node_author_serial_words k a s ++ n) in
+      let form : line ≡ codes "offer-bytes" ++ spaced (node_author_serial_words k a s) ++ spaced n
+      = ap (λ l. codes "offer-bytes" ++ l) (spaced-append (node_author_serial_words k a s) n) ∙ sym (append_assoc (codes "offer-bytes") (spaced (node_author_serial_words k a s)) (spaced n)) in
+      let free : Without 10 line = without-append 10 (codes "offer-bytes") (spaced (node_author_serial_words k a s ++ n)) refl
+      (without-spaced 10 (node_author_serial_words k a s ++ n) refl (node_author_serial_words_free 10 (omega arith) n (free_of 10 (length text) (omega arith) small, tt))) in
       let P : List ℕ → Type 0 = λ l. IsRead (l ++ codes "\n" ++ text ++ codes "\n") (Node (OfferLine (record { node = k; entry = Text (record { author = a; serial = s; text = text }) }))) in
-      subst P form (read_bytes line free (longer (codes "offer-bytes") (spaced (entry_words k a s ++ n)) (omega arith)) text _
+      subst P form (read_bytes line free (longer (codes "offer-bytes") (spaced (node_author_serial_words k a s ++ n)) (omega arith)) text _
       (λ rest. bytes_say k a s (split_at 10 (text ++ 10 ∷ rest)) node author serial (length text) (count_by (λ b. b == 10) text + 1) text small (bytes_at text rest)
-      (entry_words_free 32 (omega arith) n (free_of 32 (length text) (omega arith) small, tt))))
+      (node_author_serial_words_free 32 (omega arith) n (free_of 32 (length text) (omega arith) small, tt))))
 
   -- a charter
   read_charter : (names : List ℕ) → AreNames names → AllByRecursion (λ n. n < 2 ^ 64) names
-      → IsRead (codes "charter" ++ spaced (entry_words k a s) ++ spaced (map decimal names) ++ codes "\n")
+      → IsRead (codes "charter" ++ spaced (node_author_serial_words k a s) ++ spaced (map decimal names) ++ codes "\n")
       (Node (OfferLine (record { node = k; entry = Charter a s names })))
   read_charter names are small =
-      let line : List ℕ = codes "charter" ++ spaced (entry_words k a s ++ map decimal names) in
-      let form : line ≡ codes "charter" ++ spaced (entry_words k a s) ++ spaced (map decimal names)
-      = ap (λ l. codes "charter" ++ l) (spaced-append (entry_words k a s) (map decimal names)) ∙ sym (append_assoc (codes "charter") (spaced (entry_words k a s)) (spaced (map decimal names))) in
-      let free : Without 10 line = without-append 10 (codes "charter") (spaced (entry_words k a s ++ map decimal names)) refl
-      (without-spaced 10 (entry_words k a s ++ map decimal names) refl (entry_words_free 10 (omega arith) (map decimal names) (names_free 10 names (omega arith) small))) in
+      let line : List ℕ = codes "charter" ++ spaced (node_author_serial_words k a s ++ map decimal names) in
+      let form : line ≡ codes "charter" ++ spaced (node_author_serial_words k a s) ++ spaced (map decimal names)
+      = ap (λ l. codes "charter" ++ l) (spaced-append (node_author_serial_words k a s) (map decimal names)) ∙ sym (append_assoc (codes "charter") (spaced (node_author_serial_words k a s)) (spaced (map decimal names))) in
+      let free : Without 10 line = without-append 10 (codes "charter") (spaced (node_author_serial_words k a s ++ map decimal names)) refl
+      (without-spaced 10 (node_author_serial_words k a s ++ map decimal names) refl (node_author_serial_words_free 10 (omega arith) (map decimal names) (names_free 10 names (omega arith) small))) in
       let P : List ℕ → Type 0 = λ l. IsRead (l ++ codes "\n") (Node (OfferLine (record { node = k; entry = Charter a s names }))) in
-      subst P form (read_without_text line free (longer (codes "charter") (spaced (entry_words k a s ++ map decimal names)) (omega arith)) _
-      (λ lines. charter_says k a s lines node author serial names are small (entry_words_free 32 (omega arith) (map decimal names) (names_free 32 names (omega arith) small))))
+      subst P form (read_without_text line free (longer (codes "charter") (spaced (node_author_serial_words k a s ++ map decimal names)) (omega arith)) _
+      (λ lines. charter_says k a s lines node author serial names are small (node_author_serial_words_free 32 (omega arith) (map decimal names) (names_free 32 names (omega arith) small))))
 
 read_number : (verb : List ℕ) (n : ℕ) (x : PlayLine) → Without 10 verb → 0 < length verb → n < 2 ^ 64
     → ((lines : List (List ℕ)) → play_line_of (verb ++ spaced (decimal n ∷ [])) lines ≡ Some (x, 0)) → IsRead (verb ++ spaced (decimal n ∷ []) ++ codes "\n") x
@@ -150,42 +150,42 @@ read_entry k (Text s) node fits = read_text k s (list_any (λ b. b == 10) s.text
 read_entry k (Charter a s names) node fits = read_charter k a s node fits.0 fits.1 names fits.2 fits.3
 
 -- the lines of an event are read as its line
-read_event : (e : Event Carried) → EventIsInRange e → IsRead (event_text e) (play_line_of_event e)
+read_event : (e : Event Carried) → EventIsInRange e → IsRead (lines_of_event e) (play_line_of_event e)
 read_event (Offer k v) fits = read_entry k v.0 fits.0 fits.1
 read_event (Begin k) fits = read_number (codes "begin") k _ refl (omega arith) (wide k fits) (λ lines. begin_says k lines fits (free_of 32 k (omega arith) (wide k fits), tt))
 read_event (Deliver n) fits = read_number (codes "deliver") n _ refl (omega arith) fits (λ lines. deliver_says n lines fits (free_of 32 n (omega arith) fits, tt))
 read_event (Restart k) fits = read_number (codes "restart") k _ refl (omega arith) (wide k fits) (λ lines. restart_says k lines fits (free_of 32 k (omega arith) (wide k fits), tt))
 
 -- the lines of several events are read as theirs
-read_events : (es : List (Event Carried)) (number : ℕ) → AllByRecursion EventIsInRange es → lines_say number (events_text es) ≡ Ok (map play_line_of_event es)
+read_events : (es : List (Event Carried)) (number : ℕ) → AllByRecursion EventIsInRange es → lines_say number (lines_of_events es) ≡ Ok (map play_line_of_event es)
 read_events [] number fits = refl
 read_events (e ∷ es) number (first, others) =
-    let at = read_event e first number (events_text es) in
+    let at = read_event e first number (lines_of_events es) in
     at.1 ∙ ap (prepended (play_line_of_event e)) (read_events es at.0 others)
 
-pub events_parse : (es : List (Event Carried)) → AllByRecursion EventIsInRange es → script_of play_line_of (events_text es) ≡ Ok (map play_line_of_event es)
+pub events_parse : (es : List (Event Carried)) → AllByRecursion EventIsInRange es → script_of play_line_of (lines_of_events es) ≡ Ok (map play_line_of_event es)
 events_parse es fits = read_events es 1 fits
 
 -- these events are in the text, and their numbers are within their types
 pub record AreWritten (events : List (Event Carried)) (text : List ℕ) : Type 0 where
-  pub lines : text ≡ events_text events
+  pub lines : text ≡ lines_of_events events
   pub fit : AllByRecursion EventIsInRange events
 
 fit_more : (es : List (Event Carried)) (e : Event Carried) → AllByRecursion EventIsInRange es → EventIsInRange e → AllByRecursion EventIsInRange (es ++ e ∷ [])
 fit_more [] e none fits = (fits, tt)
 fit_more (x ∷ es) e (first, others) fits = (first, fit_more es e others fits)
 
-text_more : (es : List (Event Carried)) (e : Event Carried) → events_text (es ++ e ∷ []) ≡ events_text es ++ event_text e
-text_more [] e = append-nil (event_text e)
-text_more (x ∷ es) e = ap (λ l. event_text x ++ l) (text_more es e) ∙ sym (append_assoc (event_text x) (events_text es) (event_text e))
+text_more : (es : List (Event Carried)) (e : Event Carried) → lines_of_events (es ++ e ∷ []) ≡ lines_of_events es ++ lines_of_event e
+text_more [] e = append-nil (lines_of_event e)
+text_more (x ∷ es) e = ap (λ l. lines_of_event x ++ l) (text_more es e) ∙ sym (append_assoc (lines_of_event x) (lines_of_events es) (lines_of_event e))
 
 -- one more event
 pub written_more : (es now : List (Event Carried)) (text next : List ℕ) (e : Event Carried) → now ≡ es ++ e ∷ [] → AreWritten es text
-    → next ≡ text ++ event_text e → EventIsInRange e → AreWritten now next
+    → next ≡ text ++ lines_of_event e → EventIsInRange e → AreWritten now next
 written_more es now text next e more so appended fits =
     let P : List (Event Carried) → Type 0 = λ l. AreWritten l next in
     subst P (sym more) (record {
-      lines = appended ∙ (ap (λ t. t ++ event_text e) so.lines ∙ sym (text_more es e));
+      lines = appended ∙ (ap (λ t. t ++ lines_of_event e) so.lines ∙ sym (text_more es e));
       fit = fit_more es e so.fit fits;
     })
 

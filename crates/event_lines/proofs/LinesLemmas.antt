@@ -1,5 +1,5 @@
 -- The line of an event, as `play` parses it.
-use Rattle.event_lines.proofs.Words.{◌≡◌, ℕ, ◌+◌, ◌^◌, ◌<◌, ◌≤◌, ◌==◌, nat_lt, Bool, true, false, ◌&&◌, List, [], ◌∷◌, ◌++◌, codes, decimal, map, Option, Some, None, option_map, option_and_then, if◌then◌else◌, refl, AllByRecursion, join_with_byte, ◌∙◌, ap, arith, length, lt-ltb, join_with_byte-slice_split, MAX_NAMES, Text, Charter, AreNames, is_rising, NodeEntryId, OfferedEntry, TextForm, Rest, Bytes, PlayLine, Node, split_at, Words, last_value, by_first_word, node_of, number_at, one_node, one_number, entry_at, without_text, are_names, names_of, numbers_of, line_or_node_line, play_line_by, play_line_of, bytes_before, text_at, spaced, entry_words}
+use Rattle.event_lines.proofs.Words.{◌≡◌, ℕ, ◌+◌, ◌^◌, ◌<◌, ◌≤◌, ◌==◌, nat_lt, Bool, true, false, ◌&&◌, List, [], ◌∷◌, ◌++◌, codes, decimal, map, Option, Some, None, option_map, option_and_then, if◌then◌else◌, refl, AllByRecursion, join_with_byte, ◌∙◌, ap, arith, length, lt-ltb, join_with_byte-slice_split, MAX_NAMES, Text, Charter, AreNames, is_rising, NodeEntryId, OfferedEntry, TextForm, Rest, Bytes, PlayLine, Node, split_at, Words, last_value, by_first_word, node_of, number_at, one_node, one_number, entry_at, without_text, are_names, names_of, numbers_of, line_or_node_line, play_line_by, play_line_of, bytes_before, text_at, spaced, node_author_serial_words}
 use Rattle.commands.specs.declared.node_line.NodeLine.TheVariants.{Offer, Begin, Restart}
 use Rattle.commands.specs.declared.play_line.PlayLine.TheVariants.{Deliver}
 use Rattle.event_lines.proofs.DecimalLemmas.{number_of-decimal}
@@ -68,12 +68,12 @@ module _ (lines : List (List ℕ)) where
   deliver_by n small = ap (λ o. without_text (line_or_node_line (option_map (λ n. Deliver n) o) (codes "deliver") (decimal n ∷ []))) (one_number-decimal n small)
 
   module _ (k a s : ℕ) (node : k < 256) (author : a < 2 ^ 64) (serial : s < 2 ^ 64) where
-    offer_by : (words : Words) → play_line_by lines (codes "offer") (entry_words k a s ++ words)
+    offer_by : (words : Words) → play_line_by lines (codes "offer") (node_author_serial_words k a s ++ words)
         ≡ Some (Node (Offer (record { node = k; entry = Text (record { author = a; serial = s; text = join_with_byte 32 words }) })), 0)
     offer_by words = ap (text_line_at Rest lines) (entry_at-words k a s words node author serial)
 
     bytes_by : (n taken : ℕ) (text : List ℕ) → n < 2 ^ 64 → bytes_before n lines ≡ Some (text, taken)
-        → play_line_by lines (codes "offer-bytes") (entry_words k a s ++ decimal n ∷ [])
+        → play_line_by lines (codes "offer-bytes") (node_author_serial_words k a s ++ decimal n ∷ [])
         ≡ Some (Node (Offer (record { node = k; entry = Text (record { author = a; serial = s; text = text }) })), taken)
     bytes_by n taken text small is =
         ap (text_line_at Bytes lines) (entry_at-words k a s (decimal n ∷ []) node author serial)
@@ -81,7 +81,7 @@ module _ (lines : List (List ℕ)) where
         ∙ ap (text_line (record { node = k; author = a; serial = s })) is)
 
     charter_by : (names : List ℕ) → names_of (map decimal names) ≡ Some names
-        → play_line_by lines (codes "charter") (entry_words k a s ++ map decimal names)
+        → play_line_by lines (codes "charter") (node_author_serial_words k a s ++ map decimal names)
         ≡ Some (Node (Offer (record { node = k; entry = Charter a s names })), 0)
     charter_by names is =
         ap charter_line_at (entry_at-words k a s (map decimal names) node author serial)
@@ -125,25 +125,25 @@ pub deliver_says : (n : ℕ) (lines : List (List ℕ)) → n < 2 ^ 64 → AllByR
 deliver_says n lines small free = parsed_by (codes "deliver" ++ spaced (decimal n ∷ [])) lines _ _ (split_words (codes "deliver") (decimal n ∷ []) refl free) (deliver_by lines n small)
 
 module _ (k a s : ℕ) (lines : List (List ℕ)) (node : k < 256) (author : a < 2 ^ 64) (serial : s < 2 ^ 64) where
-  pub offer_says : (text : List ℕ) → AllByRecursion (Without 32) (entry_words k a s)
-      → play_line_of (codes "offer" ++ (spaced (entry_words k a s) ++ codes " " ++ text)) lines
+  pub offer_says : (text : List ℕ) → AllByRecursion (Without 32) (node_author_serial_words k a s)
+      → play_line_of (codes "offer" ++ (spaced (node_author_serial_words k a s) ++ codes " " ++ text)) lines
       ≡ Some (Node (Offer (record { node = k; entry = Text (record { author = a; serial = s; text = text }) })), 0)
   offer_says text free =
-      parsed_by (codes "offer" ++ (spaced (entry_words k a s) ++ codes " " ++ text)) lines _ _ (split_text (codes "offer") (entry_words k a s) text refl free)
+      parsed_by (codes "offer" ++ (spaced (node_author_serial_words k a s) ++ codes " " ++ text)) lines _ _ (split_text (codes "offer") (node_author_serial_words k a s) text refl free)
       (offer_by lines k a s node author serial (split_at 32 text)
       ∙ ap (λ t. Some (Node (Offer (record { node = k; entry = Text (record { author = a; serial = s; text = t }) })), 0)) (join_with_byte-slice_split 32 text))
 
   pub bytes_say : (n taken : ℕ) (text : List ℕ) → n < 2 ^ 64 → bytes_before n lines ≡ Some (text, taken)
-      → AllByRecursion (Without 32) (entry_words k a s ++ decimal n ∷ [])
-      → play_line_of (codes "offer-bytes" ++ spaced (entry_words k a s ++ decimal n ∷ [])) lines
+      → AllByRecursion (Without 32) (node_author_serial_words k a s ++ decimal n ∷ [])
+      → play_line_of (codes "offer-bytes" ++ spaced (node_author_serial_words k a s ++ decimal n ∷ [])) lines
       ≡ Some (Node (Offer (record { node = k; entry = Text (record { author = a; serial = s; text = text }) })), taken)
   bytes_say n taken text small is free =
-      parsed_by (codes "offer-bytes" ++ spaced (entry_words k a s ++ decimal n ∷ [])) lines _ _ (split_words (codes "offer-bytes") (entry_words k a s ++ decimal n ∷ []) refl free) (bytes_by lines k a s node author serial n taken text small is)
+      parsed_by (codes "offer-bytes" ++ spaced (node_author_serial_words k a s ++ decimal n ∷ [])) lines _ _ (split_words (codes "offer-bytes") (node_author_serial_words k a s ++ decimal n ∷ []) refl free) (bytes_by lines k a s node author serial n taken text small is)
 
   pub charter_says : (names : List ℕ) → AreNames names → AllByRecursion (λ n. n < 2 ^ 64) names
-      → AllByRecursion (Without 32) (entry_words k a s ++ map decimal names)
-      → play_line_of (codes "charter" ++ spaced (entry_words k a s ++ map decimal names)) lines
+      → AllByRecursion (Without 32) (node_author_serial_words k a s ++ map decimal names)
+      → play_line_of (codes "charter" ++ spaced (node_author_serial_words k a s ++ map decimal names)) lines
       ≡ Some (Node (Offer (record { node = k; entry = Charter a s names })), 0)
   charter_says names are small free =
-      parsed_by (codes "charter" ++ spaced (entry_words k a s ++ map decimal names)) lines _ _ (split_words (codes "charter") (entry_words k a s ++ map decimal names) refl free)
+      parsed_by (codes "charter" ++ spaced (node_author_serial_words k a s ++ map decimal names)) lines _ _ (split_words (codes "charter") (node_author_serial_words k a s ++ map decimal names) refl free)
       (charter_by lines k a s node author serial names (names_of-decimals names are small))

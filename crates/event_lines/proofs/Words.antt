@@ -14,7 +14,7 @@ pub use Rattle.commands.specs.declared.play_line.PlayLine.{PlayLine}
 pub use Rattle.commands.specs.declared.play_line.PlayLine.TheVariants.{Node}
 pub use Rattle.commands.specs.declared.text_form.TextForm.{TextForm}
 pub use Rattle.commands.specs.declared.text_form.TextForm.TheVariants.{Bytes, Rest}
-pub use Rattle.event_lines.specs.EventLines.{EventIsInRange, EntryIsInRange, TextIsInRange, offer_lines, event_text, events_text, spaced, spaced_word, play_line_of_event, text_offer_lines, entry_words}
+pub use Rattle.event_lines.specs.EventLines.{EventIsInRange, EntryIsInRange, TextIsInRange, offer_lines, lines_of_event, lines_of_events, spaced, spaced_word, play_line_of_event, text_offer_lines, node_author_serial_words}
 pub use Rattle.library.specs.Charters.{AreNames, is_rising}
 pub use Rattle.library.specs.declared.charter.TheConstants.{MAX_NAMES}
 pub use Rattle.library.specs.declared.entry.Entry.{Entry}

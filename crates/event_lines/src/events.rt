@@ -3,7 +3,7 @@ ghost use Rattle.std.specs.Prelude.{◌≡◌, ◌++◌, ◌^◌, ◌<◌, ◌==
 ghost use Rattle.commands.specs.PlayLines.{play_line_of};
 ghost use Rattle.commands.specs.Scripts.{script_of};
 ghost use Rattle.commands.specs.declared.script.TheConstants.{LINE_FEED};
-ghost use Rattle.event_lines.specs.EventLines.{EventIsInRange, events_text, event_text, history_text};
+ghost use Rattle.event_lines.specs.EventLines.{EventIsInRange, lines_of_events, lines_of_event, counted_event_lines};
 ghost use Rattle.event_lines.specs.EventLines.{play_line_of_event, number_line};
 
 use crate::offers::push_offer;
@@ -13,12 +13,12 @@ use numbers::push_number;
 use std::alloc::{AllocError, Global};
 use world::Carried;
 
-/// Returns the lines of `play` that reproduce the events. Each event is one line, except that a
-/// text with a line feed is offered by a line `offer-bytes` and the bytes after it.
+/// Returns the lines of `play` for the events, in order. Each event is one line, except that a text
+/// with a line feed is offered by a line `offer-bytes` and the bytes after it.
 ///
 /// Errors: an allocation fails. Cost: the size of the lines.
 pub fn event_lines(alloc: Global, events: &[Event<Carried>]) -> Result<Vec<u8>, AllocError>
-    ensures text { IfOk result (λ text. text.items ≡ events_text events.now) }
+    ensures text { IfOk result (λ text. text.items ≡ lines_of_events events.now) }
     ensures parses { IfOk result
         (λ text. script_of play_line_of text.items ≡ Ok (map play_line_of_event events.now)) }
 {
@@ -29,7 +29,8 @@ pub fn event_lines(alloc: Global, events: &[Event<Carried>]) -> Result<Vec<u8>, 
     Ok(text)
 }
 
-/// Appends a line `events N`, where N is the count of the lines of the events, and these lines.
+/// Appends a line `events N` and the lines of the events. N is the number of their line feeds, those in
+/// offered texts included.
 ///
 /// Errors: an allocation fails. Cost: the size of the lines.
 pub fn push_events(
@@ -37,17 +38,17 @@ pub fn push_events(
     text: &mut Vec<u8>,
     events: &[Event<Carried>],
 ) -> Result<(), AllocError>
-    ensures { OnOk result (text.new.items ≡ text.old.items ++ history_text events.now) }
+    ensures { OnOk result (text.new.items ≡ text.old.items ++ counted_event_lines events.now) }
 {
     let lines = event_lines(alloc, events)?;
     text.extend_from_slice(b"events ")?;
-    push_number(text, line_feeds(lines.as_slice()) as u64)?;
+    push_number(text, count_line_feeds(lines.as_slice()) as u64)?;
     text.extend_from_slice(b"\n")?;
     text.extend_from_slice(lines.as_slice())
 }
 
 /// Counts the line feeds of a text.
-fn line_feeds(text: &[u8]) -> usize
+fn count_line_feeds(text: &[u8]) -> usize
     ensures { result ≡ count_by (λ b. b == LINE_FEED) text.now }
 {
     text.iter().filter(|byte| **byte == LINE_FEED).count()
@@ -55,7 +56,7 @@ fn line_feeds(text: &[u8]) -> usize
 
 /// Appends the lines of an event.
 fn push_event(text: &mut Vec<u8>, event: &Event<Carried>) -> Result<(), AllocError>
-    ensures text { OnOk result (text.new.items ≡ text.old.items ++ event_text event.now) }
+    ensures text { OnOk result (text.new.items ≡ text.old.items ++ lines_of_event event.now) }
     ensures in_range { OnOk result (EventIsInRange event.now) }
 {
     match event {

@@ -1,7 +1,7 @@
-//! The history of a run as a script of `play` that reproduces each of its events.
+//! The history of a run as a script of `play`, which has a line for each event.
 //!
-//! The main contract: the text of `event_lines` is parsed as the lines of `play` that cause exactly
-//! these events. `program` uses `push_events`, which appends the count of the lines and then this
+//! The main contract: the text of `event_lines` is parsed as exactly the lines of `play` for these
+//! events, in order. `program` uses `push_events`, which appends the count of line feeds and then this
 //! text to an answer.
 #![tactic(auto)]
 

@@ -3,7 +3,7 @@ ghost use Rattle.std.specs.Prelude.{◌≡◌, ◌++◌, ◌^◌, ◌<◌, ◌==
 ghost use Rattle.std.specs.List.{AllByRecursion, list_any};
 ghost use Rattle.commands.specs.declared.script.TheConstants.{LINE_FEED};
 ghost use Rattle.event_lines.specs.EventLines.{EntryIsInRange, TextIsInRange, spaced, text_offer_lines, offer_lines};
-ghost use Rattle.event_lines.specs.EventLines.{offer_bytes_line, offer_bytes_text, offer_line, entry_words};
+ghost use Rattle.event_lines.specs.EventLines.{offer_bytes_line, offer_bytes_lines, offer_line, node_author_serial_words};
 
 use commands::LINE_FEED;
 use library::{Entry, Submission};
@@ -23,7 +23,7 @@ pub(crate) fn push_offer(text: &mut Vec<u8>, node: u8, entry: &Entry) -> Result<
             names,
         } => {
             text.extend_from_slice(b"charter")?;
-            push_entry_words(text, node, *author, *serial)?;
+            push_node_author_serial(text, node, *author, *serial)?;
             push_spaced_numbers(text, names.as_slice())?;
             text.extend_from_slice(b"\n")
         }
@@ -36,20 +36,20 @@ fn push_text_offer(text: &mut Vec<u8>, node: u8, submission: &Submission) -> Res
     ensures in_range { OnOk result ((node < 256) × TextIsInRange submission.now) }
 {
     if has_line_feed(submission.text.as_slice()) {
-        push_offer_bytes_text(text, node, submission)
+        push_offer_bytes_lines(text, node, submission)
     } else {
         push_offer_line(text, node, submission)
     }
 }
 
-/// Appends the line `offer-bytes` of a text, and the bytes of the text.
-fn push_offer_bytes_text(
+/// Appends the line `offer-bytes` of a text, the bytes of the text, and a line feed.
+fn push_offer_bytes_lines(
     text: &mut Vec<u8>,
     node: u8,
     submission: &Submission,
 ) -> Result<(), AllocError>
     ensures text { OnOk result
-        (text.new.items ≡ text.old.items ++ offer_bytes_text node submission.now) }
+        (text.new.items ≡ text.old.items ++ offer_bytes_lines node submission.now) }
     ensures in_range { OnOk result ((node < 256) × TextIsInRange submission.now) }
 {
     push_offer_bytes_line(text, node, submission)?;
@@ -67,24 +67,24 @@ fn push_offer_bytes_line(
         (text.new.items ≡ text.old.items ++ offer_bytes_line node submission.now) }
     ensures in_range { OnOk result ((node < 256) × TextIsInRange submission.now) }
 {
-    push_offer_bytes_entry(text, node, submission)?;
+    push_offer_bytes_start(text, node, submission)?;
     push_spaced_number(text, submission.text.len() as u64)?;
     text.extend_from_slice(b"\n")
 }
 
 /// Appends `offer-bytes`, the node, and the author and serial number of a text.
-fn push_offer_bytes_entry(
+fn push_offer_bytes_start(
     text: &mut Vec<u8>,
     node: u8,
     submission: &Submission,
 ) -> Result<(), AllocError>
     ensures text { OnOk result (text.new.items ≡ text.old.items
-        ++ (codes "offer-bytes" ++ spaced (entry_words node submission.now.author submission.now.serial))) }
+        ++ (codes "offer-bytes" ++ spaced (node_author_serial_words node submission.now.author submission.now.serial))) }
     ensures in_range { OnOk result ((node < 256)
         × (submission.now.author < 2 ^ 64) × (submission.now.serial < 2 ^ 64)) }
 {
     text.extend_from_slice(b"offer-bytes")?;
-    push_entry_words(text, node, submission.author, submission.serial)
+    push_node_author_serial(text, node, submission.author, submission.serial)
 }
 
 /// Appends the line `offer` of a text without line feeds.
@@ -94,7 +94,7 @@ fn push_offer_line(text: &mut Vec<u8>, node: u8, submission: &Submission) -> Res
     ensures in_range { OnOk result ((node < 256) × TextIsInRange submission.now) }
 {
     text.extend_from_slice(b"offer")?;
-    push_entry_words(text, node, submission.author, submission.serial)?;
+    push_node_author_serial(text, node, submission.author, submission.serial)?;
     text.extend_from_slice(b" ")?;
     text.extend_from_slice(submission.text.as_slice())?;
     text.extend_from_slice(b"\n")
@@ -108,7 +108,7 @@ fn has_line_feed(bytes: &[u8]) -> bool
 }
 
 /// Appends a node, an author and a serial number, each after a space.
-fn push_entry_words(
+fn push_node_author_serial(
     text: &mut Vec<u8>,
     node: u8,
     author: u64,

@@ -53,7 +53,7 @@ pub fn assume_unproved<R: AllocGlobal + Threads + Sync, F: Write>(
 ) -> Result<Library, AllocError> {
     let unproved = database.unproved(rt, Workers::offered(rt))?;
     print_assumed(rt.alloc(), &database, unproved.as_slice(), faults);
-    database.assume(unproved.as_slice())
+    database.into_assumed_library(unproved.as_slice())
 }
 
 /// Prints how many theorems are taken as axioms and the labels of the first `MAX_NAMED`, if there

@@ -9,7 +9,7 @@ ghost use Rattle.nodes.specs.declared.questions.NodeStatus.{NodeStatus};
 ghost use Rattle.printed.specs.Counted.{learned_text};
 ghost use Rattle.printed.specs.Printed.{export_text};
 ghost use Rattle.printed.specs.States.{state_text};
-ghost use Rattle.event_lines.specs.EventLines.{history_text};
+ghost use Rattle.event_lines.specs.EventLines.{counted_event_lines};
 ghost use Rattle.program.specs.Answers.{IsLabelAnswer};
 
 use crate::fault::Fault;
@@ -100,7 +100,7 @@ impl<R: Wait> AnsweringDesk<'_, R> {
     /// Appends the history so far, as lines of `play` after their count.
     pub fn push_events(&self, text: &mut Vec<u8>) -> Result<(), Fault>
         ensures { OnOk result ((events : List (TakenEvent TakenEntry)) × IsHistory events
-            × (text.new.items ≡ text.old.items ++ history_text events)) }
+            × (text.new.items ≡ text.old.items ++ counted_event_lines events)) }
     {
         let events = self.desk.history(self.rt)?;
         Ok(push_events(self.alloc, text, events.as_slice())?)

@@ -1,6 +1,6 @@
 //! The command `play`: a script drives nodes, event by event.
 ghost use Rattle.std.specs.Prelude.{◌≡◌, ◌++◌, OnOk};
-ghost use Rattle.event_lines.specs.EventLines.{history_text};
+ghost use Rattle.event_lines.specs.EventLines.{counted_event_lines};
 
 use crate::fault::Fault;
 use crate::node_answers::{ahead_line, compare_libraries, label_answer};
@@ -101,7 +101,7 @@ fn push_decision(world: &World, entry_id: NodeEntryId, text: &mut Vec<u8>) -> Re
 /// Appends the history so far, as lines of `play` after their count.
 fn push_history(world: &World, text: &mut Vec<u8>) -> Result<(), AllocError>
     ensures { OnOk result (text.new.items
-        ≡ text.old.items ++ history_text world.now.history.events) }
+        ≡ text.old.items ++ counted_event_lines world.now.history.events) }
 {
     let alloc = *text.allocator();
     push_events(alloc, text, world.history())

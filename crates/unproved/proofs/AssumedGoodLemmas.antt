@@ -37,9 +37,9 @@ plains-set [] i = refl
 plains-set (s ∷ S) zero = ap (λ t. t ∷ plains S) (plain-plain s)
 plains-set (s ∷ S) (suc i) = ap (λ T. as_axiom s ∷ T) (plains-set S i)
 
-plains-assumed : (S : Database) (list : List ℕ) → plains (assumed S list) ≡ plains S
+plains-assumed : (S : Database) (positions : List ℕ) → plains (assumed S positions) ≡ plains S
 plains-assumed S [] = refl
-plains-assumed S (at ∷ list) = plains-assumed (slice_set S (at - 1) (as_axiom (get_or S (at - 1) Open))) list ∙ plains-set S (at - 1)
+plains-assumed S (at ∷ positions) = plains-assumed (slice_set S (at - 1) (as_axiom (get_or S (at - 1) Open))) positions ∙ plains-set S (at - 1)
 
 first-plains : (at : ℕ) (S T : Database) → first_broken at (plains S) (plains T) ≡ first_broken at S T
 first-plains at S [] = ap (numbered at) (end_rule-plains S)
@@ -47,9 +47,9 @@ first-plains at S (s ∷ T) =
     ap (λ r. or_later at r (first_broken (at + 1) (plains S ++ as_axiom s ∷ []) (plains T))) (broken_rule-plains S s)
     ∙ ap (or_later at (broken_rule S s)) (ap (λ U. first_broken (at + 1) U (plains T)) (sym (map-append as_axiom S (s ∷ []))) ∙ first-plains (at + 1) (S ++ s ∷ []) T)
 
-legal-assumed : (S : Database) (list : List ℕ) → AllLegal S → AllLegal (assumed S list)
-legal-assumed S list legal =
-    sym (first-plains 1 [] (assumed S list)) ∙ (ap (first_broken 1 []) (plains-assumed S list) ∙ (first-plains 1 [] S ∙ legal))
+legal-assumed : (S : Database) (positions : List ℕ) → AllLegal S → AllLegal (assumed S positions)
+legal-assumed S positions legal =
+    sym (first-plains 1 [] (assumed S positions)) ∙ (ap (first_broken 1 []) (plains-assumed S positions) ∙ (first-plains 1 [] S ∙ legal))
 
 -- ---- the `$p` that are left
 
@@ -83,49 +83,49 @@ left-one S x (suc n) s p =
 
 abbrev Avoids : ℕ → List ℕ → Type 0
 Avoids at [] = Unit {0}
-Avoids at (x ∷ list) = (x ≡ at → ⊥) × Avoids at list
+Avoids at (x ∷ positions) = (x ≡ at → ⊥) × Avoids at positions
 
-left : (S : Database) (list : List ℕ) (at : ℕ) (s : Stmt) → IsProvable (assumed S list) at s → IsProvable S at s × Avoids at list
+left : (S : Database) (positions : List ℕ) (at : ℕ) (s : Stmt) → IsProvable (assumed S positions) at s → IsProvable S at s × Avoids at positions
 left S [] at s p = (p, tt)
-left S (x ∷ list) at s p =
-    let w = left (slice_set S (x - 1) (as_axiom (get_or S (x - 1) Open))) list at s p in
+left S (x ∷ positions) at s p =
+    let w = left (slice_set S (x - 1) (as_axiom (get_or S (x - 1) Open))) positions at s p in
     let v = left-one S x at s w.0 in
     (v.0, (v.1, w.1))
 
 -- a position that is not in the list is that of a proved `$p`, if there is a `$p`
-proved-else : (S : Database) (start end : ℕ) (list : List ℕ) (at : ℕ) → AreUnproved S start end list → start < at → at ≤ end → Avoids at list → IsProvedIfProvable S at
+proved-else : (S : Database) (start end : ℕ) (positions : List ℕ) (at : ℕ) → AreUnproved S start end positions → start < at → at ≤ end → Avoids at positions → IsProvedIfProvable S at
 proved-else S start end [] at are above below avoids = are at above below
-proved-else S start end (x ∷ list) at are above below avoids = elim (cases_lt x at) [
-  | inl more ↦ proved-else S x end list at are.4 more below avoids.1
+proved-else S start end (x ∷ positions) at are above below avoids = elim (cases_lt x at) [
+  | inl more ↦ proved-else S x end positions at are.4 more below avoids.1
   | inr less ↦ elim (cases_lt at x) [
     | inl before ↦ are.3 at above before
     | inr same ↦ absurd (avoids.0 (omega (arith, less, same)))
   ]
 ]
 
-module _ (S : Database) (list : List ℕ) (legal : AllLegal S) (are : AreUnproved S 0 (length S) list) where
-  same : plains (bares S) ≡ plains (bares (assumed S list))
-  same = plains-bares S ∙ (sym (plains-assumed S list) ∙ sym (plains-bares (assumed S list)))
+module _ (S : Database) (positions : List ℕ) (legal : AllLegal S) (are : AreUnproved S 0 (length S) positions) where
+  same : plains (bares S) ≡ plains (bares (assumed S positions))
+  same = plains-bares S ∙ (sym (plains-assumed S positions) ∙ sym (plains-bares (assumed S positions)))
 
-  proved-still : (at : ℕ) (s : Stmt) → IsProvable (assumed S list) at s → IsProvable S at s → IsProved S at → IsProved (assumed S list) at
+  proved-still : (at : ℕ) (s : Stmt) → IsProvable (assumed S positions) at s → IsProvable S at s → IsProved S at → IsProved (assumed S positions) at
   proved-still at s now p proved = record {
     stmt = s;
     items = proved.items;
     provable = now;
-    written = subst (λ labels. Writes (proof_of s) labels proved.items) (labels-same (bares S) (bares (assumed S list)) same at s s refl)
+    written = subst (λ labels. Writes (proof_of s) labels proved.items) (labels-same (bares S) (bares (assumed S positions)) same at s s refl)
         (subst (λ t. Writes (proof_of t) (mandatory_labels (bares S) at t) proved.items) (some-same proved.provable.stands p.stands) proved.written);
-    right = right-same (bares S) (bares (assumed S list)) same at proved.items proved.right;
+    right = right-same (bares S) (bares (assumed S positions)) same at proved.items proved.right;
   }
 
-  pub assumed-good : Good (assumed S list)
+  pub assumed-good : Good (assumed S positions)
   assumed-good = record {
-    legal = legal-assumed S list legal;
+    legal = legal-assumed S positions legal;
     proved = λ at s p.
-        let w = left S list at s p in
+        let w = left S positions at s p in
         let within = stands-within S at s w.0.stands in
-        proved-still at s p w.0 (proved-else S 0 (length S) list at are (omega (arith, within.0)) within.1 w.1 s w.0);
+        proved-still at s p w.0 (proved-else S 0 (length S) positions at are (omega (arith, within.0)) within.1 w.1 s w.0);
   }
 
 -- for the code: legal statements are good if exactly the unproved `$p` are assumed
-pub good_assumed : (S : Database) (list : List ℕ) → AllLegal S → AreUnproved S 0 (length S) list → Good (assumed S list)
-good_assumed S list legal are = assumed-good S list legal are
+pub good_assumed : (S : Database) (positions : List ℕ) → AllLegal S → AreUnproved S 0 (length S) positions → Good (assumed S positions)
+good_assumed S positions legal are = assumed-good S positions legal are

@@ -25,15 +25,15 @@ shaped-get (first ∷ S) (suc i) d less h =
     shaped-get S i d (omega (arith, less)) w.1
 
 -- replacing the statement at the next position of the list leaves the later positions to be replaced
-module _ (S : Database) (list : List ℕ) (i : ℕ) (old new : Stmt) (less : i < length list) (within : get_or list i 0 - 1 < length S)
-    (was : old ≡ get_or S (get_or list i 0 - 1) old) (now : new ≡ as_axiom old) where
-  pub assumed-on : assumed (slice_set S (get_or list i 0 - 1) new) (drop (i + 1) list) ≡ assumed S (drop i list)
+module _ (S : Database) (positions : List ℕ) (i : ℕ) (old new : Stmt) (less : i < length positions) (within : get_or positions i 0 - 1 < length S)
+    (was : old ≡ get_or S (get_or positions i 0 - 1) old) (now : new ≡ as_axiom old) where
+  pub assumed-on : assumed (slice_set S (get_or positions i 0 - 1) new) (drop (i + 1) positions) ≡ assumed S (drop i positions)
   assumed-on =
-      sym (ap (assumed S) (drop_more list i 0 less)
-      ∙ (ap (λ s. assumed (slice_set S (get_or list i 0 - 1) (as_axiom s)) (drop (i + 1) list)) (sym (was ∙ get_or_default S (get_or list i 0 - 1) old Open within))
-      ∙ ap (λ s. assumed (slice_set S (get_or list i 0 - 1) s) (drop (i + 1) list)) (sym now)))
+      sym (ap (assumed S) (drop_more positions i 0 less)
+      ∙ (ap (λ s. assumed (slice_set S (get_or positions i 0 - 1) (as_axiom s)) (drop (i + 1) positions)) (sym (was ∙ get_or_default S (get_or positions i 0 - 1) old Open within))
+      ∙ ap (λ s. assumed (slice_set S (get_or positions i 0 - 1) s) (drop (i + 1) positions)) (sym now)))
 
-  pub shaped-on : AreShaped S → AreShaped (slice_set S (get_or list i 0 - 1) new)
+  pub shaped-on : AreShaped S → AreShaped (slice_set S (get_or positions i 0 - 1) new)
   shaped-on h =
-      let e : is_shaped old ≡ true = ap is_shaped was ∙ shaped-get S (get_or list i 0 - 1) old within h in
-      shaped-set S (get_or list i 0 - 1) new h (ap is_shaped now ∙ shaped-axiom old e)
+      let e : is_shaped old ≡ true = ap is_shaped was ∙ shaped-get S (get_or positions i 0 - 1) old within h in
+      shaped-set S (get_or positions i 0 - 1) new h (ap is_shaped now ∙ shaped-axiom old e)

@@ -27,7 +27,7 @@ pub use Rattle.std.proofs.lemmas.Option.{slice_get-map}
 pub use Rattle.std.specs.List.{All, drop-map, list_all, list_any, take-map}
 pub use Rattle.std.specs.Prelude.{Bool, Err, IsTrue, List, None, Ok, Result, Some, Vec, [], cond, false, filter, map, nat_le, nat_lt, not, option_map, refl, slice_get, suc, true, unwrap_or, zero, ℕ, ◌&&◌, ◌++◌, ◌==◌, ◌||◌, ◌∷◌}
 pub use Rattle.std.specs.declared.alloc.Global.{Global}
-pub use Rattle.unproved.specs.StatementRanges.{IsLeastIn}
+pub use Rattle.unproved.specs.StatementRanges.{IsFirstUnprovedIn}
 pub use Rattle.unproved.specs.Unproved.{AreUnproved, IsPositionOf, as_axiom, assumed}
 pub use Rattle.verify.proofs.RightLemmas.{provable-bare}
 pub use Rattle.verify.proofs.Words.{some-same}

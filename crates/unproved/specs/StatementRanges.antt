@@ -1,13 +1,13 @@
 -- Consecutive statements as jobs of a pool.
 -- Source: none; for the private functions of `statement_range` and `search`.
--- The code keeps a reference to all statements.
+-- The code also has the frames, of which the model has only the names.
 use Rattle.std.specs.Prelude.{◌≡◌, ℕ, ◌+◌, ◌-◌, ◌≤◌, List, length, Option}
 use Rattle.mm_lex.specs.Alphabet.{Name}
 use Rattle.library.specs.Words.{Database, bares}
 use Rattle.library.specs.Judging.{IsProvedIfProvable}
 use Rattle.verify_pool.specs.Least.{IsLeast}
 
--- statements, the list of names to which their frames give numbers, and the range after position `start`, up to `end`
+-- all statements, the names to which their frames give numbers, and a range: the positions after `start`, up to `end`
 pub record RangeView : Type 0 where
   pub statements : Database
   pub names : List Name
@@ -15,8 +15,8 @@ pub record RangeView : Type 0 where
   pub end : ℕ
 
 -- `start` is at most `end`, which is at most the number of statements, and the frames are those of the statements
-pub record IsRange (frames S : Database) (start end : ℕ) : Type 0 where
-  pub same : frames ≡ bares S
+pub record IsRangeWithFrames (frame_statements S : Database) (start end : ℕ) : Type 0 where
+  pub frames_are : frame_statements ≡ bares S
   pub order : start ≤ end
   pub within : end ≤ length S
 
@@ -25,6 +25,6 @@ abbrev pub IsProvedIn : RangeView → ℕ → Type 0
 IsProvedIn range k = IsProvedIfProvable range.statements (range.start + k + 1)
 
 -- the answer is the index, in the range, of the first `$p` that is not proved
-abbrev pub IsLeastIn : Database → ℕ → ℕ → Option ℕ → Type 0
-IsLeastIn S start end answer =
+abbrev pub IsFirstUnprovedIn : Database → ℕ → ℕ → Option ℕ → Type 0
+IsFirstUnprovedIn S start end answer =
     IsLeast (λ k. IsProvedIfProvable S (start + k + 1)) (end - start) answer

@@ -42,7 +42,7 @@ impl Model for LegalDatabase {
 }
 
 impl LegalDatabase {
-    /// Makes the frames of the statements of a text. Returns `None` if a statement is not legal or a
+    /// Makes a `LegalDatabase` of these statements, or returns `None` if one of them is not legal or a
     /// block is open at the end.
     ///
     /// Errors: an allocation fails. Cost: the size of the statements.
@@ -81,18 +81,20 @@ impl LegalDatabase {
     }
 
     /// Returns the positions, from 1 and ascending, of every `$p` that is not proved, each judged
-    /// against earlier statements. No answer depends on the number of workers.
+    /// against earlier statements. The list does not depend on the number of workers; whether `AllocError`
+    /// is returned may.
     ///
-    /// Errors: an allocation fails. Cost: that of the proofs, divided among the workers; in each range of
-    /// at most 2,048 statements the proofs after the first wrong one are judged again, on the calling thread.
+    /// Errors: an allocation fails. Cost: that of the proofs, divided among the workers. In each range of at
+    /// most 2,048 statements the calling thread may judge proofs again: those after the first wrong one, heavy
+    /// ones that a worker puts off, or all of them if an allocation fails for a worker.
     /// Source: Metamath, 4.2.6 and appendix B.
     pub fn unproved<R: Threads + Sync>(
         &self,
         rt: &R,
         workers: Workers,
     ) -> Result<Vec<usize>, AllocError>
-        ensures list { IfOk result (λ list. AreUnproved self.now 0 (length self.now) list.items) }
-        ensures within { IfOk result (λ list. All (IsPositionOf (length self.now)) list.items) }
+        ensures positions { IfOk result (λ positions. AreUnproved self.now 0 (length self.now) positions.items) }
+        ensures within { IfOk result (λ positions. All (IsPositionOf (length self.now)) positions.items) }
     {
         let search = Search {
             rt,
@@ -109,12 +111,12 @@ impl LegalDatabase {
     ///
     /// Errors: an allocation fails. Cost: the size of the statements.
     #[tactic(auto, using(crate::proofs::AssumedGoodLemmas::good_assumed, crate::proofs::UnprovedLemmas::all_within))]
-    pub fn assume(self, unproved: &[usize]) -> Result<Library, AllocError>
+    pub fn into_assumed_library(self, unproved: &[usize]) -> Result<Library, AllocError>
         requires { AreUnproved self 0 (length self) unproved.now }
         ensures { IfOk result (λ library. library.replica ≡ holding (assumed self unproved.now)) }
     {
         let alloc = self.alloc;
-        let statements = self.assumed(unproved);
+        let statements = self.into_assumed_statements(unproved);
         library_of_good(alloc, statements)
     }
 
@@ -133,18 +135,18 @@ impl LegalDatabase {
     }
 
     /// Returns the statements, with each `$p` at one of these positions replaced by a `$a`.
-    fn assumed(self, unproved: &[usize]) -> Vec<Stmt>
+    fn into_assumed_statements(self, unproved: &[usize]) -> Vec<Stmt>
         requires { All (IsPositionOf (length self)) unproved.now }
         ensures is { result.items ≡ assumed self unproved.now }
         ensures shaped { AreShaped result.items }
     {
         let LegalDatabase { mut statements, .. } = self;
-        assume_all(&mut statements, unproved);
+        make_axioms(&mut statements, unproved);
         statements
     }
 
-    /// Returns the cause of refusing a text in which the `$p` at this position is not proved:
-    /// `Unfinished` if a token of its proof has the byte `?`, else `Proof`.
+    /// Returns the cause that names this position: `Unfinished` if a token of the proof there has the byte
+    /// `?`, else `Proof`. It is meant for a `$p` that is not proved.
     pub fn cause(&self, at: usize) -> Cause
         requires { IsPositionOf (length self.now) at }
         ensures { CauseAt self.now at result }
@@ -175,19 +177,19 @@ fn library_of_good(alloc: Global, statements: Vec<Stmt>) -> Result<Library, Allo
 }
 
 /// Replaces each `$p` at one of these positions by a `$a`.
-fn assume_all(statements: &mut Vec<Stmt>, unproved: &[usize])
+fn make_axioms(statements: &mut Vec<Stmt>, unproved: &[usize])
     requires within { All (IsPositionOf (length statements.old.items)) unproved.now }
     requires shaped { AreShaped statements.old.items }
     ensures is { statements.new.items ≡ assumed statements.old.items unproved.now }
     ensures shaped { AreShaped statements.new.items }
 {
     for at in unproved {
-        assume(&mut statements[*at - 1]);
+        make_axiom(&mut statements[*at - 1]);
     }
 }
 
 /// Replaces a `$p` by a `$a` with the same label and expression.
-fn assume(statement: &mut Stmt)
+fn make_axiom(statement: &mut Stmt)
     ensures { statement.new ≡ as_axiom statement.old }
 {
     let old = replace(statement, Stmt::Open);
@@ -213,6 +215,7 @@ fn add_all(rules: &mut Rules, frames: &mut Frames, statements: &[Stmt]) -> Resul
         → IsLegalDatabase rules.new.statements frames.new.statements statements.now }
     ensures broken { result ≡ Ok false → ¬ AllLegal statements.now }
 {
+    // Room for as many labels as if every other statement had one.
     frames.reserve(statements.len() / 2);
     let mut steps = Steps::new();
     for statement in statements {

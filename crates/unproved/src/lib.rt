@@ -1,4 +1,4 @@
-//! Finds the `$p` of a list of statements that are not proved.
+//! Finds each `$p` that is not proved, and makes a library in which these are `$a`.
 //!
 //! The main contract: `LegalDatabase::unproved` returns the positions of exactly the `$p`
 //! that are not proved, in order, with any number of workers.

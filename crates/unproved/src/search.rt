@@ -1,7 +1,7 @@
 //! Finds all `$p` that are not proved.
 ghost use Rattle.std.specs.Prelude.{◌≡◌, ◌-◌, ◌<◌, ◌≤◌, [], length, IfOk, OnOk};
 ghost use Rattle.scope.specs.Active.{bares};
-ghost use Rattle.unproved.specs.StatementRanges.{IsLeastIn};
+ghost use Rattle.unproved.specs.StatementRanges.{IsFirstUnprovedIn};
 ghost use Rattle.unproved.specs.Unproved.{AreUnproved};
 
 use crate::statement_range::StatementRange;
@@ -12,8 +12,8 @@ use std::alloc::{AllocError, Global};
 use std::thread::Threads;
 use verify_pool::{Checkers, OpenGate, Workers, judge_all, judge_here};
 
-/// The largest number of statements in a range. The proofs of a range are judged in parallel.
-const MAX_IN_RANGE: usize = 2_048;
+/// The largest number of statements in a range. Ranges are judged one after another.
+const MAX_RANGE_STATEMENTS: usize = 2_048;
 
 /// Fewer statements than this are judged on the calling thread: starting threads would cost more.
 const MIN_FOR_THREADS: usize = 32;
@@ -30,34 +30,35 @@ pub(crate) struct Search<'a, R: Threads + Sync> {
 
 /// Returns the positions of the `$p` that are not proved, in order.
 ///
-/// Errors: an allocation fails. Cost: that of the proofs, divided among the workers, and once more
-/// that of the proofs that follow a wrong one in its range.
+/// Errors: an allocation fails. Cost: that of the proofs, divided among the workers. The calling thread
+/// may judge proofs again: those after a wrong one in its range, heavy ones that a worker puts off, or all
+/// of a range if an allocation fails for a worker.
 pub(crate) fn find_unproved<R: Threads + Sync>(
     search: &Search<'_, R>,
 ) -> Result<Vec<usize>, AllocError>
     requires { search.now.frames.now.statements ≡ bares search.now.statements.now }
-    ensures { IfOk result (λ list.
-        AreUnproved search.now.statements.now 0 (length search.now.statements.now) list.items) }
+    ensures { IfOk result (λ positions.
+        AreUnproved search.now.statements.now 0 (length search.now.statements.now) positions.items) }
 {
     let mut checkers = Checkers::new(search.alloc);
-    let mut list = Vec::new(search.alloc);
+    let mut positions = Vec::new(search.alloc);
     let mut start = 0;
     while start < search.statements.len() {
         let end = range_end(search.statements, start);
-        add_unproved(search, &mut checkers, start, end, &mut list)?;
+        push_unproved_of_range(search, &mut checkers, start, end, &mut positions)?;
         start = end;
     }
-    Ok(list)
+    Ok(positions)
 }
 
-/// Returns the position of the last statement of the next range: that of the first `$p` with an
-/// unfinished proof, or else `start + MAX_IN_RANGE`, but at most that of the last statement of all.
+/// Returns the position where the range after `start` ends. A range ends with its first `$p` whose proof
+/// is unfinished; if it has none, after `MAX_RANGE_STATEMENTS` statements or with the last statement of all.
 fn range_end(statements: &[Stmt], start: usize) -> usize
     requires { start < length statements.now }
     ensures later { start < result }
     ensures within { result ≤ length statements.now }
 {
-    let count = (statements.len() - start).min(MAX_IN_RANGE);
+    let count = (statements.len() - start).min(MAX_RANGE_STATEMENTS);
     for (index, statement) in statements[start..start + count].iter().enumerate() {
         if is_unfinished_proof(statement) {
             return start + index + 1;
@@ -76,42 +77,42 @@ fn is_unfinished_proof(statement: &Stmt) -> bool {
 
 /// Appends the positions of the unproved `$p` after the first `start` statements, up to `end`. The
 /// workers find the first of them, and the calling thread the others.
-fn add_unproved<R: Threads + Sync>(
+fn push_unproved_of_range<R: Threads + Sync>(
     search: &Search<'_, R>,
     checkers: &mut Checkers,
     start: usize,
     end: usize,
-    list: &mut Vec<usize>,
+    positions: &mut Vec<usize>,
 ) -> Result<(), AllocError>
-    requires same { search.now.frames.now.statements ≡ bares search.now.statements.now }
+    requires frames_are { search.now.frames.now.statements ≡ bares search.now.statements.now }
     requires order { start ≤ end }
     requires within { end ≤ length search.now.statements.now }
-    requires before { AreUnproved search.now.statements.now 0 start list.old.items }
-    ensures { OnOk result (AreUnproved search.now.statements.now 0 end list.new.items) }
+    requires before { AreUnproved search.now.statements.now 0 start positions.old.items }
+    ensures { OnOk result (AreUnproved search.now.statements.now 0 end positions.new.items) }
 {
     let mut start = start;
-    let mut found = first_unproved(search, checkers, start, end, search.workers)?;
+    let mut found = first_unproved_index(search, checkers, start, end, search.workers)?;
     while let Some(index) = found {
         start = start + index + 1;
-        list.push(start)?;
-        found = first_unproved(search, checkers, start, end, Workers::of(1))?;
+        positions.push(start)?;
+        found = first_unproved_index(search, checkers, start, end, Workers::of(1))?;
     }
     Ok(())
 }
 
 /// Returns the index, from 0 after the first `start` statements, of the first `$p` up to `end` that
 /// is not proved, or `None` if each is proved. One worker, or few statements, need no thread.
-fn first_unproved<R: Threads + Sync>(
+fn first_unproved_index<R: Threads + Sync>(
     search: &Search<'_, R>,
     checkers: &mut Checkers,
     start: usize,
     end: usize,
     workers: Workers,
 ) -> Result<Option<usize>, AllocError>
-    requires same { search.now.frames.now.statements ≡ bares search.now.statements.now }
+    requires frames_are { search.now.frames.now.statements ≡ bares search.now.statements.now }
     requires order { start ≤ end }
     requires within { end ≤ length search.now.statements.now }
-    ensures { IfOk result (IsLeastIn search.now.statements.now start end) }
+    ensures { IfOk result (IsFirstUnprovedIn search.now.statements.now start end) }
 {
     let range = StatementRange {
         frames: search.frames,

@@ -6,8 +6,8 @@ use std::marker::Model;
 use verify::{Answer, Checker};
 use verify_pool::Work;
 
-/// The statements after the first `start`, up to `end`, as jobs in order. Contracts see all
-/// statements, the list of names to which their frames give numbers, `start` and `end`.
+/// The statements at positions `start + 1` to `end`; the job of index `i` is that at `start + 1 + i`.
+/// Contracts see all statements, the names to which the frames give numbers, `start` and `end`.
 #[derive(Drop)]
 pub(crate) struct StatementRange<'a> {
     pub(crate) frames: &'a Frames,
@@ -17,13 +17,13 @@ pub(crate) struct StatementRange<'a> {
 }
 
 impl<'a> Model for StatementRange<'a> {
-    ghost use Rattle.unproved.specs.StatementRanges.{IsRange, RangeView};
+    ghost use Rattle.unproved.specs.StatementRanges.{IsRangeWithFrames, RangeView};
 
     ghost Value = { RangeView };
 
     ghost view = { λ a. record { statements = a.statements.now; names = a.frames.now.names; start = a.start; end = a.end } };
 
-    ghost invariant = { λ a. IsRange a.frames.now.statements a.statements.now a.start a.end };
+    ghost invariant = { λ a. IsRangeWithFrames a.frames.now.statements a.statements.now a.start a.end };
 }
 
 impl<'a> Work for StatementRange<'a> {

@@ -35,9 +35,9 @@ module _ (old : WorldView) (k : ℕ) (node next : NodeLibrary) (result : Result 
   applied_at (Some entry) (Err fault) h = tt
   applied_at (Some entry) (Ok None) h = elim h [ ]
   applied_at (Some entry) (Ok (Some verdict)) h = record {
-    before = node;
-    library = next.library;
-    was = is;
+    old_node_library = node;
+    new_library = next.library;
+    old_is = is;
     applies = h.0;
     becomes = ap (λ (n : ℕ). let r : WorldView = record { history = old.history; libraries = set old.libraries k (record { applied = n; library = next.library }) } in r) h.1;
   }

@@ -27,11 +27,11 @@ headline_of history agreement = record {
   libraries_agree = λ one other p q.
       let xs = entries_of (log p.world p.node) in
       let ys = entries_of (log q.world q.node) in
-      statements_agree (take p.applied xs) (take q.applied ys) one other
-      (takes_agree p.applied q.applied xs ys (entries_agree (log p.world p.node) (log q.world q.node) (agreement.logs_agree p.world q.world p.moment q.moment p.node q.node))) p.of_log q.of_log;
-  libraries_good = λ library p. library-good (take p.applied (entries_of (log p.world p.node))) library p.of_log;
+      statements_agree (take p.count xs) (take q.count ys) one other
+      (takes_agree p.count q.count xs ys (entries_agree (log p.world p.node) (log q.world q.node) (agreement.logs_agree p.world q.world p.moment q.moment p.node q.node))) p.of_log q.of_log;
+  libraries_good = λ library p. library-good (take p.count (entries_of (log p.world p.node))) library p.of_log;
   derived = λ library p at stmt provable.
-      let proved = (library-good (take p.applied (entries_of (log p.world p.node))) library p.of_log).proved at stmt provable in
+      let proved = (library-good (take p.count (entries_of (log p.world p.node))) library p.of_log).proved at stmt provable in
       record { stmt = proved.right.1.stmt; derivation = proved.right.0; stands = proved.right.1.stands; concludes = proved.right.1.concludes };
 }
 

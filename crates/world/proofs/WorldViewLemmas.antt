@@ -133,10 +133,10 @@ step_taken old new e result answer becomes ok refused = subst (λ (r : WorldView
   met (Err fault) h = cc
 
 -- after a step that returns a count each library is that of its log
-pub step_keeps : (old : WorldView) (e : Event Carried) (history : History Carried) (libraries : List NodeLibrary) (restarted : Option ℕ) (count : ℕ) → AreLibrariesOfLogs old
-    → history ≡ with_event old.history e → restarted ≡ node_restarted e → libraries ≡ with_library_reset old.libraries restarted
+pub step_keeps : (old : WorldView) (e : Event Carried) (history : History Carried) (libraries : List NodeLibrary) (restarted_node : Option ℕ) (count : ℕ) → AreLibrariesOfLogs old
+    → history ≡ with_event old.history e → restarted_node ≡ node_restarted e → libraries ≡ with_library_reset old.libraries restarted_node
     → IfErr (world_of carried_size (with_event old.history e)) (λ fault. let answer : Result ℕ StepFault = Ok count in answer ≡ Err fault) → AreLibrariesOfLogs (record { history = history; libraries = libraries })
-step_keeps old e history libraries restarted count h is restarts_is given refused =
+step_keeps old e history libraries restarted_node count h is restarts_is given refused =
     subst AreLibrariesOfLogs (sym (record_is history (with_event old.history e) libraries (with_library_reset old.libraries (node_restarted e)) is (given ∙ ap (λ (o : Option ℕ). with_library_reset old.libraries o) restarts_is)))
     (then_are_libraries old e (ok_unless_met (world_of carried_size (with_event old.history e)) count refused) h) where
       record_is : (s t : History Carried) (ls ms : List NodeLibrary) → s ≡ t → ls ≡ ms → let r : WorldView = record { history = s; libraries = ls } in r ≡ record { history = t; libraries = ms }

@@ -1,10 +1,11 @@
 -- Entries of a library as the values that nodes agree on.
 -- Source: Lamport, Paxos Made Simple, section 3: the values chosen are the commands of a state machine.
--- The code wraps an entry in a type of its own; its size is the number of bytes of its text, or 8 for each name of a charter.
+-- The code shares the bytes of a text among the copies of its entry.
 use Rattle.std.specs.Prelude.{ℕ, List, [], ◌∷◌, Option, Some, None}
 use Rattle.world.specs.Words.{Entry, size_of, Event, Offer, Begin, Deliver, Restart}
 use Rattle.world.specs.declared.carried.Carried.{Carried}
 
+-- the size of the entry: the number of bytes of its text, or 8 for each name of a charter
 abbrev pub carried_size : Carried → ℕ
 carried_size c = size_of c.0
 

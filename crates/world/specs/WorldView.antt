@@ -50,20 +50,20 @@ abbrev pub log_entries : History Carried → ℕ → List (Option Entry)
 log_entries history k = entries_of (log_after (world_of carried_size history) k)
 
 -- the library is that of the first entries of the log, as many as were applied
-pub record IsOfLog (log : List (Option Entry)) (node : NodeLibrary) : Type 0 where
-  pub within : node.applied ≤ length log
-  pub library : IsLibraryOf (take node.applied log) node.library
+pub record IsOfLog (log : List (Option Entry)) (node_library : NodeLibrary) : Type 0 where
+  pub within : node_library.applied ≤ length log
+  pub library : IsLibraryOf (take node_library.applied log) node_library.library
 
--- there is one library for each node, each of its node's log
+-- there is one library for each node, made of the first entries of that node's log
 pub record AreLibrariesOfLogs (w : WorldView) : Type 0 where
   pub one_each : length w.libraries ≡ length w.history.weights
-  pub of_logs : (k : ℕ) (node : NodeLibrary) → slice_get w.libraries k ≡ Some node → IsOfLog (log_entries w.history k) node
+  pub of_logs : (k : ℕ) (node_library : NodeLibrary) → slice_get w.libraries k ≡ Some node_library → IsOfLog (log_entries w.history k) node_library
 
 -- The entry of a log to be applied next to a node's library, if there is such a node and such an entry.
 
 abbrev pub next_of : List (Option Entry) → Option NodeLibrary → Option (Option Entry)
 next_of log None = None
-next_of log (Some node) = slice_get log node.applied
+next_of log (Some node_library) = slice_get log node_library.applied
 
 -- the entry of node k's log to be applied next, if there is one
 abbrev pub next_entry : WorldView → ℕ → Option (Option Entry)
@@ -71,13 +71,14 @@ next_entry w k = next_of (log_entries w.history k) (slice_get w.libraries k)
 
 -- the entry is applied to the library of node k, with this verdict, and nothing else changes
 pub record IsApplied (old : WorldView) (k : ℕ) (entry : Option Entry) (verdict : Verdict) (new : WorldView) : Type 0 where
-  pub before : NodeLibrary
-  pub library : ReplicaState
-  pub was : slice_get old.libraries k ≡ Some before
-  pub applies : Applies before.library entry verdict library
-  pub becomes : new ≡ record { history = old.history; libraries = slice_set old.libraries k (record { applied = before.applied + 1; library = library }) }
+  pub old_node_library : NodeLibrary
+  pub new_library : ReplicaState
+  pub old_is : slice_get old.libraries k ≡ Some old_node_library
+  pub applies : Applies old_node_library.library entry verdict new_library
+  pub becomes : new ≡ record { history = old.history; libraries = slice_set old.libraries k (record { applied = old_node_library.applied + 1; library = new_library }) }
 
--- the entry is applied with this verdict, or there is none; or an allocation fails, and nothing changes
+-- the entry is applied with this verdict, or `Memory` is returned and nothing changes; if there is no entry, `None` is returned
+-- and nothing changes
 abbrev pub AppliesNext : NodeLibrary → NodeLibrary → Option (Option Entry) → Result (Option Verdict) StepFault → Type 0
 AppliesNext old new None (Ok None) = new ≡ old
 AppliesNext old new None (Ok (Some verdict)) = ⊥

@@ -1,4 +1,4 @@
-//! Entries as the values that nodes agree on (`Carried`), and events on entries as events on values.
+//! Entries as the values that nodes agree on (`Carried`), and events that carry them.
 ghost use Rattle.std.specs.Prelude.{◌≡◌, IfOk};
 ghost use Rattle.world.specs.Carried.{value_event, entry_of, entries_of};
 ghost use Rattle.world.specs.WorldView.{node_restarted};
@@ -63,7 +63,7 @@ pub(crate) fn to_value_event(event: Event<Entry>) -> Event<Carried>
 }
 
 /// Returns the node that the event restarts, if it is a restart.
-pub(crate) fn restarted(event: &Event<Carried>) -> Option<u8>
+pub(crate) fn restarted_node(event: &Event<Carried>) -> Option<u8>
     ensures { result ≡ node_restarted event.now }
 {
     match event {

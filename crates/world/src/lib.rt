@@ -1,20 +1,21 @@
 //! All nodes that agree on one log, each with its library, driven by a list of events.
 //!
 //! The main theorem is `headline`: whatever packets are lost, repeated or delayed and whichever nodes restart, of any two
-//! nodes' libraries, at any two moments, one is a prefix of the other. `program` and `run_pictures` use `World`, `cluster` uses
-//! `NodeLibrary`; `run` serves tests.
+//! nodes' libraries, at any two moments, the statements of one are a prefix of the other's. `program` and `run_pictures` use
+//! `World`, `cluster` uses `NodeLibrary`; `run` serves tests.
 //!
-//! Read the definitions, specs/Carried, WorldView and Headline; then `carried`, `node_library`, `world`, `replay` and `laws`.
+//! Reading order: the definitions in `specs/Carried`, `WorldView` and `Headline`; then the modules `carried`, `node_library`,
+//! `world`, `run_of_events` and `laws`.
 #![tactic(auto)]
 
 mod carried;
 mod laws;
 mod node_library;
-mod replay;
+mod run_of_events;
 mod world;
 
 pub use carried::Carried;
 pub use laws::headline;
 pub use node_library::NodeLibrary;
-pub use replay::run;
+pub use run_of_events::run;
 pub use world::World;

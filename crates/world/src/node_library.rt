@@ -60,8 +60,8 @@ impl NodeLibrary {
         &self.library
     }
 
-    /// Applies `next`, the next entry of the log, and returns its verdict; `Some(None)` is a no-operation. Returns
-    /// `None` if the log ends here.
+    /// Applies `next`, the next entry of the log, and returns its verdict. `next` is `Some(None)` for a no-operation, and
+    /// `None` if the log ends here; then `None` is returned.
     ///
     /// Errors: `Memory`; `self` is then unchanged. Cost: that of `Library::apply` on the entry.
     pub fn apply_next(
@@ -71,17 +71,16 @@ impl NodeLibrary {
         requires { IsSome next → self.old.applied < SLOTS }
         ensures { AppliesNext self.old self.new (option_map (λ e. entry_of e.now) next.entry) result }
     {
-        let Some(entry) = next else {
+        let Some(value) = next else {
             return Ok(None);
         };
-        let verdict = self.library.apply(library_entry(entry))?;
+        let verdict = self.library.apply(library_entry(value))?;
         self.applied += 1;
         Ok(Some(verdict))
     }
 
     /// Applies the next entry of the log as `apply_next` does, with its proofs checked by workers in parallel. Each
-    /// worker passes the gate before each proof. The verdict does not depend on the number of workers; whether `Memory`
-    /// is returned may.
+    /// worker calls `Gate::pass` before each proof. The number of workers can change only whether `Memory` is returned.
     ///
     /// Errors: those of `apply_next`; `Memory` may also be returned if a proof is too heavy for a worker and the gate
     /// keeps heavy proofs out (`Gate::admits_heavy`). Cost: that of `Library::apply_with` on the entry.
@@ -95,22 +94,22 @@ impl NodeLibrary {
         requires { IsSome next → self.old.applied < SLOTS }
         ensures { AppliesNext self.old self.new (option_map (λ e. entry_of e.now) next.entry) result }
     {
-        let Some(entry) = next else {
+        let Some(value) = next else {
             return Ok(None);
         };
         let verdict = self
             .library
-            .apply_with(rt, library_entry(entry), workers, gate)?;
+            .apply_with(rt, library_entry(value), workers, gate)?;
         self.applied += 1;
         Ok(Some(verdict))
     }
 }
 
 /// Returns the entry that a library applies; `None` is the no-operation.
-fn library_entry(entry: &Option<Carried>) -> Option<&Entry>
-    ensures { option_map (λ e. e.now) result ≡ entry_of entry.now }
+fn library_entry(value: &Option<Carried>) -> Option<&Entry>
+    ensures { option_map (λ e. e.now) result ≡ entry_of value.now }
 {
-    match entry {
+    match value {
         Some(carried) => Some(&carried.0),
         None => None,
     }
@@ -128,10 +127,14 @@ pub(crate) fn new_libraries(alloc: Global, nodes: u8) -> Result<Vec<NodeLibrary>
 }
 
 /// Discards the library of the node that restarts, if one does.
-pub(crate) fn reset_library(alloc: Global, libraries: &mut Vec<NodeLibrary>, restarted: Option<u8>)
-    ensures { libraries.new.items ≡ with_library_reset libraries.old.items restarted }
+pub(crate) fn reset_library(
+    alloc: Global,
+    libraries: &mut Vec<NodeLibrary>,
+    restarted_node: Option<u8>,
+)
+    ensures { libraries.new.items ≡ with_library_reset libraries.old.items restarted_node }
 {
-    if let Some(k) = restarted {
+    if let Some(k) = restarted_node {
         if let Some(node_library) = libraries.get_mut(k as usize) {
             node_library.reset(alloc);
         }

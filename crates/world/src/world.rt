@@ -7,7 +7,7 @@ ghost use Rattle.world.specs.Carried.{value_event, carried_size};
 ghost use Rattle.world.specs.WorldView.{log_entries, AppliesNext};
 ghost use Rattle.net.specs.declared.fault.StepFault.TheVariants.{NoNode, NoPacket, Memory};
 
-use crate::carried::{Carried, entries, restarted, to_value_event};
+use crate::carried::{Carried, entries, restarted_node, to_value_event};
 use crate::node_library::{NodeLibrary, new_libraries, reset_library};
 use library::{Entry, Library, Verdict};
 use net::{Event, MAX_EVENTS, Net, StepFault};
@@ -43,7 +43,7 @@ impl World {
 
     /// Creates a world of new nodes, each with an empty library.
     ///
-    /// Errors: `Memory`.
+    /// Errors: `Memory`. Cost: a constant for each node.
     pub fn new(alloc: Global, weights: Weights) -> Result<Self, StepFault>
         ensures new { IfOk result (λ world. world ≡ new_world weights) }
         ensures only_memory { IsOkUnless result Memory }
@@ -58,6 +58,7 @@ impl World {
     /// Takes an event. Returns the number of packets posted so far. A restart discards the library of its node.
     ///
     /// Errors: the first fault that the event meets, or `Memory` if it meets none; the world is then as before.
+    /// Cost: that of `Net::step`; a restart also drops the library of its node.
     pub fn step(&mut self, event: Event<Entry>) -> Result<u64, StepFault>
         ensures taken { OnOk result (self.new ≡ after_event self.old (value_event event)) }
         ensures posted { IfOk result (λ count. count ≡ length (packets_after (world_of carried_size self.new.history))) }
@@ -65,12 +66,12 @@ impl World {
         // A fault of the event is returned even if every allocation fails.
         ensures refused { IfErr (world_of carried_size (with_event self.old.history (value_event event))) (λ fault. result ≡ Err fault) }
         ensures only_memory { OnOk (world_of carried_size (with_event self.old.history (value_event event))) (IsOkUnless result Memory) }
-        ensures same { OnErr result (self.new ≡ self.old) }
+        ensures err { OnErr result (self.new ≡ self.old) }
     {
         let event = to_value_event(event);
-        let restarted = restarted(&event);
+        let restarted_node = restarted_node(&event);
         let posted = self.net.step(event)?;
-        reset_library(self.alloc, &mut self.libraries, restarted);
+        reset_library(self.alloc, &mut self.libraries, restarted_node);
         Ok(posted)
     }
 
@@ -83,18 +84,20 @@ impl World {
         ensures none { k < length self.old.history.weights → next_entry self.old k ≡ None → result ≡ Ok None }
         ensures no_node { length self.old.history.weights ≤ k → result ≡ Err NoNode }
         ensures only_memory { k < length self.old.history.weights → IsOkUnless result Memory }
-        ensures same { next_entry self.old k ≡ None → self.new ≡ self.old }
+        ensures same_if_none { next_entry self.old k ≡ None → self.new ≡ self.old }
         ensures err { OnErr result (self.new ≡ self.old) }
     {
         let Some(node_library) = self.libraries.get_mut(k as usize) else {
             return Err(StepFault::NoNode);
         };
-        apply_from(node_library, &self.net, k)
+        apply_next_of_log(node_library, &self.net, k)
     }
 
     /// Returns the library of node `k`: that of the first entries of its log, as many as were applied. Does not allocate.
+    ///
+    /// Errors: `NoNode`.
     pub fn library(&self, k: u8) -> Result<&Library, StepFault>
-        ensures library { IfOk result (λ library. IsSomeAnd (slice_get self.now.libraries k) (λ node. library.now.replica ≡ node.library)) }
+        ensures library { IfOk result (λ library. IsSomeAnd (slice_get self.now.libraries k) (λ node_library. library.now.replica ≡ node_library.library)) }
         ensures no_node { length self.now.history.weights ≤ k → result ≡ Err NoNode }
         ensures node { k < length self.now.history.weights → IsOk result }
         ensures of_logs { AreLibrariesOfLogs self.now }
@@ -115,6 +118,8 @@ impl World {
     }
 
     /// Returns the log of node `k`: what it learned, up to its first gap.
+    ///
+    /// Errors: `NoNode`; else `Memory`. Cost: the size of the log; each entry is copied.
     pub fn log(&self, k: u8) -> Result<Vec<Option<Entry>>, StepFault>
         ensures log { IfOk result (λ entries. entries.items ≡ log_entries self.now.history k) }
         ensures no_node { length self.now.history.weights ≤ k → result ≡ Err NoNode }
@@ -124,6 +129,8 @@ impl World {
     }
 
     /// Returns the state that node `k` reports. Does not allocate.
+    ///
+    /// Errors: `NoNode`.
     pub fn state(&self, k: u8) -> Result<NodeState, StepFault>
         ensures state { IfOk result (λ state. state_after (world_of carried_size self.now.history) k ≡ Some state) }
         ensures no_node { length self.now.history.weights ≤ k → result ≡ Err NoNode }
@@ -133,8 +140,10 @@ impl World {
     }
 
     /// Returns the number of entries of node `k`'s log that its library applied. Does not allocate.
+    ///
+    /// Errors: `NoNode`.
     pub fn applied(&self, k: u8) -> Result<u32, StepFault>
-        ensures applied { IfOk result (λ applied. IsSomeAnd (slice_get self.now.libraries k) (λ node. applied ≡ node.applied)) }
+        ensures applied { IfOk result (λ applied. IsSomeAnd (slice_get self.now.libraries k) (λ node_library. applied ≡ node_library.applied)) }
         ensures no_node { length self.now.history.weights ≤ k → result ≡ Err NoNode }
         ensures node { k < length self.now.history.weights → IsOk result }
     {
@@ -145,6 +154,8 @@ impl World {
     }
 
     /// Returns the packet of that number, from 0 in the order of posting. Does not allocate.
+    ///
+    /// Errors: `NoPacket`.
     pub fn packet(&self, number: u64) -> Result<&Packet<Carried>, StepFault>
         ensures found { IfOk result (λ packet. slice_get (packets_after (world_of carried_size self.now.history)) number ≡ Some packet.now) }
         ensures no_packet { (result ≡ Err NoPacket) ↔ (slice_get (packets_after (world_of carried_size self.now.history)) number ≡ None) }
@@ -155,7 +166,7 @@ impl World {
 }
 
 /// Applies the next entry of node `k`'s log to its library.
-fn apply_from(
+fn apply_next_of_log(
     node_library: &mut NodeLibrary,
     net: &Net<Carried>,
     k: u8,

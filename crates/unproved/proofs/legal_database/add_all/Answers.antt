@@ -47,7 +47,7 @@ returns-in-Ok-clause-legal c = λ f.
     let end = i.left ∙ (ap (λ U. first_broken (index + 1) U (drop index S)) (sym i.same) ∙ ap (first_broken (index + 1) c.loop-statement.rules.statements) (drop_all index S over)) in
     record {
       rules_are = i.same ∙ (i.taken ∙ all);
-      same = i.taken ∙ all;
+      frames_are = i.taken ∙ all;
       shaped = c.requires.shaped;
       legal = end ∙ ap (numbered (index + 1)) (none-at-end _ _ c.close_at_end.ensures.«open» c.in-Ok.is);
     }

@@ -4,7 +4,7 @@ use Rattle.unproved.proofs.search.find_unproved.Given as goal
 abbrev pub invariant-loop-start : goal.invariant-loop-start
 invariant-loop-start g l = record {
   within : l.start ≤ length l.search.statements.now;
-  list : AreUnproved l.search.statements.now 0 l.start l.list.items;
+  positions : AreUnproved l.search.statements.now 0 l.start l.positions.items;
 }
 
 abbrev pub decreases-loop-start : goal.decreases-loop-start

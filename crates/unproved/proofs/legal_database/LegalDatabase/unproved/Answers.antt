@@ -4,5 +4,5 @@ use Rattle.unproved.proofs.legal_database.LegalDatabase.unproved.Goals as goal
 
 pub returns-clause-within : goal.returns-clause-within
 returns-clause-within g c =
-    let told : IfOk c.find_unproved.result (λ list. AreUnproved c.args.self.now 0 (length c.args.self.now) list.items) = search rules in
+    let told : IfOk c.find_unproved.result (λ positions. AreUnproved c.args.self.now 0 (length c.args.self.now) positions.items) = search rules in
     found_within c.args.self.now (length c.args.self.now) c.find_unproved.result told

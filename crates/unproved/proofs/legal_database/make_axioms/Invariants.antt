@@ -1,5 +1,5 @@
 use Rattle.unproved.proofs.Words.{◌≡◌, drop, length, AreShaped, assumed}
-use Rattle.unproved.proofs.legal_database.assume_all.Given as goal
+use Rattle.unproved.proofs.legal_database.make_axioms.Given as goal
 
 abbrev pub invariant-loop-at : goal.invariant-loop-at
 invariant-loop-at l = record {

@@ -1,5 +1,5 @@
 use Rattle.world.proofs.Words.{◌≡◌, IsOk, world_of, carried_size, value_events, new_node_libraries}
-use Rattle.world.proofs.replay.run.Given as goal
+use Rattle.world.proofs.run_of_events.run.Given as goal
 
 abbrev pub invariant-loop-event : goal.invariant-loop-event
 invariant-loop-event l = record {

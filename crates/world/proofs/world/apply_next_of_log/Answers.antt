@@ -1,6 +1,6 @@
 use Rattle.world.proofs.Words.{Option, subst, Entry, log_after, world_of, carried_size, AppliesNext}
 use Rattle.world.proofs.AppliedNext.{entry_next}
-use Rattle.world.proofs.world.apply_from.Goals as goal
+use Rattle.world.proofs.world.apply_next_of_log.Goals as goal
 
 pub returns : goal.returns
 returns c =

@@ -1,4 +1,4 @@
-//! Taking all events of a list, one after another.
+//! A world that takes all events of a list, one after another.
 ghost use Rattle.std.specs.Prelude.{◌≡◌, IfOk, IfErr, OnOk};
 ghost use Rattle.net.specs.Agreement.{RunStopsAt};
 ghost use Rattle.world.specs.Carried.{carried_size, value_events};
