@@ -15,19 +15,20 @@ use std::alloc::{AllocError, Global};
 /// The state of a walk over both lists of statements in parallel.
 #[derive(Drop)]
 struct Walk {
-    /// The scope after the statements of the whole passed so far.
+    /// The scope after those statements of the whole that were passed.
     whole_scope: Scope,
-    /// The scope after the statements of the part found so far.
+    /// The scope after those statements of the part that were found.
     part_scope: Scope,
-    /// The number of statements of the part found so far.
+    /// The number of statements of the part that were found.
     next: usize,
 }
 
-/// Returns true only if the statements of `part` are some of those of `whole`, in order, and have each assertion of `whole`
-/// that has one of the labels, with the same proof, mandatory hypotheses and mandatory pairs of disjoint variables.
+/// Returns true only if the statements of `part` are some of those of `whole`, in order, and for each of the labels that an
+/// assertion of `whole` has, both have an assertion with that label, with the same expression, proof, mandatory hypotheses
+/// and mandatory pairs of disjoint variables.
 ///
-/// Errors: an allocation fails. Cost: applying the rules to both, a comparison of each assertion with each label, and the
-/// frames of the assertions that have one of the labels.
+/// Errors: an allocation fails. Cost: applying the rules to both, a comparison of each statement of `whole` with one of
+/// `part` and of each assertion with each label, and the frames of the assertions that have one of the labels.
 pub fn is_confirmed_part(
     alloc: Global,
     whole: &[Stmt],
@@ -46,7 +47,7 @@ pub fn is_confirmed_part(
     walk_to_end(alloc, whole, part, labels, &mut walk)
 }
 
-/// Walks over both lists from the start. Returns whether no difference is found up to the end of both.
+/// Walks over both lists from the start. Returns false if `advance` does, or if statements of the part are left at the end.
 fn walk_to_end(
     alloc: Global,
     whole: &[Stmt],
@@ -67,7 +68,8 @@ fn walk_to_end(
     Ok(walk.next == part.len())
 }
 
-/// Advances past the statement of the whole at an index. Returns whether no difference is found.
+/// Advances past the statement of the whole at an index. Returns false if it is a listed assertion that is not next in the
+/// part or has another frame there, or if it breaks a rule.
 fn advance(
     alloc: Global,
     whole: &[Stmt],
@@ -111,7 +113,7 @@ fn pass_both(walk: &mut Walk, statement: &Stmt, next: usize) -> Result<bool, All
     accepts(&mut walk.whole_scope, statement)
 }
 
-/// Adds the statement to the scope. Returns whether it is legal there.
+/// Adds the statement to the scope if it is legal there. Returns whether it is.
 fn accepts(scope: &mut Scope, statement: &Stmt) -> Result<bool, AllocError>
     requires { IsShaped statement.now }
     ensures { IfOk result (λ yes. yes ≡ true → scope.new.statements ≡ scope.old.statements ++ bare statement.now ∷ []) }
@@ -134,7 +136,7 @@ fn is_listed(statement: &Stmt, labels: &[&str]) -> bool
     }
 }
 
-/// Returns whether the statement at an index is equal to this one.
+/// Returns whether there is a statement at an index, from 0, that is equal to this one.
 fn has_at(statements: &[Stmt], index: usize, statement: &Stmt) -> bool
     ensures stands { result ≡ true → slice_get statements.now index ≡ Some statement.now }
     ensures within { result ≡ true → index < length statements.now }
@@ -145,8 +147,8 @@ fn has_at(statements: &[Stmt], index: usize, statement: &Stmt) -> bool
     }
 }
 
-/// Returns whether a statement that is next in both lists has the same frame in both, if it is an assertion with one of the
-/// labels.
+/// Returns whether a listed assertion that is next in both lists has the same frame in both, and true for any other
+/// statement. `listed` is whether it is an assertion with one of the labels.
 fn has_same_frame(
     alloc: Global,
     whole: &[Stmt],
@@ -175,7 +177,7 @@ fn same_frame(whole: &[Stmt], part: &[Stmt], left: &Frame, right: &Frame) -> boo
         && same_groups(left.groups(), right.groups())
 }
 
-/// Returns whether the statements at these positions of the two lists are equal.
+/// Returns whether the statements at these positions, from 1, of the two lists are equal.
 fn have_equal_at_each(whole: &[Stmt], part: &[Stmt], left: &[usize], right: &[usize]) -> bool
     ensures { result ≡ true → map (stmt_at whole.now) left.now ≡ map (stmt_at part.now) right.now }
 {
@@ -190,7 +192,7 @@ fn have_equal_at_each(whole: &[Stmt], part: &[Stmt], left: &[usize], right: &[us
     true
 }
 
-/// Returns whether there are statements at both positions and they are equal.
+/// Returns whether there are equal statements at two positions, from 1.
 fn have_equal_at(whole: &[Stmt], part: &[Stmt], left: usize, right: usize) -> bool
     ensures { result ≡ true → stmt_at whole.now left ≡ stmt_at part.now right }
 {

@@ -2,7 +2,7 @@
 ghost use Rattle.std.specs.Prelude.{◌≡◌, map};
 ghost use Rattle.mm_lex.specs.Alphabet.{name_eq, has_name};
 
-/// Returns whether a label is in a list. Does not allocate.
+/// Returns whether a label is in a list. It does not allocate.
 ///
 /// Cost: a comparison for each label of the list.
 pub fn is_among(label: &[u8], labels: &[&str]) -> bool

@@ -14,8 +14,9 @@ use Rattle.rule_violation.specs.declared.symbol_search.SymbolFault.TheVariants.{
 use Rattle.rule_violation.specs.declared.search.Part.{Part}
 use Rattle.rule_violation.specs.declared.search.Part.TheVariants.{LabelOrSymbol, LabelOrConstant, Constant, Variable, Float}
 
--- whether the statement has the name in that part: as its label or among the symbols that it
--- declares; as its label or a constant; as a constant; as a variable; as the variable of a `$f`
+-- whether the statement has the name as: its label or a symbol that it declares (`LabelOrSymbol`);
+-- its label or a constant that it declares (`LabelOrConstant`); such a constant (`Constant`); a
+-- variable that it declares (`Variable`); the variable of a `$f` (`Float`)
 abbrev pub has_name_in : Part → Name → Stmt → Bool
 has_name_in LabelOrSymbol x s = has_label x (label_of s) || (has_name x (constants s) || has_name x (variables s))
 has_name_in LabelOrConstant x s = has_label x (label_of s) || has_name x (constants s)
@@ -34,8 +35,8 @@ pub record IsActiveAt (S : Database) (i : ℕ) (test : Stmt → Bool) : Type 0 w
   pub at : IsAt S i test
   pub stays : IsTrue (stays_open 0 (drop i S))
 
--- how many of the blocks that are open before the statement are closed by it or later, given that n
--- of those that are open after it are closed later
+-- how many of the blocks that are open just before the statement are closed by it or later, if
+-- later statements close n of those that are open just after it
 abbrev pub closed_from : Stmt → ℕ → ℕ
 closed_from Open n = n - 1
 closed_from Close n = suc n

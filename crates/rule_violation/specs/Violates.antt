@@ -1,6 +1,7 @@
 -- The violations of each of the ten rules.
 -- Source: Metamath, 4.2; the rules are those of the crate `scope`.
--- The code looks for the first such symbol; here a violation is defined without the search for it.
+-- The code searches for a violation, for G2, G3 and G8 a repeated symbol only if no symbol has the
+-- other fault; here a violation is defined without a search.
 use Rattle.std.specs.Prelude.{◌≡◌, ℕ, ◌<◌, Bool, false, ◌⊎◌, List, [], ◌∷◌, Some, slice_get, IsTrue, IsFalse}
 use Rattle.mm_lex.specs.Alphabet.{Name}
 use Rattle.mm_read.specs.declared.stmt.Stmt.{Stmt}
@@ -26,7 +27,8 @@ abbrev pub IsSymbolOf : List Name → (Name → Bool) → RuleViolation → Type
 IsSymbolOf names test (Symbol k) = HoldsAt names k (λ x. IsTrue (test x))
 IsSymbolOf names test w = ⊥
 
--- the violation is a statement that has the label or declares it as a symbol
+-- the violation is the label x, with an earlier statement that has it as its label or declares it
+-- as a symbol
 abbrev pub IsLabelOf : Database → Name → RuleViolation → Type 0
 IsLabelOf S x (Label i) = IsAt S i (has_name_in part.LabelOrSymbol x)
 IsLabelOf S x w = ⊥
@@ -57,12 +59,12 @@ abbrev pub Violates : Database → Stmt → Rule → RuleViolation → Type 0
 -- a `$c` inside a block, or a `$}` that closes none
 Violates S s G1 Statement = keeps S s G1 ≡ false
 Violates S s G10 Statement = keeps S s G10 ≡ false
--- a constant that is an earlier label or was declared as a symbol, with that statement, or that
--- occurs twice
+-- a symbol of the `$c` that is an earlier label or was declared before (`Earlier`: its index, and
+-- the earlier statement's position), or that occurs twice (`Twice`: both indexes)
 Violates S s G2 (Earlier k i) = HoldsAt (constants s) k (λ x. IsAt S i (has_name_in part.LabelOrSymbol x))
 Violates S s G2 (Twice j k) = IsTwice (constants s) j k
--- a variable that is an earlier label, was declared as a constant, or is an active variable, with
--- that statement, or that occurs twice
+-- a symbol of the `$v` that is an earlier label, was declared as a constant, or is an active
+-- variable, with that statement, or that occurs twice
 Violates S s G3 (Earlier k i) = HoldsAt (variables s) k (λ x. IsAt S i (has_name_in part.LabelOrConstant x) ⊎ IsActiveAt S i (has_name_in part.Variable x))
 Violates S s G3 (Twice j k) = IsTwice (variables s) j k
 -- the label, which is an earlier label or was declared as a symbol, with that statement

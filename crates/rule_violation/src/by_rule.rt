@@ -19,8 +19,9 @@ use std::alloc::{AllocError, Global};
 /// Returns a violation of a rule that a statement breaks after the earlier ones. If the statement
 /// keeps the rule, the result is not specified. `scope::Rule` lists the rules G1 to G10.
 ///
-/// Errors: an allocation fails. Cost: a few passes over the earlier statements, with a look-up of
-/// each of their names among those of the statement.
+/// Errors: an allocation fails. Cost: a few passes over the labels, declared symbols and variables
+/// of `$f`s of the earlier statements, with a look-up of each among the symbols of the statement or
+/// a comparison with one name.
 pub fn violation_of(
     alloc: Global,
     earlier: &[Stmt],
@@ -123,6 +124,7 @@ fn of_expression(
 {
     match stmt {
         Stmt::Float { constant, .. } => {
+            // If the first symbol is known, the second is the one that breaks the rule.
             let symbol = usize::from(is_symbol(earlier, constant.as_bytes()));
             Ok(Some(RuleViolation::Symbol { symbol }))
         }
@@ -200,7 +202,7 @@ fn of_untyped(
 /// Returns the position, from 1, of the last `${` that no statement closes, or `None` if there is
 /// none.
 ///
-/// Cost: the number of statements from it on; of all if there is none.
+/// Cost: the number of statements from that `${` to the end, or of all if there is none.
 pub fn never_closed(statements: &[Stmt]) -> Option<usize>
     ensures { IfSome result (λ i. IsActiveAt statements.now i is_open) }
 {
@@ -215,8 +217,8 @@ pub fn never_closed(statements: &[Stmt]) -> Option<usize>
     None
 }
 
-/// Returns whether the statement is a `${` that no later statement closes. `closed` is how many of
-/// the blocks that are open after it are closed later.
+/// Returns whether the statement is a `${` whose block no later statement closes. Later statements
+/// close `closed` of the blocks that are open just after it.
 fn is_active_open(closed: usize, stmt: &Stmt) -> bool
     ensures { result ≡ (closed == 0 && is_open stmt.now) }
 {

@@ -1,5 +1,5 @@
-//! Marks many names in one pass over the statements. A mark is a truth value for each name of a
-//! table.
+//! Marks, in one pass over the statements, the names of a table that have a property. Each name has
+//! one mark, a truth value.
 ghost use Rattle.std.specs.Prelude.{◌≡◌, ℕ, ◌+◌, ◌==◌, ◌&&◌, Some, None, [], IfOk, MatchOption, length, map, false, true, Bool};
 ghost use Rattle.std.specs.List.{list_any};
 ghost use Rattle.mm_lex.specs.Alphabet.{Name, has_name, name_eq};
@@ -25,7 +25,7 @@ pub(crate) fn name_table(alloc: Global, words: &Words) -> Result<NameTable, Allo
     Ok(names)
 }
 
-/// Sets the mark of each name that an earlier statement has in that part to `mark`.
+/// Sets the mark to `mark` for each name of the table that an earlier statement has in that part.
 pub(crate) fn mark_any(
     names: &NameTable,
     earlier: &[Stmt],
@@ -42,7 +42,7 @@ pub(crate) fn mark_any(
     }
 }
 
-/// Sets the mark of each name that an active statement has in that part to `mark`.
+/// Sets the mark to `mark` for each name of the table that an active statement has in that part.
 pub(crate) fn mark_active(
     names: &NameTable,
     earlier: &[Stmt],
@@ -61,8 +61,9 @@ pub(crate) fn mark_active(
     }
 }
 
-/// Sets the mark of each name that the statement has in that part to `mark`, if the statement is
-/// active. `closed` is how many of the blocks that are open after it are closed later.
+/// Sets the mark to `mark` for each name of the table that the statement has in that part, if the
+/// statement is active. Later statements close `closed` of the blocks that are open just after it;
+/// it is active if they close none.
 fn mark_where_active(
     closed: usize,
     names: &NameTable,
@@ -79,7 +80,7 @@ fn mark_where_active(
     }
 }
 
-/// Sets the mark of each name that the statement has in that part to `mark`.
+/// Sets the mark to `mark` for each name of the table that the statement has in that part.
 fn mark_stmt(names: &NameTable, stmt: &Stmt, part: Part, mark: bool, marks: &mut [bool])
     requires { length marks.old ≡ length names.now }
     ensures { marks.new ≡ marked (λ x. has_name_in part x stmt.now) mark names.now marks.old }
@@ -143,7 +144,7 @@ fn mark_float(names: &NameTable, stmt: &Stmt, mark: bool, marks: &mut [bool])
     }
 }
 
-/// Sets the mark of each name that is one of the words to `mark`.
+/// Sets the mark to `mark` for each name of the table that is one of the words.
 fn mark_words(names: &NameTable, words: &Words, mark: bool, marks: &mut [bool])
     requires { length marks.old ≡ length names.now }
     ensures { marks.new ≡ marked (λ x. has_name x words.now) mark names.now marks.old }

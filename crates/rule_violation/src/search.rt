@@ -54,16 +54,16 @@ pub(crate) fn find_active(earlier: &[Stmt], part: Part, name: &[u8]) -> Option<u
     None
 }
 
-/// Returns whether the statement has the name in that part and is active. `closed` is how many of
-/// the blocks that are open after it are closed later.
+/// Returns whether the statement has the name in that part and is active. Later statements close
+/// `closed` of the blocks that are open just after it; it is active if they close none.
 fn is_active_match(closed: usize, stmt: &Stmt, part: Part, name: &[u8]) -> bool
     ensures { result ≡ (closed == 0 && has_name_in part name.now stmt.now) }
 {
     closed == 0 && has_name_in(stmt, part, name)
 }
 
-/// Returns how many of the blocks that are open before the statement are closed by it or later,
-/// given that `closed` of those that are open after it are closed later.
+/// Returns how many of the blocks that are open just before the statement are closed by it or
+/// later. Later statements close `closed` of the blocks that are open just after it.
 pub(crate) fn closed_from(stmt: &Stmt, closed: usize) -> usize
     requires { closed + 1 < 2 ^ 64 }
     ensures { result ≡ closed_from stmt.now closed }

@@ -35,7 +35,8 @@ pub(crate) enum SymbolFault {
 /// Returns the index of the first of the words with this fault, and the word, or `None` if none has
 /// it.
 ///
-/// Cost: one or two passes over the statements, with a look-up of each name that they have.
+/// Cost: one or two passes over the statements, with a look-up of each label, declared symbol or
+/// variable of a `$f` that the fault is about.
 pub(crate) fn first_with_fault<'a>(
     alloc: Global,
     earlier: &[Stmt],
@@ -51,7 +52,8 @@ pub(crate) fn first_with_fault<'a>(
     Ok(first_marked(&names, &marks, words))
 }
 
-/// Returns whether a name that occurs in no earlier statement has this fault.
+/// Returns whether a name has this fault if no earlier statement has it as its label, declares it
+/// or is a `$f` for it.
 fn is_fault_if_absent(fault: SymbolFault) -> bool
     ensures { result ≡ is_fault_if_absent fault }
 {
@@ -124,7 +126,7 @@ fn is_variable(earlier: &[Stmt], name: &[u8]) -> bool
     find_active(earlier, Part::Variable, name).is_some()
 }
 
-/// Returns the index of the first word that repeats an earlier one, and the index of that one, or
+/// Returns the first word that repeats an earlier one, as `Twice` with the indexes of both, or
 /// `None` if the words are distinct.
 pub(crate) fn first_repeated(
     alloc: Global,
