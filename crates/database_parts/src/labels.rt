@@ -9,7 +9,7 @@ pub fn is_among(label: &[u8], labels: &[&str]) -> bool
     ensures { result ≡ has_name label.now (map (λ label. label.now) labels.now) }
 {
     for other in labels {
-        if is_text(other, label) {
+        if equals_bytes(other, label) {
             return true;
         }
     }
@@ -17,7 +17,7 @@ pub fn is_among(label: &[u8], labels: &[&str]) -> bool
 }
 
 /// Returns whether these are the bytes of the text.
-fn is_text(text: &str, bytes: &[u8]) -> bool
+fn equals_bytes(text: &str, bytes: &[u8]) -> bool
     ensures { result ≡ name_eq bytes.now text.now }
 {
     bytes == text.as_bytes()

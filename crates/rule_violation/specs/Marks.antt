@@ -5,7 +5,7 @@
 use Rattle.std.specs.Prelude.{Bool, true, false, cond, List, [], ◌∷◌}
 use Rattle.mm_lex.specs.Alphabet.{Name}
 use Rattle.rule_violation.specs.declared.symbol_search.SymbolFault.{SymbolFault}
-use Rattle.rule_violation.specs.declared.symbol_search.SymbolFault.TheVariants.{Unknown, Inactive}
+use Rattle.rule_violation.specs.declared.symbol_search.SymbolFault.TheVariants.{Unknown, NotActiveVariable}
 
 -- the names that pass the test get this mark, the others keep theirs
 abbrev pub marked : (Name → Bool) → Bool → List Name → List Bool → List Bool
@@ -17,5 +17,5 @@ marked test mark (x ∷ names) (m ∷ marks) = cond (test x) mark m ∷ marked t
 -- `$f` for it
 abbrev pub is_fault_if_absent : SymbolFault → Bool
 is_fault_if_absent Unknown = true
-is_fault_if_absent Inactive = true
+is_fault_if_absent NotActiveVariable = true
 is_fault_if_absent fault = false

@@ -2,7 +2,7 @@
 //! conflicts.
 //!
 //! After a statement is refused, `violation_of` finds what breaks the rule. `never_closed` finds a
-//! `${` whose block is open at the end. `specs/Violates` defines violations.
+//! `${` whose block is open at the end. `specs/Violations` defines violations.
 //!
 //! Reading order: `violation`, `search`, `marks`, `symbol_search`, `by_rule`.
 #![tactic(auto)]
