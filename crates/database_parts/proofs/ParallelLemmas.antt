@@ -12,7 +12,7 @@ use Rattle.frame.specs.Citations.{Carries}
 use Rattle.frame.specs.FrameOf.{hypotheses, mandatory_groups, together}
 use Rattle.frame.proofs.GroupsLemmas.{groups-pairs}
 use Rattle.database_parts.specs.Parts.{IsPart, nothing, keeps, skips, HasSameAssertion}
-use Rattle.database_parts.specs.Walk.{is_listed_assertion, HaveSameAssertions, IsSameFrame, IsWalked}
+use Rattle.database_parts.specs.Walk.{is_listed_assertion, HaveSameListedAssertions, IsSameFrame, IsWalked}
 
 -- ---- the property of an answer
 
@@ -32,13 +32,13 @@ part-whole (s ∷ S) = keeps (part-whole S)
 
 part-keep : (T S : Database) (s : Stmt) → IsPart T S → IsPart (T ++ s ∷ []) (S ++ s ∷ [])
 part-keep T S s nothing = keeps nothing
-part-keep T S s (keeps {T = T'} {S = S'} p) = keeps (part-keep T' S' s p)
-part-keep T S s (skips {S = S'} p) = skips (part-keep T S' s p)
+part-keep T S s (keeps {part = T'} {whole = S'} p) = keeps (part-keep T' S' s p)
+part-keep T S s (skips {whole = S'} p) = skips (part-keep T S' s p)
 
 part-skip : (T S : Database) (s : Stmt) → IsPart T S → IsPart T (S ++ s ∷ [])
 part-skip T S s nothing = skips nothing
-part-skip T S s (keeps {T = T'} {S = S'} p) = keeps (part-skip T' S' s p)
-part-skip T S s (skips {S = S'} p) = skips (part-skip T S' s p)
+part-skip T S s (keeps {part = T'} {whole = S'} p) = keeps (part-skip T' S' s p)
+part-skip T S s (skips {whole = S'} p) = skips (part-skip T S' s p)
 
 -- ---- statements by index
 
@@ -75,7 +75,7 @@ listed-assertion labels (Disj names) h = cc
 listed-assertion labels (Float label constant variable) h = cc
 listed-assertion labels (Ess label expr) h = cc
 
-assertions-more : (S T : Database) (labels : List Name) (n : ℕ) (s : Stmt) → HaveSameAssertions S T labels n → slice_get S n ≡ Some s → (is_listed_assertion labels s ≡ true → (label : Name) → Carries S (suc n) s label → HasSameAssertion S T label) → HaveSameAssertions S T labels (n + 1)
+assertions-more : (S T : Database) (labels : List Name) (n : ℕ) (s : Stmt) → HaveSameListedAssertions S T labels n → slice_get S n ≡ Some s → (is_listed_assertion labels s ≡ true → (label : Name) → Carries S (suc n) s label → HasSameAssertion S T label) → HaveSameListedAssertions S T labels (n + 1)
 assertions-more S T labels n s earlier there here i r upto stands want label c = elim (cases_eq i (suc n)) [
   | inl same ↦ last same
   | inr apart ↦ earlier i r (omega (arith, upto, apart)) stands want label c
@@ -120,14 +120,14 @@ module _ (S T : Database) (labels : List Name) (n k : ℕ) (W P : Database) (w :
 
   pub walk-both : (s : Stmt) (next : ℕ) (W' P' : Database) → n < length S → s ≡ get_or S n s → slice_get T k ≡ Some s → (is_listed_assertion labels s ≡ true → IsSameFrame S T W P s)
       → next ≡ k + 1 → W' ≡ W ++ bare s ∷ [] → P' ≡ P ++ bare s ∷ [] → IsWalked S T labels (n + 1) next W' P'
-  walk-both s next W' P' less is met has_same_frame at grown-whole grown-part =
+  walk-both s next W' P' less is met has_same_frame_if_listed at grown-whole grown-part =
       let g = get-within T k s met in
       subst (λ m. IsWalked S T labels (n + 1) m W' P') (sym at)
       (record {
         whole_is = grown-whole ∙ (ap (λ A. A ++ bare s ∷ []) w.whole_is ∙ sym (taken-more S n s less is));
         part_is = grown-part ∙ (ap (λ A. A ++ bare s ∷ []) w.part_is ∙ sym (taken-more T k s g.0 g.1));
         part_of = subst (λ U. IsPart U (take (n + 1) S)) (sym (longer T k s g.0 g.1)) (subst (IsPart (take k T ++ s ∷ [])) (sym (longer S n s less is)) (part-keep (take k T) (take n S) s w.part_of));
-        assertions = assertions-more S T labels n s w.assertions (get-some S n s s less is) (λ want label c. same-here s met (listed-assertion labels s want) (has_same_frame want) label c);
+        assertions = assertions-more S T labels n s w.assertions (get-some S n s s less is) (λ want label c. same-here s met (listed-assertion labels s want) (has_same_frame_if_listed want) label c);
       })
 
 pub walk-start : (S T : Database) (labels : List Name) (W P : Database) → W ≡ [] → P ≡ [] → IsWalked S T labels 0 0 W P

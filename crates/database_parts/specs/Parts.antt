@@ -12,20 +12,20 @@ use Rattle.frame.specs.FrameOf.{hypotheses, is_mandatory_pair}
 -- the first database is some of the statements of the second, in the same order
 pub data IsPart : Database → Database → Type 0 where
   nothing : IsPart [] []
-  keeps : {s : Stmt} {T S : Database} → IsPart T S → IsPart (s ∷ T) (s ∷ S)
-  skips : {s : Stmt} {T S : Database} → IsPart T S → IsPart T (s ∷ S)
+  keeps : {s : Stmt} {part whole : Database} → IsPart part whole → IsPart (s ∷ part) (s ∷ whole)
+  skips : {s : Stmt} {part whole : Database} → IsPart part whole → IsPart part (s ∷ whole)
 
 -- the mandatory hypotheses of the assertion at a position, as statements
 abbrev pub hypotheses_at : Database → ℕ → Stmt → List (Option Stmt)
 hypotheses_at S at s = map (stmt_at S) (hypotheses (before (bares S) at) s)
 
--- S and T have an assertion with the label, with the same expression, proof, mandatory hypotheses and mandatory pairs
-pub record HasSameAssertion (S T : Database) (label : Name) : Type 0 where
+-- both databases have an assertion with the label, with the same expression, proof, mandatory hypotheses and mandatory pairs
+pub record HasSameAssertion (whole part : Database) (label : Name) : Type 0 where
   pub stmt : Stmt
   pub whole_position : ℕ
   pub part_position : ℕ
-  pub in_whole : Carries S whole_position stmt label
-  pub in_part : Carries T part_position stmt label
+  pub in_whole : Carries whole whole_position stmt label
+  pub in_part : Carries part part_position stmt label
   pub assertion : IsTrue (is_assertion stmt)
-  pub hypotheses : hypotheses_at S whole_position stmt ≡ hypotheses_at T part_position stmt
-  pub pairs : (x y : Name) → is_mandatory_pair (before (bares S) whole_position) stmt x y ≡ is_mandatory_pair (before (bares T) part_position) stmt x y
+  pub hypotheses : hypotheses_at whole whole_position stmt ≡ hypotheses_at part part_position stmt
+  pub pairs : (x y : Name) → is_mandatory_pair (before (bares whole) whole_position) stmt x y ≡ is_mandatory_pair (before (bares part) part_position) stmt x y

@@ -1,5 +1,6 @@
 -- The state of a walk over a database and a part of it, in parallel.
--- Source: none; for the private functions of `comparison`. The clause of `is_confirmed_part` cites `HaveSameAssertions` too.
+-- Source: none. The private functions of `comparison` cite these definitions; `HaveSameListedAssertions` is also in the
+-- clause of `is_confirmed_part`.
 -- The code keeps for each the scope after the statements passed so far.
 use Rattle.std.specs.Prelude.{◌≡◌, ℕ, ◌≤◌, Bool, true, false, List, map, take, Some}
 use Rattle.mm_lex.specs.Alphabet.{Name, has_name}
@@ -17,18 +18,20 @@ is_listed_assertion labels (Axiom label expr) = has_name label labels
 is_listed_assertion labels (Prove label expr proof) = has_name label labels
 is_listed_assertion labels s = false
 
--- T has the assertions with these labels among the first n statements of S, with the same frames
-abbrev pub HaveSameAssertions : Database → Database → List Name → ℕ → Type 0
-HaveSameAssertions S T labels n = (i : ℕ) (s : Stmt) → i ≤ n → stmt_at S i ≡ Some s → is_listed_assertion labels s ≡ true → (label : Name) → Carries S i s label → HasSameAssertion S T label
+-- for each assertion with one of these labels among the first `passed` statements of the whole, both databases have the same
+-- assertion with its label
+abbrev pub HaveSameListedAssertions : Database → Database → List Name → ℕ → Type 0
+HaveSameListedAssertions whole part labels passed = (i : ℕ) (s : Stmt) → i ≤ passed → stmt_at whole i ≡ Some s → is_listed_assertion labels s ≡ true → (label : Name) → Carries whole i s label → HasSameAssertion whole part label
 
--- an assertion has the same hypotheses and groups after the statements A of S as after the statements B of T
-pub record IsSameFrame (S T A B : Database) (s : Stmt) : Type 0 where
-  pub hypotheses : map (stmt_at S) (hypotheses A s) ≡ map (stmt_at T) (hypotheses B s)
-  pub groups : mandatory_groups A s ≡ mandatory_groups B s
+-- an assertion has equal hypotheses, as statements, and equal groups after the statements of the two scopes
+pub record IsSameFrame (whole part whole_scope part_scope : Database) (s : Stmt) : Type 0 where
+  pub hypotheses : map (stmt_at whole) (hypotheses whole_scope s) ≡ map (stmt_at part) (hypotheses part_scope s)
+  pub groups : mandatory_groups whole_scope s ≡ mandatory_groups part_scope s
 
--- n statements of S were passed and k of T found among them, and the scopes have exactly these
-pub record IsWalked (S T : Database) (labels : List Name) (n k : ℕ) (whole part : Database) : Type 0 where
-  pub whole_is : whole ≡ bares (take n S)
-  pub part_is : part ≡ bares (take k T)
-  pub part_of : IsPart (take k T) (take n S)
-  pub assertions : HaveSameAssertions S T labels n
+-- the first `passed` statements of the whole are passed, the first `found` of the part are found among them, and the two
+-- scopes have exactly these statements
+pub record IsWalked (whole part : Database) (labels : List Name) (passed found : ℕ) (whole_scope part_scope : Database) : Type 0 where
+  pub whole_is : whole_scope ≡ bares (take passed whole)
+  pub part_is : part_scope ≡ bares (take found part)
+  pub part_of : IsPart (take found part) (take passed whole)
+  pub assertions : HaveSameListedAssertions whole part labels passed

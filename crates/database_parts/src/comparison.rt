@@ -3,7 +3,7 @@ ghost use Rattle.std.specs.Prelude.{◌≡◌, ℕ, ◌+◌, ◌<◌, ◌∷◌,
 ghost use Rattle.mm_read.specs.Statements.{IsShaped, AreShaped};
 ghost use Rattle.scope.specs.Active.{bare, is_assertion, stmt_at};
 ghost use Rattle.database_parts.specs.Parts.{IsPart};
-ghost use Rattle.database_parts.specs.Walk.{is_listed_assertion, HaveSameAssertions, IsSameFrame, IsWalked};
+ghost use Rattle.database_parts.specs.Walk.{is_listed_assertion, HaveSameListedAssertions, IsSameFrame, IsWalked};
 
 use crate::labels::is_among;
 use frame::{Frame, frame};
@@ -15,19 +15,20 @@ use std::alloc::{AllocError, Global};
 /// The state of a walk over both lists of statements in parallel.
 #[derive(Drop)]
 struct Walk {
-    /// The scope after the statements of the whole passed so far.
+    /// The scope after those statements of the whole that were passed.
     whole_scope: Scope,
-    /// The scope after the statements of the part found so far.
+    /// The scope after those statements of the part that were found.
     part_scope: Scope,
-    /// The number of statements of the part found so far.
-    next: usize,
+    /// The number of statements of the part that were found.
+    found_count: usize,
 }
 
-/// Returns true only if the statements of `part` are some of those of `whole`, in order, and have each assertion of `whole`
-/// that has one of the labels, with the same proof, mandatory hypotheses and mandatory pairs of disjoint variables.
+/// Returns true only if the statements of `part` are some of those of `whole`, in order, and for each of the labels that an
+/// assertion of `whole` has, both have an assertion with that label, with the same expression, proof, mandatory hypotheses
+/// and mandatory pairs of disjoint variables.
 ///
-/// Errors: an allocation fails. Cost: applying the rules to both, a comparison of each assertion with each label, and the
-/// frames of the assertions that have one of the labels.
+/// Errors: an allocation fails. Cost: applying the rules to both, a comparison of each statement of `whole` with one of
+/// `part` and of each assertion with each label, and the frames of the assertions that have one of the labels.
 pub fn is_confirmed_part(
     alloc: Global,
     whole: &[Stmt],
@@ -36,17 +37,17 @@ pub fn is_confirmed_part(
 ) -> Result<bool, AllocError>
     requires { AreShaped whole.now }
     ensures part { IfOk result (λ yes. yes ≡ true → IsPart part.now whole.now) }
-    ensures assertions { IfOk result (λ yes. yes ≡ true → HaveSameAssertions whole.now part.now (map (λ label. label.now) labels.now) (length whole.now)) }
+    ensures assertions { IfOk result (λ yes. yes ≡ true → HaveSameListedAssertions whole.now part.now (map (λ label. label.now) labels.now) (length whole.now)) }
 {
     let mut walk = Walk {
         whole_scope: Scope::new(alloc),
         part_scope: Scope::new(alloc),
-        next: 0,
+        found_count: 0,
     };
     walk_to_end(alloc, whole, part, labels, &mut walk)
 }
 
-/// Walks over both lists from the start. Returns whether no difference is found up to the end of both.
+/// Walks over both lists from the start. Returns false if `advance` does, or if statements of the part are left at the end.
 fn walk_to_end(
     alloc: Global,
     whole: &[Stmt],
@@ -55,19 +56,20 @@ fn walk_to_end(
     walk: &mut Walk,
 ) -> Result<bool, AllocError>
     requires shaped { AreShaped whole.now }
-    requires begins { IsWalked whole.now part.now (map (λ label. label.now) labels.now) 0 walk.old.next walk.old.whole_scope.statements walk.old.part_scope.statements }
+    requires begins { IsWalked whole.now part.now (map (λ label. label.now) labels.now) 0 walk.old.found_count walk.old.whole_scope.statements walk.old.part_scope.statements }
     ensures part { IfOk result (λ yes. yes ≡ true → IsPart part.now whole.now) }
-    ensures assertions { IfOk result (λ yes. yes ≡ true → HaveSameAssertions whole.now part.now (map (λ label. label.now) labels.now) (length whole.now)) }
+    ensures assertions { IfOk result (λ yes. yes ≡ true → HaveSameListedAssertions whole.now part.now (map (λ label. label.now) labels.now) (length whole.now)) }
 {
     for index in 0..whole.len() {
         if !advance(alloc, whole, part, labels, index, walk)? {
             return Ok(false);
         }
     }
-    Ok(walk.next == part.len())
+    Ok(walk.found_count == part.len())
 }
 
-/// Advances past the statement of the whole at an index. Returns whether no difference is found.
+/// Advances past the statement of the whole at an index. Returns false if it is a listed assertion that is not next in the
+/// part or has another frame there, or if it breaks a rule.
 fn advance(
     alloc: Global,
     whole: &[Stmt],
@@ -79,40 +81,40 @@ fn advance(
     requires shaped { AreShaped whole.now }
     requires within { index < length whole.now }
     ensures { IfOk result (λ yes. yes ≡ true
-        → IsWalked whole.now part.now (map (λ label. label.now) labels.now) index walk.old.next walk.old.whole_scope.statements walk.old.part_scope.statements
-        → IsWalked whole.now part.now (map (λ label. label.now) labels.now) (index + 1) walk.new.next walk.new.whole_scope.statements walk.new.part_scope.statements) }
+        → IsWalked whole.now part.now (map (λ label. label.now) labels.now) index walk.old.found_count walk.old.whole_scope.statements walk.old.part_scope.statements
+        → IsWalked whole.now part.now (map (λ label. label.now) labels.now) (index + 1) walk.new.found_count walk.new.whole_scope.statements walk.new.part_scope.statements) }
 {
     let statement = &whole[index];
     let listed = is_listed(statement, labels);
-    if !has_at(part, walk.next, statement) {
+    if !has_statement_at(part, walk.found_count, statement) {
         return if listed {
             Ok(false)
         } else {
-            accepts(&mut walk.whole_scope, statement)
+            add_if_legal(&mut walk.whole_scope, statement)
         };
     }
-    if !has_same_frame(alloc, whole, part, walk, listed, statement)? {
+    if !has_same_frame_if_listed(alloc, whole, part, walk, listed, statement)? {
         return Ok(false);
     }
-    pass_both(walk, statement, walk.next + 1)
+    pass_both(walk, statement, walk.found_count + 1)
 }
 
 /// Advances past a statement that is next in both lists. Returns whether both scopes accept it.
-fn pass_both(walk: &mut Walk, statement: &Stmt, next: usize) -> Result<bool, AllocError>
+fn pass_both(walk: &mut Walk, statement: &Stmt, found_count: usize) -> Result<bool, AllocError>
     requires { IsShaped statement.now }
-    ensures next { walk.new.next ≡ next }
+    ensures found_count { walk.new.found_count ≡ found_count }
     ensures whole { IfOk result (λ yes. yes ≡ true → walk.new.whole_scope.statements ≡ walk.old.whole_scope.statements ++ bare statement.now ∷ []) }
     ensures part { IfOk result (λ yes. yes ≡ true → walk.new.part_scope.statements ≡ walk.old.part_scope.statements ++ bare statement.now ∷ []) }
 {
-    walk.next = next;
-    if !accepts(&mut walk.part_scope, statement)? {
+    walk.found_count = found_count;
+    if !add_if_legal(&mut walk.part_scope, statement)? {
         return Ok(false);
     }
-    accepts(&mut walk.whole_scope, statement)
+    add_if_legal(&mut walk.whole_scope, statement)
 }
 
-/// Adds the statement to the scope. Returns whether it is legal there.
-fn accepts(scope: &mut Scope, statement: &Stmt) -> Result<bool, AllocError>
+/// Adds the statement to the scope if it is legal there. Returns whether it is.
+fn add_if_legal(scope: &mut Scope, statement: &Stmt) -> Result<bool, AllocError>
     requires { IsShaped statement.now }
     ensures { IfOk result (λ yes. yes ≡ true → scope.new.statements ≡ scope.old.statements ++ bare statement.now ∷ []) }
 {
@@ -134,20 +136,20 @@ fn is_listed(statement: &Stmt, labels: &[&str]) -> bool
     }
 }
 
-/// Returns whether the statement at an index is equal to this one.
-fn has_at(statements: &[Stmt], index: usize, statement: &Stmt) -> bool
+/// Returns whether there is a statement at an index, from 0, that is equal to this one.
+fn has_statement_at(statements: &[Stmt], index: usize, statement: &Stmt) -> bool
     ensures stands { result ≡ true → slice_get statements.now index ≡ Some statement.now }
     ensures within { result ≡ true → index < length statements.now }
 {
     match statements.get(index) {
-        Some(found) => same_statement(found, statement),
+        Some(found) => are_statements_equal(found, statement),
         None => false,
     }
 }
 
-/// Returns whether a statement that is next in both lists has the same frame in both, if it is an assertion with one of the
-/// labels.
-fn has_same_frame(
+/// Returns whether a listed assertion that is next in both lists has the same frame in both, and true for any other
+/// statement. `listed` is whether it is an assertion with one of the labels.
+fn has_same_frame_if_listed(
     alloc: Global,
     whole: &[Stmt],
     part: &[Stmt],
@@ -161,57 +163,71 @@ fn has_same_frame(
     if !listed {
         return Ok(true);
     }
-    let left = frame(alloc, &walk.whole_scope, statement)?;
-    let right = frame(alloc, &walk.part_scope, statement)?;
-    Ok(same_frame(whole, part, &left, &right))
+    let whole_frame = frame(alloc, &walk.whole_scope, statement)?;
+    let part_frame = frame(alloc, &walk.part_scope, statement)?;
+    Ok(are_frames_equal(whole, part, &whole_frame, &part_frame))
 }
 
 /// Returns whether two frames have equal statements as hypotheses, and the same groups of disjoint variables.
-fn same_frame(whole: &[Stmt], part: &[Stmt], left: &Frame, right: &Frame) -> bool
-    ensures positions { result ≡ true → map (stmt_at whole.now) left.now.hypotheses ≡ map (stmt_at part.now) right.now.hypotheses }
-    ensures groups { result ≡ true → left.now.groups ≡ right.now.groups }
+fn are_frames_equal(whole: &[Stmt], part: &[Stmt], whole_frame: &Frame, part_frame: &Frame) -> bool
+    ensures positions { result ≡ true → map (stmt_at whole.now) whole_frame.now.hypotheses ≡ map (stmt_at part.now) part_frame.now.hypotheses }
+    ensures groups { result ≡ true → whole_frame.now.groups ≡ part_frame.now.groups }
 {
-    have_equal_at_each(whole, part, left.hypotheses(), right.hypotheses())
-        && same_groups(left.groups(), right.groups())
+    are_statements_equal_at_each(
+        whole,
+        part,
+        whole_frame.hypotheses(),
+        part_frame.hypotheses(),
+    ) && are_groups_equal(whole_frame.groups(), part_frame.groups())
 }
 
-/// Returns whether the statements at these positions of the two lists are equal.
-fn have_equal_at_each(whole: &[Stmt], part: &[Stmt], left: &[usize], right: &[usize]) -> bool
-    ensures { result ≡ true → map (stmt_at whole.now) left.now ≡ map (stmt_at part.now) right.now }
+/// Returns whether the statements at these positions, from 1, of the two lists are equal.
+fn are_statements_equal_at_each(
+    whole: &[Stmt],
+    part: &[Stmt],
+    whole_positions: &[usize],
+    part_positions: &[usize],
+) -> bool
+    ensures { result ≡ true → map (stmt_at whole.now) whole_positions.now ≡ map (stmt_at part.now) part_positions.now }
 {
-    if left.len() != right.len() {
+    if whole_positions.len() != part_positions.len() {
         return false;
     }
-    for index in 0..left.len() {
-        if !have_equal_at(whole, part, left[index], right[index]) {
+    for index in 0..whole_positions.len() {
+        if !are_statements_equal_at(whole, part, whole_positions[index], part_positions[index]) {
             return false;
         }
     }
     true
 }
 
-/// Returns whether there are statements at both positions and they are equal.
-fn have_equal_at(whole: &[Stmt], part: &[Stmt], left: usize, right: usize) -> bool
-    ensures { result ≡ true → stmt_at whole.now left ≡ stmt_at part.now right }
+/// Returns whether there are equal statements at two positions, from 1.
+fn are_statements_equal_at(
+    whole: &[Stmt],
+    part: &[Stmt],
+    whole_position: usize,
+    part_position: usize,
+) -> bool
+    ensures { result ≡ true → stmt_at whole.now whole_position ≡ stmt_at part.now part_position }
 {
-    if left == 0 || right == 0 {
+    if whole_position == 0 || part_position == 0 {
         return false;
     }
-    match whole.get(left - 1) {
-        Some(statement) => has_at(part, right - 1, statement),
+    match whole.get(whole_position - 1) {
+        Some(statement) => has_statement_at(part, part_position - 1, statement),
         None => false,
     }
 }
 
 /// Returns whether the groups of disjoint variables are equal.
-fn same_groups(left: &[Words], right: &[Words]) -> bool
+fn are_groups_equal(left: &[Words], right: &[Words]) -> bool
     ensures { result ≡ true → left.now ≡ right.now }
 {
     if left.len() != right.len() {
         return false;
     }
     for index in 0..left.len() {
-        if !same_words(&left[index], &right[index]) {
+        if !are_word_lists_equal(&left[index], &right[index]) {
             return false;
         }
     }
@@ -219,30 +235,30 @@ fn same_groups(left: &[Words], right: &[Words]) -> bool
 }
 
 /// Returns whether two statements are equal.
-fn same_statement(left: &Stmt, right: &Stmt) -> bool
+fn are_statements_equal(left: &Stmt, right: &Stmt) -> bool
     ensures { result ≡ true → left.now ≡ right.now }
 {
     match left {
         Stmt::Open => matches!(right, Stmt::Open),
         Stmt::Close => matches!(right, Stmt::Close),
         Stmt::Const(left_names) => match right {
-            Stmt::Const(right_names) => same_words(left_names, right_names),
+            Stmt::Const(right_names) => are_word_lists_equal(left_names, right_names),
             _ => false,
         },
         Stmt::Var(left_names) => match right {
-            Stmt::Var(right_names) => same_words(left_names, right_names),
+            Stmt::Var(right_names) => are_word_lists_equal(left_names, right_names),
             _ => false,
         },
         Stmt::Disj(left_names) => match right {
-            Stmt::Disj(right_names) => same_words(left_names, right_names),
+            Stmt::Disj(right_names) => are_word_lists_equal(left_names, right_names),
             _ => false,
         },
-        _ => same_labelled(left, right),
+        _ => are_labelled_statements_equal(left, right),
     }
 }
 
 /// Returns whether two statements with labels are equal.
-fn same_labelled(left: &Stmt, right: &Stmt) -> bool
+fn are_labelled_statements_equal(left: &Stmt, right: &Stmt) -> bool
     ensures { result ≡ true → left.now ≡ right.now }
 {
     match (left, right) {
@@ -258,9 +274,9 @@ fn same_labelled(left: &Stmt, right: &Stmt) -> bool
                 variable: right_variable,
             },
         ) => {
-            same_word(left_label, right_label)
-                && same_word(left_constant, right_constant)
-                && same_word(left_variable, right_variable)
+            are_words_equal(left_label, right_label)
+                && are_words_equal(left_constant, right_constant)
+                && are_words_equal(left_variable, right_variable)
         }
         (
             Stmt::Ess {
@@ -271,7 +287,8 @@ fn same_labelled(left: &Stmt, right: &Stmt) -> bool
                 label: right_label,
                 expr: right_expr,
             },
-        ) => same_word(left_label, right_label) && same_words(left_expr, right_expr),
+        ) => are_words_equal(left_label, right_label)
+            && are_word_lists_equal(left_expr, right_expr),
         (
             Stmt::Axiom {
                 label: left_label,
@@ -281,7 +298,8 @@ fn same_labelled(left: &Stmt, right: &Stmt) -> bool
                 label: right_label,
                 expr: right_expr,
             },
-        ) => same_word(left_label, right_label) && same_words(left_expr, right_expr),
+        ) => are_words_equal(left_label, right_label)
+            && are_word_lists_equal(left_expr, right_expr),
         (
             Stmt::Prove {
                 label: left_label,
@@ -294,21 +312,21 @@ fn same_labelled(left: &Stmt, right: &Stmt) -> bool
                 proof: right_proof,
             },
         ) => {
-            same_word(left_label, right_label)
-                && same_words(left_expr, right_expr)
-                && same_words(left_proof, right_proof)
+            are_words_equal(left_label, right_label)
+                && are_word_lists_equal(left_expr, right_expr)
+                && are_word_lists_equal(left_proof, right_proof)
         }
         _ => false,
     }
 }
 
-fn same_word(left: &Word, right: &Word) -> bool
+fn are_words_equal(left: &Word, right: &Word) -> bool
     ensures { result ≡ true → left.now ≡ right.now }
 {
     left.as_bytes() == right.as_bytes()
 }
 
-fn same_words(left: &Words, right: &Words) -> bool
+fn are_word_lists_equal(left: &Words, right: &Words) -> bool
     ensures { result ≡ true → left.now ≡ right.now }
 {
     left.as_text() == right.as_text()

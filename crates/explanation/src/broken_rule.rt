@@ -124,14 +124,27 @@ fn explain_violation(
 ) {
     match violation {
         RuleViolation::Statement => explain_whole_statement(lines, context),
-        RuleViolation::Symbol { symbol } => explain_symbol(lines, context, stmt, symbol),
+        RuleViolation::Symbol { symbol_index } => explain_symbol(
+            lines,
+            context,
+            stmt,
+            symbol_index,
+        ),
         RuleViolation::Twice { first, second } => explain_twice(
             lines, context, stmt, first, second,
         ),
-        RuleViolation::Earlier { symbol, statement } => {
-            explain_earlier(lines, context, stmt, symbol, statement);
+        RuleViolation::SymbolConflict {
+            symbol_index,
+            earlier_position,
+        } => {
+            explain_earlier(lines, context, stmt, symbol_index, earlier_position);
         }
-        RuleViolation::Label { statement } => explain_label(lines, context, stmt, statement),
+        RuleViolation::LabelConflict { earlier_position } => explain_label(
+            lines,
+            context,
+            stmt,
+            earlier_position,
+        ),
     }
 }
 

@@ -1,13 +1,12 @@
--- The bytes of a text, its runs of visible bytes, and the two kinds of names: labels and symbols.
+-- The bytes of a text, its runs of bytes that are not white, and the tests for symbols and labels.
 -- Source: Metamath, 4.1.1 and appendix E.
--- The code reads once, left to right, from one run to the next; here the list of all runs is
--- defined by recursion.
+-- The code goes from one run to the next; here the list of all runs is defined by recursion.
 use Rattle.std.specs.Prelude.{ℕ, ◌+◌, ◌-◌, ◌<◌, ◌≤◌, length, IsTrue, Bool, true, false, not, ◌&&◌, ◌||◌, ◌==◌, if◌then◌else◌, List, [], ◌∷◌, take, drop, bytes_eq, codes}
 use Rattle.std.specs.Char.{is_ascii_whitespace, is_ascii_graphic, is_ascii_alphanumeric}
 use Rattle.std.specs.List.{list_all, list_any}
 use Rattle.mm_lex.specs.declared.span.Span.{Span}
 
--- a name: the bytes of a token
+-- a name: any list of bytes, such as the bytes of a token
 abbrev pub Name : Type 0
 Name = List ℕ
 
@@ -32,8 +31,9 @@ abbrev pub starts_white : List ℕ → Bool
 starts_white [] = true
 starts_white (b ∷ bytes) = is_white b
 
--- the spans with the visible byte at `at` put in front of them: as a span of its own if no visible
--- byte follows it (`true`), else as the first byte of the first span
+-- the runs from the visible byte at `at` on; `spans` are the runs after that byte. It is a run of
+-- its own if a white byte or the end of the text follows it (`true`), else the first byte of the
+-- first run
 abbrev pub with_byte : ℕ → Bool → List Span → List Span
 with_byte at true spans = record { start = at; end = at + 1 } ∷ spans
 with_byte at false [] = record { start = at; end = at + 1 } ∷ []
@@ -52,7 +52,8 @@ runs text = runs_from 0 text
 abbrev pub word : List ℕ → Span → Name
 word text s = take (s.end - s.start) (drop s.start text)
 
--- the span lies in the text and has at least one byte, none of them white
+-- the span lies in the text and has at least one byte, none of them white; it may be part of a
+-- longer run
 pub record IsRunAt (text : List ℕ) (s : Span) : Type 0 where
   pub some : s.start < s.end
   pub within : s.end ≤ length text

@@ -21,11 +21,11 @@ pub record HasBetween (text : List ℕ) (from at : ℕ) (ws : List Name) : Type 
   pub split : SplitsInto text passed tokens
   pub are : words text tokens ≡ ws
 
--- the tokens from an offset to the end of the text are these words
+-- the tokens at or after an offset are these words
 abbrev pub AreAfter : List ℕ → ℕ → List Name → Type 0
 AreAfter text at ws = (tokens : List Span) × SplitsInto text (runs_after text at) tokens × (words text tokens ≡ ws)
 
--- there are `count` tokens from an offset to the end of the text
+-- there are `count` tokens at or after an offset
 abbrev pub CountAfter : List ℕ → ℕ → ℕ → Type 0
 CountAfter text at count = (ws : List Name) × AreAfter text at ws × (length ws ≡ count)
 

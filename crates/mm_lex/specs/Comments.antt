@@ -8,7 +8,7 @@ use Rattle.mm_lex.specs.declared.comment.CommentEnd.TheVariants.{Closed, Nested,
 use Rattle.mm_lex.specs.Alphabet.{runs_from, word}
 use Rattle.mm_lex.specs.Tokens.{opener, closer, AllPlain}
 
--- the runs of the text from an offset on
+-- the runs of the text at or after an offset; an offset inside a run begins a run
 abbrev pub runs_after : List ℕ → ℕ → List Span
 runs_after text at = runs_from at (drop at text)
 
@@ -20,7 +20,7 @@ pub record PassesPlain (text : List ℕ) (from at : ℕ) : Type 0 where
   pub whole : runs_after text from ≡ passed ++ runs_after text at
   pub plain : AllPlain text passed
 
--- the next `$)` ends at `end`, with no `$(` before it
+-- the next `$)` ends at `end`, with no `$(` before it; `at` is its span
 pub record IsClosedAt (text : List ℕ) (from end : ℕ) : Type 0 where
   pub inside : List Span
   pub at : Span
@@ -30,7 +30,7 @@ pub record IsClosedAt (text : List ℕ) (from end : ℕ) : Type 0 where
   pub plain : AllPlain text inside
   pub closes : word text at ≡ closer
 
--- the next `$(` begins at `offset`, with no `$)` before it
+-- the next `$(` begins at `offset`, with no `$)` before it; `at` is its span
 pub record IsNestedAt (text : List ℕ) (from offset : ℕ) : Type 0 where
   pub inside : List Span
   pub at : Span
@@ -40,7 +40,7 @@ pub record IsNestedAt (text : List ℕ) (from offset : ℕ) : Type 0 where
   pub opens_again : word text at ≡ opener
   pub place : at.start ≡ offset
 
--- the comment that is open at `from` ends as the code returns it
+-- the comment that is open at `from` ends as this `CommentEnd` says
 abbrev pub EndsComment : List ℕ → ℕ → CommentEnd → Type 0
 EndsComment text from (Closed end) = IsClosedAt text from end
 EndsComment text from (Nested offset) = IsNestedAt text from offset

@@ -1,8 +1,8 @@
 -- Laws of tokens: the split at comments is unique, and each text has exactly one of tokens, text
 -- fault, comment fault.
 -- Source: Metamath, 4.1.1 and 4.1.2.
--- The contracts of the code cite the same definitions; these laws state that they determine its
--- answer.
+-- The contracts of the code cite the same definitions; these laws state that the definitions
+-- determine each result of `tokens` other than `Memory`.
 use Rattle.std.specs.Prelude.{◌≡◌, ℕ, ◌⊎◌, List}
 use Rattle.mm_lex.specs.declared.span.Span.{Span}
 use Rattle.mm_lex.specs.Tokens.{SplitsInto, AreTokens}
@@ -17,7 +17,7 @@ OneSplit = (text : List ℕ) (spans tokens others : List Span) (split : SplitsIn
 abbrev pub SomeAnswer : List ℕ → Type 0
 SomeAnswer text = ((tokens : List Span) × AreTokens text tokens) ⊎ ((offset : ℕ) × IsFirstBadByte text offset) ⊎ ((offset : ℕ) × IsCommentFault text offset)
 
--- a text has exactly one of the three, and at most one of its kind
+-- each text has exactly one of the three: one list of tokens, or one offset of a fault
 pub record OneAnswer : Type 0 where
   pub some : (text : List ℕ) → SomeAnswer text
   pub tokens_or_text : (text : List ℕ) (tokens : List Span) (offset : ℕ) → AreTokens text tokens → IsFirstBadByte text offset → ⊥

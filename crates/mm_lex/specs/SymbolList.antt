@@ -16,14 +16,15 @@ pub record AddsSymbols (text : List ℕ) (from at : ℕ) (old new : List Name) :
   pub between : HasBetween text from at more
   pub symbols : IsTrue (list_all is_symbol more)
 
--- these are the symbols from an offset on, and the token after them, at this span, is no symbol
+-- these are the tokens from an offset on, up to the token with this span, which is not a symbol
 pub record EndsSymbols (text : List ℕ) (from : ℕ) (ws : List Name) (s : Span) : Type 0 where
   pub token : IsWordAt text s
   pub later : from < s.end
   pub between : HasBetween text from s.end (ws ++ word text s ∷ [])
   pub other : IsFalse (is_symbol (word text s))
 
--- these are the symbols from an offset on, up to such a token, or up to the end of the text
+-- these are the tokens from an offset on, up to such a token, or up to the end of the text; the
+-- clause `symbols` of the code says that they are symbols
 abbrev pub IsListEnd : List ℕ → ℕ → List Name → Option Span → Type 0
 IsListEnd text from ws (Some s) = EndsSymbols text from ws s
 IsListEnd text from ws None = AreAfter text from ws

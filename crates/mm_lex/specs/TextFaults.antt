@@ -15,7 +15,7 @@ pub record IsFirstBadByte (text : List ℕ) (offset : ℕ) : Type 0 where
   pub bad : IsFalse (is_allowed (slice_index text offset))
   pub before : HasOnlyAllowedBytes (take offset text)
 
--- a `$)` outside comments, after runs that can be split
+-- a `$)` outside comments, with the span `at`; the runs before it are tokens and whole comments
 pub record IsStrayCloser (text : List ℕ) (spans : List Span) (offset : ℕ) : Type 0 where
   pub before : List Span
   pub tokens : List Span
@@ -26,7 +26,8 @@ pub record IsStrayCloser (text : List ℕ) (spans : List Span) (offset : ℕ) : 
   pub closes : word text at ≡ closer
   pub place : at.start ≡ offset
 
--- a `$(` inside a comment, after runs that can be split
+-- a `$(` inside a comment, with the span `at`; the runs before the outer `$(` are tokens and whole
+-- comments
 pub record IsNestedOpener (text : List ℕ) (spans : List Span) (offset : ℕ) : Type 0 where
   pub before : List Span
   pub tokens : List Span
@@ -41,7 +42,7 @@ pub record IsNestedOpener (text : List ℕ) (spans : List Span) (offset : ℕ) :
   pub opens_again : word text at ≡ opener
   pub place : at.start ≡ offset
 
--- a `$(` that is never closed, after runs that can be split
+-- a `$(` that is never closed, with the span `at`; the runs before it are tokens and whole comments
 pub record IsUnclosed (text : List ℕ) (spans : List Span) (offset : ℕ) : Type 0 where
   pub before : List Span
   pub tokens : List Span
@@ -53,7 +54,7 @@ pub record IsUnclosed (text : List ℕ) (spans : List Span) (offset : ℕ) : Typ
   pub plain : AllPlain text inside
   pub place : at.start ≡ offset
 
--- these runs of the text can be split up to this offset and no further
+-- the offset of the first comment fault of these runs
 abbrev pub IsCommentFaultOfRuns : List ℕ → List Span → ℕ → Type 0
 IsCommentFaultOfRuns text spans offset = IsStrayCloser text spans offset ⊎ IsNestedOpener text spans offset ⊎ IsUnclosed text spans offset
 

@@ -1,6 +1,6 @@
 -- The tokens of a text: its words outside comments.
 -- Source: Metamath, 4.1.1 and 4.1.2 (comments count as white space).
--- The code reads once, left to right; here the whole list of runs is split at the comments.
+-- The code goes from one run to the next; here the whole list of runs is split at the comments.
 use Rattle.std.specs.Prelude.{◌≡◌, ℕ, ◌<◌, ◌≤◌, length, Bool, not, ◌||◌, IsTrue, List, [], ◌∷◌, ◌++◌, map, flat_map, codes}
 use Rattle.std.specs.List.{list_all}
 use Rattle.mm_lex.specs.declared.span.Span.{Span}
@@ -21,8 +21,8 @@ is_plain w = not (name_eq w opener || name_eq w closer)
 abbrev pub AllPlain : List ℕ → List Span → Type 0
 AllPlain text spans = IsTrue (list_all (λ s. is_plain (word text s)) spans)
 
--- the span where a comment begins, the runs inside it, the span where it ends, and the tokens after
--- it up to the next comment
+-- a comment and the tokens after it up to the next one: the spans of its `$(` and `$)`, and the
+-- runs between these
 pub record Part : Type 0 where
   pub begin : Span
   pub inside : List Span

@@ -18,7 +18,7 @@ pub(crate) enum CommentEnd {
     Unclosed,
 }
 
-/// Returns how the comment ends whose contents begin at `from`.
+/// Returns how the comment that is open at `from` ends.
 #[inline(never)]
 pub(crate) fn comment_end(text: &[u8], from: usize) -> CommentEnd
     requires allowed { HasOnlyAllowedBytes text.now }
@@ -39,8 +39,9 @@ pub(crate) fn comment_end(text: &[u8], from: usize) -> CommentEnd
     CommentEnd::Unclosed
 }
 
-/// Returns the start of the run that has the next `$` at or after `at`, or the end of the text if
-/// there is no `$`. The runs before it have no `$`, so none of them is `$(` or `$)`.
+/// Returns the start of the run that has the next `$` at or after `at`, or `at` if that run begins
+/// before it, or the end of the text if no `$` follows. The runs from `at` up to the result have no
+/// `$`, so none of them is `$(` or `$)`.
 fn dollar_run_start(text: &[u8], at: usize) -> usize
     requires { at ≤ length text.now }
     ensures { PassesPlain text.now at result }

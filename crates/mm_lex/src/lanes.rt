@@ -1,4 +1,5 @@
-//! Counts the visible or the white bytes at the start of a text, many bytes at a time.
+//! Counts the visible or the white bytes at the start of a text. It compares 16 visible bytes at a
+//! time, and of the white ones the first 16 at once.
 ghost use Rattle.std.specs.Prelude.{◌≡◌, ◌+◌, ◌-◌, ◌≤◌, not, length, take, drop, nat_le, nat_lt};
 ghost use Rattle.std.specs.List.{position, position_or_len};
 ghost use Rattle.mm_lex.specs.Alphabet.{is_white};
@@ -27,7 +28,7 @@ pub(crate) fn count_visible(text: &[u8]) -> usize
 }
 
 /// Returns how many of the first 16 bytes precede the first one that is at most 0x20, or 16 if none
-/// is. An allowed byte is at most 0x20 if and only if it is white.
+/// is. If all bytes are allowed, these are the visible bytes before the first white one.
 fn count_in_lanes(text: &[u8]) -> usize
     requires room { 16 ≤ length text.now }
     ensures count { result ≡ position_or_len (λ b. nat_le b 32) (take 16 text.now) }
@@ -58,7 +59,8 @@ pub(crate) fn count_white(text: &[u8]) -> usize
     first_visible(text).unwrap_or(text.len())
 }
 
-/// Returns how many of the first 16 bytes precede the first one above 0x20, or 16 if none is.
+/// Returns how many of the first 16 bytes precede the first one above 0x20, or 16 if none is. If
+/// all bytes are allowed, these are the white bytes before the first visible one.
 fn count_low_in_lanes(text: &[u8]) -> usize
     requires room { 16 ≤ length text.now }
     ensures count { result ≡ position_or_len (λ b. nat_lt 32 b) (take 16 text.now) }
@@ -73,12 +75,14 @@ fn count_low_in_lanes(text: &[u8]) -> usize
     }
 }
 
+/// Returns the index of the first byte that is not white, or `None`.
 fn first_visible(text: &[u8]) -> Option<usize>
     ensures { result ≡ position (λ b. not (is_white b)) text.now }
 {
     text.iter().position(|b| !b.is_ascii_whitespace())
 }
 
+/// Returns the number of bytes before the first white one, testing byte by byte.
 fn count_one_by_one(text: &[u8]) -> usize
     ensures count { result ≡ position_or_len is_white text.now }
     ensures within { result ≤ length text.now }
@@ -86,6 +90,7 @@ fn count_one_by_one(text: &[u8]) -> usize
     first_white(text).unwrap_or(text.len())
 }
 
+/// Returns the index of the first white byte, or `None`.
 fn first_white(text: &[u8]) -> Option<usize>
     ensures { result ≡ position is_white text.now }
 {

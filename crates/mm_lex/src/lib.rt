@@ -1,7 +1,7 @@
 //! Splits a Metamath text into tokens, and stores lists of words.
 //!
 //! `tokens` returns the spans of a text's tokens, comments excluded. `next_token`, `symbols` and
-//! `count_tokens` walk through a text without such a list; a malformed comment is an error when
+//! `count_tokens` walk through a text without such a list; a fault in its comments is an error when
 //! they reach it. `Word` stores a short word without an allocation, `Words` many in one buffer.
 //!
 //! Reading order: `span`, `fault`, `lanes`, `visible_run`, `comment`, `scan`; `word`, `words`,

@@ -13,9 +13,10 @@ use std::alloc::Global;
 
 /// Returns the tokens of a text, in order, comments excluded.
 ///
-/// Errors: `Text`, the first byte that is not allowed, even inside a comment; else `Comment`, the
-/// first token that breaks the rules of comments; else `Memory`. The first two are returned even if
-/// every allocation fails. Cost: the size of the text.
+/// Errors: `Text`, the offset of the first byte that is not allowed, even inside a comment; else
+/// `Comment`, the offset of the first `$(` inside or `$)` outside a comment, or of the `$(` that is
+/// never closed; else `Memory`. The first two are returned even if every allocation fails. Cost:
+/// the size of the text.
 /// Source: Metamath, 4.1.1 and 4.1.2.
 pub fn tokens(alloc: Global, text: &[u8]) -> Result<Vec<Span>, LexFault>
     ensures tokens { IfOk result (λ spans. AreTokens text.now spans.items) }
@@ -76,8 +77,8 @@ fn add_token(spans: &mut Vec<Span>, allocation_failed: bool, span: Span) -> bool
 
 /// Returns the offset of the first byte that is not allowed in a text, or `None` if there is none.
 ///
-/// Cost: the size of the text. It tests many bytes at a time, and only if one of them is not
-/// allowed looks for it byte by byte.
+/// Cost: the size of the text. It first tests all bytes in a loop without branches, and goes
+/// through them again to find the first bad one only if there is one.
 pub fn first_bad_byte(text: &[u8]) -> Option<usize>
     ensures { result ≡ position (λ b. not (is_allowed b)) text.now }
 {

@@ -10,9 +10,8 @@ use std::simd::prelude::*;
 /// may precede the first one.
 ///
 /// The prefix ends at the first byte below the space, at the first `$`, or at the first space that
-/// a byte up to `$` follows: another space, or `!`, `"`, `#` or `$`. So it also ends before a
-/// symbol that begins with `!`, `"` or `#`, and its last symbol may be only the beginning of a
-/// token.
+/// the end of the text or a byte up to `$` follows. So it also ends at a space in front of a symbol
+/// that begins with `!`, `"` or `#`, and its last symbol may be only the beginning of a token.
 pub(crate) fn count_spaced_prefix(text: &[u8]) -> usize
     ensures count { result ≡ spaced_prefix_len text.now }
     ensures within { result ≤ length text.now }
@@ -47,6 +46,7 @@ fn count_in_lanes(text: &[u8]) -> usize
     }
 }
 
+/// Returns the length of the prefix, testing byte by byte.
 fn count_one_by_one(text: &[u8]) -> usize
     ensures count { result ≡ spaced_prefix_len text.now }
     ensures within { result ≤ length text.now }

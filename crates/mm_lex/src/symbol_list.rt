@@ -16,11 +16,11 @@ use crate::words::Words;
 use memchr::memchr;
 use std::alloc::{AllocError, Global};
 
-/// Returns the symbols from `from` on, and the span of the token after them, which is no symbol, or
-/// `None` if the text ends there.
+/// Returns the symbols from `from` up to the first token that is not a symbol, and the span of that
+/// token; if there is none, the symbols up to the end of the text, and `None`.
 ///
-/// Errors: `Comment`, if a comment between `from` and that token is malformed; `Memory`. Cost: the
-/// bytes from `from` to the end of that token.
+/// Errors: `Comment`, if a malformed comment or a `$)` outside comments comes before that token;
+/// `Memory`. Cost: the bytes from `from` to the end of that token.
 pub fn symbols(alloc: Global, text: &[u8], from: usize) -> Result<(Words, Option<Span>), LexFault>
     requires allowed { HasOnlyAllowedBytes text.now }
     requires place { from ≤ length text.now }
@@ -59,8 +59,9 @@ fn with_estimated_capacity(alloc: Global, text: &[u8]) -> Result<Words, AllocErr
     Words::with_capacity(alloc, room)
 }
 
-/// Appends symbols from `from` on, a piece of words separated by single spaces at a time, until no
-/// such piece follows. Returns the offset from which the caller reads on word by word.
+/// Appends symbols from `from` on. At each step it copies a prefix of the rest in which single
+/// spaces separate symbols. It stops at the end of the text, or where that prefix is empty or ends
+/// inside a word, and returns the offset from which the caller reads word by word.
 fn push_pieces(words: &mut Words, text: &[u8], from: usize) -> Result<usize, AllocError>
     requires allowed { HasOnlyAllowedBytes text.now }
     requires place { from ≤ length text.now }

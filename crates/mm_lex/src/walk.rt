@@ -8,11 +8,11 @@ use crate::fault::LexFault;
 use crate::span::Span;
 use crate::visible_run::{is_closer, is_opener, next_run};
 
-/// Returns the next token at or after `at`, or `None` if none is left. If `at` is inside a word,
-/// the rest of that word counts as one.
+/// Returns the next token at or after `at`, or `None` if none is left. `at` counts as outside
+/// comments. If it is inside a word, the rest of that word is read as a word of its own.
 ///
-/// Errors: `Comment`, if a comment before the next token is malformed. Cost: the bytes from `at` to
-/// the end of that token.
+/// Errors: `Comment`, if a malformed comment or a `$)` outside comments comes before the next
+/// token. Cost: the bytes from `at` to the end of that token.
 #[inline(always)]
 pub fn next_token(text: &[u8], at: usize) -> Result<Option<Span>, LexFault>
     requires allowed { HasOnlyAllowedBytes text.now }
@@ -40,7 +40,8 @@ pub fn next_token(text: &[u8], at: usize) -> Result<Option<Span>, LexFault>
 
 /// Returns the number of tokens at or after `at`.
 ///
-/// Errors: `Comment`, if a comment after `at` is malformed. Cost: the size of the rest of the text.
+/// Errors: `Comment`, if a malformed comment or a `$)` outside comments comes after `at`. Cost: the
+/// size of the rest of the text.
 pub fn count_tokens(text: &[u8], at: usize) -> Result<usize, LexFault>
     requires allowed { HasOnlyAllowedBytes text.now }
     requires place { at ≤ length text.now }

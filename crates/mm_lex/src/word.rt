@@ -14,11 +14,12 @@ const INLINE: usize = 22;
 enum WordStorage {
     /// Here: the word is the first `len` of these bytes.
     Inline { len: u8, bytes: [u8; INLINE] },
-    /// On the heap: all bytes of the vector. The box keeps a `Word` as small as an inline one.
+    /// On the heap: all bytes of the vector. The box keeps this variant no larger than `Inline`.
     Heap(Box<Vec<u8>>),
 }
 
-/// A word: at least one byte, each from 0x21 to 0x7E. Contracts see its bytes.
+/// A word: at least one byte, each from 0x21 to 0x7E. In contracts, a `Word` is the list of its
+/// bytes.
 #[derive(Drop)]
 pub struct Word {
     bytes: WordStorage,

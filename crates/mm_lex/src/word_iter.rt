@@ -9,7 +9,8 @@ use std::simd::prelude::*;
 /// How many bytes are compared at once.
 const LANES: usize = 8;
 
-/// An iterator over the words of a list. Contracts see the words that are left.
+/// An iterator over the words of a list. In contracts, a `WordIter` is the list of the words that
+/// are left.
 #[derive(Drop)]
 pub struct WordIter<'a> {
     text: &'a [u8],

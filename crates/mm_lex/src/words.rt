@@ -6,8 +6,8 @@ use crate::word_iter::WordIter;
 use std::alloc::{AllocError, Global};
 use std::marker::Model;
 
-/// A list of words. It stores them in one buffer, separated by single spaces; contracts see the
-/// list.
+/// A list of words. It stores them in one buffer, separated by single spaces. In contracts, a
+/// `Words` is the list of its words.
 #[derive(Drop)]
 pub struct Words {
     text: Vec<u8>,

@@ -1,21 +1,21 @@
 -- Active statements, searched from the end backwards, and the places of names in a list.
-use Rattle.rule_violation.proofs.Words.{◌≡◌, ℕ, zero, suc, ◌+◌, ◌-◌, ◌<◌, ◌≤◌, Bool, true, false, not, ◌&&◌, ◌||◌, cond, List, [], ◌∷◌, length, drop, get_or, refl, sym, ◌∙◌, ap, arith, Some, slice_get, add-one, nat_le, Option, None, MatchOption, is_some, or-true, list_any, drop-cons, Stmt, Open, Close, Const, Var, Disj, Float, Ess, Axiom, Prove, Database, stays_open, active_from, ◌==◌, and_parts, slice_get_read, any_passes_from_place, stmt_at, closed_from, closed_in, IsAt, IsActiveAt}
+use Rattle.rule_violation.proofs.Words.{◌≡◌, ℕ, zero, suc, ◌+◌, ◌-◌, ◌<◌, ◌≤◌, Bool, true, false, not, ◌&&◌, ◌||◌, cond, List, [], ◌∷◌, length, drop, get_or, refl, sym, ◌∙◌, ap, arith, Some, slice_get, add-one, nat_le, Option, None, MatchOption, is_some, or-true, list_any, drop-cons, Stmt, Open, Close, Const, Var, Disj, Float, Ess, Axiom, Prove, Database, stays_open, active_from, ◌==◌, and_parts, slice_get_read, any_passes_from_place, stmt_at, closed_blocks_from, closed_blocks, PassesAt, IsActiveAt}
 
--- with `d` blocks open before them, statements close only open blocks exactly if `closed_in` counts at most `d`
-pub stays_open-closed : (d : ℕ) (S : Database) → stays_open d S ≡ nat_le (closed_in S) d
+-- with `d` blocks open before them, statements close only open blocks exactly if `closed_blocks` counts at most `d`
+pub stays_open-closed : (d : ℕ) (S : Database) → stays_open d S ≡ nat_le (closed_blocks S) d
 stays_open-closed d [] = sym (zero_le d)
   where
     zero_le : (d : ℕ) → nat_le 0 d ≡ true
     zero_le d = grind arith
-stays_open-closed d (Open ∷ S) = stays_open-closed (suc d) S ∙ one_less (closed_in S) d
+stays_open-closed d (Open ∷ S) = stays_open-closed (suc d) S ∙ one_less (closed_blocks S) d
   where
     one_less : (n d : ℕ) → nat_le n (suc d) ≡ nat_le (n - 1) d
     one_less n d = grind arith
-stays_open-closed zero (Close ∷ S) = sym (none (closed_in S))
+stays_open-closed zero (Close ∷ S) = sym (none (closed_blocks S))
   where
     none : (n : ℕ) → nat_le (suc n) 0 ≡ false
     none n = grind arith
-stays_open-closed (suc d) (Close ∷ S) = stays_open-closed d S ∙ both (closed_in S) d
+stays_open-closed (suc d) (Close ∷ S) = stays_open-closed d S ∙ both (closed_blocks S) d
   where
     both : (n d : ℕ) → nat_le n d ≡ nat_le (suc n) (suc d)
     both n d = grind arith
@@ -39,7 +39,7 @@ zero_closed : (n : ℕ) → nat_le n 0 ≡ (n == 0)
 zero_closed n = grind arith
 
 -- one more statement in front closes at most one more block
-step : (n : ℕ) (s : Stmt) → closed_from s n ≤ suc n
+step : (n : ℕ) (s : Stmt) → closed_blocks_from s n ≤ suc n
 step n Open = omega arith
 step n Close = omega arith
 step n (Const x) = omega arith
@@ -51,11 +51,11 @@ step n (Axiom l e) = omega arith
 step n (Prove l e p) = omega arith
 
 -- with one more statement in front, the closed blocks and the index together stay within the bound
-pub closed_few : (n i h k : ℕ) (s : Stmt) → h ≡ i + 1 → n + h ≤ k → closed_from s n + i ≤ k
+pub closed_few : (n i h k : ℕ) (s : Stmt) → h ≡ i + 1 → n + h ≤ k → closed_blocks_from s n + i ≤ k
 closed_few n i h k s e few = omega (arith, step n s, e, few)
 
 module _ (S : Database) (i h : ℕ) (s : Stmt) (closed : ℕ) (t : Stmt → Bool) (inside : i < length S) (here : s ≡ get_or S i s) (next : h ≡ i + 1)
-    (counts : closed ≡ closed_in (drop h S)) where
+    (counts : closed ≡ closed_blocks (drop h S)) where
   -- the next index as the successor of this one
   after_is : suc i ≡ h
   after_is = omega (arith, next)
@@ -66,11 +66,11 @@ module _ (S : Database) (i h : ℕ) (s : Stmt) (closed : ℕ) (t : Stmt → Bool
 
   -- the statement is active exactly if nothing after it closes its block
   stays : stays_open 0 (drop h S) ≡ (closed == 0)
-  stays = stays_open-closed 0 (drop h S) ∙ (zero_closed (closed_in (drop h S)) ∙ ap (λ n. n == 0) (sym counts))
+  stays = stays_open-closed 0 (drop h S) ∙ (zero_closed (closed_blocks (drop h S)) ∙ ap (λ n. n == 0) (sym counts))
 
   -- the number of closed blocks, with this statement
-  pub closed_on : closed_from s closed ≡ closed_in (drop i S)
-  closed_on = ap (closed_from s) counts ∙ ap closed_in (sym opened)
+  pub closed_on : closed_blocks_from s closed ≡ closed_blocks (drop i S)
+  closed_on = ap (closed_blocks_from s) counts ∙ ap closed_blocks (sym opened)
 
   -- a statement that passes the test, and after which no block is closed, is an active one that passes
   pub found_active : (closed == 0 && t s) ≡ true → IsActiveAt S (i + 1) t
@@ -111,11 +111,11 @@ pub none_active : (t : (ℕ × Stmt) → Bool) (S : Database) → list_any t (ac
 none_active t S = ap (λ T. list_any t (active_from (length S + 1) T)) (all_gone S)
 
 -- no block is closed after the end
-pub none_closed : (S : Database) → closed_in (drop (length S) S) ≡ 0
-none_closed S = ap closed_in (all_gone S)
+pub none_closed : (S : Database) → closed_blocks (drop (length S) S) ≡ 0
+none_closed S = ap closed_blocks (all_gone S)
 
 -- a statement that passes the test is found at its position
-pub found_at : (S : Database) (i : ℕ) (s : Stmt) (t : Stmt → Bool) → slice_get S i ≡ Some s → t s ≡ true → IsAt S (i + 1) t
+pub found_at : (S : Database) (i : ℕ) (s : Stmt) (t : Stmt → Bool) → slice_get S i ≡ Some s → t s ≡ true → PassesAt S (i + 1) t
 found_at S i s t e passes = record { stmt = s; is_there = ap (stmt_at S) (add-one i) ∙ e; passes = passes }
 
 -- an element of the rest passes exactly if the first does or one after it does
@@ -173,8 +173,8 @@ stmt_index : (S : Database) (i : ℕ) (s : Stmt) → stmt_at S i ≡ Some s → 
 stmt_index S zero s e = cc
 stmt_index S (suc n) s e = (n, refl, e)
 
-pub IsAt-any : (S : Database) (i : ℕ) (t : Stmt → Bool) → IsAt S i t → list_any t S ≡ true
-IsAt-any S i t is = let at = stmt_index S i is.stmt is.is_there in any_passes_from_place t S at.0 is.stmt at.2 is.passes
+pub PassesAt-any : (S : Database) (i : ℕ) (t : Stmt → Bool) → PassesAt S i t → list_any t S ≡ true
+PassesAt-any S i t is = let at = stmt_index S i is.stmt is.is_there in any_passes_from_place t S at.0 is.stmt at.2 is.passes
 
 pub IsActiveAt-any : (S : Database) (i : ℕ) (t : Stmt → Bool) → IsActiveAt S i t → list_any (λ p. t p.1) (active_from 1 S) ≡ true
 IsActiveAt-any S i t is =

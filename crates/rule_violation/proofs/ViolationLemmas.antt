@@ -1,6 +1,6 @@
 -- From the results of the searches to a violation of each rule.
-use Rattle.rule_violation.proofs.Words.{◌≡◌, ℕ, Bool, true, false, not, ◌&&◌, ◌||◌, List, [], ◌∷◌, refl, sym, ◌∙◌, ap, Option, Some, None, IsSomeAnd, MatchOption, IsTrue, true≢false, slice_get, IfOk, Result, IfOk-weaker, Rule, SymbolFault, list_any, list_all, and_from, and_parts, or_parts, not-true, or_assoc, or_comm, not-not, or_swap, Name, has_name, Stmt, Open, Close, Const, Var, Disj, Float, Ess, Axiom, Prove, Database, Expr, G2, G3, G4, G5, G8, G9, constants, variables, label_of, has_label, expr_of, is_constant, is_variable, has_float, was_symbol, was_label, keeps, all_different, is_fresh_label, are_typed, RuleViolation, Statement, Symbol, Twice, Earlier, Label, has_name_in, has_fault, Violates, HoldsAt, IsTwice, IsRepeated, IsSymbolOf, IsLabelOf, typed_expr}
-use Rattle.rule_violation.specs.declared.search.Part.TheVariants as part
+use Rattle.rule_violation.proofs.Words.{◌≡◌, ℕ, Bool, true, false, not, ◌&&◌, ◌||◌, List, [], ◌∷◌, refl, sym, ◌∙◌, ap, Option, Some, None, IsSomeAnd, MatchOption, IsTrue, true≢false, slice_get, IfOk, Result, IfOk-weaker, Rule, SymbolFault, list_any, list_all, and_from, and_parts, or_parts, not-true, or_assoc, or_comm, not-not, or_swap, Name, has_name, Stmt, Open, Close, Const, Var, Disj, Float, Ess, Axiom, Prove, Database, Expr, G2, G3, G4, G5, G8, G9, constants, variables, label_of, has_label, expr_of, is_constant, is_variable, has_float, was_symbol, was_label, keeps, all_different, is_fresh_label, are_typed, RuleViolation, Statement, Symbol, Twice, SymbolConflict, LabelConflict, has_name_in, has_fault, IsViolation, HoldsAt, IsTwice, IsRepeated, IsSymbolViolation, IsLabelConflict, typed_expr}
+use Rattle.rule_violation.specs.declared.search.NameRole.TheVariants as name_role
 use Rattle.rule_violation.specs.declared.symbol_search.SymbolFault.TheVariants as fault
 
 -- ---- lists and tests
@@ -21,12 +21,12 @@ any_or p q r same [] = refl
 any_or p q r same (x ∷ xs) = or_swap (p x) (list_any p xs) (q x) (list_any q xs) ∙ (ap (λ b. b || (list_any p xs || list_any q xs)) (sym (same x)) ∙ ap (λ b. r x || b) (any_or p q r same xs))
 
 -- a name was a symbol or a label exactly if a statement declares it or has it as its label
-named_is : (S : Database) (x : Name) → (was_symbol S x || was_label S x) ≡ list_any (has_name_in part.LabelOrSymbol x) S
-named_is S x = any_or (λ s. has_name x (constants s) || has_name x (variables s)) (λ s. has_label x (label_of s)) (has_name_in part.LabelOrSymbol x) (λ s. or_comm (has_label x (label_of s)) (has_name x (constants s) || has_name x (variables s))) S
+named_is : (S : Database) (x : Name) → (was_symbol S x || was_label S x) ≡ list_any (has_name_in name_role.LabelOrSymbol x) S
+named_is S x = any_or (λ s. has_name x (constants s) || has_name x (variables s)) (λ s. has_label x (label_of s)) (has_name_in name_role.LabelOrSymbol x) (λ s. or_comm (has_label x (label_of s)) (has_name x (constants s) || has_name x (variables s))) S
 
 -- .. and it is a constant or was a label exactly if a `$c` declares it or a statement has it as its label
-fixed_is : (S : Database) (x : Name) → (is_constant S x || was_label S x) ≡ list_any (has_name_in part.LabelOrConstant x) S
-fixed_is S x = any_or (λ s. has_name x (constants s)) (λ s. has_label x (label_of s)) (has_name_in part.LabelOrConstant x) (λ s. or_comm (has_label x (label_of s)) (has_name x (constants s))) S
+fixed_is : (S : Database) (x : Name) → (is_constant S x || was_label S x) ≡ list_any (has_name_in name_role.LabelOrConstant x) S
+fixed_is S x = any_or (λ s. has_name x (constants s)) (λ s. has_label x (label_of s)) (has_name_in name_role.LabelOrConstant x) (λ s. or_comm (has_label x (label_of s)) (has_name x (constants s))) S
 
 -- ---- violations
 
@@ -48,53 +48,53 @@ by_twice names r P not is = IfOk-weaker r _ _ (some_violation (all_different nam
     on Statement h = absurd h
     on (Symbol k) h = absurd h
     on (Twice j k) h = is j k h
-    on (Earlier k i) h = absurd h
-    on (Label i) h = absurd h
+    on (SymbolConflict k i) h = absurd h
+    on (LabelConflict i) h = absurd h
 
 -- the violation by a symbol that fails a test, if the rule requires that all symbols pass it
 by_symbol : {E : Type 0} (S : Database) (s : Stmt) (rule : Rule) (t : SymbolFault) (pass : Name → Bool) (expr : Expr) (r : Result (Option RuleViolation) E)
-    → keeps S s rule ≡ list_all pass expr → ((x : Name) → pass x ≡ not (has_fault S t x)) → ((k : ℕ) → HoldsAt expr k (λ x. IsTrue (has_fault S t x)) → Violates S s rule (Symbol k))
-    → IfOk r (λ found. MatchOption found (list_any (has_fault S t) expr ≡ false) (IsSymbolOf expr (has_fault S t)))
-    → keeps S s rule ≡ false → IfOk r (λ found. IsSomeAnd found (Violates S s rule))
+    → keeps S s rule ≡ list_all pass expr → ((x : Name) → pass x ≡ not (has_fault S t x)) → ((k : ℕ) → HoldsAt expr k (λ x. IsTrue (has_fault S t x)) → IsViolation S s rule (Symbol k))
+    → IfOk r (λ found. MatchOption found (list_any (has_fault S t) expr ≡ false) (IsSymbolViolation expr (has_fault S t)))
+    → keeps S s rule ≡ false → IfOk r (λ found. IsSomeAnd found (IsViolation S s rule))
 by_symbol S s rule t pass expr r keeps_is same is told broken =
-    IfOk-weaker r _ _ (some_violation (list_any (has_fault S t) expr ≡ false) (IsSymbolOf expr (has_fault S t)) (Violates S s rule) none on) told
+    IfOk-weaker r _ _ (some_violation (list_any (has_fault S t) expr ≡ false) (IsSymbolViolation expr (has_fault S t)) (IsViolation S s rule) none on) told
   where
     none : list_any (has_fault S t) expr ≡ false → ⊥
     none h = contradict (keeps_is ∙ none_all (has_fault S t) pass same expr h) broken
 
-    on : (w : RuleViolation) → IsSymbolOf expr (has_fault S t) w → Violates S s rule w
+    on : (w : RuleViolation) → IsSymbolViolation expr (has_fault S t) w → IsViolation S s rule w
     on Statement h = absurd h
     on (Symbol k) h = is k h
     on (Twice j k) h = absurd h
-    on (Earlier k i) h = absurd h
-    on (Label i) h = absurd h
+    on (SymbolConflict k i) h = absurd h
+    on (LabelConflict i) h = absurd h
 
 -- G2, if no constant is an earlier name: a constant occurs twice
-pub G2_twice : {E : Type 0} (S : Database) (names : List Name) (r : Result (Option RuleViolation) E) → list_any (has_fault S fault.Declared) names ≡ false
+pub G2_twice : {E : Type 0} (S : Database) (names : List Name) (r : Result (Option RuleViolation) E) → list_any (has_fault S fault.AlreadyUsed) names ≡ false
     → IfOk r (λ found. MatchOption found (all_different names ≡ true) (IsRepeated names))
-    → keeps S (Const names) G2 ≡ false → IfOk r (λ found. IsSomeAnd found (Violates S (Const names) G2))
+    → keeps S (Const names) G2 ≡ false → IfOk r (λ found. IsSomeAnd found (IsViolation S (Const names) G2))
 G2_twice S names r none told broken =
-    by_twice names r (Violates S (Const names) G2)
-    (λ differ. contradict (and_from _ _ (none_all (has_fault S fault.Declared) (λ x. not (was_symbol S x || was_label S x)) (λ x. ap not (named_is S x)) names none) differ) broken) (λ j k h. h) told
+    by_twice names r (IsViolation S (Const names) G2)
+    (λ differ. contradict (and_from _ _ (none_all (has_fault S fault.AlreadyUsed) (λ x. not (was_symbol S x || was_label S x)) (λ x. ap not (named_is S x)) names none) differ) broken) (λ j k h. h) told
 
 -- G3, if no variable is an earlier constant or label or an active variable: a variable occurs twice
 pub G3_twice : {E : Type 0} (S : Database) (names : List Name) (r : Result (Option RuleViolation) E) → list_any (has_fault S fault.NotNewVariable) names ≡ false
     → IfOk r (λ found. MatchOption found (all_different names ≡ true) (IsRepeated names))
-    → keeps S (Var names) G3 ≡ false → IfOk r (λ found. IsSomeAnd found (Violates S (Var names) G3))
+    → keeps S (Var names) G3 ≡ false → IfOk r (λ found. IsSomeAnd found (IsViolation S (Var names) G3))
 G3_twice S names r none told broken =
-    by_twice names r (Violates S (Var names) G3)
+    by_twice names r (IsViolation S (Var names) G3)
     (λ differ. contradict (and_from _ _ (none_all (has_fault S fault.NotNewVariable) (λ x. not (is_variable S x || is_constant S x || was_label S x)) same names none) differ) broken) (λ j k h. h) told
   where
     same : (x : Name) → not (is_variable S x || is_constant S x || was_label S x) ≡ not (has_fault S fault.NotNewVariable x)
     same x = ap not (or_assoc (is_variable S x) (is_constant S x) (was_label S x) ∙ ap (λ b. is_variable S x || b) (fixed_is S x))
 
 -- G8, if each symbol is an active variable: a variable occurs twice
-pub G8_twice : {E : Type 0} (S : Database) (names : List Name) (r : Result (Option RuleViolation) E) → list_any (has_fault S fault.Inactive) names ≡ false
+pub G8_twice : {E : Type 0} (S : Database) (names : List Name) (r : Result (Option RuleViolation) E) → list_any (has_fault S fault.NotActiveVariable) names ≡ false
     → IfOk r (λ found. MatchOption found (all_different names ≡ true) (IsRepeated names))
-    → keeps S (Disj names) G8 ≡ false → IfOk r (λ found. IsSomeAnd found (Violates S (Disj names) G8))
+    → keeps S (Disj names) G8 ≡ false → IfOk r (λ found. IsSomeAnd found (IsViolation S (Disj names) G8))
 G8_twice S names r none told broken =
-    by_twice names r (Violates S (Disj names) G8)
-    (λ differ. contradict (and_from _ _ differ (none_all (has_fault S fault.Inactive) (is_variable S) (λ x. sym (not-not (is_variable S x))) names none)) broken) (λ j k h. h) told
+    by_twice names r (IsViolation S (Disj names) G8)
+    (λ differ. contradict (and_from _ _ differ (none_all (has_fault S fault.NotActiveVariable) (is_variable S) (λ x. sym (not-not (is_variable S x))) names none)) broken) (λ j k h. h) told
 
 -- G4 looks only at the label
 keeps_label : (S : Database) (s : Stmt) → keeps S s G4 ≡ is_fresh_label S (label_of s)
@@ -109,18 +109,18 @@ keeps_label S (Axiom l e) = refl
 keeps_label S (Prove l e p) = refl
 
 -- the violation of G4 is by an earlier statement that has the label or declares it as a symbol
-pub G4_is : (S : Database) (s : Stmt) (x : Name) (r : Option RuleViolation) → label_of s ≡ Some x → MatchOption r (list_any (has_name_in part.LabelOrSymbol x) S ≡ false) (IsLabelOf S x)
-    → keeps S s G4 ≡ false → IsSomeAnd r (Violates S s G4)
+pub G4_is : (S : Database) (s : Stmt) (x : Name) (r : Option RuleViolation) → label_of s ≡ Some x → MatchOption r (list_any (has_name_in name_role.LabelOrSymbol x) S ≡ false) (IsLabelConflict S x)
+    → keeps S s G4 ≡ false → IsSomeAnd r (IsViolation S s G4)
 G4_is S s x r is told broken =
-    some_violation (list_any (has_name_in part.LabelOrSymbol x) S ≡ false) (IsLabelOf S x) (Violates S s G4)
+    some_violation (list_any (has_name_in name_role.LabelOrSymbol x) S ≡ false) (IsLabelConflict S x) (IsViolation S s G4)
     (λ none. contradict (keeps_label S s ∙ (ap (is_fresh_label S) is ∙ ap not (or_comm (was_label S x) (was_symbol S x) ∙ (named_is S x ∙ none)))) broken) on r told
   where
-    on : (w : RuleViolation) → IsLabelOf S x w → Violates S s G4 w
+    on : (w : RuleViolation) → IsLabelConflict S x w → IsViolation S s G4 w
     on Statement h = absurd h
     on (Symbol k) h = absurd h
     on (Twice j k) h = absurd h
-    on (Earlier k i) h = absurd h
-    on (Label i) h = (x, is, h)
+    on (SymbolConflict k i) h = absurd h
+    on (LabelConflict i) h = (x, is, h)
 
 -- G5 looks only at the expression
 keeps_expr : (S : Database) (s : Stmt) → keeps S s G5 ≡ list_all (λ x. is_constant S x || is_variable S x) (expr_of s)
@@ -136,8 +136,8 @@ keeps_expr S (Prove l e p) = refl
 
 -- the violation of G5 is by a symbol that is neither a constant nor an active variable
 pub G5_is : {E : Type 0} (S : Database) (s : Stmt) (expr : Expr) (r : Result (Option RuleViolation) E) → expr_of s ≡ expr
-    → IfOk r (λ found. MatchOption found (list_any (has_fault S fault.Unknown) expr ≡ false) (IsSymbolOf expr (has_fault S fault.Unknown)))
-    → keeps S s G5 ≡ false → IfOk r (λ found. IsSomeAnd found (Violates S s G5))
+    → IfOk r (λ found. MatchOption found (list_any (has_fault S fault.Unknown) expr ≡ false) (IsSymbolViolation expr (has_fault S fault.Unknown)))
+    → keeps S s G5 ≡ false → IfOk r (λ found. IsSomeAnd found (IsViolation S s G5))
 G5_is S s expr r is =
     by_symbol S s G5 fault.Unknown (λ x. is_constant S x || is_variable S x) expr r (keeps_expr S s ∙ ap (list_all (λ x. is_constant S x || is_variable S x)) is)
     (λ x. sym (not-not (is_constant S x || is_variable S x)))
@@ -157,8 +157,8 @@ keeps_typed S (Prove l e p) = refl
 
 -- the violation of G9 is by a variable that has no active `$f`
 pub G9_is : {E : Type 0} (S : Database) (s : Stmt) (expr : Expr) (r : Result (Option RuleViolation) E) → typed_expr s ≡ expr
-    → IfOk r (λ found. MatchOption found (list_any (has_fault S fault.Untyped) expr ≡ false) (IsSymbolOf expr (has_fault S fault.Untyped)))
-    → keeps S s G9 ≡ false → IfOk r (λ found. IsSomeAnd found (Violates S s G9))
+    → IfOk r (λ found. MatchOption found (list_any (has_fault S fault.Untyped) expr ≡ false) (IsSymbolViolation expr (has_fault S fault.Untyped)))
+    → keeps S s G9 ≡ false → IfOk r (λ found. IsSomeAnd found (IsViolation S s G9))
 G9_is S s expr r is =
     by_symbol S s G9 fault.Untyped (λ x. not (is_variable S x) || has_float S x) expr r (keeps_typed S s ∙ ap (are_typed S) is)
     (λ x. not_and (is_variable S x) (has_float S x))

@@ -8,11 +8,11 @@ pub use Rattle.names.proofs.AddedNames.{has_name-append}
 pub use Rattle.names.proofs.CodesLemmas.{code-name, first-named, has-at, name_eq-comm, rest-named, unknown-number}
 pub use Rattle.names.specs.Codes.{AreDistinct, AreNamed, code_of, name_at}
 pub use Rattle.rule_violation.specs.Marks.{is_fault_if_absent, marked}
-pub use Rattle.rule_violation.specs.Search.{IsActiveAt, IsAt, closed_in, closed_from, has_fault, has_name_in}
-pub use Rattle.rule_violation.specs.Violates.{HoldsAt, IsLabelOf, IsRepeated, IsSymbolOf, IsTwice, Violates, typed_expr}
+pub use Rattle.rule_violation.specs.Search.{IsActiveAt, PassesAt, closed_blocks, closed_blocks_from, has_fault, has_name_in}
+pub use Rattle.rule_violation.specs.Violations.{HoldsAt, IsLabelConflict, IsRepeated, IsSymbolViolation, IsTwice, IsViolation, typed_expr}
 pub use Rattle.rule_violation.specs.declared.symbol_search.SymbolFault.{SymbolFault}
 pub use Rattle.rule_violation.specs.declared.violation.RuleViolation.{RuleViolation}
-pub use Rattle.rule_violation.specs.declared.violation.RuleViolation.TheVariants.{Earlier, Label, Statement, Symbol, Twice}
+pub use Rattle.rule_violation.specs.declared.violation.RuleViolation.TheVariants.{LabelConflict, Statement, Symbol, SymbolConflict, Twice}
 pub use Rattle.scope.proofs.SortsLemmas.{or_swap}
 pub use Rattle.scope.specs.Active.{active, active_from, constants, expr_of, has_float, has_label, is_constant, is_float_of, is_open, is_variable, label_of, stays_open, stmt_at, variables, was_label, was_symbol}
 pub use Rattle.scope.specs.Legal.{all_different, are_typed, is_fresh_label, keeps}

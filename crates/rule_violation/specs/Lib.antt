@@ -1,3 +1,3 @@
 pub mod Search
 pub mod Marks
-pub mod Violates
+pub mod Violations

@@ -5,11 +5,11 @@ ghost use Rattle.scope.specs.Active.{is_open};
 ghost use Rattle.scope.specs.Legal.{keeps};
 ghost use Rattle.scope.specs.declared.rule.Rule.TheVariants as rule;
 ghost use Rattle.rule_violation.specs.Search.{has_name_in, has_fault, IsActiveAt};
-ghost use Rattle.rule_violation.specs.declared.search.Part.TheVariants as part;
-ghost use Rattle.rule_violation.specs.Violates.{IsLabelOf, IsSymbolOf, Violates};
+ghost use Rattle.rule_violation.specs.declared.search.NameRole.TheVariants as name_role;
+ghost use Rattle.rule_violation.specs.Violations.{IsLabelConflict, IsSymbolViolation, IsViolation};
 
-use crate::search::{Part, closed_from, find, find_active};
-use crate::symbol_search::{SymbolFault, first_repeated, first_with_fault, is_symbol};
+use crate::search::{NameRole, closed_blocks_from, find_active, find_earlier};
+use crate::symbol_search::{SymbolFault, first_repeated, first_with_fault, is_known_symbol};
 use crate::violation::RuleViolation;
 use mm_lex::{Word, Words};
 use mm_read::Stmt;
@@ -19,79 +19,99 @@ use std::alloc::{AllocError, Global};
 /// Returns a violation of a rule that a statement breaks after the earlier ones. If the statement
 /// keeps the rule, the result is not specified. `scope::Rule` lists the rules G1 to G10.
 ///
-/// Errors: an allocation fails. Cost: a few passes over the earlier statements, with a look-up of
-/// each of their names among those of the statement.
+/// Errors: an allocation fails. Cost: a few passes over the labels, declared symbols and variables
+/// of `$f`s of the earlier statements, with a look-up of each among the symbols of the statement or
+/// a comparison with one name.
 pub fn violation_of(
     alloc: Global,
     earlier: &[Stmt],
     stmt: &Stmt,
     rule: Rule,
 ) -> Result<Option<RuleViolation>, AllocError>
-    ensures { keeps earlier.now stmt.now rule ≡ false → IfOk result (λ violation. IsSomeAnd violation (Violates earlier.now stmt.now rule)) }
+    ensures { keeps earlier.now stmt.now rule ≡ false → IfOk result (λ violation. IsSomeAnd violation (IsViolation earlier.now stmt.now rule)) }
 {
     match rule {
         Rule::G1 => Ok(Some(RuleViolation::Statement)),
-        Rule::G2 => of_constants(alloc, earlier, stmt),
-        Rule::G3 => of_variables(alloc, earlier, stmt),
-        Rule::G4 => Ok(of_label(earlier, stmt)),
-        Rule::G5 => of_expression(alloc, earlier, stmt),
-        Rule::G6 => Ok(Some(RuleViolation::Symbol { symbol: 0 })),
-        Rule::G7 => Ok(of_float(earlier, stmt)),
-        Rule::G8 => of_disjoint(alloc, earlier, stmt),
-        Rule::G9 => of_untyped(alloc, earlier, stmt),
+        Rule::G2 => constants_violation(alloc, earlier, stmt),
+        Rule::G3 => variables_violation(alloc, earlier, stmt),
+        Rule::G4 => Ok(label_violation(earlier, stmt)),
+        Rule::G5 => expression_violation(alloc, earlier, stmt),
+        Rule::G6 => Ok(Some(RuleViolation::Symbol { symbol_index: 0 })),
+        Rule::G7 => Ok(float_violation(earlier, stmt)),
+        Rule::G8 => disjoint_violation(alloc, earlier, stmt),
+        Rule::G9 => untyped_violation(alloc, earlier, stmt),
         Rule::G10 => Ok(Some(RuleViolation::Statement)),
         Rule::Memory => Ok(None),
     }
 }
 
 /// Returns a violation of G2 by a symbol of a `$c`.
-fn of_constants(
+fn constants_violation(
     alloc: Global,
     earlier: &[Stmt],
     stmt: &Stmt,
 ) -> Result<Option<RuleViolation>, AllocError>
-    ensures { keeps earlier.now stmt.now rule.G2 ≡ false → IfOk result (λ violation. IsSomeAnd violation (Violates earlier.now stmt.now rule.G2)) }
+    ensures { keeps earlier.now stmt.now rule.G2 ≡ false → IfOk result (λ violation. IsSomeAnd violation (IsViolation earlier.now stmt.now rule.G2)) }
 {
     let Stmt::Const(names) = stmt else {
         return Ok(None);
     };
-    let Some((symbol, name)) = first_with_fault(alloc, earlier, names, SymbolFault::Declared)?
+    let Some((symbol_index, name)) = first_with_fault(
+        alloc,
+        earlier,
+        names,
+        SymbolFault::AlreadyUsed,
+    )?
     else {
         return first_repeated(alloc, names);
     };
-    match find(earlier, Part::LabelOrSymbol, name) {
-        Some(statement) => Ok(Some(RuleViolation::Earlier { symbol, statement })),
+    match find_earlier(earlier, NameRole::LabelOrSymbol, name) {
+        Some(earlier_position) => Ok(Some(RuleViolation::SymbolConflict {
+            symbol_index,
+            earlier_position,
+        })),
         None => Ok(None),
     }
 }
 
 /// Returns a violation of G3 by a symbol of a `$v`.
-fn of_variables(
+fn variables_violation(
     alloc: Global,
     earlier: &[Stmt],
     stmt: &Stmt,
 ) -> Result<Option<RuleViolation>, AllocError>
-    ensures { keeps earlier.now stmt.now rule.G3 ≡ false → IfOk result (λ violation. IsSomeAnd violation (Violates earlier.now stmt.now rule.G3)) }
+    ensures { keeps earlier.now stmt.now rule.G3 ≡ false → IfOk result (λ violation. IsSomeAnd violation (IsViolation earlier.now stmt.now rule.G3)) }
 {
     let Stmt::Var(names) = stmt else {
         return Ok(None);
     };
-    let Some((symbol, name)) = first_with_fault(alloc, earlier, names, SymbolFault::NotNewVariable)?
+    let Some((symbol_index, name)) = first_with_fault(
+        alloc,
+        earlier,
+        names,
+        SymbolFault::NotNewVariable,
+    )?
     else {
         return first_repeated(alloc, names);
     };
-    if let Some(statement) = find_active(earlier, Part::Variable, name) {
-        return Ok(Some(RuleViolation::Earlier { symbol, statement }));
+    if let Some(earlier_position) = find_active(earlier, NameRole::DeclaredVariable, name) {
+        return Ok(Some(RuleViolation::SymbolConflict {
+            symbol_index,
+            earlier_position,
+        }));
     }
-    match find(earlier, Part::LabelOrConstant, name) {
-        Some(statement) => Ok(Some(RuleViolation::Earlier { symbol, statement })),
+    match find_earlier(earlier, NameRole::LabelOrConstant, name) {
+        Some(earlier_position) => Ok(Some(RuleViolation::SymbolConflict {
+            symbol_index,
+            earlier_position,
+        })),
         None => Ok(None),
     }
 }
 
 /// Returns a violation of G4 by the label.
-fn of_label(earlier: &[Stmt], stmt: &Stmt) -> Option<RuleViolation>
-    ensures { keeps earlier.now stmt.now rule.G4 ≡ false → IsSomeAnd result (Violates earlier.now stmt.now rule.G4) }
+fn label_violation(earlier: &[Stmt], stmt: &Stmt) -> Option<RuleViolation>
+    ensures { keeps earlier.now stmt.now rule.G4 ≡ false → IsSomeAnd result (IsViolation earlier.now stmt.now rule.G4) }
 {
     match stmt {
         Stmt::Float { label, .. } => label_conflict(earlier, label),
@@ -105,26 +125,27 @@ fn of_label(earlier: &[Stmt], stmt: &Stmt) -> Option<RuleViolation>
 /// Returns the first statement that has the label or declares it as a symbol, as a violation of G4,
 /// or `None`.
 fn label_conflict(earlier: &[Stmt], label: &Word) -> Option<RuleViolation>
-    ensures { MatchOption result (list_any (has_name_in part.LabelOrSymbol label.now) earlier.now ≡ false) (IsLabelOf earlier.now label.now) }
+    ensures { MatchOption result (list_any (has_name_in name_role.LabelOrSymbol label.now) earlier.now ≡ false) (IsLabelConflict earlier.now label.now) }
 {
-    match find(earlier, Part::LabelOrSymbol, label.as_bytes()) {
-        Some(statement) => Some(RuleViolation::Label { statement }),
+    match find_earlier(earlier, NameRole::LabelOrSymbol, label.as_bytes()) {
+        Some(earlier_position) => Some(RuleViolation::LabelConflict { earlier_position }),
         None => None,
     }
 }
 
 /// Returns a violation of G5 by a symbol of the expression.
-fn of_expression(
+fn expression_violation(
     alloc: Global,
     earlier: &[Stmt],
     stmt: &Stmt,
 ) -> Result<Option<RuleViolation>, AllocError>
-    ensures { keeps earlier.now stmt.now rule.G5 ≡ false → IfOk result (λ violation. IsSomeAnd violation (Violates earlier.now stmt.now rule.G5)) }
+    ensures { keeps earlier.now stmt.now rule.G5 ≡ false → IfOk result (λ violation. IsSomeAnd violation (IsViolation earlier.now stmt.now rule.G5)) }
 {
     match stmt {
         Stmt::Float { constant, .. } => {
-            let symbol = usize::from(is_symbol(earlier, constant.as_bytes()));
-            Ok(Some(RuleViolation::Symbol { symbol }))
+            // If the first symbol is known, the second is the one that breaks the rule.
+            let symbol_index = usize::from(is_known_symbol(earlier, constant.as_bytes()));
+            Ok(Some(RuleViolation::Symbol { symbol_index }))
         }
         Stmt::Ess { expr, .. } => faulty_symbol(alloc, earlier, expr, SymbolFault::Unknown),
         Stmt::Axiom { expr, .. } => faulty_symbol(alloc, earlier, expr, SymbolFault::Unknown),
@@ -140,54 +161,54 @@ fn faulty_symbol(
     names: &Words,
     fault: SymbolFault,
 ) -> Result<Option<RuleViolation>, AllocError>
-    ensures { IfOk result (λ found. MatchOption found (list_any (has_fault earlier.now fault) names.now ≡ false) (IsSymbolOf names.now (has_fault earlier.now fault))) }
+    ensures { IfOk result (λ found. MatchOption found (list_any (has_fault earlier.now fault) names.now ≡ false) (IsSymbolViolation names.now (has_fault earlier.now fault))) }
 {
     match first_with_fault(alloc, earlier, names, fault)? {
-        Some((symbol, _)) => Ok(Some(RuleViolation::Symbol { symbol })),
+        Some((symbol_index, _)) => Ok(Some(RuleViolation::Symbol { symbol_index })),
         None => Ok(None),
     }
 }
 
 /// Returns a violation of G7 by the second symbol of a `$f`.
-fn of_float(earlier: &[Stmt], stmt: &Stmt) -> Option<RuleViolation>
-    ensures { keeps earlier.now stmt.now rule.G7 ≡ false → IsSomeAnd result (Violates earlier.now stmt.now rule.G7) }
+fn float_violation(earlier: &[Stmt], stmt: &Stmt) -> Option<RuleViolation>
+    ensures { keeps earlier.now stmt.now rule.G7 ≡ false → IsSomeAnd result (IsViolation earlier.now stmt.now rule.G7) }
 {
     let Stmt::Float { variable, .. } = stmt else {
         return None;
     };
-    match find_active(earlier, Part::Float, variable.as_bytes()) {
-        Some(statement) => Some(RuleViolation::Earlier {
-            symbol: 1,
-            statement,
+    match find_active(earlier, NameRole::FloatVariable, variable.as_bytes()) {
+        Some(earlier_position) => Some(RuleViolation::SymbolConflict {
+            symbol_index: 1,
+            earlier_position,
         }),
-        None => Some(RuleViolation::Symbol { symbol: 1 }),
+        None => Some(RuleViolation::Symbol { symbol_index: 1 }),
     }
 }
 
 /// Returns a violation of G8 by a symbol of a `$d`.
-fn of_disjoint(
+fn disjoint_violation(
     alloc: Global,
     earlier: &[Stmt],
     stmt: &Stmt,
 ) -> Result<Option<RuleViolation>, AllocError>
-    ensures { keeps earlier.now stmt.now rule.G8 ≡ false → IfOk result (λ violation. IsSomeAnd violation (Violates earlier.now stmt.now rule.G8)) }
+    ensures { keeps earlier.now stmt.now rule.G8 ≡ false → IfOk result (λ violation. IsSomeAnd violation (IsViolation earlier.now stmt.now rule.G8)) }
 {
     let Stmt::Disj(names) = stmt else {
         return Ok(None);
     };
-    match faulty_symbol(alloc, earlier, names, SymbolFault::Inactive)? {
+    match faulty_symbol(alloc, earlier, names, SymbolFault::NotActiveVariable)? {
         Some(violation) => Ok(Some(violation)),
         None => first_repeated(alloc, names),
     }
 }
 
 /// Returns a violation of G9 by a variable of a `$e`, `$a` or `$p`.
-fn of_untyped(
+fn untyped_violation(
     alloc: Global,
     earlier: &[Stmt],
     stmt: &Stmt,
 ) -> Result<Option<RuleViolation>, AllocError>
-    ensures { keeps earlier.now stmt.now rule.G9 ≡ false → IfOk result (λ violation. IsSomeAnd violation (Violates earlier.now stmt.now rule.G9)) }
+    ensures { keeps earlier.now stmt.now rule.G9 ≡ false → IfOk result (λ violation. IsSomeAnd violation (IsViolation earlier.now stmt.now rule.G9)) }
 {
     match stmt {
         Stmt::Ess { expr, .. } => faulty_symbol(alloc, earlier, expr, SymbolFault::Untyped),
@@ -200,7 +221,7 @@ fn of_untyped(
 /// Returns the position, from 1, of the last `${` that no statement closes, or `None` if there is
 /// none.
 ///
-/// Cost: the number of statements from it on; of all if there is none.
+/// Cost: the number of statements from that `${` to the end, or of all if there is none.
 pub fn never_closed(statements: &[Stmt]) -> Option<usize>
     ensures { IfSome result (λ i. IsActiveAt statements.now i is_open) }
 {
@@ -210,13 +231,13 @@ pub fn never_closed(statements: &[Stmt]) -> Option<usize>
         if is_active_open(closed, stmt) {
             return Some(i + 1);
         }
-        closed = closed_from(stmt, closed);
+        closed = closed_blocks_from(stmt, closed);
     }
     None
 }
 
-/// Returns whether the statement is a `${` that no later statement closes. `closed` is how many of
-/// the blocks that are open after it are closed later.
+/// Returns whether the statement is a `${` whose block no later statement closes. Later statements
+/// close `closed` of the blocks that are open just after it.
 fn is_active_open(closed: usize, stmt: &Stmt) -> bool
     ensures { result ≡ (closed == 0 && is_open stmt.now) }
 {

@@ -1,7 +1,8 @@
-//! Finds which symbol of a statement breaks a rule, and which earlier statement conflicts with it.
+//! Finds the symbol, label or statement that breaks a rule, and the earlier statement with which it
+//! conflicts.
 //!
-//! After a statement is refused, `violation_of` searches the statements for what breaks the rule,
-//! its violation. `specs/Violates` defines violations.
+//! After a statement is refused, `violation_of` finds what breaks the rule. `never_closed` finds a
+//! `${` whose block is open at the end. `specs/Violations` defines violations.
 //!
 //! Reading order: `violation`, `search`, `marks`, `symbol_search`, `by_rule`.
 #![tactic(auto)]

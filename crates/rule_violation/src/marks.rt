@@ -1,5 +1,5 @@
-//! Marks many names in one pass over the statements. A mark is a truth value for each name of a
-//! table.
+//! Marks, in one pass over the statements, the names of a table that have a property. Each name has
+//! one mark, a truth value.
 ghost use Rattle.std.specs.Prelude.{◌≡◌, ℕ, ◌+◌, ◌==◌, ◌&&◌, Some, None, [], IfOk, MatchOption, length, map, false, true, Bool};
 ghost use Rattle.std.specs.List.{list_any};
 ghost use Rattle.mm_lex.specs.Alphabet.{Name, has_name, name_eq};
@@ -8,7 +8,7 @@ ghost use Rattle.scope.specs.Active.{active, label_of, has_label, constants, var
 ghost use Rattle.rule_violation.specs.Marks.{marked};
 ghost use Rattle.rule_violation.specs.Search.{has_name_in};
 
-use crate::search::{Part, closed_from};
+use crate::search::{NameRole, closed_blocks_from};
 use mm_lex::Words;
 use mm_read::Stmt;
 use names::NameTable;
@@ -25,78 +25,79 @@ pub(crate) fn name_table(alloc: Global, words: &Words) -> Result<NameTable, Allo
     Ok(names)
 }
 
-/// Sets the mark of each name that an earlier statement has in that part to `mark`.
-pub(crate) fn mark_any(
+/// Sets the mark to `mark` for each name of the table that an earlier statement has in that role.
+pub(crate) fn mark_earlier(
     names: &NameTable,
     earlier: &[Stmt],
-    part: Part,
+    role: NameRole,
     mark: bool,
     marks: &mut [bool],
 )
     requires { length marks.old ≡ length names.now }
-    ensures { marks.new ≡ marked (λ x. list_any (has_name_in part x) earlier.now) mark names.now marks.old }
+    ensures { marks.new ≡ marked (λ x. list_any (has_name_in role x) earlier.now) mark names.now marks.old }
 {
     for i in 0..earlier.len() {
         let stmt = &earlier[i];
-        mark_stmt(names, stmt, part, mark, marks);
+        mark_stmt(names, stmt, role, mark, marks);
     }
 }
 
-/// Sets the mark of each name that an active statement has in that part to `mark`.
+/// Sets the mark to `mark` for each name of the table that an active statement has in that role.
 pub(crate) fn mark_active(
     names: &NameTable,
     earlier: &[Stmt],
-    part: Part,
+    role: NameRole,
     mark: bool,
     marks: &mut [bool],
 )
     requires { length marks.old ≡ length names.now }
-    ensures { marks.new ≡ marked (λ x. list_any (λ p. has_name_in part x p.1) (active earlier.now)) mark names.now marks.old }
+    ensures { marks.new ≡ marked (λ x. list_any (λ p. has_name_in role x p.1) (active earlier.now)) mark names.now marks.old }
 {
     let mut closed = 0usize;
     for i in (0..earlier.len()).rev() {
         let stmt = &earlier[i];
-        mark_where_active(closed, names, stmt, part, mark, marks);
-        closed = closed_from(stmt, closed);
+        mark_where_active(closed, names, stmt, role, mark, marks);
+        closed = closed_blocks_from(stmt, closed);
     }
 }
 
-/// Sets the mark of each name that the statement has in that part to `mark`, if the statement is
-/// active. `closed` is how many of the blocks that are open after it are closed later.
+/// Sets the mark to `mark` for each name of the table that the statement has in that role, if the
+/// statement is active. Later statements close `closed` of the blocks that are open just after it;
+/// it is active if they close none.
 fn mark_where_active(
     closed: usize,
     names: &NameTable,
     stmt: &Stmt,
-    part: Part,
+    role: NameRole,
     mark: bool,
     marks: &mut [bool],
 )
     requires { length marks.old ≡ length names.now }
-    ensures { marks.new ≡ marked (λ x. closed == 0 && has_name_in part x stmt.now) mark names.now marks.old }
+    ensures { marks.new ≡ marked (λ x. closed == 0 && has_name_in role x stmt.now) mark names.now marks.old }
 {
     if closed == 0 {
-        mark_stmt(names, stmt, part, mark, marks);
+        mark_stmt(names, stmt, role, mark, marks);
     }
 }
 
-/// Sets the mark of each name that the statement has in that part to `mark`.
-fn mark_stmt(names: &NameTable, stmt: &Stmt, part: Part, mark: bool, marks: &mut [bool])
+/// Sets the mark to `mark` for each name of the table that the statement has in that role.
+fn mark_stmt(names: &NameTable, stmt: &Stmt, role: NameRole, mark: bool, marks: &mut [bool])
     requires { length marks.old ≡ length names.now }
-    ensures { marks.new ≡ marked (λ x. has_name_in part x stmt.now) mark names.now marks.old }
+    ensures { marks.new ≡ marked (λ x. has_name_in role x stmt.now) mark names.now marks.old }
 {
-    match part {
-        Part::LabelOrSymbol => {
+    match role {
+        NameRole::LabelOrSymbol => {
             mark_label(names, stmt, mark, marks);
             mark_constants(names, stmt, mark, marks);
             mark_variables(names, stmt, mark, marks);
         }
-        Part::LabelOrConstant => {
+        NameRole::LabelOrConstant => {
             mark_label(names, stmt, mark, marks);
             mark_constants(names, stmt, mark, marks);
         }
-        Part::Constant => mark_constants(names, stmt, mark, marks),
-        Part::Variable => mark_variables(names, stmt, mark, marks),
-        Part::Float => mark_float(names, stmt, mark, marks),
+        NameRole::DeclaredConstant => mark_constants(names, stmt, mark, marks),
+        NameRole::DeclaredVariable => mark_variables(names, stmt, mark, marks),
+        NameRole::FloatVariable => mark_float(names, stmt, mark, marks),
     }
 }
 
@@ -143,7 +144,7 @@ fn mark_float(names: &NameTable, stmt: &Stmt, mark: bool, marks: &mut [bool])
     }
 }
 
-/// Sets the mark of each name that is one of the words to `mark`.
+/// Sets the mark to `mark` for each name of the table that is one of the words.
 fn mark_words(names: &NameTable, words: &Words, mark: bool, marks: &mut [bool])
     requires { length marks.old ≡ length names.now }
     ensures { marks.new ≡ marked (λ x. has_name x words.now) mark names.now marks.old }

@@ -6,11 +6,11 @@ ghost use Rattle.names.specs.Codes.{AreNamed};
 ghost use Rattle.scope.specs.Active.{is_constant, is_variable};
 ghost use Rattle.scope.specs.Legal.{all_different};
 ghost use Rattle.rule_violation.specs.Marks.{is_fault_if_absent};
-ghost use Rattle.rule_violation.specs.Search.{has_fault, IsSymbolAt};
-ghost use Rattle.rule_violation.specs.Violates.{IsRepeated};
+ghost use Rattle.rule_violation.specs.Search.{has_fault, IsNamePassingAt};
+ghost use Rattle.rule_violation.specs.Violations.{IsRepeated};
 
-use crate::marks::{mark_active, mark_any, mark_of, name_table};
-use crate::search::{Part, find, find_active};
+use crate::marks::{mark_active, mark_earlier, mark_of, name_table};
+use crate::search::{NameRole, find_active, find_earlier};
 use crate::violation::RuleViolation;
 use mm_lex::Words;
 use mm_read::Stmt;
@@ -21,13 +21,13 @@ use std::alloc::{AllocError, Global};
 #[derive(Clone, Copy, Drop)]
 pub(crate) enum SymbolFault {
     /// It is an earlier label or was declared as a symbol.
-    Declared,
+    AlreadyUsed,
     /// It is an active variable or an earlier label, or was declared as a constant.
     NotNewVariable,
     /// It is neither a constant nor an active variable.
     Unknown,
     /// It is not an active variable.
-    Inactive,
+    NotActiveVariable,
     /// It is a variable and has no active `$f`.
     Untyped,
 }
@@ -35,7 +35,8 @@ pub(crate) enum SymbolFault {
 /// Returns the index of the first of the words with this fault, and the word, or `None` if none has
 /// it.
 ///
-/// Cost: one or two passes over the statements, with a look-up of each name that they have.
+/// Cost: one or two passes over the statements, with a look-up of each label, declared symbol or
+/// variable of a `$f` that the fault is about.
 pub(crate) fn first_with_fault<'a>(
     alloc: Global,
     earlier: &[Stmt],
@@ -43,7 +44,7 @@ pub(crate) fn first_with_fault<'a>(
     fault: SymbolFault,
 ) -> Result<Option<(usize, &'a [u8])>, AllocError>
     ensures { IfOk result (λ found. MatchOption found (list_any (has_fault earlier.now fault) words.entry.now ≡ false)
-        (λ r. IsSymbolAt words.entry.now (has_fault earlier.now fault) r.0 r.1.now)) }
+        (λ r. IsNamePassingAt words.entry.now (has_fault earlier.now fault) r.0 r.1.now)) }
 {
     let names = name_table(alloc, words)?;
     let mut marks = vec![in alloc; is_fault_if_absent(fault); names.len()]?;
@@ -51,11 +52,12 @@ pub(crate) fn first_with_fault<'a>(
     Ok(first_marked(&names, &marks, words))
 }
 
-/// Returns whether a name that occurs in no earlier statement has this fault.
+/// Returns whether a name has this fault if no earlier statement has it as its label, declares it
+/// or is a `$f` for it.
 fn is_fault_if_absent(fault: SymbolFault) -> bool
     ensures { result ≡ is_fault_if_absent fault }
 {
-    matches!(fault, SymbolFault::Unknown | SymbolFault::Inactive)
+    matches!(fault, SymbolFault::Unknown | SymbolFault::NotActiveVariable)
 }
 
 /// Sets the mark of each name to whether it has this fault.
@@ -64,19 +66,31 @@ fn mark_faulty(names: &NameTable, earlier: &[Stmt], fault: SymbolFault, marks: &
     ensures { marks.new ≡ map (has_fault earlier.now fault) names.now }
 {
     match fault {
-        SymbolFault::Declared => mark_any(names, earlier, Part::LabelOrSymbol, true, marks),
+        SymbolFault::AlreadyUsed => mark_earlier(
+            names,
+            earlier,
+            NameRole::LabelOrSymbol,
+            true,
+            marks,
+        ),
         SymbolFault::NotNewVariable => {
-            mark_any(names, earlier, Part::LabelOrConstant, true, marks);
-            mark_active(names, earlier, Part::Variable, true, marks);
+            mark_earlier(names, earlier, NameRole::LabelOrConstant, true, marks);
+            mark_active(names, earlier, NameRole::DeclaredVariable, true, marks);
         }
         SymbolFault::Unknown => {
-            mark_any(names, earlier, Part::Constant, false, marks);
-            mark_active(names, earlier, Part::Variable, false, marks);
+            mark_earlier(names, earlier, NameRole::DeclaredConstant, false, marks);
+            mark_active(names, earlier, NameRole::DeclaredVariable, false, marks);
         }
-        SymbolFault::Inactive => mark_active(names, earlier, Part::Variable, false, marks),
+        SymbolFault::NotActiveVariable => mark_active(
+            names,
+            earlier,
+            NameRole::DeclaredVariable,
+            false,
+            marks,
+        ),
         SymbolFault::Untyped => {
-            mark_active(names, earlier, Part::Variable, true, marks);
-            mark_active(names, earlier, Part::Float, false, marks);
+            mark_active(names, earlier, NameRole::DeclaredVariable, true, marks);
+            mark_active(names, earlier, NameRole::FloatVariable, false, marks);
         }
     }
 }
@@ -91,7 +105,7 @@ fn first_marked<'a>(
     requires count { length marks.now ≡ length names.now }
     requires named { AreNamed names.now words.now }
     ensures { (t : Name → Bool) → marks.now ≡ map t names.now
-        → MatchOption result (list_any t words.entry.now ≡ false) (λ r. IsSymbolAt words.entry.now t r.0 r.1.now) }
+        → MatchOption result (list_any t words.entry.now ≡ false) (λ r. IsNamePassingAt words.entry.now t r.0 r.1.now) }
 {
     let mut left = words.iter();
     for index in 0..words.len() {
@@ -106,7 +120,7 @@ fn first_marked<'a>(
 }
 
 /// Returns whether the name is a constant or an active variable.
-pub(crate) fn is_symbol(earlier: &[Stmt], name: &[u8]) -> bool
+pub(crate) fn is_known_symbol(earlier: &[Stmt], name: &[u8]) -> bool
     ensures { result ≡ (is_constant earlier.now name.now || is_variable earlier.now name.now) }
 {
     is_constant(earlier, name) || is_variable(earlier, name)
@@ -115,16 +129,16 @@ pub(crate) fn is_symbol(earlier: &[Stmt], name: &[u8]) -> bool
 fn is_constant(earlier: &[Stmt], name: &[u8]) -> bool
     ensures { result ≡ is_constant earlier.now name.now }
 {
-    find(earlier, Part::Constant, name).is_some()
+    find_earlier(earlier, NameRole::DeclaredConstant, name).is_some()
 }
 
 fn is_variable(earlier: &[Stmt], name: &[u8]) -> bool
     ensures { result ≡ is_variable earlier.now name.now }
 {
-    find_active(earlier, Part::Variable, name).is_some()
+    find_active(earlier, NameRole::DeclaredVariable, name).is_some()
 }
 
-/// Returns the index of the first word that repeats an earlier one, and the index of that one, or
+/// Returns the first word that repeats an earlier one, as `Twice` with the indexes of both, or
 /// `None` if the words are distinct.
 pub(crate) fn first_repeated(
     alloc: Global,

@@ -8,11 +8,21 @@ pub enum RuleViolation {
     /// The statement as a whole.
     Statement,
     /// A symbol.
-    Symbol { symbol: usize },
+    Symbol {
+        symbol_index: usize,
+    },
     /// A symbol that occurs twice, by both indexes.
-    Twice { first: usize, second: usize },
+    Twice {
+        first: usize,
+        second: usize,
+    },
     /// A symbol, and the earlier statement with which it conflicts.
-    Earlier { symbol: usize, statement: usize },
+    SymbolConflict {
+        symbol_index: usize,
+        earlier_position: usize,
+    },
     /// The label, and the earlier statement with which it conflicts.
-    Label { statement: usize },
+    LabelConflict {
+        earlier_position: usize,
+    },
 }

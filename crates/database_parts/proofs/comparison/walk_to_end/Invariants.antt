@@ -3,4 +3,4 @@ use Rattle.database_parts.specs.Walk.{IsWalked}
 use Rattle.database_parts.proofs.comparison.walk_to_end.Given as goal
 
 abbrev pub invariant-loop-index : goal.invariant-loop-index
-invariant-loop-index l = IsWalked l.whole l.part (map (λ label. label.now) l.labels) l.index l.walk.next l.walk.whole_scope.statements l.walk.part_scope.statements
+invariant-loop-index l = IsWalked l.whole l.part (map (λ label. label.now) l.labels) l.index l.walk.found_count l.walk.whole_scope.statements l.walk.part_scope.statements

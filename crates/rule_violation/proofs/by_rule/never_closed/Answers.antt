@@ -12,8 +12,8 @@ loop-i-preserved c =
     let inside : c.loop-i.i - 1 < length c.args.statements.now = omega arith in
     let next : c.loop-i.i ≡ (c.loop-i.i - 1) + 1 = omega arith in
     record {
-      closed = c.closed_from-closed.ensures ∙ closed_on c.args.statements.now (c.loop-i.i - 1) c.loop-i.i c.index-statements-i.result c.loop-i.closed is_open
+      closed = c.closed_blocks_from-closed.ensures ∙ closed_on c.args.statements.now (c.loop-i.i - 1) c.loop-i.i c.index-statements-i.result c.loop-i.closed is_open
           inside c.index-statements-i.is next c.loop-i.invariant.closed;
       few = let few = closed_few c.loop-i.closed (c.loop-i.i - 1) c.loop-i.i (length c.args.statements.now) c.index-statements-i.result next c.loop-i.invariant.few in
-          omega (arith, few, c.closed_from-closed.ensures);
+          omega (arith, few, c.closed_blocks_from-closed.ensures);
     }

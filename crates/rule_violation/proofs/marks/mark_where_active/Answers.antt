@@ -5,4 +5,4 @@ use Rattle.rule_violation.proofs.marks.mark_where_active.Goals as goal
 pub returns-else-closed-eq0 : goal.returns-else-closed-eq0
 returns-else-closed-eq0 c =
     let closed : (c.args.closed == 0) ≡ false = search rules in
-    sym (marked-none (λ x. c.args.closed == 0 && has_name_in c.args.part x c.args.stmt.now) c.args.mark (λ x. ap (λ b. b && has_name_in c.args.part x c.args.stmt.now) closed) c.args.names.now c.args.marks.now)
+    sym (marked-none (λ x. c.args.closed == 0 && has_name_in c.args.role x c.args.stmt.now) c.args.mark (λ x. ap (λ b. b && has_name_in c.args.role x c.args.stmt.now) closed) c.args.names.now c.args.marks.now)

@@ -1,6 +1,6 @@
 use Rattle.rule_violation.proofs.Words.{ap, expr_of}
 use Rattle.rule_violation.proofs.ViolationLemmas.{G5_is}
-use Rattle.rule_violation.proofs.by_rule.of_expression.Goals as goal
+use Rattle.rule_violation.proofs.by_rule.expression_violation.Goals as goal
 
 pub returns-in-Ess : goal.returns-in-Ess
 returns-in-Ess c = G5_is c.args.earlier.now c.args.stmt.now c.in-Ess.expr c.faulty_symbol.result (ap expr_of c.in-Ess.is) c.faulty_symbol.ensures

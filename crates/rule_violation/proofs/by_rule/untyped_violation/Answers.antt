@@ -1,6 +1,6 @@
 use Rattle.rule_violation.proofs.Words.{ap, typed_expr}
 use Rattle.rule_violation.proofs.ViolationLemmas.{G9_is}
-use Rattle.rule_violation.proofs.by_rule.of_untyped.Goals as goal
+use Rattle.rule_violation.proofs.by_rule.untyped_violation.Goals as goal
 
 pub returns-in-Ess : goal.returns-in-Ess
 returns-in-Ess c = G9_is c.args.earlier.now c.args.stmt.now c.in-Ess.expr c.faulty_symbol.result (ap typed_expr c.in-Ess.is) c.faulty_symbol.ensures

@@ -1,6 +1,6 @@
 use Rattle.rule_violation.proofs.Words.{ap, label_of}
 use Rattle.rule_violation.proofs.ViolationLemmas.{G4_is}
-use Rattle.rule_violation.proofs.by_rule.of_label.Goals as goal
+use Rattle.rule_violation.proofs.by_rule.label_violation.Goals as goal
 
 pub returns-in-Float : goal.returns-in-Float
 returns-in-Float c = G4_is c.args.earlier.now c.args.stmt.now c.in-Float.label c.label_conflict.result (ap label_of c.in-Float.is) c.label_conflict.ensures

@@ -1,6 +1,0 @@
-use Rattle.std.proofs.Common.{◌≡◌, map, take}
-use Rattle.scope.specs.Active.{stmt_at}
-use Rattle.database_parts.proofs.comparison.have_equal_at_each.Given as goal
-
-abbrev pub invariant-loop-index : goal.invariant-loop-index
-invariant-loop-index l = map (stmt_at l.whole) (take l.index l.left) ≡ map (stmt_at l.part) (take l.index l.right)

@@ -1,9 +1,0 @@
-use Rattle.rule_violation.proofs.Words.{◌≡◌, false, sym, subst, IsSomeAnd, IfOk, Stmt, G3, keeps, Violates}
-use Rattle.rule_violation.proofs.ViolationLemmas.{G3_twice}
-use Rattle.rule_violation.proofs.by_rule.of_variables.Goals as goal
-
-pub returns-in_default-2 : goal.returns-in_default-2
-returns-in_default-2 c =
-    let S = c.args.earlier.now in
-    let P : Stmt → Type 0 = λ s. keeps S s G3 ≡ false → IfOk c.first_repeated.result (λ found. IsSomeAnd found (Violates S s G3)) in
-    subst P (sym c.in-Var.is) (G3_twice S c.in-Var.names c.first_repeated.result (rw c.in_default-2.is at c.in_ok-symbol.ensures) c.first_repeated.ensures)
