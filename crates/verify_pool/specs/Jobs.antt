@@ -14,13 +14,13 @@ use Rattle.verify_pool.specs.Least.{IsBefore}
 abbrev pub IsJob : Database → Job → Type 0
 IsJob S job = (s : Stmt) × IsProvable S job.at s
 
--- jobs, with the statements that they are checked against, and the names that their items number
+-- jobs, with the statements that they are checked against, and the names for which numbers stand in the frames
 pub record JobList : Type 0 where
   pub statements : Database
   pub names : List Name
   pub jobs : List Job
 
--- so is there for each of the jobs
+-- at the position of each of the jobs is a `$p`
 abbrev pub AreJobs : Database → List Job → Type 0
 AreJobs S jobs = (k : ℕ) (job : Job) → slice_get jobs k ≡ Some job → IsJob S job
 

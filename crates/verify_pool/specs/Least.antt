@@ -1,4 +1,4 @@
--- The least of a number of jobs that is not right.
+-- The least index of a job that is not right, among the jobs 0 to `count` - 1.
 -- Source: this project; the Metamath book has no parallel check.
 -- The code deals the jobs out to workers; here they are judged in order.
 use Rattle.std.specs.Prelude.{ℕ, ◌<◌, Option, Some, None, IfSome, ⊤}
@@ -8,7 +8,7 @@ abbrev pub IsBefore : ℕ → Option ℕ → Type 0
 IsBefore k None = ⊤
 IsBefore k (Some i) = k < i
 
--- there is a job of that index, and it is not right
+-- i is the index of a job, and that job is not right
 abbrev pub IsWrongAt : (ℕ → Type 0) → ℕ → ℕ → Type 0
 IsWrongAt right count i = (i < count) × (¬ right i)
 

@@ -19,13 +19,14 @@ pub record IsLeastInStripe (right : ℕ → Type 0) (count first step : ℕ) (an
 abbrev pub IsIn : ℕ → List ℕ → Type 0
 IsIn n ns = (k : ℕ) × (slice_get ns k ≡ Some n)
 
--- each job of the stripe before the answer is right or was put off
+-- what a worker found in its stripe: each job before the answer is right or was put off, each index put off is that of a
+-- job, and the answer, if there is one, is the index of a job that is not right
 pub record IsFoundInStripe (right : ℕ → Type 0) (count first step : ℕ) (answer : Option ℕ) (deferred : List ℕ) : Type 0 where
   pub before : IsStripeRightBefore (λ k. right k ⊎ IsIn k deferred) count first step answer
   pub within : (k : ℕ) → IsIn k deferred → k < count
   pub wrong : IfSome answer (IsWrongAt right count)
 
--- each worker has judged its stripe up to its answer, or ran out of memory
+-- each worker judged its stripe up to its answer, or returned an error
 abbrev pub AreFound : (ℕ → Type 0) → ℕ → List Worker → Type 0
 AreFound right count workers =
     (i : ℕ) (d : Worker) → i < length workers

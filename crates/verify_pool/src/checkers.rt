@@ -14,15 +14,16 @@ pub const MAX_WORKER_SYMBOLS: usize = 1_048_576;
 pub struct Worker {
     /// The checker of the worker.
     pub checker: Checker,
-    /// The least index of a job that was judged and is not right.
+    /// The least index of a job that was judged and is not right, `None` if there is none; an error
+    /// if a job could neither be judged nor be put off.
     pub least: Result<Option<usize>, AllocError>,
     /// The indexes of the jobs that need more memory than the worker has.
     pub deferred: Vec<usize>,
 }
 
 /// The checker of the calling thread, and those of the workers, which are made when first needed
-/// and kept, with their buffers, until memory runs out. Only that of the calling thread takes heavy
-/// proofs, so their room is needed once.
+/// and kept, with their buffers, until memory runs out. Only the checker of the calling thread
+/// takes heavy proofs, so that the memory for a heavy proof is needed only once.
 ///
 /// `Work::begin` prepares each of them, whatever it judged before, so contracts see nothing of
 /// them.
@@ -59,9 +60,9 @@ impl Checkers {
         });
     }
 
-    /// Has the frames make again long searches for pairs of disjoint variables that the checkers
-    /// made for the last jobs. They keep the answers, so that later searches for these pairs are
-    /// short.
+    /// Repeats in the frames some of the long searches for disjoint pairs of variables that the
+    /// checkers made for the last jobs. The frames keep the answers, so that later searches for
+    /// these pairs are short.
     ///
     /// Cost: that of the searches, of which there are at most 128 for each checker.
     pub fn repeat_searches(&mut self, frames: &mut Frames)

@@ -1,6 +1,6 @@
 //! Gates, which threads pass before a job or an entry.
 
-/// An action of a thread, before which it passes a gate.
+/// The action that a thread takes next, once a gate lets it pass.
 #[derive(Clone, Copy, Debug, PartialEq, Eq)]
 pub enum Place {
     /// It judges the job of this index, from 0.
@@ -15,7 +15,7 @@ pub enum Place {
 /// It may watch the threads or hold them back, and it may keep heavy proofs out. No answer depends
 /// on it, except whether it is an `AllocError`.
 pub trait Gate {
-    /// Returns when the thread may go on.
+    /// Returns when the thread may take the action `place`.
     fn pass(&self, place: Place);
 
     /// Returns whether the calling thread may judge heavy proofs, which need more memory than a

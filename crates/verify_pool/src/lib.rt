@@ -1,6 +1,6 @@
 //! Judges many proofs in parallel, with the answer of one thread.
 //!
-//! The crate above uses one contract: `judge_all` returns the least index of a job that is not right, or `None` if
+//! Crates above use one contract: `judge_all` returns the least index of a job that is not right, or `None` if
 //! each is right, whatever the number of workers; `judge_here` returns it on the calling thread. `check_all` returns it
 //! for proofs that are given as their items.
 //!

@@ -15,17 +15,19 @@ use verify::{Answer, Checker};
 
 /// Returns the least index, from 0, of a job that is not right; `None` if each is right.
 ///
-/// The jobs are dealt out in turn to the workers, of whom no more take part than there are jobs.
+/// The jobs are dealt out in turn to the workers; no more workers take part than there are jobs.
 /// Each worker has a checker of its own, runs on a thread of its own if one can be started, and
-/// passes `Place::Job(index)` of the gate before the job of that index. A worker stops at its first
-/// job that is not right, and puts off those that need more memory than it has: the calling thread
-/// judges these after all workers have ended. If an allocation fails for a worker or for the
-/// calling thread, and the gate admits heavy proofs, the checkers of the workers are dropped, and
-/// the calling thread judges all jobs again.
+/// passes the gate, with `Place::Job(index)`, before it judges the job of that index. A worker
+/// stops at its first job that is not right, and puts off those that need more memory than it has:
+/// the calling thread judges these after all workers have ended. If an allocation fails while
+/// workers are made, while a job is put off, or while the calling thread judges one that was, and
+/// the gate admits heavy proofs, the workers are dropped, and the calling thread judges all jobs
+/// again.
 ///
-/// Errors: an allocation fails for the calling thread when it judges alone. If the gate admits no
-/// heavy proofs, also if one fails while workers judge, or if a heavy proof has to be judged. Cost:
-/// that of the jobs, divided among the workers, and once more if jobs are judged again.
+/// Errors: an allocation fails while the calling thread judges all jobs. If the gate admits no
+/// heavy proofs, also if an allocation fails in one of the three other cases, or if a heavy proof
+/// has to be judged. Cost: that of the jobs, divided among the workers, and once more if the jobs
+/// are judged again.
 pub fn judge_all<W: Work + Sync, G: Gate + Sync, R: Threads + Sync>(
     rt: &R,
     checkers: &mut Checkers,

@@ -15,7 +15,8 @@ pub trait Work {
     /// The job of this index is right.
     ghost right: { Self → ℕ → Type 0 };
 
-    /// The lists and facts that a checker keeps are right for these jobs.
+    /// What a checker keeps from proof to proof (lists of assertions, and facts on pairs of
+    /// variables) is right for these jobs.
     ghost fits: { Self → CheckerCache → Type 0 };
 
     /// Returns the number of jobs.

@@ -10,7 +10,8 @@ use std::thread::Threads;
 /// The largest number of workers.
 pub const MAX_WORKERS: usize = 16;
 
-/// The number of threads that check the proofs of one text, 1 to 16. Contracts see that number.
+/// A number of workers, 1 to 16: how many threads judge jobs, for example the proofs of one text.
+/// It holds no threads. Contracts see that number.
 #[derive(Clone, Copy, Debug)]
 pub struct Workers {
     /// Their number.
@@ -28,7 +29,7 @@ impl Model for Workers {
 }
 
 impl Workers {
-    /// Returns `count` workers, where `count` is 1 to 16.
+    /// Returns the value for `count` workers, where `count` is 1 to 16.
     pub fn of(count: usize) -> Workers
         requires { (1 ≤ count) × (count ≤ MAX_WORKERS) }
         ensures { result ≡ count }
