@@ -26,11 +26,12 @@ entries_to_gap (Some x ∷ xs) = x ∷ entries_to_gap xs
 abbrev pub front_of : {T : Type 0} → List (Option T) → ℕ
 front_of xs = length (entries_to_gap xs)
 
--- one above the greatest slot with an entry, or 0, since the list of a map ends in an entry
+-- one above the greatest slot with an entry, or 0 if there are no entries; this is the length, since a map that is not
+-- empty ends in an entry
 abbrev pub top_of : {T : Type 0} → List (Option T) → ℕ
 top_of xs = length xs
 
--- a slot in front of a trimmed list: an empty slot in front of no others is dropped
+-- a slot put before a trimmed list; if the slot is empty and the list is too, the result is the empty list
 abbrev pub trim_head : {T : Type 0} → Option T → List (Option T) → List (Option T)
 trim_head None [] = []
 trim_head None (y ∷ ys) = None ∷ y ∷ ys

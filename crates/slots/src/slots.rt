@@ -7,14 +7,16 @@ use crate::pages::Pages;
 use std::alloc::{AllocError, Global};
 use std::marker::Model;
 
-/// The number of slots of a log.
+/// The number of slots of a log, which are 0 to `SLOTS - 1`.
 pub const SLOTS: u32 = 1_048_576;
 
-/// Entries by slot, below `SLOTS`, kept in pages of 256 slots.
+/// A finite map from slots to entries, kept in pages of 256 slots.
 #[derive(Drop)]
 pub struct Slots<T> {
     pages: Pages<T>,
+    /// The least empty slot.
     front: u32,
+    /// One above the greatest slot with an entry, or 0 if there are no entries.
     top: u32,
 }
 

@@ -10,6 +10,7 @@ use Rattle.slots.specs.FiniteMap.{front_of, top_of, trimmed}
 abbrev pub padded : {T : Type 0} → List (Option T) → List (Option T)
 padded stored = stored ++ replicate (PAGE_SLOTS - length stored) None
 
+-- the invariant of `Page`: at most 256 slots are stored, in a vector with capacity for 256
 pub record IsStoredPage {T : Type 0} (stored : List (Option T)) (capacity : ℕ) : Type 0 where
   pub within : length stored ≤ PAGE_SLOTS
   pub enough : PAGE_SLOTS ≤ capacity
