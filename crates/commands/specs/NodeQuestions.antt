@@ -9,7 +9,7 @@ use Rattle.commands.specs.declared.node_question.NodeQuestion.{NodeQuestion}
 use Rattle.commands.specs.LineWords.{◌>>=◌, Words, node_at}
 use Rattle.commands.specs.Texts.{one_word}
 
--- the question about a label that a verb asks
+-- the kind of question about a label that a verb asks
 abbrev pub label_question_of : List ℕ → Option LabelQuestion
 label_question_of verb =
     if bytes_eq verb (codes "trace") then Some Trace else (
@@ -18,7 +18,7 @@ label_question_of verb =
     if bytes_eq verb (codes "show") then Some Show else (
     if bytes_eq verb (codes "proof") then Some Proof else None))))
 
--- a node and a label: K LABEL
+-- a question of this kind, by its node and label: K LABEL
 abbrev pub node_question_of : LabelQuestion → Words → Option NodeQuestion
 node_question_of kind ws = do
   k ← node_at ws

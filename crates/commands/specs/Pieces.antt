@@ -4,6 +4,7 @@
 use Rattle.std.specs.Prelude.{ℕ, ◌==◌, List, [], Option, Some, None}
 use Rattle.std.specs.List.{slice_split}
 
+-- the pieces of the bytes between separators; one more piece than there are separators
 abbrev pub split_at : ℕ → List ℕ → List (List ℕ)
 split_at separator bytes = slice_split (λ b. b == separator) bytes
 

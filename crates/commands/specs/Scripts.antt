@@ -33,7 +33,8 @@ abbrev pub with_line : {L : Type 0} → ℕ → Option (L × ℕ) → (ℕ → R
 with_line number None rest = Err number
 with_line number (Some found) rest = prepended found.0 (rest found.1)
 
--- the result of lines numbered from `number`, the first `count` of which are a text; empty lines are skipped
+-- the result of lines numbered from `number`, the first `count` of which are the text of the line before them; empty lines
+-- are skipped
 abbrev pub script_from : {L : Type 0} → (List ℕ → List (List ℕ) → Option (L × ℕ)) → ℕ → ℕ → List (List ℕ) → Result (List L) ℕ
 script_from expected number count [] = Ok []
 script_from expected number (suc count) (line ∷ lines) = script_from expected (number + 1) count lines
@@ -41,6 +42,8 @@ script_from expected number zero ([] ∷ lines) = script_from expected (number +
 script_from expected number zero ((c ∷ cs) ∷ lines) =
     with_line number (expected (c ∷ cs) lines) (λ count. script_from expected (number + 1) count lines)
 
+-- the lines of a script, or the number of its first bad line; `expected` gives the line that some bytes are, given the lines
+-- that follow, and how many of those are its text
 abbrev pub script_of : {L : Type 0} → (List ℕ → List (List ℕ) → Option (L × ℕ)) → List ℕ → Result (List L) ℕ
 script_of expected script = script_from expected 1 0 (split_at LINE_FEED script)
 

@@ -11,10 +11,11 @@ use Rattle.commands.specs.declared.node_line.NodeLine.TheVariants.{Offer}
 use Rattle.commands.specs.Texts.{form_by}
 use Rattle.commands.specs.NodeLines.{node_line, without_text, text_line_or_else}
 
--- the form of the text that a verb submits, and of the text that a verb adds
+-- the form of the text that a verb submits
 abbrev pub submit_form : List ℕ → Option TextForm
 submit_form verb = form_by (codes "submit") (codes "submit-lines") (codes "submit-bytes") verb
 
+-- the form of the text that a verb adds
 abbrev pub add_form : List ℕ → Option TextForm
 add_form verb = form_by (codes "add") (codes "add-lines") (codes "add-bytes") verb
 

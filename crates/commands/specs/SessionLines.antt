@@ -1,4 +1,4 @@
--- The lines of a session of `serve`, and the end of a text that a line gives on the lines that follow.
+-- The lines of a session (`serve --live`), and the end of a text that a line gives on the lines that follow.
 -- Source: this project's own form.
 -- The code reads a line, then the lines of its text, and then parses all of them.
 use Rattle.std.specs.Prelude.{ℕ, Bool, true, false, List, codes, Option, Some, None, option_map}
@@ -33,6 +33,7 @@ pub data End : Type 0 where
   word : List ℕ → End
   bytes : ℕ → End
 
+-- the end of a text as contracts see it
 abbrev pub end_view : TextEnd → End
 end_view (AtWord w) = word w.now
 end_view (AfterBytes n) = bytes n
@@ -43,6 +44,7 @@ end_by Rest ws = None
 end_by Lines ws = option_map (λ w. word w) (one_word ws)
 end_by Bytes ws = option_map (λ n. bytes n) (one_number ws)
 
+-- where the text of the line with this verb and these words ends, if the text is on the lines that follow
 abbrev pub text_end_by : List ℕ → Words → Option End
 text_end_by verb ws = do
   form ← first_form (submit_form verb) (add_form verb)

@@ -187,7 +187,7 @@ fn worker_count(alloc: Global, options: &ArgMatches) -> Result<WorkerCount, Comm
     }
 }
 
-/// Returns the seed of the weather, if one is given.
+/// Returns the seed that `--weather` gives, if it is given.
 fn weather_seed(alloc: Global, options: &ArgMatches) -> Result<Option<u64>, CommandLineFault> {
     let Some(text) = options.get_str("weather") else {
         return Ok(None);

@@ -9,8 +9,9 @@ enum InputKind {
     Script,
 }
 
-/// Appends a line that says how to give a file, if one is among the words: it is the only word, or
-/// the other words are a request, or the last two words are files. Else appends nothing.
+/// Appends a line that says how to give a file, if a word seems to be the name of a file. There are
+/// three cases: it is the only word; the other words are a request; the last two words are names of
+/// files, and the other words are a request. Else appends nothing.
 ///
 /// Errors: an allocation fails. Cost: that of parsing the words, for each word that may be a file.
 pub(crate) fn push_hint(

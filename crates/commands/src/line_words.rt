@@ -1,4 +1,4 @@
-//! The words of a line.
+//! The words of a line. The first is its verb.
 ghost use Rattle.std.specs.Prelude.{◌≡◌, option_map};
 ghost use Rattle.std.specs.List.{join_with_byte};
 ghost use Rattle.commands.specs.LineWords.{number_at, one_number, node_of, node_at, one_node};
@@ -13,7 +13,8 @@ pub const SPACE: u8 = b' ';
 /// The words of a line that are not taken yet.
 pub(crate) type Words<'a> = Pieces<'a, SPACE>;
 
-/// A node, and the author and serial number of an entry.
+/// A node, and the author and serial number by which a line names an entry. The entry itself is not
+/// part of it.
 #[derive(Clone, Copy, Debug, PartialEq, Eq)]
 pub struct NodeEntryId {
     pub node: u8,
@@ -54,7 +55,8 @@ impl<'a> Pieces<'a, SPACE> {
         Some(node_with_number(number))
     }
 
-    /// Takes the next three words as `K AUTHOR SERIAL`.
+    /// Takes the next three words as `K AUTHOR SERIAL`: a node, and the author and serial number of
+    /// an entry. Returns `None` unless they are three numbers.
     pub fn take_entry(&mut self) -> Option<NodeEntryId>
         ensures { option_map (λ entry. (entry, self.new)) result ≡ entry_at self.old }
     {

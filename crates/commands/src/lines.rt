@@ -39,7 +39,7 @@ impl<'a> Lines<'a> {
         }
     }
 
-    /// Returns the number of the last line taken, from 1.
+    /// Returns the number of the last line taken, counted from 1, or 0 if none was taken.
     pub(crate) fn number(&self) -> usize
         ensures { result ≡ self.now.number }
     {

@@ -11,10 +11,10 @@ use bytes::Bytes;
 use std::alloc::{AllocError, Global};
 use std::str;
 
-/// A question about a label.
+/// The kind of a question about a label. The label itself stands in `NodeQuestion`.
 #[derive(Clone, Copy, Debug, PartialEq, Eq)]
 pub enum LabelQuestion {
-    /// `trace`: the `$a` that the proof of the `$p` uses.
+    /// `trace`: the `$a` that the `$p` rests on, directly or through other `$p`.
     Trace,
     /// `tree`: the derivation of the `$p`.
     Tree,
@@ -72,7 +72,7 @@ pub struct NodeQuestion {
     pub label: Bytes,
 }
 
-/// Returns the question about a label that a verb asks, or `None` if it asks none.
+/// Returns the kind of question about a label that a verb asks, or `None` if it asks none.
 pub(crate) fn label_question(verb: &[u8]) -> Option<LabelQuestion>
     ensures { result ≡ label_question_of verb.now }
 {
@@ -91,7 +91,7 @@ pub(crate) fn label_question(verb: &[u8]) -> Option<LabelQuestion>
     }
 }
 
-/// Parses `K LABEL`.
+/// Parses `K LABEL`, the words after the verb, as a question of this kind.
 pub(crate) fn parse_question(
     alloc: Global,
     kind: LabelQuestion,

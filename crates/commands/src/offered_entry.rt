@@ -46,7 +46,7 @@ pub(crate) fn parse_text<'a>(
     })
 }
 
-/// Parses `K AUTHOR SERIAL NAME ..`, with the names of a charter.
+/// Parses `K AUTHOR SERIAL NAME ..`. Each `NAME` is the number of an author that the charter lists.
 pub(crate) fn parse_charter(alloc: Global, mut words: Words<'_>) -> Result<OfferedEntry, LineFault>
     ensures { Parses (charter_offer words.entry) result }
 {
@@ -65,7 +65,8 @@ pub(crate) fn parse_charter(alloc: Global, mut words: Words<'_>) -> Result<Offer
     })
 }
 
-/// Returns whether the words that are left are the names of a charter. Does not allocate.
+/// Returns whether the words that are left are the authors of a charter: 1 to 64 numbers, each
+/// greater than the one before it. Does not allocate.
 fn are_names(mut words: Words<'_>) -> bool
     ensures { result ≡ is_some (names_of words.entry) }
 {

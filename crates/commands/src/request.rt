@@ -31,13 +31,14 @@ pub enum Request<'a> {
     Serve(ServeOptions),
 }
 
-/// The nodes that `serve` starts, and how their lines are read.
+/// The nodes that `serve` starts, and how it reads its lines.
 #[derive(Drop)]
 pub struct ServeOptions {
     pub weights: Weights,
     /// How many threads read one entry and check its proofs.
     pub workers: WorkerCount,
-    /// The seed of the weather; `None` for one in which no packet is lost, repeated or delayed.
+    /// `--weather`: the seed of a generator that draws which packets are lost, repeated or delayed;
+    /// `None` if none are.
     pub weather: Option<u64>,
     /// `--live`: each line is answered before the next one is read.
     pub is_live: bool,
@@ -86,7 +87,7 @@ pub enum Question<'a> {
     Export,
     /// `tree`: the derivation of the `$p` with the label.
     Tree(&'a [u8]),
-    /// `trace`: the `$a` that the proof of the `$p` with the label uses.
+    /// `trace`: the `$a` that the `$p` with the label rests on, directly or through other `$p`.
     Trace(&'a [u8]),
     /// `usage`: the `$p` whose proofs cite the statement with the label.
     Usage {

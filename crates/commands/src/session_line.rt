@@ -1,4 +1,4 @@
-//! The lines of a session of `serve`.
+//! The lines of a session, which is `serve --live`.
 ghost use Rattle.commands.specs.SessionLines.{session_line_of};
 
 use crate::lines::Lines;
@@ -6,7 +6,7 @@ use crate::script::{Line, LineFault};
 use crate::serve_line::ServeLine;
 use std::alloc::Global;
 
-/// A line of a session of `serve`.
+/// A line of a session: `serve --live`, which answers each line before it reads the next one.
 #[derive(Drop)]
 pub enum SessionLine {
     /// A line that scripts have too.

@@ -69,7 +69,8 @@ pub(crate) fn only_word<'a>(mut words: Words<'a>) -> Option<&'a [u8]>
     Some(word)
 }
 
-/// A text that was taken, and the count of the lines that it takes.
+/// A text that was taken, and the count of the lines that were taken with it. The line of the word
+/// that ends a text counts too.
 #[derive(Clone, Copy, Debug)]
 pub(crate) struct TakenText<'a> {
     pub text: &'a [u8],
