@@ -1,6 +1,6 @@
 -- Names by code: the code of a name is the index of its first occurrence in a list of names.
 -- Source: this project's choice.
--- The code looks a name up in a table of keys; contracts see the list of names.
+-- The implementation finds a name in a hash table, by its key; contracts see the list of names.
 use Rattle.std.specs.Prelude.{◌≡◌, ℕ, zero, suc, true, false, IsTrue, nat_lt, List, [], ◌∷◌, ◌++◌, length, map, position, Option, if◌then◌else◌}
 use Rattle.std.specs.List.{list_all, position_or_len}
 use Rattle.mm_lex.specs.Alphabet.{Name, name_eq, has_name}
@@ -41,6 +41,7 @@ AreDistinct (x ∷ names) = (has_name x names ≡ false) × AreDistinct names
 abbrev pub code_or_len : List Name → Name → ℕ
 code_or_len names x = position_or_len (name_eq x) names
 
+-- the same for each of the names xs
 abbrev pub codes_or_len : List Name → List Name → List ℕ
 codes_or_len names xs = map (code_or_len names) xs
 

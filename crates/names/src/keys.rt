@@ -109,8 +109,9 @@ fn mix(hash: u64, bytes: u64) -> u64
     scramble(hash.wrapping_add(bytes))
 }
 
-/// Returns the bytes of `FACTOR` times this number in reverse order. The low bits of the result,
-/// which choose a slot, are thus high bits of the product, which depend on most bits of the number.
+/// Returns the product of `FACTOR` and this number, modulo 2^64, with its bytes in reverse order.
+/// The low bits of the result, which choose a slot, are thus high bits of the product, which depend
+/// on most bits of the number.
 pub(crate) fn scramble(number: u64) -> u64
     ensures { result ≡ scrambled number }
 {

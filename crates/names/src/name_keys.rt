@@ -102,7 +102,8 @@ impl NameKeys {
         give_back(&mut self.keys);
     }
 
-    /// Removes the names with the code `len` or a greater one from the overflow.
+    /// Removes the names with the code `len` or a greater one from the overflow. The list of keys
+    /// keeps its length: keys after the last name have no meaning.
     pub(crate) fn truncate(&mut self, texts: &Texts, len: usize)
         requires name_keys { AreNameKeys self.old texts.now }
         requires distinct { AreDistinct texts.now }

@@ -14,7 +14,7 @@ use std::marker::Model;
 ///
 /// The bytes of all names are in one buffer. A hash table maps a name's key to its code; a name of
 /// at most seven bytes shares its key with no other. A name for which 32 probes meet no free slot
-/// goes into the overflow, a sorted map.
+/// goes into the overflow, which looks names up in sorted maps.
 #[derive(Drop)]
 pub struct NameTable {
     texts: Texts,
@@ -155,7 +155,7 @@ impl NameTable {
     /// Reserves capacity for `more` names, if allocation succeeds, so that adding them makes no new
     /// table.
     ///
-    /// Cost: a constant, or the number of names and `more` if it makes a new table.
+    /// Cost: a constant; if it allocates, the number of names and `more`.
     pub fn reserve(&mut self, alloc: Global, more: usize)
         ensures { self.new ≡ self.old }
     {
@@ -184,7 +184,8 @@ impl NameTable {
         Ok(())
     }
 
-    /// Truncates to the first `len` names. Does not allocate.
+    /// Truncates to the first `len` names. Does not allocate. The slots of removed names stay taken
+    /// until a new table is made.
     ///
     /// Cost: constant; if the overflow has a name, the number of removed names.
     pub fn truncate(&mut self, len: usize)

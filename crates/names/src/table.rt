@@ -29,6 +29,9 @@ const HALVES: u64 = 0x1_0000_0000;
 
 /// A slot of the table: the lower half of the key of a name, and the code of the name, or `NO_NAME`
 /// if the slot is free. `NameKeys` has the whole key.
+///
+/// The slot of a removed name stays taken: its code is then that of no name, or of another one. A
+/// search therefore also compares the key or the text of the name that has the code now.
 #[derive(Clone, Copy, Drop)]
 pub struct Slot {
     pub half: u32,
@@ -165,7 +168,8 @@ fn is_absent(slot: Slot, name_keys: &NameKeys) -> bool
     slot.code == NO_NAME && name_keys.overflow.is_empty()
 }
 
-/// Returns the code of a name in the overflow, or `None` if it is not there.
+/// Returns the code of a name in the overflow, or `None` if it is not there. Compares the text,
+/// because after a failed `add` the overflow may have a name that is not in the list.
 fn search_overflow(overflow: &Overflow, texts: &Texts, name: &[u8]) -> Option<usize>
     requires { AreDistinct texts.now }
     ensures some { IfSome result (λ n. code_of texts.now name.now ≡ Some n) }

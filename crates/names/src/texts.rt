@@ -1,4 +1,4 @@
-//! Texts by index, one after the other in one buffer.
+//! The bytes of the names: texts by index, one after the other in one buffer.
 ghost use Rattle.std.specs.Prelude.{◌≡◌, ◌+◌, ◌<◌, ◌≤◌, [], ◌∷◌, ◌++◌, take, length, slice_get, Some, IfOk, OnOk, OnErr};
 ghost use Rattle.names.specs.Codes.{name_at};
 ghost use Rattle.names.specs.Stored.Texts.{texts_from, start_of, AreAscendingEnds};
@@ -7,7 +7,8 @@ use entries::give_back;
 use std::alloc::{AllocError, Global};
 use std::marker::Model;
 
-/// Texts by index, from 0. Each begins where the one before it ends.
+/// Texts by index, from 0: the text at an index is the bytes of the name with that code. Each
+/// begins where the one before it ends.
 #[derive(Drop)]
 pub struct Texts {
     bytes: Vec<u8>,

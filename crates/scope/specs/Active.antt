@@ -24,7 +24,9 @@ stays_open (suc depth) (Close ∷ S) = stays_open depth S
 stays_open depth (s ∷ S) = stays_open depth S
 
 -- those of these statements that are active after them, with their positions, which begin at `at`:
--- a statement is active if none of the later ones closes its block
+-- a statement is active if none of the later ones closes its block. This applies to a `$a` or `$p`
+-- too, which the book calls active up to the end of the database: a citation of one demands only
+-- that it is earlier.
 abbrev pub active_from : ℕ → Database → List (ℕ × Stmt)
 active_from at [] = []
 active_from at (s ∷ S) =

@@ -27,6 +27,8 @@ abbrev pub kind_in : Declared → Name → Option NameKind
 kind_in [] x = None
 kind_in (p ∷ names) x = if name_eq x p.0 then Some p.1 else kind_in names x
 
+-- whether this is the kind of a label, where `None` says that the name has no kind; the next two
+-- ask for a constant and for a variable
 abbrev pub is_label_kind : Option NameKind → Bool
 is_label_kind (Some Label) = true
 is_label_kind kind = false
@@ -39,6 +41,7 @@ abbrev pub is_variable_kind : Option NameKind → Bool
 is_variable_kind (Some Variable) = true
 is_variable_kind kind = false
 
+-- whether a name of this kind is a symbol; the next asks for a label
 abbrev pub is_symbol_kind : NameKind → Bool
 is_symbol_kind Label = false
 is_symbol_kind kind = true

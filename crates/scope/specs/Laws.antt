@@ -27,13 +27,13 @@ ActiveMore = (S : Database) (s : Stmt) → is_close s ≡ false → active (S ++
 abbrev pub has_open : List (ℕ × Stmt) → Bool
 has_open es = list_any (λ p. is_open p.1) es
 
--- the statements that precede the last `${`
+-- the statements that precede the last `${`, or none if there is no `${`
 abbrev pub before_open : List (ℕ × Stmt) → List (ℕ × Stmt)
 before_open [] = []
 before_open (p ∷ es) = if has_open es then p ∷ before_open es else []
 
 -- after a `$}` the last open `${` and the statements that became active after it are no longer
--- active
+-- active; if no block was open, no earlier statement is
 abbrev pub ActiveClosed : Type 0
 ActiveClosed = (S : Database) → active (S ++ Close ∷ []) ≡ before_open (active S) ++ (1 + length S, Close) ∷ []
 

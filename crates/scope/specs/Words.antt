@@ -1,4 +1,4 @@
--- Re-exports names of other crates that many of these definitions use.
+-- Re-exports definitions of other crates that many of those here use.
 pub use Rattle.mm_lex.specs.Alphabet.{Name, has_name, name_eq}
 pub use Rattle.mm_read.specs.Statements.{Database, Expr}
 pub use Rattle.mm_read.specs.declared.stmt.Stmt.{Stmt}

@@ -12,8 +12,8 @@ use mm_lex::{Word, Words};
 use mm_read::Stmt;
 use std::alloc::{AllocError, Global};
 
-/// Appends the symbols and the label that a legal statement declares, and records the numbers of
-/// the symbols of a `$c` or a `$v`.
+/// Appends the label that a legal statement declares, and those of the symbols it declares that are
+/// not there yet, and records the numbers of all symbols of a `$c` or a `$v`.
 ///
 /// Errors: an allocation fails; the earlier names are then unchanged, but new ones may be appended.
 /// Cost: the statement's size, and that of `NameTable::add` for each new name.

@@ -58,7 +58,7 @@ pub(crate) fn push_frame_statement(
     Ok(())
 }
 
-/// Returns a copy of the list.
+/// Returns a copy of the list, in which each statement is a `$f`, `$e` or `$d`.
 pub(crate) fn copy_frame_statements(
     alloc: Global,
     frame_statements: &[FrameStatement],

@@ -1,4 +1,5 @@
-//! Decides the rules G1 to G10, with a function for each shape of statement.
+//! Decides the rules G1 to G10, with a function for each shape of statement that can break a rule,
+//! one for `$e`, `$a` and `$p` together.
 ghost use Rattle.std.specs.Prelude.{◌≡◌, ◌==◌, Bool, true, false, not, ◌&&◌, ◌||◌, nat_lt, take, length, Some, None, IfOk, ◌++◌, ◌∷◌, [], is_some, if◌then◌else◌};
 ghost use Rattle.std.specs.List.{list_all, list_any};
 ghost use Rattle.mm_lex.specs.Alphabet.{has_name};
@@ -25,7 +26,8 @@ use std::marker::Model;
 /// pair is compared.
 const MIN_SORTED_LEN: usize = 16;
 
-/// The sort of a name after the statements accepted so far.
+/// The sort of a name after the statements accepted so far. A `NameKind` says what a name was
+/// declared as; a sort also says whether a variable is active, and whether it has an active `$f`.
 #[derive(Clone, Copy, Debug, Drop, PartialEq, Eq)]
 pub(crate) enum Sort {
     /// A declared constant.
@@ -162,6 +164,8 @@ impl<'a> RuleChecker<'a> {
         broken_by_sorts(first, second)
     }
 
+    /// Returns the least rule that a `$e`, `$a` or `$p` with this label and expression would break,
+    /// or `None`. The same rules concern all three, so the clause speaks of a `$a` alone.
     fn broken_by_expression(
         &self,
         label: &Word,
@@ -187,8 +191,8 @@ impl<'a> RuleChecker<'a> {
         None
     }
 
-    /// Returns whether the first symbol is a constant, and whether each variable has an active
-    /// `$f`; or `None` if a symbol is neither a constant nor an active variable.
+    /// Returns whether the first symbol, if there is one, is a constant, and whether each variable
+    /// has an active `$f`; or `None` if a symbol is neither a constant nor an active variable.
     fn check_symbols(&self, expr: &Words, recorded: &mut SymbolNumbers) -> Option<(bool, bool)>
         requires { AreRecorded (symbols_of self.now.statements) [] recorded.old }
         ensures symbols { result ≡ (if list_all (λ x. is_constant self.now.statements x || is_variable self.now.statements x) expr.now then Some (starts_with_constant self.now.statements expr.now, are_typed self.now.statements expr.now) else None) }

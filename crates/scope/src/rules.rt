@@ -1,5 +1,6 @@
 //! The state from which the rules are decided: the stacks of the active variables and of those with
-//! an active `$f`, and the heights of both at the start of each open block.
+//! an active `$f`, the number of active `$f`, `$e` and `$d`, and all three sizes at the start of
+//! each open block.
 ghost use Rattle.std.specs.Prelude.{◌≡◌, ◌==◌, ◌++◌, ◌∷◌, [], length, not, nat_lt, take, None, IfOk, IfSome, OnOk, IsTrue};
 ghost use Rattle.std.specs.List.{list_any};
 ghost use Rattle.names.specs.Codes.{codes_or_len};
@@ -29,7 +30,8 @@ use std::marker::Model;
 /// statements.
 ///
 /// `variables` has the numbers of the active variables, `typed` of those with an active `$f`.
-/// `blocks` has the heights of these stacks at the start of each open block, `mark` their heights
+/// `frame_statement_count` is how many `$f`, `$e` and `$d` are active; callers keep these. `blocks`
+/// has the heights of the two stacks, and that count, at the start of each open block, `mark` those
 /// at the mark.
 #[derive(Drop)]
 pub struct Rules {
@@ -133,7 +135,7 @@ impl Rules {
         self.blocks.is_empty()
     }
 
-    /// Returns `Ok` if the text may end here.
+    /// Returns `Ok` if the text may end here, that is, if no block is open.
     ///
     /// Errors: G10 if a block is open. Does not allocate.
     pub fn close_at_end(&self) -> Result<(), Rule>
@@ -201,7 +203,7 @@ impl Rules {
         }
     }
 
-    /// Returns the heights of the stacks.
+    /// Returns the heights of the stacks, and how many `$f`, `$e` and `$d` are active.
     pub(crate) fn heights(&self) -> StackHeights
         ensures { result ≡ heights_of (active self.now.statements) }
     {

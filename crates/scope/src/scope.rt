@@ -30,9 +30,13 @@ pub struct Scope {
     pub(crate) rules: Rules,
     pub(crate) names: Numbering,
     pub(crate) frame_statements: Vec<FrameStatement>,
+    /// The number of statements.
     pub(crate) count: usize,
+    /// How many names the marked statements declare.
     marked_names: usize,
+    /// The number of marked statements.
     marked_count: usize,
+    /// The numbers of the symbols of the statement that `add` appends.
     recorded: SymbolNumbers,
 }
 
@@ -69,9 +73,9 @@ impl Scope {
     ///
     /// `steps` counts one step, whatever the outcome.
     ///
-    /// Errors: the least rule that it breaks, or `Memory` if it breaks none and an allocation
-    /// fails; the statements are then unchanged. Cost: that of `Rules::broken_rule`, and of
-    /// declaring its names.
+    /// Errors: the least rule that it breaks, or `Memory` if it breaks none and an allocation fails
+    /// or there are `usize::MAX` statements already; the statements are then unchanged. Cost: that
+    /// of `Rules::broken_rule`, and of declaring its names.
     /// Source: Metamath, chapter 4; the rules are defined in `specs/Legal.antt`.
     pub fn add(&mut self, stmt: &Stmt, steps: &mut Steps) -> Result<(), Rule>
         requires { IsShaped stmt.now }
@@ -141,7 +145,7 @@ impl Scope {
             .broken_rule(&self.names, self.alloc, stmt, &mut unrecorded)
     }
 
-    /// Returns `Ok` if the text may end here.
+    /// Returns `Ok` if the text may end here, that is, if no block is open.
     ///
     /// Errors: G10 if a block is open. Does not allocate.
     pub fn close_at_end(&self) -> Result<(), Rule>
@@ -228,6 +232,7 @@ fn append_legal(
         Some(numbers) => rules.accept(stmt, numbers)?,
         None => return Err(AllocError),
     }
+    // After a `$}` those of its block are no longer active.
     frame_statements.truncate(rules.frame_statement_count());
     Ok(())
 }

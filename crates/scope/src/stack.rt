@@ -79,7 +79,7 @@ impl Stack {
     /// Pushes a number that is not on the stack.
     ///
     /// Errors: an allocation fails; the stack is then unchanged. Cost: amortized, a constant; for a
-    /// number greater than all earlier ones, the difference to them.
+    /// number greater than all that were ever pushed, its difference from the greatest of them.
     pub fn push(&mut self, number: u32) -> Result<(), AllocError>
         requires { list_any (λ n. n == number) self.old ≡ false }
         ensures ok { OnOk result (self.new ≡ self.old ++ number ∷ []) }

@@ -1,4 +1,4 @@
-//! The heights of the stacks of the rules.
+//! The heights of the two stacks of the rules, and how many frame statements are active.
 
 /// How many variables are active (`variables`), how many of them have an active `$f` (`typed`), and
 /// how many `$f`, `$e` and `$d` are active (`frame_statements`).

@@ -8,6 +8,7 @@ use std::marker::{Model, PhantomData};
 /// statement that they are given, so that a contract can bound how many these are.
 #[derive(Drop)]
 pub struct Steps {
+    /// Has no size: at run time a value stores nothing.
     of: PhantomData<u8>,
     pub ghost count: { ℕ },
 }

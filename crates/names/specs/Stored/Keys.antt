@@ -23,6 +23,7 @@ first_four_last_three x =
     get_or x 0 0 ∷ get_or x 1 0 ∷ get_or x 2 0 ∷ get_or x 3 0
     ∷ get_or x (length x - 3) 0 ∷ get_or x (length x - 2) 0 ∷ get_or x (length x - 1) 0 ∷ []
 
+-- the bytes from which the key of a short name is made
 abbrev pub key_bytes : Name → List ℕ
 key_bytes x = if nat_lt (length x) 4 then first_middle_last x else first_four_last_three x
 
@@ -32,11 +33,11 @@ eight x at =
     get_or x at 0 ∷ get_or x (at + 1) 0 ∷ get_or x (at + 2) 0 ∷ get_or x (at + 3) 0
     ∷ get_or x (at + 4) 0 ∷ get_or x (at + 5) 0 ∷ get_or x (at + 6) 0 ∷ get_or x (at + 7) 0 ∷ []
 
--- the bytes of `FACTOR` times the number, in reverse order
+-- the product of `FACTOR` and the number, modulo 2^64, with its bytes in reverse order
 abbrev pub scrambled : ℕ → ℕ
 scrambled n = swap_bytes w64 (n * FACTOR % 2 ^ 64)
 
--- the hash with eight more bytes mixed in
+-- the hash with eight more bytes mixed in, which are given as one number
 abbrev pub mixed : ℕ → ℕ → ℕ
 mixed hash bytes = scrambled ((hash + bytes) % 2 ^ 64)
 
@@ -45,7 +46,8 @@ abbrev pub mixed_front : Name → ℕ → ℕ
 mixed_front x zero = length x
 mixed_front x (suc n) = mixed (mixed_front x n) (digits (eight x (8 * n)))
 
--- the length of a name, mixed with all its blocks but the last, and with its last eight bytes
+-- the length of a name, mixed with all its blocks but the last, and with its last eight bytes; the
+-- result is at least `LEAST_HASH`, above the keys of short names
 unfoldable pub hash_of : Name → ℕ
 hash_of x = mixed (mixed_front x ((length x - 1) / 8)) (digits (eight x (length x - 8))) % LEAST_HASH + LEAST_HASH
 

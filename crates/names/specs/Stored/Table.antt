@@ -22,7 +22,7 @@ slot_of key code = record { half = half_of key; code = code }
 abbrev pub slot_index_of : ℕ → ℕ → ℕ → ℕ
 slot_index_of key step len = bit_and ((scrambled key + step * (step + 1) / 2) % 2 ^ 64) (len - 1)
 
--- the step of the search for a key probes this slot
+-- s is the slot that this step of the search for a key probes
 abbrev pub slot_at : List Slot → ℕ → ℕ → Slot → Type 0
 slot_at slots key step s = slice_get slots (slot_index_of key step (length slots)) ≡ Some s
 

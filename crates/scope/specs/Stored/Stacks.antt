@@ -1,5 +1,5 @@
--- How the rules are stored: stacks of numbers, with their heights at the start of each open block
--- and at the mark.
+-- How the state of the rules is stored: stacks of numbers, with their heights at the start of each
+-- open block and at the mark.
 -- Source: this project's choice.
 -- `Active` counts the `${` and `$}`; here each field of the code is defined as a function of the
 -- statements.
@@ -31,7 +31,7 @@ can_push stack [] = true
 can_push stack (n ∷ ns) = not (list_any (λ m. m == n) stack) && can_push (stack ++ n ∷ []) ns
 
 -- a statement that neither opens nor closes a block, and neither declares a variable nor gives one
--- a typecode; n is 1 for a `$e` or `$d`, else 0
+-- a typecode; n is how many frame statements it is (`stand`), 1 for a `$e` or `$d`, else 0
 pub record IsPlain (s : Stmt) (n : ℕ) : Type 0 where
   pub no_open : is_open s ≡ false
   pub no_close : is_close s ≡ false
