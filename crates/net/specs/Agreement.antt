@@ -1,6 +1,6 @@
 -- Agreement at every moment of a history.
 -- Source: Lamport, Paxos Made Simple, section 2.2.
--- No code states this; it follows from the laws, for the events that one world took.
+-- No code computes this; the contract of `Net::history` says that it holds, by the laws, for the events that a net took.
 use Rattle.std.specs.Prelude.{◌≡◌, ◌⊎◌, ◌<◌, ℕ, List, length, take, suc, Result, Ok, Err, IsOk}
 use Rattle.net.specs.Words.{Event, StepFault, Memory}
 use Rattle.net.specs.World.{World, after}

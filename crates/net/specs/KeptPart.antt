@@ -1,6 +1,6 @@
 -- The kept part of a node, which survives a restart, and the one change that an event makes to it.
 -- Source: Lamport, Paxos Made Simple, section 2.5: an acceptor must remember in stable storage what it promised and accepted.
--- The code stores the change before it posts anything; here both are in one step.
+-- The crate `switch` stores the change before it commits the event, so before anything is posted; here both are in one step.
 use Rattle.std.specs.Prelude.{◌≢◌, ℕ, List, [], ◌∷◌, Option, Some, None, Result, Ok, Err, slice_get}
 use Rattle.net.specs.Words.{option_map, Packet, Change, Refusal, KeptPart, Node, StepResult, kept_of, offer_result, begin_result, on_packet, restarted, Event, Offer, Begin, Deliver, Restart, StepFault}
 use Rattle.net.specs.World.{World, event_result}

@@ -1,6 +1,6 @@
 -- The laws of the world, after every list of events of which none meets a fault, for any weights and any values.
 -- Source: Lamport, Paxos Made Simple, section 2.2.
--- A law has no code; its steps are the definitions that the contracts of the nodes cite.
+-- A law has no code; it is about the steps of nodes that the contracts of `synod` cite.
 use Rattle.std.specs.Prelude.{◌≡◌, ◌≢◌, ℕ, List, [], ◌∷◌, ◌++◌, Some, Ok}
 use Rattle.net.specs.Words.{option_map, changed_by, Event, Restart}
 use Rattle.net.specs.World.{World, event_result, log}

@@ -13,7 +13,7 @@ pub record World (V : Type 0) : Type 0 where
   pub votes_cast : List (Vote V)  -- every vote ever cast, newest first
   pub event_count : ℕ  -- the number of events taken
 
--- a new node for each of the last weights, numbered from k
+-- a new node for each weight of the second list, numbered from k; the first list has the weights of all nodes of the log
 abbrev pub nodes_from : {V : Type 0} → List ℕ → ℕ → List ℕ → List (Node V)
 nodes_from weights k [] = []
 nodes_from weights k (w ∷ ws) = new_node k weights ∷ nodes_from weights (suc k) ws
@@ -62,7 +62,8 @@ abbrev pub delivered : {V : Type 0} → World V → Option (Packet V) → Result
 delivered w None = Err NoPacket
 delivered w (Some p) = at_node w p.to (λ n. Ok (on_packet n p)) (slice_get w.nodes p.to)
 
--- the world after the event, or the fault that it meets, whatever the number of events taken
+-- the world after the event, or the fault that it meets, without the limit on the number of events; size gives the length of a
+-- value
 abbrev pub event_result_without_limit : {V : Type 0} → (V → ℕ) → World V → Event V → Result (World V) StepFault
 event_result_without_limit size w (Offer k v) = at_node w k (λ n. offer_result size n v) (slice_get w.nodes k)
 event_result_without_limit size w (Begin k) = at_node w k begin_result (slice_get w.nodes k)
@@ -83,6 +84,7 @@ events_result size (e ∷ es) (Ok w) = events_result size es (event_result size 
 abbrev pub after : {V : Type 0} → (V → ℕ) → List ℕ → List (Event V) → Result (World V) StepFault
 after size weights events = events_result size events (Ok (start weights))
 
+-- the log of the node; None in a log is a no-operation
 abbrev pub log_at : {V : Type 0} → Option (Node V) → List (Option V)
 log_at None = []
 log_at (Some n) = log_of n

@@ -51,7 +51,7 @@ impl<V: Value> Net<V> {
     ghost use Rattle.net.specs.Agreement.{Agreement};
     ghost use Rattle.net.specs.declared.fault.StepFault.TheVariants.{NoNode, NoPacket, Memory};
 
-    /// Creates a world with a new node for each weight. It has taken no events.
+    /// Creates a net with a new node for each weight. It has taken no events.
     ///
     /// Errors: `Memory`.
     pub fn new(alloc: Global, weights: Weights) -> Result<Self, StepFault>
@@ -106,7 +106,7 @@ impl<V: Value> Net<V> {
         }
     }
 
-    /// Stages an event at its node, without capacity for its posts in the world.
+    /// Stages an event at its node, and reserves no capacity for its posts among the packets of the net.
     fn stage_at_node(&mut self, event: Event<V>) -> Result<StagedEvent<V>, StepFault>
         requires { length self.old.history.events < MAX_EVENTS }
         ensures staged { IsStagingResultInNet V.bytes self.new event (world_of V.bytes (with_event self.old.history event)) result }
@@ -152,7 +152,8 @@ impl<V: Value> Net<V> {
 
     /// Stages an event and commits it. Returns the number of packets posted so far.
     ///
-    /// Errors: the first fault that the event meets, or `Memory` if it meets none; the world is then unchanged.
+    /// Errors: the first fault that the event meets, or `Memory` if it meets none; the events taken, and so the nodes and
+    /// packets, are then unchanged.
     pub fn step(&mut self, event: Event<V>) -> Result<u64, StepFault>
         ensures taken { OnOk result (self.new.history ≡ with_event self.old.history event) }
         ensures posted { IfOk result (λ count. count ≡ length (packets_after (world_of V.bytes self.new.history))) }
@@ -176,7 +177,8 @@ impl<V: Value> Net<V> {
         &self.events
     }
 
-    /// Returns entry `slot` of the log of node `k`, or `None` if the log is not that long. It does not allocate.
+    /// Returns entry `slot` of the log of node `k`, or `None` if the log is not that long. An entry that is itself
+    /// `None` is a no-operation. It does not allocate.
     ///
     /// Errors: `NoNode`.
     pub fn entry(&self, k: u8, slot: u32) -> Result<Option<&Option<V>>, StepFault>
@@ -191,7 +193,7 @@ impl<V: Value> Net<V> {
         }
     }
 
-    /// Returns the log of node `k`: the entries that it learned, up to its first gap.
+    /// Returns the log of node `k`: the entries that it learned, up to its first gap. A `None` is a no-operation.
     ///
     /// Errors: `NoNode`; else `Memory`. Cost: the size of the log; each value is copied once.
     pub fn log(&self, k: u8) -> Result<Vec<Option<V>>, StepFault>

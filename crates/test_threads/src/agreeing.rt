@@ -1,5 +1,5 @@
-//! A text submitted at the node that leads is added at each node, and their libraries are then the same, whichever node
-//! leads; a cluster that is stopped still answers questions; a desk works in another thread.
+//! A text submitted at the node that leads is added at each node, and their libraries are then the same, whether node 0 or
+//! node 1 leads; a cluster that is stopped still answers questions; a desk works in another thread.
 use crate::three_nodes::{EntryKeep, is_added_by_all, same_weathers, start_three_open, text_entry};
 use cluster::Ahead;
 use library::Entry;
@@ -92,7 +92,8 @@ fn has_text_after_restart<R: Wait + Clock>(
     is_added_by_all(rt, desk, 1)
 }
 
-/// Returns whether the cluster stops, each of its first two nodes of three has taken an event, and events are refused then.
+/// Stops the cluster. Returns whether each of the first two of its three nodes had taken an event, and it
+/// now refuses events and still answers questions.
 fn stops<R: Threads + Wait>(
     rt: &R,
     alloc: Global,
@@ -107,7 +108,7 @@ fn stops<R: Threads + Wait>(
     Ok(handled && has_stopped(rt, alloc, cluster, desk)?)
 }
 
-/// Returns whether node 1 lists the axiom p alone, and no node's library is ahead of its own.
+/// Returns whether node 1 lists the axiom p alone, and the libraries of nodes 0 and 2 have the same statements as its own.
 fn lists_only_axiom<R: Wait>(rt: &R, desk: &Desk<OpenGate, EntryKeep>) -> Result<bool, StepFault> {
     let list = desk.list(rt, 1)?;
     let listed = match list.as_slice() {

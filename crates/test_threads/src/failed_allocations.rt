@@ -1,4 +1,5 @@
-//! A text has a verdict even if one allocation, whichever it is, fails.
+//! A text is added at node 0 even if one allocation, whichever it is, fails. If the failure ends the first attempt with
+//! `Memory`, a second attempt is made, with new nodes.
 use crate::three_nodes::{EntryKeep, polled_verdict, same_weathers, start_three_open, text_entry};
 use library::Verdict;
 use net::StepFault;
@@ -10,8 +11,8 @@ use std::time::Clock;
 use synod::Weights;
 use verify_pool::{Gate, OpenGate};
 
-/// A failed allocation makes `start`, `desk`, `submit` or `stop` return an error, loses a packet, has an entry applied only
-/// at a later hint, or makes a keep fail, whose node is then down until it restarts.
+/// If an allocation fails, `start`, `desk`, `submit` or `stop` returns an error; or a packet is lost, an entry is applied only
+/// at a later hint, or a keep fails, and its node is down until it restarts.
 #[test]
 fn decides_after_a_failed_allocation(rt: HostRuntime) {
     let mut verdict = decided_by_three(&rt, rt.alloc());
@@ -47,8 +48,9 @@ fn decided_and_stopped<R: Threads + Wait + Clock>(
     verdict
 }
 
-/// Returns the verdict at node 0 on a text that is submitted there up to 30 times, each time after a new ballot, whose packets
-/// replace those that a failed allocation lost. A node that is down is restarted first.
+/// Returns the verdict at node 0 on a text that is submitted there up to 30 times, or `None` if there is none even then. Before
+/// each time node 0 begins a ballot, whose packets replace those that a failed allocation lost; if it is down, it is restarted
+/// first.
 fn decided<G: Gate, R: Wait + Clock>(
     rt: &R,
     alloc: Global,

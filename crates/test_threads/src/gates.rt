@@ -39,6 +39,7 @@ impl Rendezvous {
 
 impl Gate for Rendezvous {
     fn pass(&self, place: Place) {
+        // `Place::Apply(k)`: the thread of node `k` is about to apply an entry.
         match place {
             Place::Apply(0) => self.wait_for(&self.first_arrived, &self.second_arrived),
             Place::Apply(1) => self.wait_for(&self.second_arrived, &self.first_arrived),
@@ -52,7 +53,8 @@ fn gate_two_nodes(rt: HostRuntime) {
     assert!(rt; two_nodes_wait(&rt, rt.alloc()) == Ok(true));
 }
 
-/// Returns whether the first two nodes, which wait for each other, both add a text.
+/// Returns whether each of three nodes adds a text, and neither of the first two, which wait for each other at the gate, gives
+/// up waiting.
 fn two_nodes_wait<R: Threads + Wait + Clock + Copy + Send + Sync + Drop + 'static>(
     rt: &R,
     alloc: Global,

@@ -27,7 +27,7 @@ pub fn text_entry(alloc: Global, serial: u64, text: &[u8]) -> Result<Entry, Allo
     }))
 }
 
-/// Starts three nodes with keeps in memory, and two workers each.
+/// Starts three nodes with keeps in memory, each with two workers to check proofs.
 pub fn start_three<
     G: Gate + Send + Sync + Drop + 'static,
     W: Weather + Send + Drop + 'static,
@@ -94,8 +94,8 @@ pub fn same_weathers<W: Weather + Copy>(alloc: Global, weather: W) -> Result<Vec
     Ok(weathers)
 }
 
-/// Returns the verdict at node `k` on the text with that serial number. Polls once a millisecond until it is known, a limited
-/// number of times.
+/// Returns the verdict at node `k` on the text of author 7 with that serial number, or `None` if it is not known after `polls`
+/// polls, a millisecond apart.
 pub fn polled_verdict<G: Gate, R: Wait + Clock>(
     rt: &R,
     desk: &Desk<G, EntryKeep>,

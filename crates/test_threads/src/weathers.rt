@@ -17,7 +17,7 @@ use std::time::{Clock, Duration};
 use synod::Weights;
 use verify_pool::{Gate, OpenGate};
 
-/// Passes, repeats and delays hints in turn. The number counts them, from 0 to 2.
+/// Passes, repeats and delays hints in turn. The number says what happens to the next one: 0 passes, 1 repeats, 2 delays it.
 #[derive(Clone, Copy)]
 struct CyclingWeather(u8);
 
@@ -313,8 +313,8 @@ fn learns_at<R: Wait + Clock>(
 /// How many milliseconds the test waits for hints that are on their way.
 const TRANSIT_MILLIS: u64 = 100;
 
-/// Submits a text at node 0, waits until nodes 0 and 1 have decided it, and then until the hints on their way to node 2 have
-/// arrived. Returns whether both nodes have added the text.
+/// Submits a text at node 0 and waits until nodes 0 and 1 have decided it; then waits `TRANSIT_MILLIS` for the hints on their
+/// way to node 2, which its weather loses or delays. Returns whether nodes 0 and 1 have added the text.
 fn decide<R: Wait + Clock>(
     rt: &R,
     alloc: Global,

@@ -1,4 +1,4 @@
--- The lists of assertions and the facts on pairs of variables that a checker keeps from proof to proof.
+-- The lists by which assertions are cited, and the facts on pairs of variables, that a checker keeps from proof to proof.
 -- Metamath, 4.2.6: the images of the two variables of each mandatory `$d` pair must be disjoint.
 -- The code keeps fewer lists of disjoint variables than the frame has; they have the same pairs.
 use Rattle.std.specs.Prelude.{◌≡◌, ℕ, ◌<◌, ◌==◌, Bool, ◌||◌, List, [], ◌∷◌, length, map, slice_get, Some}
@@ -14,7 +14,7 @@ is_paired gs x y = x == y || list_any (has_both x y) gs
 abbrev pub are_covered : List (List ℕ) → List ℕ → Bool
 are_covered gs g = list_all (λ x. list_all (is_paired gs x) g) g
 
--- any images are disjoint as the lists gs require if and only if they are as the lists hs require
+-- whatever the images are, they meet the disjoint variable condition of the lists gs if and only if they meet that of hs
 abbrev pub AreSameCondition : List (List ℕ) → List (List ℕ) → Type 0
 AreSameCondition gs hs = (names : List Name) (D : Database) (σ : Images) → are_groups_disjoint D σ (map (decode names) gs) ≡ are_groups_disjoint D σ (map (decode names) hs)
 
@@ -61,7 +61,7 @@ pub record IsAt (ls : List CitationLists) (i position : ℕ) : Type 0 where
   pub within : i < length ls
   pub there : (l : CitationLists) → slice_get ls i ≡ Some l → l.position ≡ position
 
--- all that a checker keeps: lists of assertions, and the pairs of variables that were found to be disjoint or not
+-- all that a checker keeps: the lists of some assertions, and the pairs of variables that were found to be disjoint or not
 pub record CheckerCache : Type 0 where
   pub lists : List CitationLists
   pub facts : List PairFact

@@ -32,7 +32,7 @@ Grows S at st (Cite label) st' = (below : List Derivation) × (t : Derivation) �
 Grows S at st (Recall k) st' = (t : Derivation) × IsSavedTree st.saved k t × (st' ≡ trees (st.stack ++ t ∷ []) st.saved)
 Grows S at st Mark st' = (below : List Derivation) × (t : Derivation) × (st.stack ≡ below ++ t ∷ []) × (st' ≡ trees st.stack (st.saved ++ t ∷ []))
 
--- so do the items, one after the other
+-- the items, one after the other, take the derivations st to st'
 abbrev pub GrowsBy : Database → ℕ → Trees → List Item → Trees → Type 0
 GrowsBy S at st [] st' = st ≡ st'
 GrowsBy S at st (item ∷ items) st' = (next : Trees) × Grows S at st item next × GrowsBy S at next items st'

@@ -23,7 +23,7 @@ abbrev pub IsPresent : Database → Hypothesis → Type 0
 IsPresent S (Float x) = Unit {0}
 IsPresent S (Essential p) = (s : Stmt) × (stmt_at S p ≡ Some s)
 
--- so is there for each of the hypotheses
+-- each `$e` of the list has a statement at its position
 abbrev pub ArePresent : Database → List Hypothesis → Type 0
 ArePresent S [] = Unit {0}
 ArePresent S (h ∷ hs) = IsPresent S h × ArePresent S hs
@@ -55,10 +55,10 @@ abbrev pub HypothesisMatches : Database → Images → Hypothesis → Expr → T
 HypothesisMatches S σ (Float x) r = Unit {0}
 HypothesisMatches S σ (Essential p) r = r ≡ applied σ (expr_at S p)
 
--- so are the results for the first n hypotheses
+-- each result for a `$e` among the first n hypotheses is its expression with the images substituted
 abbrev pub DoMatchBefore : ℕ → Database → Images → List Hypothesis → List Expr → Type 0
 DoMatchBefore n S σ hs rs = (k : ℕ) (h : Hypothesis) → k < n → slice_get hs k ≡ Some h → HypothesisMatches S σ h (get_or rs k [])
 
--- so are the results for all
+-- each result for a `$e` is its expression with the images substituted
 pub record DoMatch (S : Database) (σ : Images) (hs : List Hypothesis) (rs : List Expr) : Type 0 where
   pub each : (k : ℕ) (h : Hypothesis) → slice_get hs k ≡ Some h → HypothesisMatches S σ h (get_or rs k [])

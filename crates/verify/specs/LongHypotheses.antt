@@ -1,5 +1,5 @@
--- The long `$e` of a citation: those that have a variable whose image is not empty, and the symbols that are left of one without
--- the variables whose images are empty.
+-- The long `$e` of a citation: which of them have a variable whose image is not empty, and the symbols of one that remain when
+-- variables whose images are empty are left out.
 -- Metamath, 4.2.6: the result for a `$e` is its expression under the images, and an image may be empty.
 -- The code lists each such variable for each long `$e` that has it, in place of a look at each symbol of each `$e`.
 use Rattle.std.specs.Prelude.{◌≡◌, ℕ, ◌<◌, ◌≤◌, ◌^◌, List, [], length, slice_get, Some}
@@ -21,12 +21,13 @@ AreThoseOf S names a hs = (s : Stmt) → stmt_at S a ≡ Some s → (typecodes :
 abbrev pub IsListed : Database → List Name → ℕ → ℕ → List ℕ → Type 0
 IsListed S names a x keys = (s : Stmt) → stmt_at S a ≡ Some s → (q : ℕ) → In q (long_essentials S a s (name_at names x)) → (x < 2 ^ 32) × In (key_of q x) keys
 
--- so is each variable whose image is not empty, and the list is in order
+-- each variable whose image is not empty is listed for each long `$e` that has it, and the list is in order
 pub record AreListed (S : Database) (names : List Name) (a : ℕ) (hs : List Hypothesis) (σ : CodeImages) (keys : List ℕ) : Type 0 where
   pub each : (k x : ℕ) → slice_get hs k ≡ Some (Float x) → (code_image σ x ≡ [] → ⊥) → IsListed S names a x keys
   pub ordered : Ascends keys
 
--- the symbols that are left of the long expression of the `$e` at a position include its constants and those listed for it
+-- `left` has the symbols of the long expression of the `$e` at a position that remain; its constants, and the symbols listed for
+-- it, are among them
 pub record IsLeftOf (S : Database) (names : List Name) (position : ℕ) (codes keys left : List ℕ) : Type 0 where
   pub constants : List ℕ
   pub long : LONG_EXPRESSION ≤ length codes

@@ -43,7 +43,7 @@ Steps S at st (Cite label) st' = (below : List Expr) × (e : Expr) × Cites S at
 Steps S at st (Recall k) st' = (e : Expr) × IsSaved st.saved k e × (st' ≡ with_result st st.stack e)
 Steps S at st Mark st' = (below : List Expr) × (e : Expr) × (st.stack ≡ below ++ e ∷ []) × (st' ≡ with_mark st e)
 
--- so do the items, one after the other
+-- the items, one after the other, take the results st to st'
 abbrev pub Runs : Database → ℕ → State → List Item → State → Type 0
 Runs S at st [] st' = st ≡ st'
 Runs S at st (item ∷ items) st' = (next : State) × Steps S at st item next × Runs S at next items st'

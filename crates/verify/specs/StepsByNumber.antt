@@ -1,5 +1,5 @@
 -- The effect of one item on results of numbers, stated over the names that they stand for.
--- Metamath, 4.2.6 and appendix B; `Machine` over names.
+-- Metamath, 4.2.6 and appendix B; `Machine` defines the same over names.
 -- The program knows only the numbers of symbols, here called codes; each has a name.
 use Rattle.std.specs.Prelude.{◌≡◌, ℕ, ◌<◌, ◌≤◌, Bool, true, false, IsTrue, List, [], length, map, drop, get_or}
 use Rattle.verify.specs.Words.{Name, Stmt, Expr, Database, before, AllBelow, Item, Cite, decode, AreLegal, HasAssertion, Numbered}

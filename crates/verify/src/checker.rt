@@ -28,14 +28,14 @@ use subst::Remaining;
 /// A checker keeps the memory that proofs up to this size need: 1 MB for this many symbols.
 const KEPT_SIZE: usize = 262_144;
 
-/// A verifier that reuses its buffers from proof to proof. Contracts see the lists of assertions that it keeps, and the pairs
-/// of variables that it found to be disjoint or not.
+/// A verifier that reuses its buffers from proof to proof. Contracts see the lists that it keeps, by which assertions are cited,
+/// and the pairs of variables that it found to be disjoint or not.
 #[derive(Drop)]
 pub struct Checker {
     /// Where its buffers are allocated.
     alloc: Global,
-    /// The size of the largest proof since memory was last freed: its weight, or the bytes of its tokens or the number of
-    /// its items, as it was given, whichever is greater.
+    /// The size of the largest proof since memory was last freed. The size of a proof is its weight, or, if that is more, the
+    /// bytes of its tokens (in `prove`) or the number of its items (in `check`).
     largest: usize,
     /// Reads the tokens of compressed proofs.
     reader: Reader,
@@ -76,7 +76,7 @@ impl Checker {
         }
     }
 
-    /// Removes the lists of assertions and the facts on pairs of variables, which are right only for the frames of earlier
+    /// Removes the kept lists and the facts on pairs of variables, which are right only for the frames of earlier
     /// proofs. After this call proofs under any frames may be checked.
     ///
     /// Does not allocate. Cost: the lists and facts.
@@ -87,9 +87,9 @@ impl Checker {
         self.buffers.kept.begin();
     }
 
-    /// Has the frames make again long searches for pairs of disjoint variables that were made since
-    /// `begin`. They keep the answers, so that later searches for these pairs, by any checker, are
-    /// short.
+    /// Repeats some of the long searches for pairs of disjoint variables that were made since the last
+    /// such call. The frames keep the answers, so that later searches for these pairs, by any
+    /// checker, are short.
     ///
     /// Cost: that of the searches, of which there are at most 128.
     pub fn repeat_searches(&mut self, frames: &mut Frames)

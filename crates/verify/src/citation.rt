@@ -39,7 +39,7 @@ pub struct Buffers {
     pub frame_buffers: FrameBuffers,
     /// The long lists that are kept, and facts on pairs of variables.
     pub kept: CitationCache,
-    /// For the symbols that are left of a long expression without those whose images are empty.
+    /// For the symbols of a long expression that remain when those whose images are empty are left out.
     pub remaining: Remaining,
     /// The results of the proof so far.
     pub results: Results,

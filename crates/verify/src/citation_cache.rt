@@ -1,5 +1,5 @@
-//! Keeps the long lists of assertions that the proofs of a text cite again and again, and the facts on pairs of variables that
-//! were found when such lists were made.
+//! Keeps, for assertions that the proofs of a text cite again and again, the long lists by which they are cited, and the facts
+//! on pairs of variables that were found when such lists were made.
 
 ghost use Rattle.std.specs.Prelude.{◌≡◌, ◌<◌, ◌==◌, ◌++◌, ◌∷◌, [], ℕ, List, length, map, true, get_or, slice_get, Some, IfOk, IfSome, OnOk};
 ghost use Rattle.std.specs.List.{list_all, list_any};
@@ -26,10 +26,11 @@ use std::marker::Model;
 /// they are kept.
 const CITATIONS_BEFORE_KEEPING: usize = 4;
 
-/// The most numbers that are kept.
+/// If the lists and counts that are kept would be more numbers of 32 bits than this, all of them are removed before more are
+/// added.
 const MAX_NUMBERS: usize = 1_048_576;
 
-/// The size, in numbers, of the count of an assertion's citations.
+/// The part of `MAX_NUMBERS` that the count of an assertion's citations takes.
 const COUNT_SIZE: usize = 8;
 
 /// The lists by which an assertion is cited: its mandatory hypotheses, and lists of variables whose images must be disjoint.
@@ -142,6 +143,7 @@ fn copy_groups(
 {
     for index in 0..from.len() {
         let group = from.get(index);
+        // Whether pairs of the group can be recorded, not whether they are.
         let recorded = pairs.look_up(group)?;
         if recorded && is_covered(&Groups::new(groups, grouped_variables), group, pairs) {
             continue;
@@ -218,8 +220,8 @@ fn stands_at(group: &[u32], index: u32, x: u32) -> bool
     }
 }
 
-/// A cache for proofs under the same frames: lists of assertions, and the pairs of variables that were found to be disjoint or
-/// not when lists were made. Contracts see both.
+/// A cache for proofs under the same frames: the lists by which some assertions are cited, and the pairs of variables that were
+/// found to be disjoint or not when lists were made. Contracts see both.
 #[derive(Drop)]
 pub struct CitationCache {
     /// Where lists are allocated.
@@ -277,8 +279,8 @@ impl CitationCache {
         self.facts.clear();
     }
 
-    /// Has the frames make again long searches for pairs that were made since `begin`, so that the
-    /// frames keep the answers.
+    /// Repeats some of the long searches for pairs that were made since `begin`, so that the frames
+    /// keep the answers.
     ///
     /// Cost: that of `PairFacts::repeat_searches`.
     pub fn repeat_searches(&mut self, frames: &mut Frames)
@@ -368,7 +370,7 @@ impl CitationCache {
         Ok(index)
     }
 
-    /// Counts `size` more numbers. Removes all lists and facts first if there would be too many.
+    /// Counts `size` more numbers. If there would be too many, removes all lists, facts and counts first.
     fn make_room(&mut self, size: usize)
         ensures { (S : Database) (names : List Name) → IsCacheFor S names self.old → IsCacheFor S names self.new }
     {

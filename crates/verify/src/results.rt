@@ -48,7 +48,7 @@ pub struct Results {
     /// range. Such a result is written once, at the first citation of its label. Then the results
     /// that were marked.
     saved: Vec<SymbolRange>,
-    /// The symbols of all results, counted again for each recall.
+    /// The number of symbols of all results that were pushed so far, also of those that were popped; a recall pushes one.
     weight: usize,
     /// How many symbols the buffer may hold.
     symbols_limit: usize,
@@ -67,7 +67,7 @@ impl Model for Results {
 }
 
 impl Results {
-    /// Returns an empty list. Does not allocate.
+    /// Returns an empty stack, with no saved results and no images. Does not allocate.
     pub fn new(alloc: Global) -> Results
         ensures { result.results ≡ record { stack = []; saved = []; weight = 0 } }
     {
@@ -89,8 +89,8 @@ impl Results {
         self.symbols_limit = symbols_limit;
     }
 
-    /// Has the frames make again long searches for pairs that proofs made, so that the frames keep
-    /// the answers.
+    /// Repeats some of the long searches for pairs that proofs made, so that the frames keep the
+    /// answers.
     ///
     /// Cost: that of `DisjointCache::repeat_searches`.
     pub fn repeat_searches(&mut self, frames: &mut Frames)
@@ -434,7 +434,7 @@ impl Results {
         self.weight = 0;
     }
 
-    /// Returns the weight of the proof so far: the symbols of all results, counted again for each recall.
+    /// Returns the weight of the proof so far: the number of symbols of all results that were pushed, by citations and recalls.
     pub fn weight(&self) -> usize
         ensures { result ≡ self.now.results.weight }
     {
@@ -477,7 +477,7 @@ impl Results {
     }
 }
 
-/// Lists each variable whose image is not empty for the long `$e` of the assertion at a position that have it.
+/// Lists, for each long `$e` of the assertion at a position, those of its variables whose images are not empty.
 ///
 /// Errors: an allocation fails.
 /// Cost: a step for each hypothesis, and n log n for n occurrences of such variables in long `$e`.
@@ -500,7 +500,7 @@ fn list_symbols(
     Ok(())
 }
 
-/// Lists the variable of a hypothesis, if it is a `$f` and its image is not empty.
+/// Lists the variable of a hypothesis for each long `$e` that has it, if the hypothesis is a `$f` and the image is not empty.
 ///
 /// Errors: an allocation fails.
 fn list_hypothesis(
@@ -524,7 +524,7 @@ fn list_hypothesis(
     list_symbol(frames, cited, variable, remaining)
 }
 
-/// Lists a symbol for each long `$e` of the assertion at a position that has it.
+/// Lists a symbol for each long `$e` that has it, among those of the assertion at a position.
 ///
 /// Errors: an allocation fails.
 fn list_symbol(
@@ -568,7 +568,7 @@ fn find_left(frames: &Frames, position: u32, expr: &[u32], remaining: &mut Remai
 }
 
 /// Returns whether the result in a range is the expression of the `$e` at a position with the images substituted. If symbols are
-/// listed, compares only those that are left of a long expression, provided that these are few.
+/// listed, reads of a long expression only its constants and the symbols listed for it, provided that these are few.
 fn essential_matches(
     symbols: &Buffer,
     images: &ImageRanges,
