@@ -16,8 +16,8 @@ module _ (s : SwitchView Carried) (w : World Carried) (is : world_of carried_siz
       let line : Headline history = headline_holds history (subst (λ (r : Result (World Carried) StepFault). IsOk r) (sym is) refl) in
       let moment : IsMoment carried_size history w = record { early = s.history; begins = ([], append-nil s.history); is_after = is } in
       line.libraries_agree one.node_library.library other.node_library.library
-      record { world = w; moment = moment; node = one.node; applied = one.node_library.applied; of_log = (of_log one b h).library }
-      record { world = w; moment = moment; node = other.node; applied = other.node_library.applied; of_log = (of_log other d k).library }
+      record { world = w; moment = moment; node = one.node; count = one.node_library.applied; of_log = (of_log one b h).library }
+      record { world = w; moment = moment; node = other.node; count = other.node_library.applied; of_log = (of_log other d k).library }
 
 -- the statements of two cells of one switch agree
 pub cells_agree : (one other : Cell) (s : SwitchView Carried) → IsOk (world_of carried_size s) → Belongs one s → Belongs other s → IsCell one → IsCell other → Agree one.node_library.library.statements other.node_library.library.statements

@@ -8,7 +8,7 @@ use frame::Pairs;
 use std::marker::Model;
 
 /// The statements and names that a cache is for (`about`), and the symbols of the buffer when facts
-/// were last recorded (`over`). It takes no memory.
+/// were last recorded (`over`). It does not allocate.
 #[derive(Drop)]
 pub struct Subject {
     pub ghost about: { Numbered },
