@@ -49,7 +49,7 @@ pub record IsNameKey (a : NameKeys) (x : Name) (k : ℕ) : Type 0 where
   pub key : get_or a.keys.items k 0 ≢ IN_OVERFLOW → get_or a.keys.items k 0 ≡ key_of x
   pub in_overflow : get_or a.keys.items k 0 ≡ IN_OVERFLOW → code_in_overflow a.overflow x ≡ Some k
 
--- the same of each name
+-- each name in the list has the key that `IsNameKey` demands
 abbrev pub AreNameKeys : NameKeys → List Name → Type 0
 AreNameKeys a names = (k : ℕ) → k < length names → IsNameKey a (name_at names k) k
 
