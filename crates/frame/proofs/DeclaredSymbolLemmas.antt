@@ -1,5 +1,5 @@
 -- The declared symbols; a name that is no symbol is not one of them.
-use Rattle.frame.proofs.Words.{list_all, sym, ◌∙◌, ap, subst, arith, take-append-drop, ◌≡◌, ℕ, Bool, true, false, cond, ◌||◌, nat_lt, List, [], ◌∷◌, ◌++◌, length, take, drop, refl, take-append_seam, and_parts, or_parts, or-false, Name, name_eq, has_name, Stmt, Const, Database, constants, variables, was_symbol, was_variable, with_name, with_names, AreCodes, AreDistinct, Declared, declared_symbols, kind_in, is_constant_kind, MatchesKinds, symbols_by, symbols_from, symbols_of, has_name-append, symbols_of-later, symbols-distinct, was_symbol-either, AreBelow, Storage, is_declared, AreStored, names_in, statements_of}
+use Rattle.frame.proofs.Words.{list_all, sym, ◌∙◌, ap, subst, arith, take-append-drop, ◌≡◌, ℕ, Bool, true, false, cond, ◌||◌, nat_lt, List, [], ◌∷◌, ◌++◌, length, take, drop, refl, take-append_seam, and_parts, or_parts, or-false, Name, name_eq, has_name, Stmt, Const, Database, constants, variables, was_symbol, was_variable, with_name, with_names, AreCodes, AreDistinct, Declared, declared_symbols, kind_in, is_some_constant, MatchesKinds, symbols_declared_by, symbols_from, symbols_of, has_name-append, symbols_of-later, symbols-distinct, was_symbol-either, AreBelow, Storage, is_declared, AreStored, names_in, statements_of}
 use Rattle.mm_read.specs.declared.stmt.Stmt.TheVariants.{Var}
 
 -- the names of a storage are distinct
@@ -21,7 +21,7 @@ codes-below names (c ∷ codes) h =
 -- ---- a name that is no symbol
 
 -- a symbol that a statement declares is a constant or a variable
-by-unnamed : (s : Stmt) (x : Name) → (has_name x (constants s) || has_name x (variables s)) ≡ false → has_name x (symbols_by s) ≡ false
+by-unnamed : (s : Stmt) (x : Name) → (has_name x (constants s) || has_name x (variables s)) ≡ false → has_name x (symbols_declared_by s) ≡ false
 by-unnamed (Const names) x h = sym (or-false (has_name x names)) ∙ h
 by-unnamed (Var names) x h = h
 by-unnamed s x h = refl
@@ -38,12 +38,12 @@ never-named : (names : List Name) (S : Database) (x : Name) → has_name x names
 never-named names [] x h k = h
 never-named names (s ∷ S) x h k =
     let p = or_parts (has_name x (constants s) || has_name x (variables s)) (was_symbol S x) k in
-    never-named (with_names names (symbols_by s)) S x (with-unnamed names (symbols_by s) x h (by-unnamed s x p.0)) p.1
+    never-named (with_names names (symbols_declared_by s)) S x (with-unnamed names (symbols_declared_by s) x h (by-unnamed s x p.0)) p.1
 
 -- a symbol was declared exactly if its kind is that of a declared symbol
 was-declared : (S : Database) (names : Declared) (x : Name) → MatchesKinds S names → was_symbol S x ≡ is_declared (kind_in names x)
 was-declared S names x told =
-    was_symbol-either S x ∙ (ap (λ b. b || was_variable S x) (told x).constant ∙ ap (λ b. is_constant_kind (kind_in names x) || b) (told x).variable)
+    was_symbol-either S x ∙ (ap (λ b. b || was_variable S x) (told x).constant ∙ ap (λ b. is_some_constant (kind_in names x) || b) (told x).variable)
 
 -- a name that is no declared symbol has no number among the symbols
 pub no-number : (S : Database) (names : Declared) (x : Name) → MatchesKinds S names → declared_symbols names ≡ symbols_of S → is_declared (kind_in names x) ≡ false → has_name x (declared_symbols names) ≡ false

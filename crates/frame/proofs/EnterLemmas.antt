@@ -1,5 +1,5 @@
 -- A statement is entered: the new entry has its meaning, and the storage has its parts.
-use Rattle.frame.proofs.Words.{sym, ◌∙◌, ap, subst, arith, length-append, inl, inr, ◌≡◌, ℕ, List, [], ◌∷◌, ◌++◌, length, take, slice_get, Option, Some, true, refl, ◌+◌, ◌<◌, ◌⊎◌, map, length-map, take-append-le, map_push, same_Some, take-append_seam, name_at-last, Name, Stmt, Database, bare, label_of, expr_of, is_assertion, is_essential, stays_open, declared_with, IsRecordedBy, IsLegal, name_at, decode, with_names, symbols_by, symbols_in, symbols_of, symbols_after, labels_of, option_list, AreNumbers, AreVariableNumbers, AreRecorded, IsNumberingOf, numbering-after, recorded-after, symbols_of-append, labels_of-append, AreBelow, Assertion, Entry, entry_by, Kind, Ess, Storage, names_in, labels_in, stmt_by, stmt_of, statements_of, option_position, ReadsAs, replaced_by, last_declarations_of, positions_from, AreAllLegal, AreStored, IsKeptOf, AreKept, floats_in, kept_with, has_parts, IsKeptAs, is_label_kind, kind_of, IsLabelBelow, HasTwo, HasMoreNames, HasRoom, with_declared, AreNumbered, with_entry, KeepsCounts, LastActive, LastDeclarations, last_active_of, naming_of, get-last, Extends, get-push, extends-length, bare-same, symbols_by-bare, declared_with-bare, legal-bare, EntryHeader, IsEntryHeader}
+use Rattle.frame.proofs.Words.{sym, ◌∙◌, ap, subst, arith, length-append, inl, inr, ◌≡◌, ℕ, List, [], ◌∷◌, ◌++◌, length, take, slice_get, Option, Some, true, refl, ◌+◌, ◌<◌, ◌⊎◌, map, length-map, take-append-le, map_push, same_Some, take-append_seam, name_at-last, Name, Stmt, Database, bare, label_of, expr_of, is_assertion, is_essential, stays_open, declared_with, IsRecordedBy, IsLegal, name_at, decode, with_names, symbols_declared_by, symbols_in, symbols_of, symbols_after, labels_of, prepend_option, AreNumbers, AreVariableNumbers, AreRecorded, IsNumberingOf, numbering-after, recorded-after, symbols_of-append, labels_of-append, AreBelow, Assertion, Entry, entry_by, Kind, Ess, Storage, names_in, labels_in, stmt_by, stmt_of, statements_of, option_position, ReadsAs, replaced_by, last_declarations_of, positions_from, AreAllLegal, AreStored, IsKeptOf, AreKept, floats_in, kept_with, has_parts, IsKeptAs, is_label_kind, kind_of, IsLabelBelow, HasTwo, HasMoreNames, HasRoom, with_declared, AreNumbered, with_entry, KeepsCounts, LastActive, LastDeclarations, last_active_of, naming_of, get-last, Extends, get-push, extends-length, bare-same, symbols_declared_by-bare, declared_with-bare, legal-bare, EntryHeader, IsEntryHeader}
 use Rattle.frame.proofs.DeclaredSymbolLemmas.{codes-below}
 use Rattle.frame.proofs.NamingLemmas.{stored-naming, naming_of-append, symbols-extend}
 use Rattle.frame.proofs.StoredOneMore.{still-reads, numbered-at, statements-more, stmt-more, numbered-push, positions_from-push, legal-push, stays-push}
@@ -10,17 +10,17 @@ use Rattle.mm_read.specs.declared.stmt.Stmt.TheVariants as stmt
 
 -- ---- a statement by its kind, its label and its symbols
 
-stands-for : (s : Stmt) (labels : List Name) → stmt_by (kind_of s) (name_at (labels ++ option_list (label_of s) []) (length labels)) (symbols_in s) ≡ bare s
+stands-for : (s : Stmt) (labels : List Name) → stmt_by (kind_of s) (name_at (labels ++ prepend_option (label_of s) []) (length labels)) (symbols_in s) ≡ bare s
 stands-for (stmt.Float label constant variable) labels = ap (λ x. stmt.Float x constant variable) (name_at-last labels label)
 stands-for (stmt.Ess label expr) labels = ap (λ x. stmt.Ess x expr) (name_at-last labels label)
 stands-for (stmt.Axiom label expr) labels = ap (λ x. stmt.Axiom x expr) (name_at-last labels label)
 stands-for (stmt.Prove label expr proof) labels = ap (λ x. stmt.Prove x expr []) (name_at-last labels label)
 stands-for s labels = refl
 
-label-below : (s : Stmt) (labels : List Name) → IsLabelBelow (kind_of s) (length labels) (length (labels ++ option_list (label_of s) []))
-label-below s labels = λ k. let n = length-append labels (option_list (label_of s) []) in omega (arith, n, has-label s k)
+label-below : (s : Stmt) (labels : List Name) → IsLabelBelow (kind_of s) (length labels) (length (labels ++ prepend_option (label_of s) []))
+label-below s labels = λ k. let n = length-append labels (prepend_option (label_of s) []) in omega (arith, n, has-label s k)
   where
-    has-label : (t : Stmt) → is_label_kind (kind_of t) ≡ true → length (option_list (label_of t) []) ≡ 1
+    has-label : (t : Stmt) → is_label_kind (kind_of t) ≡ true → length (prepend_option (label_of t) []) ≡ 1
     has-label (stmt.Float label constant variable) h = refl
     has-label t h = cc
 
@@ -35,7 +35,7 @@ pub kind_of-bare : (s : Stmt) → kind_of (bare s) ≡ kind_of s
 kind_of-bare s = bare-same kind_of (λ l e p. refl) s
 
 -- the numbers of an assertion or `$e` are those of the symbols of its expression
-pub next-bare : (k : Storage) (codes : List ℕ) (s : Stmt) → has_parts (kind_of s) ≡ true → AreNumbers (with_names (names_in k) (symbols_by s)) (symbols_in s) codes
+pub next-bare : (k : Storage) (codes : List ℕ) (s : Stmt) → has_parts (kind_of s) ≡ true → AreNumbers (with_names (names_in k) (symbols_declared_by s)) (symbols_in s) codes
     → AreBelow (length (names_in k)) codes × (decode (names_in k) codes ≡ expr_of (bare s))
 next-bare k codes (stmt.Axiom label expr) a n = (codes-below (names_in k) codes n.0, n.1)
 next-bare k codes (stmt.Prove label expr proof) a n = (codes-below (names_in k) codes n.0, n.1)
@@ -52,7 +52,7 @@ pub record IsEntered (old new : Storage) (s : Stmt) (h : EntryHeader) (before af
   pub legal : IsLegal (statements_of old) s
   pub header : IsEntryHeader old (bare s) h
   pub declared : new.numbering ≡ declared_with old.numbering s
-  pub recorded : AreRecorded (with_names (names_in old) (symbols_by s)) (symbols_in s) before
+  pub recorded : AreRecorded (with_names (names_in old) (symbols_declared_by s)) (symbols_in s) before
   pub recorded_after : IsRecordedBy new.numbering s before after
 
 module _ (old new : Storage) (s : Stmt) (h : EntryHeader) (before after : Option (List ℕ)) (codes : List ℕ) (e : IsEntered old new s h before after) (are : after ≡ Some codes) where
@@ -64,8 +64,8 @@ module _ (old new : Storage) (s : Stmt) (h : EntryHeader) (before after : Option
       subst (IsNumberingOf (S ++ bare s ∷ [])) (declared_with-bare old.numbering s ∙ sym e.declared)
       (numbering-after S (bare s) old.numbering (legal-bare S s e.legal) (stored-naming old e.stored))
 
-  labels : labels_in new ≡ labels_in old ++ option_list (label_of s) []
-  labels = named.labels ∙ (labels_of-append S (bare s ∷ []) ∙ (ap (λ o. labels_of S ++ option_list o []) (label_of-bare s) ∙ ap (λ ls. ls ++ option_list (label_of s) []) (sym e.stored.kept.labels_kept)))
+  labels : labels_in new ≡ labels_in old ++ prepend_option (label_of s) []
+  labels = named.labels ∙ (labels_of-append S (bare s ∷ []) ∙ (ap (λ o. labels_of S ++ prepend_option o []) (label_of-bare s) ∙ ap (λ ls. ls ++ prepend_option (label_of s) []) (sym e.stored.kept.labels_kept)))
 
   numbers-after : AreNumbers (symbols_after S s) (symbols_in s) codes
   numbers-after =
@@ -73,7 +73,7 @@ module _ (old new : Storage) (s : Stmt) (h : EntryHeader) (before after : Option
       (recorded-after S s old.numbering before after e.legal (stored-naming old e.stored) (rw e.declared at e.recorded_after) (rw e.stored.kept.names_kept at e.recorded))
 
   numbers : AreNumbers (names_in new) (symbols_in s) codes
-  numbers = subst (λ (N : List Name). AreNumbers N (symbols_in s) codes) (sym (named.symbols ∙ (symbols_of-append S (bare s) ∙ ap (with_names (symbols_of S)) (symbols_by-bare s)))) numbers-after
+  numbers = subst (λ (N : List Name). AreNumbers N (symbols_in s) codes) (sym (named.symbols ∙ (symbols_of-append S (bare s) ∙ ap (with_names (symbols_of S)) (symbols_declared_by-bare s)))) numbers-after
 
   kind : h.kind ≡ kind_of s
   kind = e.header.kind ∙ kind_of-bare s

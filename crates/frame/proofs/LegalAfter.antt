@@ -1,5 +1,5 @@
 -- A legal statement and earlier statements; a constant is never a variable.
-use Rattle.frame.proofs.Words.{sym, ◌∙◌, ap, subst, arith, ◌≡◌, suc, ◌-◌, true, false, not, List, [], ◌∷◌, ◌++◌, length, take, Option, Some, slice_get, refl, take-append_seam, not-false, false_from_ne_true, Name, Stmt, Database, G1, G2, G3, G4, G5, G6, G7, G8, G9, G10, stmt_at, before, is_variable, is_constant, MatchesKind, kind_in, is_constant_kind, is_variable_kind, IsLegal, keeps, active-was, is_variable-active, naming_of, NameKind, Constant}
+use Rattle.frame.proofs.Words.{sym, ◌∙◌, ap, subst, arith, ◌≡◌, suc, ◌-◌, true, false, not, List, [], ◌∷◌, ◌++◌, length, take, Option, Some, slice_get, refl, take-append_seam, not-false, false_from_ne_true, Name, Stmt, Database, G1, G2, G3, G4, G5, G6, G7, G8, G9, G10, stmt_at, before, is_variable, is_constant, MatchesKind, kind_in, is_some_constant, is_some_variable, IsLegal, keeps, active-was, is_variable-active, naming_of, NameKind, Constant}
 use Rattle.frame.proofs.LegalLabels.{AllKept, all-fail}
 use Rattle.frame.proofs.NamingLemmas.{naming-all}
 
@@ -39,6 +39,6 @@ constant-no_variable S x all h = false_from_ne_true (is_variable S x) (λ e. apa
     told : MatchesKind S x (kind_in (naming_of S) x)
     told = (naming-all S all).kinds_match x
 
-    apart : (kind : Option NameKind) → is_constant_kind kind ≡ true → is_variable_kind kind ≡ true → ⊥
+    apart : (kind : Option NameKind) → is_some_constant kind ≡ true → is_some_variable kind ≡ true → ⊥
     apart (Some Constant) c v = cc
     apart kind c v = cc

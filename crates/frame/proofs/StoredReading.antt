@@ -1,5 +1,5 @@
 -- Reading an entry of the storage, and finding the position of a label.
-use Rattle.frame.proofs.Words.{sym, ◌∙◌, ap, subst, arith, inl, inr, ◌≡◌, ℕ, zero, suc, ◌+◌, ◌-◌, ◌<◌, ◌≤◌, true, false, ◌⊎◌, List, [], ◌∷◌, length, map, get_or, slice_get, Option, Some, None, option_map, refl, same_Some, slice_get-map, slice_get_within, get_or_from_slice_get, bytes_eq-Decides, both_ways, list_any_at, Name, Stmt, Database, stmt_at, label_of, expr_of, is_assertion, was_label, has_label, name_at, decode, labels_of, option_list, is_hypothesis_kind, Kind, Float, Ess, Axiom, Prove, Entry, is_label_kind, stmt_by, stmt_of, positions_from, option_position, HasTwo, AreNumbered, place}
+use Rattle.frame.proofs.Words.{sym, ◌∙◌, ap, subst, arith, inl, inr, ◌≡◌, ℕ, zero, suc, ◌+◌, ◌-◌, ◌<◌, ◌≤◌, true, false, ◌⊎◌, List, [], ◌∷◌, length, map, get_or, slice_get, Option, Some, None, option_map, refl, same_Some, slice_get-map, slice_get_within, get_or_from_slice_get, bytes_eq-Decides, both_ways, list_any_at, Name, Stmt, Database, stmt_at, label_of, expr_of, is_assertion, was_label, has_label, name_at, decode, labels_of, prepend_option, is_hypothesis_kind, Kind, Float, Ess, Axiom, Prove, Entry, is_label_kind, stmt_by, stmt_of, positions_from, option_position, HasTwo, AreNumbered, place}
 
 -- ---- reading an entry
 
@@ -51,7 +51,7 @@ neither names labels e = by e.kind
 abbrev IsThere : Database → List ℕ → ℕ → ℕ → Name → Type 0
 IsThere S ps at n x = (i : ℕ) × (s : Stmt) × (slice_get S i ≡ Some s) × (label_of s ≡ Some x) × (get_or ps n 0 ≡ at + i)
 
-place-step : (at : ℕ) (s : Stmt) (S : Database) (x : Name) (o : Option Name) → label_of s ≡ o → (n : ℕ) → n < length (option_list o (labels_of S)) → name_at (option_list o (labels_of S)) n ≡ x
+place-step : (at : ℕ) (s : Stmt) (S : Database) (x : Name) (o : Option Name) → label_of s ≡ o → (n : ℕ) → n < length (prepend_option o (labels_of S)) → name_at (prepend_option o (labels_of S)) n ≡ x
     → ((m : ℕ) → m < length (labels_of S) → name_at (labels_of S) m ≡ x → IsThere S (positions_from (at + 1) S) (at + 1) m x)
     → IsThere (s ∷ S) (option_position o at (positions_from (at + 1) S)) at n x
 place-step at s S x None has n lt is rest = let r = rest n lt is in (suc r.0, r.1, r.2, r.3, r.4 ∙ place at r.0)

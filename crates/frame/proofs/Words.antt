@@ -63,7 +63,7 @@ pub use Rattle.names.proofs.CodesLemmas.{code-absent, code-at, has-at, list_any-
 pub use Rattle.names.proofs.DistinctLemmas.{name_at-more}
 pub use Rattle.names.specs.Codes.{AreCodes, AreDistinct, code_of, decode, name_at, with_name, with_names}
 pub use Rattle.scope.proofs.ActiveLemmas.{active_from-close, active_from-later, before_open-none, below-deficit, count-left_open, deficit, deficit-below, deficit-close, left_open, no_deficit, place, some_deficit, stays_open-append, stays_open-same}
-pub use Rattle.scope.proofs.BareLemmas.{bare-same, declared_with-bare, legal-bare, symbols_by-bare}
+pub use Rattle.scope.proofs.BareLemmas.{bare-same, declared_with-bare, legal-bare, symbols_declared_by-bare}
 pub use Rattle.scope.proofs.Databases.{demo, demo_before, demo_mp, row_ax, row_seven, row_th, rows_front, w}
 pub use Rattle.scope.proofs.DeclaredLemmas.{declared_with-more, may-declare, numbering-after, recorded-after}
 pub use Rattle.scope.proofs.GoingBackLemmas.{all-has}
@@ -73,12 +73,12 @@ pub use Rattle.scope.proofs.SortsLemmas.{is_variable-active, was_symbol-either}
 pub use Rattle.scope.proofs.SymbolNameLemmas.{AreDone, names_where-append}
 pub use Rattle.scope.specs.Active.{active, active_from, bare, before, constants, count, expr_of, has_float, has_label, is_active, is_assertion, is_close, is_constant, is_essential, is_float_of, is_open, is_variable, label_of, disjoint_names, stays_open, stmt_at, variables, was_label, was_symbol, was_variable}
 pub use Rattle.scope.specs.Declares.{IsRecordedBy, declared_with}
-pub use Rattle.scope.specs.Kinds.{Declared, IsNumberOf, IsNumberingOf, MatchesKind, MatchesKinds, declared_labels, declared_symbols, is_constant_kind, is_symbol_kind, is_variable_kind, kind_in}
+pub use Rattle.scope.specs.Kinds.{Declared, IsNumberOf, IsNumberingOf, MatchesKind, MatchesKinds, declared_labels, declared_symbols, is_some_constant, is_symbol_kind, is_some_variable, kind_in}
 pub use Rattle.scope.specs.Laws.{before_open, has_open}
 pub use Rattle.scope.specs.Legal.{IsLegal, is_fresh_label, keeps, starts_with_constant}
 pub use Rattle.scope.specs.FrameStatement.{frame_statements_of, as_frame_statement}
 pub use Rattle.scope.specs.Stored.SymbolNumbers.{AreRecorded}
-pub use Rattle.scope.specs.Symbols.{AreNumbers, AreVariableNumbers, labels_of, option_list, symbols_after, symbols_by, symbols_from, symbols_in, symbols_of}
+pub use Rattle.scope.specs.Symbols.{AreNumbers, AreVariableNumbers, labels_of, prepend_option, symbols_after, symbols_declared_by, symbols_from, symbols_in, symbols_of}
 pub use Rattle.scope.specs.declared.numbering.NameKind.{NameKind}
 pub use Rattle.scope.specs.declared.numbering.NameKind.TheVariants.{Constant}
 pub use Rattle.scope.specs.declared.rule.Rule.TheVariants.{G1, G10, G2, G3, G4, G5, G6, G7, G8, G9}

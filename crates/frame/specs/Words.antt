@@ -18,7 +18,7 @@ pub use Rattle.mm_read.specs.declared.stmt.Stmt.{Stmt}
 pub use Rattle.names.specs.Codes.{AreDistinct, decode, name_at}
 pub use Rattle.scope.specs.Active.{active, active_from, before, expr_of, is_active, is_assertion, is_close, is_essential, is_open, is_variable, label_of, disjoint_names, stays_open, stmt_at}
 pub use Rattle.scope.specs.Declares.{declared_with}
-pub use Rattle.scope.specs.Kinds.{Declared, declared_labels, declared_symbols, is_constant_kind, is_variable_kind}
+pub use Rattle.scope.specs.Kinds.{Declared, declared_labels, declared_symbols, is_some_constant, is_some_variable}
 pub use Rattle.scope.specs.Legal.{IsLegal}
 pub use Rattle.scope.specs.Symbols.{labels_of, symbols_of}
 pub use Rattle.scope.specs.declared.numbering.NameKind.{NameKind}

@@ -1,6 +1,6 @@
 //! Looks up the numbers of symbols and labels.
 ghost use Rattle.std.specs.Prelude.{◌≡◌, ◌++◌, ◌∷◌, [], IfSome, IfNone, false};
-ghost use Rattle.{mm_read.specs.Statements.Expr, names.specs.Codes.with_names, scope.specs.Kinds.declared_symbols, scope.specs.Kinds.declared_labels, scope.specs.Kinds.is_label_kind, scope.specs.Kinds.kind_in, scope.specs.Kinds.IsNumberOf, scope.specs.Stored.SymbolNumbers.AreRecorded, scope.specs.Symbols.symbols_by, scope.specs.Symbols.symbols_in, frame.specs.Stored.Naming.is_declared};
+ghost use Rattle.{mm_read.specs.Statements.Expr, names.specs.Codes.with_names, scope.specs.Kinds.declared_symbols, scope.specs.Kinds.declared_labels, scope.specs.Kinds.is_some_label, scope.specs.Kinds.kind_in, scope.specs.Kinds.IsNumberOf, scope.specs.Stored.SymbolNumbers.AreRecorded, scope.specs.Symbols.symbols_declared_by, scope.specs.Symbols.symbols_in, frame.specs.Stored.Naming.is_declared};
 
 use mm_lex::Words;
 use mm_read::Stmt;
@@ -23,7 +23,7 @@ pub fn symbol_number(numbering: &Numbering, word: &[u8]) -> Option<u32>
 #[inline(always)]
 pub fn label_number(numbering: &Numbering, word: &[u8]) -> Option<u32>
     ensures found { IfSome result (λ n. IsNumberOf (declared_labels numbering.now) word.now n) }
-    ensures none { IfNone result (is_label_kind (kind_in numbering.now word.now) ≡ false) }
+    ensures none { IfNone result (is_some_label (kind_in numbering.now word.now) ≡ false) }
 {
     match numbering.find(word) {
         Some((number, NameKind::Label)) => Some(number),
@@ -56,8 +56,8 @@ fn record_list(numbering: &Numbering, words: &Words, recorded: &mut SymbolNumber
 /// Records the numbers of the symbols of a statement, if they are not recorded yet. The symbols that it declares have no
 /// numbers yet.
 pub fn find_numbers(numbering: &Numbering, stmt: &Stmt, recorded: &mut SymbolNumbers)
-    requires { AreRecorded (with_names (declared_symbols numbering.now) (symbols_by stmt.now)) (symbols_in stmt.now) recorded.old }
-    ensures { AreRecorded (with_names (declared_symbols numbering.now) (symbols_by stmt.now)) (symbols_in stmt.now) recorded.new }
+    requires { AreRecorded (with_names (declared_symbols numbering.now) (symbols_declared_by stmt.now)) (symbols_in stmt.now) recorded.old }
+    ensures { AreRecorded (with_names (declared_symbols numbering.now) (symbols_declared_by stmt.now)) (symbols_in stmt.now) recorded.new }
 {
     if recorded.numbers().is_some() {
         return;

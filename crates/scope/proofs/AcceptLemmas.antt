@@ -114,10 +114,10 @@ module _ (S M : Database) (vs ts : List ℕ) (n : ℕ) (blocks : List StackHeigh
   accept-plain s m is =
       let N : List Name = symbols_of (S ++ s ∷ []) in
       same-kept refl (ap (λ xs. vs ++ codes_or_len N xs) is.no_variables ∙ append-nil vs) (ap (λ xs. ts ++ codes_or_len N xs) is.untyped ∙ append-nil ts) refl refl
-      (kept-more S M s vs ts n m blocks mark is.no_close is.no_open (subst (λ (xs : List Name). AreNamed N xs) (sym is.untyped) (no_names N)) (is.stand (1 + length S)) k)
+      (kept-more S M s vs ts n m blocks mark is.no_close is.no_open (subst (λ (xs : List Name). AreNamed N xs) (sym is.untyped) (no_names N)) (is.added_is (1 + length S)) k)
 
 pub bare-plain : (s : Stmt) (m : ℕ) → IsPlain s m → IsPlain (bare s) m
-bare-plain (Prove label expr proof) m is = record { no_open = refl; no_close = refl; no_variables = refl; untyped = refl; stand = λ at. is.stand at }
+bare-plain (Prove label expr proof) m is = record { no_open = refl; no_close = refl; no_variables = refl; untyped = refl; added_is = λ at. is.added_is at }
 bare-plain Open m is = is
 bare-plain Close m is = is
 bare-plain (Const xs) m is = is

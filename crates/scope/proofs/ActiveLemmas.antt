@@ -1,5 +1,5 @@
 -- The active statements after one more statement.
-use Rattle.scope.proofs.Words.{◌≡◌, ℕ, zero, suc, ◌+◌, ◌-◌, ◌≤◌, Bool, true, false, cond, List, [], ◌∷◌, ◌++◌, length, take, refl, flat_map, ◌∙◌, ap, sym, arith, true≢false, take_at, flat_map-append, or_parts, Stmt, Open, Close, Database, NeverCloses, has_open, before_open, count, stays_open, active_from, is_open, is_close}
+use Rattle.scope.proofs.Words.{◌≡◌, ℕ, zero, suc, ◌+◌, ◌-◌, ◌≤◌, Bool, true, false, cond, List, [], ◌∷◌, ◌++◌, length, take, refl, flat_map, ◌∙◌, ap, sym, arith, true≢false, take_at, flat_map-append, or_parts, Stmt, Open, Close, Database, ClosesAtMost, has_open, before_open, count, stays_open, active_from, is_open, is_close}
 
 -- a statement that is no `$}` closes no block
 pub stays_open-append : (d : ℕ) (S : Database) (s : Stmt) → is_close s ≡ false → stays_open d (S ++ s ∷ []) ≡ stays_open d S
@@ -236,7 +236,7 @@ none_closed : (d : ℕ) (S : Database) → count is_close (take 0 S) ≤ count i
 none_closed d [] = omega arith
 none_closed d (s ∷ S) = omega arith
 
-pub stays_open-means : (d : ℕ) (S : Database) → stays_open d S ≡ true → NeverCloses d S
+pub stays_open-means : (d : ℕ) (S : Database) → stays_open d S ≡ true → ClosesAtMost d S
 stays_open-means d S h zero = none_closed d S
 stays_open-means d [] h (suc k) = omega arith
 stays_open-means d (Open ∷ S) h (suc k) = omega (arith, stays_open-means (suc d) S h k)
@@ -244,7 +244,7 @@ stays_open-means zero (Close ∷ S) h (suc k) = cc
 stays_open-means (suc d) (Close ∷ S) h (suc k) = omega (arith, stays_open-means d S h k)
 stays_open-means d (s ∷ S) h (suc k) = stays_open-means d S h k
 
-pub means-stays_open : (d : ℕ) (S : Database) → NeverCloses d S → stays_open d S ≡ true
+pub means-stays_open : (d : ℕ) (S : Database) → ClosesAtMost d S → stays_open d S ≡ true
 means-stays_open d [] h = refl
 means-stays_open d (Open ∷ S) h = means-stays_open (suc d) S (λ k. omega (arith, h (suc k)))
 means-stays_open zero (Close ∷ S) h = absurd (no (h 1))

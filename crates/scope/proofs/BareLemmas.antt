@@ -1,5 +1,5 @@
 -- No rule looks at a proof, and a statement declares the same names without it.
-use Rattle.scope.proofs.Words.{◌≡◌, ℕ, zero, suc, ◌+◌, ◌==◌, Bool, true, false, not, cond, ◌||◌, ◌&&◌, nat_lt, List, [], ◌∷◌, Some, None, refl, list_any, list_all, ◌∙◌, ap, Name, has_name, Stmt, Open, Close, Const, Var, Disj, Float, Ess, Axiom, Prove, Database, Expr, bare, bares, count, stays_open, active_from, is_open, is_close, constants, variables, label_of, has_label, is_float_of, is_variable, is_constant, was_symbol, was_label, has_float, IsLegal, broken_rule, end_rule, all_different, Declared, symbols_by, declared_with, G1, G2, G3, G4, G5, G6, G7, G8, G9, G10}
+use Rattle.scope.proofs.Words.{◌≡◌, ℕ, zero, suc, ◌+◌, ◌==◌, Bool, true, false, not, cond, ◌||◌, ◌&&◌, nat_lt, List, [], ◌∷◌, Some, None, refl, list_any, list_all, ◌∙◌, ap, Name, has_name, Stmt, Open, Close, Const, Var, Disj, Float, Ess, Axiom, Prove, Database, Expr, bare, bares, count, stays_open, active_from, is_open, is_close, constants, variables, label_of, has_label, is_float_of, is_variable, is_constant, was_symbol, was_label, has_float, IsLegal, broken_rule, end_rule, all_different, Declared, symbols_declared_by, declared_with, G1, G2, G3, G4, G5, G6, G7, G8, G9, G10}
 
 -- a function that ignores proofs gives the same for a statement without its proof
 pub bare-same : {A : Type 0} (f : Stmt → A) → ((label : Name) (expr : Expr) (proof : List Name) → f (Prove label expr []) ≡ f (Prove label expr proof)) → (s : Stmt) → f (bare s) ≡ f s
@@ -13,8 +13,8 @@ bare-same f h (Float label constant variable) = refl
 bare-same f h (Ess label expr) = refl
 bare-same f h (Axiom label expr) = refl
 
-pub symbols_by-bare : (s : Stmt) → symbols_by (bare s) ≡ symbols_by s
-symbols_by-bare s = bare-same symbols_by (λ l e p. refl) s
+pub symbols_declared_by-bare : (s : Stmt) → symbols_declared_by (bare s) ≡ symbols_declared_by s
+symbols_declared_by-bare s = bare-same symbols_declared_by (λ l e p. refl) s
 
 pub declared_with-bare : (names : Declared) (s : Stmt) → declared_with names (bare s) ≡ declared_with names s
 declared_with-bare names s = bare-same (declared_with names) (λ l e p. refl) s

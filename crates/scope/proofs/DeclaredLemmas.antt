@@ -1,5 +1,5 @@
 -- The names that are declared after one more statement.
-use Rattle.scope.proofs.Words.{◌≡◌, ℕ, Bool, true, false, ◌||◌, List, [], ◌∷◌, ◌++◌, Option, Some, None, refl, list_any, ◌∙◌, ap, sym, subst, true≢false, or-false, append-nil, list_any-append, Name, name_eq, has_name, Stmt, Open, Close, Const, Var, Disj, Float, Ess, Axiom, Prove, Database, constants, variables, label_of, has_label, broken_rule, with_names, Declared, kind_in, MatchesKind, MatchesKinds, IsNumberingOf, with_kind, with_kinds, is_label_kind, is_constant_kind, is_variable_kind, symbols_of, symbols_by, symbols_after, symbols_in, option_list, labels_of, declared_with, MayDeclare, IsRecordedBy, AreRecorded, NameKind, Label, Constant, Variable, same_name}
+use Rattle.scope.proofs.Words.{◌≡◌, ℕ, Bool, true, false, ◌||◌, List, [], ◌∷◌, ◌++◌, Option, Some, None, refl, list_any, ◌∙◌, ap, sym, subst, true≢false, or-false, append-nil, list_any-append, Name, name_eq, has_name, Stmt, Open, Close, Const, Var, Disj, Float, Ess, Axiom, Prove, Database, constants, variables, label_of, has_label, broken_rule, with_names, Declared, kind_in, MatchesKind, MatchesKinds, IsNumberingOf, with_kind, with_kinds, is_some_label, is_some_constant, is_some_variable, symbols_of, symbols_declared_by, symbols_after, symbols_in, prepend_option, labels_of, declared_with, MayDeclare, IsRecordedBy, AreRecorded, NameKind, Label, Constant, Variable, same_name}
 use Rattle.scope.proofs.NamesLemmas.{or_kind, kind_in-with_kinds, symbols_of-append, labels_of-append}
 use Rattle.scope.proofs.SymbolNameLemmas.{declared_symbols-label, declared_symbols-with_kinds, declared_labels-label, declared_labels-with_kinds}
 use Rattle.scope.proofs.AcceptLemmas.{with_kinds-more}
@@ -13,8 +13,8 @@ any-append p S s = list_any-append p S (s ∷ []) ∙ ap (λ b. list_any p S || 
 
 -- the kind of a name after one more statement, from the name's kind before and what the statement declares
 tells-step : (S : Database) (s : Stmt) (x : Name) (k k' : Option NameKind) → MatchesKind S x k
-    → (is_label_kind k || has_label x (label_of s)) ≡ is_label_kind k' → (is_constant_kind k || has_name x (constants s)) ≡ is_constant_kind k'
-    → (is_variable_kind k || has_name x (variables s)) ≡ is_variable_kind k' → MatchesKind (S ++ s ∷ []) x k'
+    → (is_some_label k || has_label x (label_of s)) ≡ is_some_label k' → (is_some_constant k || has_name x (constants s)) ≡ is_some_constant k'
+    → (is_some_variable k || has_name x (variables s)) ≡ is_some_variable k' → MatchesKind (S ++ s ∷ []) x k'
 tells-step S s x k k' t l c v = record {
   label = any-append (λ s. has_label x (label_of s)) S s ∙ (ap (λ b. b || has_label x (label_of s)) t.label ∙ l);
   constant = any-append (λ s. has_name x (constants s)) S s ∙ (ap (λ b. b || has_name x (constants s)) t.constant ∙ c);
@@ -24,9 +24,9 @@ tells-step S s x k k' t l c v = record {
 pub tells-nothing : (S : Database) (s : Stmt) (names : Declared) → ((x : Name) → has_label x (label_of s) ≡ false) → constants s ≡ [] → variables s ≡ [] → MatchesKinds S names → MatchesKinds (S ++ s ∷ []) names
 tells-nothing S s names l c v kinds_match x =
     tells-step S s x (kind_in names x) (kind_in names x) (kinds_match x)
-    (ap (λ b. is_label_kind (kind_in names x) || b) (l x) ∙ or-false (is_label_kind (kind_in names x)))
-    (ap (λ xs. is_constant_kind (kind_in names x) || has_name x xs) c ∙ or-false (is_constant_kind (kind_in names x)))
-    (ap (λ xs. is_variable_kind (kind_in names x) || has_name x xs) v ∙ or-false (is_variable_kind (kind_in names x)))
+    (ap (λ b. is_some_label (kind_in names x) || b) (l x) ∙ or-false (is_some_label (kind_in names x)))
+    (ap (λ xs. is_some_constant (kind_in names x) || has_name x xs) c ∙ or-false (is_some_constant (kind_in names x)))
+    (ap (λ xs. is_some_variable (kind_in names x) || has_name x xs) v ∙ or-false (is_some_variable (kind_in names x)))
 
 pub tells-constants : (S : Database) (names : Declared) (xs : List Name) → ((x : Name) → has_name x xs ≡ true → kind_in names x ≡ None) → MatchesKinds S names → MatchesKinds (S ++ Const xs ∷ []) (with_kinds names Constant xs)
 tells-constants S names xs fresh kinds_match x =
@@ -39,19 +39,19 @@ tells-constants S names xs fresh kinds_match x =
       where
         clash : (k : NameKind) → Some k ≡ None → ⊥
         clash k e = cc
-    by (Some k) false p q t = tells-step S (Const xs) x (Some k) (Some k) t (or-false (is_label_kind (Some k))) (ap (λ b. is_constant_kind (Some k) || b) q ∙ or-false (is_constant_kind (Some k))) (or-false (is_variable_kind (Some k)))
+    by (Some k) false p q t = tells-step S (Const xs) x (Some k) (Some k) t (or-false (is_some_label (Some k))) (ap (λ b. is_some_constant (Some k) || b) q ∙ or-false (is_some_constant (Some k))) (or-false (is_some_variable (Some k)))
 
-pub tells-variables : (S : Database) (names : Declared) (xs : List Name) → ((x : Name) → has_name x xs ≡ true → (is_label_kind (kind_in names x) ≡ false) × (is_constant_kind (kind_in names x) ≡ false)) → MatchesKinds S names → MatchesKinds (S ++ Var xs ∷ []) (with_kinds names Variable xs)
+pub tells-variables : (S : Database) (names : Declared) (xs : List Name) → ((x : Name) → has_name x xs ≡ true → (is_some_label (kind_in names x) ≡ false) × (is_some_constant (kind_in names x) ≡ false)) → MatchesKinds S names → MatchesKinds (S ++ Var xs ∷ []) (with_kinds names Variable xs)
 tells-variables S names xs free kinds_match x =
     subst (λ (k : Option NameKind). MatchesKind (S ++ Var xs ∷ []) x k) (sym (kind_in-with_kinds names x Variable xs)) (by (kind_in names x) (has_name x xs) refl refl (kinds_match x))
   where
     by : (k : Option NameKind) (b : Bool) → kind_in names x ≡ k → has_name x xs ≡ b → MatchesKind S x k → MatchesKind (S ++ Var xs ∷ []) x (or_kind k b Variable)
     by None true p q t = tells-step S (Var xs) x None (Some Variable) t refl refl q
     by None false p q t = tells-step S (Var xs) x None None t refl refl q
-    by (Some Label) true p q t = absurd (true≢false (sym (ap is_label_kind p) ∙ (free x q).0))
-    by (Some Constant) true p q t = absurd (true≢false (sym (ap is_constant_kind p) ∙ (free x q).1))
+    by (Some Label) true p q t = absurd (true≢false (sym (ap is_some_label p) ∙ (free x q).0))
+    by (Some Constant) true p q t = absurd (true≢false (sym (ap is_some_constant p) ∙ (free x q).1))
     by (Some Variable) true p q t = tells-step S (Var xs) x (Some Variable) (Some Variable) t refl refl refl
-    by (Some k) false p q t = tells-step S (Var xs) x (Some k) (Some k) t (or-false (is_label_kind (Some k))) (or-false (is_constant_kind (Some k))) (ap (λ b. is_variable_kind (Some k) || b) q ∙ or-false (is_variable_kind (Some k)))
+    by (Some k) false p q t = tells-step S (Var xs) x (Some k) (Some k) t (or-false (is_some_label (Some k))) (or-false (is_some_constant (Some k))) (ap (λ b. is_some_variable (Some k) || b) q ∙ or-false (is_some_variable (Some k)))
 
 pub tells-label : (S : Database) (s : Stmt) (names : Declared) (l : Name) → label_of s ≡ Some l → constants s ≡ [] → variables s ≡ [] → kind_in names l ≡ None → MatchesKinds S names → MatchesKinds (S ++ s ∷ []) (with_kinds names Label (l ∷ []))
 tells-label S s names l labelled c v fresh kinds_match x =
@@ -61,11 +61,11 @@ tells-label S s names l labelled c v fresh kinds_match x =
     has : has_label x (label_of s) ≡ name_eq x l
     has = ap (has_label x) labelled
 
-    with_c : (k : Option NameKind) → (is_constant_kind k || has_name x (constants s)) ≡ is_constant_kind k
-    with_c k = ap (λ xs. is_constant_kind k || has_name x xs) c ∙ or-false (is_constant_kind k)
+    with_c : (k : Option NameKind) → (is_some_constant k || has_name x (constants s)) ≡ is_some_constant k
+    with_c k = ap (λ xs. is_some_constant k || has_name x xs) c ∙ or-false (is_some_constant k)
 
-    with_v : (k : Option NameKind) → (is_variable_kind k || has_name x (variables s)) ≡ is_variable_kind k
-    with_v k = ap (λ xs. is_variable_kind k || has_name x xs) v ∙ or-false (is_variable_kind k)
+    with_v : (k : Option NameKind) → (is_some_variable k || has_name x (variables s)) ≡ is_some_variable k
+    with_v k = ap (λ xs. is_some_variable k || has_name x xs) v ∙ or-false (is_some_variable k)
 
     clash : (k : NameKind) → Some k ≡ None → ⊥
     clash k e = cc
@@ -74,22 +74,22 @@ tells-label S s names l labelled c v fresh kinds_match x =
     by None true p q t = tells-step S s x None (Some Label) t (has ∙ q) (with_c None) (with_v None)
     by None false p q t = tells-step S s x None None t (has ∙ q) (with_c None) (with_v None)
     by (Some k) true p q t = absurd (clash k (sym p ∙ (ap (kind_in names) (same_name x l q) ∙ fresh)))
-    by (Some k) false p q t = tells-step S s x (Some k) (Some k) t (ap (λ b. is_label_kind (Some k) || b) (has ∙ q) ∙ or-false (is_label_kind (Some k))) (with_c (Some k)) (with_v (Some k))
+    by (Some k) false p q t = tells-step S s x (Some k) (Some k) t (ap (λ b. is_some_label (Some k) || b) (has ∙ q) ∙ or-false (is_some_label (Some k))) (with_c (Some k)) (with_v (Some k))
 
 -- ---- the numbering after a legal statement
 
-numbering-nothing : (S : Database) (s : Stmt) (names : Declared) → ((x : Name) → has_label x (label_of s) ≡ false) → constants s ≡ [] → variables s ≡ [] → label_of s ≡ None → symbols_by s ≡ [] → IsNumberingOf S names → IsNumberingOf (S ++ s ∷ []) names
+numbering-nothing : (S : Database) (s : Stmt) (names : Declared) → ((x : Name) → has_label x (label_of s) ≡ false) → constants s ≡ [] → variables s ≡ [] → label_of s ≡ None → symbols_declared_by s ≡ [] → IsNumberingOf S names → IsNumberingOf (S ++ s ∷ []) names
 numbering-nothing S s names l c v label by k = record {
   kinds_match = tells-nothing S s names l c v k.kinds_match;
   symbols = k.symbols ∙ sym (symbols_of-append S s ∙ ap (with_names (symbols_of S)) by);
-  labels = k.labels ∙ sym (labels_of-append S (s ∷ []) ∙ (ap (λ o. labels_of S ++ option_list o []) label ∙ append-nil (labels_of S)));
+  labels = k.labels ∙ sym (labels_of-append S (s ∷ []) ∙ (ap (λ o. labels_of S ++ prepend_option o []) label ∙ append-nil (labels_of S)));
 }
 
 -- the symbols of a legal `$c` are new, and those of a legal `$v` are no labels
 pub constants-free : (S : Database) (names : Declared) (xs : List Name) → broken_rule S (Const xs) ≡ None → MatchesKinds S names → (x : Name) → has_name x xs ≡ true → kind_in names x ≡ None
 constants-free S names xs legal kinds_match x h = fresh-none S names x kinds_match (all-has _ x xs (legal-constants S xs legal).0 h)
 
-pub variables-free : (S : Database) (names : Declared) (xs : List Name) → broken_rule S (Var xs) ≡ None → MatchesKinds S names → (x : Name) → has_name x xs ≡ true → (is_label_kind (kind_in names x) ≡ false) × (is_constant_kind (kind_in names x) ≡ false)
+pub variables-free : (S : Database) (names : Declared) (xs : List Name) → broken_rule S (Var xs) ≡ None → MatchesKinds S names → (x : Name) → has_name x xs ≡ true → (is_some_label (kind_in names x) ≡ false) × (is_some_constant (kind_in names x) ≡ false)
 variables-free S names xs legal kinds_match x h = inactive-free S names x kinds_match (all-has _ x xs (legal-variables S xs legal).0 h)
 
 pub numbering-constants : (S : Database) (names : Declared) (xs : List Name) → broken_rule S (Const xs) ≡ None → IsNumberingOf S names → IsNumberingOf (S ++ Const xs ∷ []) (with_kinds names Constant xs)
@@ -97,7 +97,7 @@ numbering-constants S names xs legal k =
     let new = constants-free S names xs legal k.kinds_match in
     record {
       kinds_match = tells-constants S names xs new k.kinds_match;
-      symbols = declared_symbols-with_kinds names Constant xs refl (λ x h. ap is_label_kind (new x h)) ∙ (ap (λ ns. with_names ns xs) k.symbols ∙ sym (symbols_of-append S (Const xs)));
+      symbols = declared_symbols-with_kinds names Constant xs refl (λ x h. ap is_some_label (new x h)) ∙ (ap (λ ns. with_names ns xs) k.symbols ∙ sym (symbols_of-append S (Const xs)));
       labels = declared_labels-with_kinds names Constant xs refl ∙ (k.labels ∙ sym (labels_of-append S (Const xs ∷ []) ∙ append-nil (labels_of S)));
     }
 
@@ -114,19 +114,19 @@ numbering-variables S names xs legal k =
 pub label-free : (S : Database) (names : Declared) (s : Stmt) (l : Name) → label_of s ≡ Some l → broken_rule S s ≡ None → MatchesKinds S names → kind_in names l ≡ None
 label-free S names s l is legal kinds_match = fresh-none S names l kinds_match (legal-label S s l is legal)
 
-pub numbering-label : (S : Database) (names : Declared) (s : Stmt) (l : Name) → label_of s ≡ Some l → constants s ≡ [] → variables s ≡ [] → symbols_by s ≡ [] → broken_rule S s ≡ None → IsNumberingOf S names → IsNumberingOf (S ++ s ∷ []) (with_kind names Label l)
+pub numbering-label : (S : Database) (names : Declared) (s : Stmt) (l : Name) → label_of s ≡ Some l → constants s ≡ [] → variables s ≡ [] → symbols_declared_by s ≡ [] → broken_rule S s ≡ None → IsNumberingOf S names → IsNumberingOf (S ++ s ∷ []) (with_kind names Label l)
 numbering-label S names s l is c v none legal k =
     let new = label-free S names s l is legal k.kinds_match in
     record {
       kinds_match = tells-label S s names l is c v new k.kinds_match;
       symbols = declared_symbols-label names l ∙ (k.symbols ∙ sym (symbols_of-append S s ∙ ap (with_names (symbols_of S)) none));
-      labels = declared_labels-label names l new ∙ (ap (λ ls. ls ++ l ∷ []) k.labels ∙ sym (labels_of-append S (s ∷ []) ∙ ap (λ o. labels_of S ++ option_list o []) is));
+      labels = declared_labels-label names l new ∙ (ap (λ ls. ls ++ l ∷ []) k.labels ∙ sym (labels_of-append S (s ∷ []) ∙ ap (λ o. labels_of S ++ prepend_option o []) is));
     }
 
 -- ---- by the shape of the statement
 
 pub may-declare : (S : Database) (s : Stmt) (names : Declared) → broken_rule S s ≡ None → MatchesKinds S names → MayDeclare names s
-may-declare S (Const xs) names legal kinds_match = λ x h. ap is_label_kind (constants-free S names xs legal kinds_match x h)
+may-declare S (Const xs) names legal kinds_match = λ x h. ap is_some_label (constants-free S names xs legal kinds_match x h)
 may-declare S (Var xs) names legal kinds_match = λ x h. (variables-free S names xs legal kinds_match x h).0
 may-declare S (Float label constant variable) names legal kinds_match = label-free S names (Float label constant variable) label refl legal kinds_match
 may-declare S (Ess label expr) names legal kinds_match = label-free S names (Ess label expr) label refl legal kinds_match

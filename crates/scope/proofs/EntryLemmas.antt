@@ -1,5 +1,5 @@
 -- The entry of a name gives its kind and its number.
-use Rattle.scope.proofs.Words.{◌≡◌, ℕ, ◌-◌, ◌<◌, ◌≤◌, Bool, true, cond, List, [], ◌∷◌, ◌++◌, length, take, Some, slice_get, option_map, refl, ◌∙◌, ap, sym, subst, arith, length-take-le, get_or, slice_get-map, slice_get_read, Name, name_at, code_of, code-name, code-first, added-name, Declared, declared_names, declared_symbols, declared_labels, names_where, names_of_kind, kind_in, zip_kinds, is_symbol_kind, is_label, IsNumberOf, kinds_of, AreCounted, indexes_where, NameKind, Label, Constant, Variable, CountedKind}
+use Rattle.scope.proofs.Words.{◌≡◌, ℕ, ◌-◌, ◌<◌, ◌≤◌, Bool, true, cond, List, [], ◌∷◌, ◌++◌, length, take, Some, slice_get, option_map, refl, ◌∙◌, ap, sym, subst, arith, length-take-le, get_or, slice_get-map, slice_get_read, Name, name_at, code_of, code-name, code-first, added-name, Declared, declared_names, declared_symbols, declared_labels, names_where, names_of_kind, kind_in, zip_kinds, is_symbol_kind, is_label_kind, IsNumberOf, kinds_of, AreCounted, indexes_where, NameKind, Label, Constant, Variable, CountedKind}
 use Rattle.scope.proofs.KindsLemmas.{names-seen, kind-at, length-seen}
 use Rattle.scope.proofs.KindCountLemmas.{kinds-length, count-at, both-counts, indexes-length, index-at}
 use Rattle.scope.proofs.SymbolNameLemmas.{names_where-append, number-at}
@@ -57,7 +57,7 @@ module _ (names : List Name) (entries : List CountedKind) (same : length entries
       within lt = omega (arith, lt)
 
       by : (k : NameKind) → e.kind ≡ k → n < length names → IsNumberOf (names_of_kind k (zip_kinds names (kinds_of entries))) x (cond (is_symbol_kind k) e.earlier_symbols (n - e.earlier_symbols))
-      by Label q lt = subst (λ (i : ℕ). IsNumberOf (names_where is_label (zip_kinds names (kinds_of entries))) x i) (sym (labels-earlier_symbols n (within lt) at)) (numbered is_label x n code at (ap is_label q))
+      by Label q lt = subst (λ (i : ℕ). IsNumberOf (names_where is_label_kind (zip_kinds names (kinds_of entries))) x i) (sym (labels-earlier_symbols n (within lt) at)) (numbered is_label_kind x n code at (ap is_label_kind q))
       by Constant q lt = subst (λ (i : ℕ). IsNumberOf (names_where is_symbol_kind (zip_kinds names (kinds_of entries))) x i) (sym (symbols-earlier_symbols n at)) (numbered is_symbol_kind x n code at (ap is_symbol_kind q))
       by Variable q lt = subst (λ (i : ℕ). IsNumberOf (names_where is_symbol_kind (zip_kinds names (kinds_of entries))) x i) (sym (symbols-earlier_symbols n at)) (numbered is_symbol_kind x n code at (ap is_symbol_kind q))
 
@@ -85,6 +85,6 @@ new-number names x k index earlier_symbols symbols all = by k
     labels = let both = both-counts names in omega (arith, symbols, all, both)
 
     by : (k : NameKind) → IsNumberOf (names_of_kind k (names ++ (x, k) ∷ [])) x (cond (is_symbol_kind k) earlier_symbols (index - earlier_symbols))
-    by Label = added-name (declared_labels names) (declared_labels (names ++ (x, Label) ∷ [])) x (index - earlier_symbols) labels (names_where-append is_label names ((x, Label) ∷ []))
+    by Label = added-name (declared_labels names) (declared_labels (names ++ (x, Label) ∷ [])) x (index - earlier_symbols) labels (names_where-append is_label_kind names ((x, Label) ∷ []))
     by Constant = added-name (declared_symbols names) (declared_symbols (names ++ (x, Constant) ∷ [])) x earlier_symbols symbols (names_where-append is_symbol_kind names ((x, Constant) ∷ []))
     by Variable = added-name (declared_symbols names) (declared_symbols (names ++ (x, Variable) ∷ [])) x earlier_symbols symbols (names_where-append is_symbol_kind names ((x, Variable) ∷ []))

@@ -1,5 +1,5 @@
 -- The mark, the return to it, and what the rules say of the names to be declared.
-use Rattle.scope.proofs.Words.{◌≡◌, ℕ, ◌+◌, ◌==◌, Bool, true, false, not, ◌||◌, ◌&&◌, List, [], ◌∷◌, ◌++◌, length, take, Option, Some, None, is_some, refl, list_any, list_all, flat_map, ◌∙◌, ap, sym, arith, true≢false, or-false, append-nil, map-append, take-map, take_at, nil_from_length, flat_map-append, nat_tests, and_parts, or_parts, not-true, Name, name_eq, has_name, Stmt, Database, stays_open, active_from, active, is_closed, variables, typed_by, was_label, was_symbol, is_constant, is_variable, all_different, codes_or_len, code_or_len, AreNamed, symbols_of, as_frame_statement, frame_statements_of, FrameStatement, Declared, kind_in, MatchesKinds, is_label_kind, is_constant_kind, heights_of, blocks_of, can_push, IsRulesState, StackHeights, NameKind, codes_or_len-more, has_name-append, name_same, same_name}
+use Rattle.scope.proofs.Words.{◌≡◌, ℕ, ◌+◌, ◌==◌, Bool, true, false, not, ◌||◌, ◌&&◌, List, [], ◌∷◌, ◌++◌, length, take, Option, Some, None, is_some, refl, list_any, list_all, flat_map, ◌∙◌, ap, sym, arith, true≢false, or-false, append-nil, map-append, take-map, take_at, nil_from_length, flat_map-append, nat_tests, and_parts, or_parts, not-true, Name, name_eq, has_name, Stmt, Database, stays_open, active_from, active, is_closed, variables, typed_by, was_label, was_symbol, is_constant, is_variable, all_different, codes_or_len, code_or_len, AreNamed, symbols_of, as_frame_statement, frame_statements_of, FrameStatement, Declared, kind_in, MatchesKinds, is_some_label, is_some_constant, heights_of, blocks_of, can_push, IsRulesState, StackHeights, NameKind, codes_or_len-more, has_name-append, name_same, same_name}
 use Rattle.scope.proofs.ActiveLemmas.{active_from-later, below-deficit, no_deficit, deficit, deficit-append, left_open}
 use Rattle.scope.proofs.BlocksLemmas.{length-blocks, closed-left}
 use Rattle.scope.proofs.NamesLemmas.{symbols_of-later, active-named}
@@ -97,7 +97,7 @@ fresh-none S names x kinds_match h = by (kind_in names x) (fresh-kind S x (kind_
     by (Some k) h = cc
 
 pub inactive-free : (S : Database) (names : Declared) (x : Name) → MatchesKinds S names → not (is_variable S x || is_constant S x || was_label S x) ≡ true
-    → (is_label_kind (kind_in names x) ≡ false) × (is_constant_kind (kind_in names x) ≡ false)
+    → (is_some_label (kind_in names x) ≡ false) × (is_some_constant (kind_in names x) ≡ false)
 inactive-free S names x kinds_match h =
     let p = or_parts (is_variable S x || is_constant S x) (was_label S x) (not-true (is_variable S x || is_constant S x || was_label S x) h) in
     (sym (kinds_match x).label ∙ p.1, sym (kinds_match x).constant ∙ (or_parts (is_variable S x) (is_constant S x) p.0).1)

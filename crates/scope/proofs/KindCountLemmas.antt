@@ -1,5 +1,5 @@
 -- The counts of symbols, and the indexes of the names of some kinds.
-use Rattle.scope.proofs.Words.{◌≡◌, ℕ, zero, suc, ◌+◌, ◌<◌, ◌≤◌, Bool, true, false, cond, List, [], ◌∷◌, ◌++◌, length, take, Some, slice_get, refl, ◌∙◌, ap, sym, arith, add-zero, length-map, same_Some, Name, name_at, kinds_of, count_after, AreCounted, indexes_where, Declared, names_where, declared_symbols, symbols_before, zip_kinds, is_symbol_kind, is_label, CountedKind, NameKind, Label, Constant, Variable}
+use Rattle.scope.proofs.Words.{◌≡◌, ℕ, zero, suc, ◌+◌, ◌<◌, ◌≤◌, Bool, true, false, cond, List, [], ◌∷◌, ◌++◌, length, take, Some, slice_get, refl, ◌∙◌, ap, sym, arith, add-zero, length-map, same_Some, Name, name_at, kinds_of, count_after, AreCounted, indexes_where, Declared, names_where, declared_symbols, symbol_count_before, zip_kinds, is_symbol_kind, is_label_kind, CountedKind, NameKind, Label, Constant, Variable}
 
 pub kinds-length : (names : List Name) (entries : List CountedKind) → length entries ≡ length names → length (kinds_of entries) ≡ length names
 kinds-length names entries h = length-map entries (λ e. e.kind) ∙ h
@@ -31,13 +31,13 @@ counted-take n (suc i) (e ∷ entries) c = (c.0, counted-take (count_after e) i 
 
 -- the count of an entry is the number of symbols before its index
 pub count-at : (names : List Name) (entries : List CountedKind) (n i : ℕ) (e : CountedKind) → length entries ≡ length names → AreCounted n entries → slice_get entries i ≡ Some e
-    → e.earlier_symbols ≡ n + symbols_before (zip_kinds names (kinds_of entries)) i
+    → e.earlier_symbols ≡ n + symbol_count_before (zip_kinds names (kinds_of entries)) i
 count-at names [] n i e l c h = cc
 count-at [] (d ∷ entries) n i e l c h = absurd (omega (arith, l))
 count-at (x ∷ names) (d ∷ entries) n zero e l c h = ap (λ (z : CountedKind). z.earlier_symbols) (sym (same_Some d e h)) ∙ (c.0 ∙ sym (add-zero n))
 count-at (x ∷ names) (d ∷ entries) n (suc i) e l c h = by (is_symbol_kind d.kind) (count-at names entries (count_after d) i e (omega (arith, l)) c.1 h)
   where
-    by : (b : Bool) → e.earlier_symbols ≡ cond b (d.earlier_symbols + 1) d.earlier_symbols + symbols_before (zip_kinds names (kinds_of entries)) i
+    by : (b : Bool) → e.earlier_symbols ≡ cond b (d.earlier_symbols + 1) d.earlier_symbols + symbol_count_before (zip_kinds names (kinds_of entries)) i
         → e.earlier_symbols ≡ n + length (cond b (x ∷ declared_symbols (take i (zip_kinds names (kinds_of entries)))) (declared_symbols (take i (zip_kinds names (kinds_of entries)))))
     by true k = let o = c.0 in omega (arith, k, o)
     by false k = let o = c.0 in omega (arith, k, o)
@@ -114,12 +114,12 @@ indexes-take own n (suc k) (x ∷ names) (e ∷ entries) h = by (own e.kind) (in
     by false g = g
 
 -- the symbols and the labels together are as many as the names
-pub both-counts : (names : Declared) → length (declared_symbols names) + length (names_where is_label names) ≡ length names
+pub both-counts : (names : Declared) → length (declared_symbols names) + length (names_where is_label_kind names) ≡ length names
 both-counts [] = refl
 both-counts (p ∷ names) = let rest = both-counts names in by p.1 rest
   where
-    by : (k : NameKind) → length (declared_symbols names) + length (names_where is_label names) ≡ length names
-        → length (cond (is_symbol_kind k) (p.0 ∷ declared_symbols names) (declared_symbols names)) + length (cond (is_label k) (p.0 ∷ names_where is_label names) (names_where is_label names)) ≡ suc (length names)
+    by : (k : NameKind) → length (declared_symbols names) + length (names_where is_label_kind names) ≡ length names
+        → length (cond (is_symbol_kind k) (p.0 ∷ declared_symbols names) (declared_symbols names)) + length (cond (is_label_kind k) (p.0 ∷ names_where is_label_kind names) (names_where is_label_kind names)) ≡ suc (length names)
     by Label h = omega (arith, h)
     by Constant h = omega (arith, h)
     by Variable h = omega (arith, h)

@@ -1,20 +1,20 @@
 -- The symbols and the labels of a list of statements, and names with kinds.
-use Rattle.scope.proofs.Words.{◌≡◌, ℕ, ◌+◌, Bool, true, false, cond, ◌||◌, List, [], ◌∷◌, ◌++◌, Option, Some, None, is_some, refl, flat_map, sym, ◌∙◌, ap, true≢false, ◌⊎◌, inl, inr, append_assoc, append-nil, or_left, or_right, Name, name_eq, has_name, Stmt, Open, Close, Const, Var, Disj, Float, Ess, Axiom, Prove, Database, label_of, variables, was_variable, active_from, active_variables, stays_open, with_names, AreNamed, AreDistinct, distinct-with_names, symbols_by, symbols_from, symbols_of, option_list, labels_of, Declared, declared_names, kind_in, with_kind, with_kinds, NameKind, same_name, or_cases, has_name-append, with_names-more, has-more, has-with_names}
+use Rattle.scope.proofs.Words.{◌≡◌, ℕ, ◌+◌, Bool, true, false, cond, ◌||◌, List, [], ◌∷◌, ◌++◌, Option, Some, None, is_some, refl, flat_map, sym, ◌∙◌, ap, true≢false, ◌⊎◌, inl, inr, append_assoc, append-nil, or_left, or_right, Name, name_eq, has_name, Stmt, Open, Close, Const, Var, Disj, Float, Ess, Axiom, Prove, Database, label_of, variables, was_variable, active_from, active_variables, stays_open, with_names, AreNamed, AreDistinct, distinct-with_names, symbols_declared_by, symbols_from, symbols_of, prepend_option, labels_of, Declared, declared_names, kind_in, with_kind, with_kinds, NameKind, same_name, or_cases, has_name-append, with_names-more, has-more, has-with_names}
 
 -- ---- symbols are only added at the end
 
 pub symbols_from-append : (symbols : List Name) (S T : Database) → symbols_from symbols (S ++ T) ≡ symbols_from (symbols_from symbols S) T
 symbols_from-append symbols [] T = refl
-symbols_from-append symbols (s ∷ S) T = symbols_from-append (with_names symbols (symbols_by s)) S T
+symbols_from-append symbols (s ∷ S) T = symbols_from-append (with_names symbols (symbols_declared_by s)) S T
 
-pub symbols_of-append : (S : Database) (s : Stmt) → symbols_of (S ++ s ∷ []) ≡ with_names (symbols_of S) (symbols_by s)
+pub symbols_of-append : (S : Database) (s : Stmt) → symbols_of (S ++ s ∷ []) ≡ with_names (symbols_of S) (symbols_declared_by s)
 symbols_of-append S s = symbols_from-append [] S (s ∷ [])
 
 symbols_from-more : (symbols : List Name) (S : Database) → (more : List Name) × (symbols_from symbols S ≡ symbols ++ more)
 symbols_from-more symbols [] = ([], sym (append-nil symbols))
 symbols_from-more symbols (s ∷ S) =
-    let one = with_names-more symbols (symbols_by s) in
-    let rest = symbols_from-more (with_names symbols (symbols_by s)) S in
+    let one = with_names-more symbols (symbols_declared_by s) in
+    let rest = symbols_from-more (with_names symbols (symbols_declared_by s)) S in
     (one.0 ++ rest.0, rest.1 ∙ (ap (λ ns. ns ++ rest.0) one.1 ∙ append_assoc symbols one.0 rest.0))
 
 -- the symbols after later statements are the earlier ones and then others
@@ -27,15 +27,15 @@ symbols-distinct S = by [] S tt
   where
     by : (symbols : List Name) (S : Database) → AreDistinct symbols → AreDistinct (symbols_from symbols S)
     by symbols [] d = d
-    by symbols (s ∷ S) d = by (with_names symbols (symbols_by s)) S (distinct-with_names symbols (symbols_by s) d)
+    by symbols (s ∷ S) d = by (with_names symbols (symbols_declared_by s)) S (distinct-with_names symbols (symbols_declared_by s) d)
 
 -- ---- labels are only added at the end
 
 pub labels_of-append : (S T : Database) → labels_of (S ++ T) ≡ labels_of S ++ labels_of T
 labels_of-append [] T = refl
-labels_of-append (t ∷ S) T = ap (option_list (label_of t)) (labels_of-append S T) ∙ by (label_of t)
+labels_of-append (t ∷ S) T = ap (prepend_option (label_of t)) (labels_of-append S T) ∙ by (label_of t)
   where
-    by : (l : Option Name) → option_list l (labels_of S ++ labels_of T) ≡ option_list l (labels_of S) ++ labels_of T
+    by : (l : Option Name) → prepend_option l (labels_of S ++ labels_of T) ≡ prepend_option l (labels_of S) ++ labels_of T
     by None = refl
     by (Some l) = refl
 
@@ -60,7 +60,7 @@ active-was at (s ∷ S) x h = by (stays_open 0 S) h (active-was (at + 1) S x)
     by false k rest = first (inr (rest k))
 
 -- a name that a statement declares as a variable is a symbol that it declares
-declares : (s : Stmt) (x : Name) → has_name x (variables s) ≡ true → has_name x (symbols_by s) ≡ true
+declares : (s : Stmt) (x : Name) → has_name x (variables s) ≡ true → has_name x (symbols_declared_by s) ≡ true
 declares (Var names) x h = h
 declares Open x h = cc
 declares Close x h = cc
@@ -74,9 +74,9 @@ declares (Prove label expr proof) x h = cc
 was-named : (names : List Name) (S : Database) (x : Name) → was_variable S x ≡ true → has_name x (symbols_from names S) ≡ true
 was-named names [] x h = cc
 was-named names (s ∷ S) x h = elim (or_cases (has_name x (variables s)) (was_variable S x) h) [
-  | inl k ↦ let rest = symbols_from-more (with_names names (symbols_by s)) S in
-      ap (has_name x) rest.1 ∙ has-more x (with_names names (symbols_by s)) rest.0 (has-with_names x names (symbols_by s) (declares s x k))
-  | inr k ↦ was-named (with_names names (symbols_by s)) S x k
+  | inl k ↦ let rest = symbols_from-more (with_names names (symbols_declared_by s)) S in
+      ap (has_name x) rest.1 ∙ has-more x (with_names names (symbols_declared_by s)) rest.0 (has-with_names x names (symbols_declared_by s) (declares s x k))
+  | inr k ↦ was-named (with_names names (symbols_declared_by s)) S x k
 ]
 
 -- the active variables are declared symbols

@@ -1,5 +1,5 @@
 -- The result of a look-up of a symbol.
-use Rattle.scope.proofs.Words.{◌≡◌, ℕ, ◌+◌, ◌==◌, Bool, true, false, not, ◌||◌, ◌&&◌, List, [], ◌∷◌, ◌++◌, length, Option, Some, None, is_some, refl, option_map, list_any, flat_map, sym, ◌∙◌, ap, arith, true≢false, take, ◌<◌, append_assoc, length-append, take_at, length_push, eqb-true, eq-eqb, false_from_ne_true, or-false, and-false, Name, name_eq, has_name, Stmt, Open, Close, Const, Var, Disj, Float, Ess, Axiom, Prove, Database, variables, constants, active, is_float_of, typed_by, is_variable, is_constant, has_float, was_symbol, was_label, was_variable, active_variables, typed_variables, all_different, code_or_len, codes_or_len, MatchesKind, IsSort, sort_by, NameKind, Label, Constant, Variable, has_name-append, code_or_len-same, same_name, name_eq-comm}
+use Rattle.scope.proofs.Words.{◌≡◌, ℕ, ◌+◌, ◌==◌, Bool, true, false, not, ◌||◌, ◌&&◌, List, [], ◌∷◌, ◌++◌, length, Option, Some, None, is_some, refl, option_map, list_any, flat_map, sym, ◌∙◌, ap, arith, true≢false, take, ◌<◌, append_assoc, length-append, take_at, length_push, eqb-true, eq-eqb, false_from_ne_true, or-false, and-false, Name, name_eq, has_name, Stmt, Open, Close, Const, Var, Disj, Float, Ess, Axiom, Prove, Database, variables, constants, active, is_float_of, typed_by, is_variable, is_constant, has_float, was_symbol, was_label, was_variable, active_variables, typed_variables, all_different, code_or_len, codes_or_len, MatchesKind, IsSort, variable_sort, NameKind, Label, Constant, Variable, has_name-append, code_or_len-same, same_name, name_eq-comm}
 use Rattle.scope.specs.declared.legal.Sort.TheVariants as sort
 use Rattle.scope.proofs.NamesLemmas.{active-was}
 
@@ -83,10 +83,10 @@ no-sort S x t =
     let no = not_active S x t.variable in
     record { constant = t.constant; variable = no; label = t.label; untyped = ap (λ b. not b || has_float S x) no }
 
-pub variable-sort : (S : Database) (x : Name) → MatchesKind S x (Some Variable) → IsSort S x (sort_by (is_variable S x) (has_float S x))
+pub variable-sort : (S : Database) (x : Name) → MatchesKind S x (Some Variable) → IsSort S x (variable_sort (is_variable S x) (has_float S x))
 variable-sort S x t = by (is_variable S x) (has_float S x) refl refl
   where
-    by : (a b : Bool) → is_variable S x ≡ a → has_float S x ≡ b → IsSort S x (sort_by a b)
+    by : (a b : Bool) → is_variable S x ≡ a → has_float S x ≡ b → IsSort S x (variable_sort a b)
     by true true p q = record { constant = t.constant; variable = p; label = t.label; untyped = ap (λ c. not c || has_float S x) p ∙ q }
     by true false p q = record { constant = t.constant; variable = p; label = t.label; untyped = ap (λ c. not c || has_float S x) p ∙ q }
     by false b p q = record { constant = t.constant; variable = p; label = t.label; untyped = ap (λ c. not c || has_float S x) p }

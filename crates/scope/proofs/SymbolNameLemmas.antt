@@ -1,5 +1,5 @@
 -- The names that are no labels are the declared symbols.
-use Rattle.scope.proofs.Words.{◌≡◌, ℕ, zero, suc, ◌<◌, Bool, true, false, cond, ◌||◌, ◌&&◌, nat_lt, List, [], ◌∷◌, ◌++◌, length, take, Option, Some, None, is_some, refl, list_all, ◌∙◌, ap, sym, arith, true≢false, length-append, append-nil, map-append, list_all-append, or_right, lt-ltb, ltb-true, and_parts, same_Some, Name, name_eq, has_name, Expr, name_at, decode, with_name, with_names, AreCodes, Declared, declared_names, names_where, declared_symbols, declared_labels, kind_in, with_kind, with_kinds, is_label_kind, is_symbol_kind, is_label, IsNumberOf, AreRecorded, IsAppended, NameKind, Label, Constant, Variable, name_same, same_name, name_at-more}
+use Rattle.scope.proofs.Words.{◌≡◌, ℕ, zero, suc, ◌<◌, Bool, true, false, cond, ◌||◌, ◌&&◌, nat_lt, List, [], ◌∷◌, ◌++◌, length, take, Option, Some, None, is_some, refl, list_all, ◌∙◌, ap, sym, arith, true≢false, length-append, append-nil, map-append, list_all-append, or_right, lt-ltb, ltb-true, and_parts, same_Some, Name, name_eq, has_name, Expr, name_at, decode, with_name, with_names, AreCodes, Declared, declared_names, names_where, declared_symbols, declared_labels, kind_in, with_kind, with_kinds, is_some_label, is_symbol_kind, is_label_kind, IsNumberOf, AreRecorded, IsAppended, NameKind, Label, Constant, Variable, name_same, same_name, name_at-more}
 use Rattle.scope.proofs.NamesLemmas.{or_kind, kind_in-with_kinds}
 
 -- ---- the names that are no labels, and the labels
@@ -22,7 +22,7 @@ declared_symbols-label names l = by (is_some (kind_in names l))
     by false = names_where-append is_symbol_kind names ((l, Label) ∷ []) ∙ append-nil (declared_symbols names)
 
 -- the kind of a symbol is not that of a label
-no_label : (kind : NameKind) → is_symbol_kind kind ≡ true → is_label kind ≡ false
+no_label : (kind : NameKind) → is_symbol_kind kind ≡ true → is_label_kind kind ≡ false
 no_label Label e = cc
 no_label Constant e = refl
 no_label Variable e = refl
@@ -32,7 +32,7 @@ declared_labels-symbol names kind x own = by (is_some (kind_in names x))
   where
     by : (b : Bool) → declared_labels (cond b names (names ++ (x, kind) ∷ [])) ≡ declared_labels names
     by true = refl
-    by false = names_where-append is_label names ((x, kind) ∷ []) ∙ (ap (λ b. declared_labels names ++ cond b (x ∷ []) []) (no_label kind own) ∙ append-nil (declared_labels names))
+    by false = names_where-append is_label_kind names ((x, kind) ∷ []) ∙ (ap (λ b. declared_labels names ++ cond b (x ∷ []) []) (no_label kind own) ∙ append-nil (declared_labels names))
 
 pub declared_labels-with_kinds : (names : Declared) (kind : NameKind) (xs : List Name) → is_symbol_kind kind ≡ true → declared_labels (with_kinds names kind xs) ≡ declared_labels names
 declared_labels-with_kinds names kind [] own = refl
@@ -40,18 +40,18 @@ declared_labels-with_kinds names kind (x ∷ xs) own = declared_labels-with_kind
 
 -- a new label comes last
 pub declared_labels-label : (names : Declared) (l : Name) → kind_in names l ≡ None → declared_labels (with_kind names Label l) ≡ declared_labels names ++ l ∷ []
-declared_labels-label names l new = ap (λ k. declared_labels (cond (is_some k) names (names ++ (l, Label) ∷ []))) new ∙ names_where-append is_label names ((l, Label) ∷ [])
+declared_labels-label names l new = ap (λ k. declared_labels (cond (is_some k) names (names ++ (l, Label) ∷ []))) new ∙ names_where-append is_label_kind names ((l, Label) ∷ [])
 
 -- a name that is no label is among the symbols exactly if it has a kind
-has-symbol : (names : Declared) (x : Name) (k : Option NameKind) → kind_in names x ≡ k → is_label_kind k ≡ false → has_name x (declared_symbols names) ≡ is_some k
+has-symbol : (names : Declared) (x : Name) (k : Option NameKind) → kind_in names x ≡ k → is_some_label k ≡ false → has_name x (declared_symbols names) ≡ is_some k
 has-symbol [] x None e h = refl
 has-symbol [] x (Some k) e h = cc
 has-symbol (p ∷ names) x k e h = by (name_eq x p.0) p.1 refl e (has-symbol names x k)
   where
-    clash : (k : Option NameKind) → Some Label ≡ k → is_label_kind k ≡ false → ⊥
-    clash k e h = true≢false (ap is_label_kind e ∙ h)
+    clash : (k : Option NameKind) → Some Label ≡ k → is_some_label k ≡ false → ⊥
+    clash k e h = true≢false (ap is_some_label e ∙ h)
 
-    by : (b : Bool) (own : NameKind) → name_eq x p.0 ≡ b → cond b (Some own) (kind_in names x) ≡ k → (kind_in names x ≡ k → is_label_kind k ≡ false → has_name x (declared_symbols names) ≡ is_some k)
+    by : (b : Bool) (own : NameKind) → name_eq x p.0 ≡ b → cond b (Some own) (kind_in names x) ≡ k → (kind_in names x ≡ k → is_some_label k ≡ false → has_name x (declared_symbols names) ≡ is_some k)
         → has_name x (cond (is_symbol_kind own) (p.0 ∷ declared_symbols names) (declared_symbols names)) ≡ is_some k
     by true Label q e rest = absurd (clash k e h)
     by true Constant q e rest = ap (λ b. b || has_name x (declared_symbols names)) q ∙ ap is_some e
@@ -60,7 +60,7 @@ has-symbol (p ∷ names) x k e h = by (name_eq x p.0) p.1 refl e (has-symbol nam
     by false Constant q e rest = ap (λ b. b || has_name x (declared_symbols names)) q ∙ rest e h
     by false Variable q e rest = ap (λ b. b || has_name x (declared_symbols names)) q ∙ rest e h
 
-declared_symbols-with_kind : (names : Declared) (kind : NameKind) (x : Name) → is_symbol_kind kind ≡ true → is_label_kind (kind_in names x) ≡ false → declared_symbols (with_kind names kind x) ≡ with_name (declared_symbols names) x
+declared_symbols-with_kind : (names : Declared) (kind : NameKind) (x : Name) → is_symbol_kind kind ≡ true → is_some_label (kind_in names x) ≡ false → declared_symbols (with_kind names kind x) ≡ with_name (declared_symbols names) x
 declared_symbols-with_kind names kind x own free =
     by (is_some (kind_in names x)) ∙ ap (λ b. cond b (declared_symbols names) (declared_symbols names ++ x ∷ [])) (sym (has-symbol names x (kind_in names x) refl free))
   where
@@ -69,20 +69,20 @@ declared_symbols-with_kind names kind x own free =
     by false = names_where-append is_symbol_kind names ((x, kind) ∷ []) ∙ ap (λ b. declared_symbols names ++ cond b (x ∷ []) []) own
 
 -- if a name is declared as a symbol, no name becomes a label
-pub label_free : (names : Declared) (kind : NameKind) (x y : Name) → is_symbol_kind kind ≡ true → is_label_kind (kind_in names y) ≡ false → is_label_kind (kind_in (with_kind names kind x) y) ≡ false
-label_free names kind x y own free = ap is_label_kind (kind_in-with_kinds names y kind (x ∷ [])) ∙ or_free (kind_in names y) (has_name y (x ∷ [])) free
+pub label_free : (names : Declared) (kind : NameKind) (x y : Name) → is_symbol_kind kind ≡ true → is_some_label (kind_in names y) ≡ false → is_some_label (kind_in (with_kind names kind x) y) ≡ false
+label_free names kind x y own free = ap is_some_label (kind_in-with_kinds names y kind (x ∷ [])) ∙ or_free (kind_in names y) (has_name y (x ∷ [])) free
   where
-    not_label : (k : NameKind) → is_symbol_kind k ≡ true → is_label_kind (Some k) ≡ false
+    not_label : (k : NameKind) → is_symbol_kind k ≡ true → is_some_label (Some k) ≡ false
     not_label Label e = cc
     not_label Constant e = refl
     not_label Variable e = refl
 
-    or_free : (k : Option NameKind) (b : Bool) → is_label_kind k ≡ false → is_label_kind (or_kind k b kind) ≡ false
+    or_free : (k : Option NameKind) (b : Bool) → is_some_label k ≡ false → is_some_label (or_kind k b kind) ≡ false
     or_free (Some k) b h = h
     or_free None true h = not_label kind own
     or_free None false h = refl
 
-pub declared_symbols-with_kinds : (names : Declared) (kind : NameKind) (xs : List Name) → is_symbol_kind kind ≡ true → ((x : Name) → has_name x xs ≡ true → is_label_kind (kind_in names x) ≡ false)
+pub declared_symbols-with_kinds : (names : Declared) (kind : NameKind) (xs : List Name) → is_symbol_kind kind ≡ true → ((x : Name) → has_name x xs ≡ true → is_some_label (kind_in names x) ≡ false)
     → declared_symbols (with_kinds names kind xs) ≡ with_names (declared_symbols names) xs
 declared_symbols-with_kinds names kind [] own free = refl
 declared_symbols-with_kinds names kind (x ∷ xs) own free =

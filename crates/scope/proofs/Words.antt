@@ -11,16 +11,16 @@ pub use Rattle.names.specs.Codes.{AreCodes, AreDistinct, AreNamed, code_of, deco
 pub use Rattle.scope.specs.Accepted.{Accepted}
 pub use Rattle.scope.specs.Active.{active, active_from, active_variables, bare, bares, constants, count, has_float, has_label, is_active, is_close, is_closed, is_constant, is_float_of, is_open, is_variable, label_of, stays_open, stmt_at, typed_by, typed_variables, variables, was_label, was_symbol, was_variable}
 pub use Rattle.scope.specs.Declares.{IsRecordedBy, MayDeclare, declared_with}
-pub use Rattle.scope.specs.Kinds.{Declared, IsNumberOf, IsNumberingOf, MatchesKind, MatchesKinds, declared_labels, declared_names, declared_symbols, is_constant_kind, is_label_kind, is_label, is_symbol_kind, is_variable_kind, kind_in, names_of_kind, names_where, symbols_before, with_kind, with_kinds, zip_kinds}
-pub use Rattle.scope.specs.Laws.{NeverCloses, before_open, between, has_open}
+pub use Rattle.scope.specs.Kinds.{Declared, IsNumberOf, IsNumberingOf, MatchesKind, MatchesKinds, declared_labels, declared_names, declared_symbols, is_some_constant, is_some_label, is_label_kind, is_symbol_kind, is_some_variable, kind_in, names_of_kind, names_where, symbol_count_before, with_kind, with_kinds, zip_kinds}
+pub use Rattle.scope.specs.Laws.{ClosesAtMost, before_open, between, has_open}
 pub use Rattle.scope.specs.Legal.{AllLegal, IsLegal, all_different, are_typed, broken_rule, end_rule, first_broken, starts_with_constant}
-pub use Rattle.scope.specs.Sorts.{IsSort, is_constant_sort, is_symbol_sort, is_untyped_sort, sort_by, broken_by_sorts}
+pub use Rattle.scope.specs.Sorts.{IsSort, is_constant_sort, is_symbol_sort, is_untyped_sort, variable_sort, broken_by_sorts}
 pub use Rattle.scope.specs.FrameStatement.{frame_statements_of, as_frame_statement}
 pub use Rattle.scope.specs.Stored.KindCounts.{AreCounted, count_after, kinds_of, indexes_where}
 pub use Rattle.scope.specs.Stored.Ordered.{DifferFromNext, HasEqualNeighbours}
 pub use Rattle.scope.specs.Stored.Stacks.{IsRulesState, IsMarked, IsPlain, IsScope, blocks_from, blocks_of, can_push, heights_of}
 pub use Rattle.scope.specs.Stored.SymbolNumbers.{AreRecorded, IsAppended, are_numbers_distinct}
-pub use Rattle.scope.specs.Symbols.{AreNumbers, AreVariableNumbers, labels_of, option_list, symbols_after, symbols_by, symbols_from, symbols_in, symbols_of}
+pub use Rattle.scope.specs.Symbols.{AreNumbers, AreVariableNumbers, labels_of, prepend_option, symbols_after, symbols_declared_by, symbols_from, symbols_in, symbols_of}
 pub use Rattle.scope.specs.contracts.history.History.{the_row, the_type}
 pub use Rattle.scope.specs.declared.legal.Sort.{Sort}
 pub use Rattle.scope.specs.declared.numbering.CountedKind.{CountedKind}

@@ -3,7 +3,7 @@
 -- choice.
 use Rattle.std.specs.Prelude.{◌≡◌, ℕ, true, false, List, Option, None}
 use Rattle.scope.specs.Words.{Name, has_name, Stmt, Const, Var, Float, Ess, Axiom, Prove}
-use Rattle.scope.specs.Kinds.{Declared, declared_symbols, kind_in, is_label_kind, with_kind, with_kinds}
+use Rattle.scope.specs.Kinds.{Declared, declared_symbols, kind_in, is_some_label, with_kind, with_kinds}
 use Rattle.scope.specs.Stored.SymbolNumbers.{AreRecorded}
 use Rattle.scope.specs.declared.numbering.NameKind.TheVariants.{Label, Constant, Variable}
 
@@ -19,8 +19,8 @@ declared_with names s = names
 
 -- no symbol that the statement declares is a label, and its label is new
 abbrev pub MayDeclare : Declared → Stmt → Type 0
-MayDeclare names (Const xs) = (x : Name) → has_name x xs ≡ true → is_label_kind (kind_in names x) ≡ false
-MayDeclare names (Var xs) = (x : Name) → has_name x xs ≡ true → is_label_kind (kind_in names x) ≡ false
+MayDeclare names (Const xs) = (x : Name) → has_name x xs ≡ true → is_some_label (kind_in names x) ≡ false
+MayDeclare names (Var xs) = (x : Name) → has_name x xs ≡ true → is_some_label (kind_in names x) ≡ false
 MayDeclare names (Float label constant variable) = kind_in names label ≡ None
 MayDeclare names (Ess label expr) = kind_in names label ≡ None
 MayDeclare names (Axiom label expr) = kind_in names label ≡ None

@@ -27,28 +27,28 @@ abbrev pub kind_in : Declared → Name → Option NameKind
 kind_in [] x = None
 kind_in (p ∷ names) x = if name_eq x p.0 then Some p.1 else kind_in names x
 
--- whether this is the kind of a label, where `None` says that the name has no kind; the next two
--- ask for a constant and for a variable
-abbrev pub is_label_kind : Option NameKind → Bool
-is_label_kind (Some Label) = true
-is_label_kind kind = false
+-- whether there is a kind, and it is that of a label; the next two ask for a constant and for a
+-- variable
+abbrev pub is_some_label : Option NameKind → Bool
+is_some_label (Some Label) = true
+is_some_label kind = false
 
-abbrev pub is_constant_kind : Option NameKind → Bool
-is_constant_kind (Some Constant) = true
-is_constant_kind kind = false
+abbrev pub is_some_constant : Option NameKind → Bool
+is_some_constant (Some Constant) = true
+is_some_constant kind = false
 
-abbrev pub is_variable_kind : Option NameKind → Bool
-is_variable_kind (Some Variable) = true
-is_variable_kind kind = false
+abbrev pub is_some_variable : Option NameKind → Bool
+is_some_variable (Some Variable) = true
+is_some_variable kind = false
 
 -- whether a name of this kind is a symbol; the next asks for a label
 abbrev pub is_symbol_kind : NameKind → Bool
 is_symbol_kind Label = false
 is_symbol_kind kind = true
 
-abbrev pub is_label : NameKind → Bool
-is_label Label = true
-is_label kind = false
+abbrev pub is_label_kind : NameKind → Bool
+is_label_kind Label = true
+is_label_kind kind = false
 
 -- the names whose kind passes the test, in order
 abbrev pub names_where : (NameKind → Bool) → Declared → List Name
@@ -62,7 +62,7 @@ declared_symbols names = names_where is_symbol_kind names
 
 -- the labels, in order
 abbrev pub declared_labels : Declared → List Name
-declared_labels names = names_where is_label names
+declared_labels names = names_where is_label_kind names
 
 -- the list in which a name of this kind has its number
 abbrev pub names_of_kind : NameKind → Declared → List Name
@@ -74,14 +74,14 @@ abbrev pub IsNumberOf : List Name → Name → ℕ → Type 0
 IsNumberOf names x n = (n < length names) × (name_at names n ≡ x)
 
 -- how many of the names before an index are symbols
-abbrev pub symbols_before : Declared → ℕ → ℕ
-symbols_before names n = length (declared_symbols (take n names))
+abbrev pub symbol_count_before : Declared → ℕ → ℕ
+symbol_count_before names n = length (declared_symbols (take n names))
 
 -- the kind is the one that the statements declare the name as, or `None` if they do not declare it
 pub record MatchesKind (S : Database) (x : Name) (kind : Option NameKind) : Type 0 where
-  pub label : was_label S x ≡ is_label_kind kind
-  pub constant : is_constant S x ≡ is_constant_kind kind
-  pub variable : was_variable S x ≡ is_variable_kind kind
+  pub label : was_label S x ≡ is_some_label kind
+  pub constant : is_constant S x ≡ is_some_constant kind
+  pub variable : was_variable S x ≡ is_some_variable kind
 
 abbrev pub MatchesKinds : Database → Declared → Type 0
 MatchesKinds S names = (x : Name) → MatchesKind S x (kind_in names x)

@@ -6,10 +6,9 @@ use Rattle.scope.specs.Words.{list_any, Stmt, Close, Database}
 use Rattle.scope.specs.Active.{count, is_open, is_close, is_active, active, active_from, bare, bares}
 use Rattle.scope.specs.Legal.{broken_rule, end_rule}
 
--- each prefix of the statements has at most `d` more `$}` than `${`: `d` blocks are open before
--- them
-abbrev pub NeverCloses : ℕ → Database → Type 0
-NeverCloses d S = (k : ℕ) → count is_close (take k S) ≤ count is_open (take k S) + d
+-- each prefix of the statements has at most `blocks` more `$}` than `${`
+abbrev pub ClosesAtMost : ℕ → Database → Type 0
+ClosesAtMost blocks S = (k : ℕ) → count is_close (take k S) ≤ count is_open (take k S) + blocks
 
 -- the statements strictly between two positions
 abbrev pub between : Database → ℕ → ℕ → Database
@@ -17,12 +16,12 @@ between S i j = take (j - 1 - i) (drop i S)
 
 -- i is active at j exactly if i is before j and no prefix of the statements between has more `$}`
 -- than `${`
-abbrev pub ActiveBySentence : Type 0
-ActiveBySentence = (S : Database) (i j : ℕ) → IsTrue (is_active S i j) ↔ ((1 ≤ i) × (i < j) × NeverCloses 0 (between S i j))
+abbrev pub ActiveByCounts : Type 0
+ActiveByCounts = (S : Database) (i j : ℕ) → IsTrue (is_active S i j) ↔ ((1 ≤ i) × (i < j) × ClosesAtMost 0 (between S i j))
 
 -- a statement that closes no block becomes active, and the active ones stay active
-abbrev pub ActiveMore : Type 0
-ActiveMore = (S : Database) (s : Stmt) → is_close s ≡ false → active (S ++ s ∷ []) ≡ active S ++ (1 + length S, s) ∷ []
+abbrev pub ActiveAfterStatement : Type 0
+ActiveAfterStatement = (S : Database) (s : Stmt) → is_close s ≡ false → active (S ++ s ∷ []) ≡ active S ++ (1 + length S, s) ∷ []
 
 abbrev pub has_open : List (ℕ × Stmt) → Bool
 has_open es = list_any (λ p. is_open p.1) es
@@ -33,13 +32,13 @@ before_open [] = []
 before_open (p ∷ es) = if has_open es then p ∷ before_open es else []
 
 -- after a `$}` the last open `${` and the statements that became active after it are no longer
--- active; if no block was open, no earlier statement is
-abbrev pub ActiveClosed : Type 0
-ActiveClosed = (S : Database) → active (S ++ Close ∷ []) ≡ before_open (active S) ++ (1 + length S, Close) ∷ []
+-- active; if no block was open, no earlier statement is active
+abbrev pub ActiveAfterClose : Type 0
+ActiveAfterClose = (S : Database) → active (S ++ Close ∷ []) ≡ before_open (active S) ++ (1 + length S, Close) ∷ []
 
 -- the active statements stay active after later ones that close none of the earlier blocks
-abbrev pub ActiveLater : Type 0
-ActiveLater = (S T : Database) → NeverCloses 0 T → active (S ++ T) ≡ active S ++ active_from (1 + length S) T
+abbrev pub ActiveAfterBlocks : Type 0
+ActiveAfterBlocks = (S T : Database) → ClosesAtMost 0 T → active (S ++ T) ≡ active S ++ active_from (1 + length S) T
 
 -- no rule looks at a proof
 pub record RulesIgnoreProofs : Type 0 where

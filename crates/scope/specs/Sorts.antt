@@ -28,10 +28,10 @@ is_label_sort Label = true
 is_label_sort sort = false
 
 -- the sort of a variable, by whether it is active, and whether it has an active `$f`
-abbrev pub sort_by : Bool → Bool → Sort
-sort_by false typed = Other
-sort_by true true = Typed
-sort_by true false = Untyped
+abbrev pub variable_sort : Bool → Bool → Sort
+variable_sort false typed = Other
+variable_sort true true = Typed
+variable_sort true false = Untyped
 
 -- the name has this sort after the statements
 pub record IsSort (S : Database) (x : Name) (sort : Sort) : Type 0 where

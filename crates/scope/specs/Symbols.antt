@@ -7,15 +7,15 @@ use Rattle.scope.specs.Words.{Name, Stmt, Const, Var, Disj, Float, Ess, Axiom, P
 use Rattle.scope.specs.Active.{label_of}
 
 -- the symbols that a statement declares
-abbrev pub symbols_by : Stmt → List Name
-symbols_by (Const symbols) = symbols
-symbols_by (Var symbols) = symbols
-symbols_by s = []
+abbrev pub symbols_declared_by : Stmt → List Name
+symbols_declared_by (Const symbols) = symbols
+symbols_declared_by (Var symbols) = symbols
+symbols_declared_by s = []
 
 -- these symbols and those that the statements declare, each once
 abbrev pub symbols_from : List Name → Database → List Name
 symbols_from symbols [] = symbols
-symbols_from symbols (s ∷ S) = symbols_from (with_names symbols (symbols_by s)) S
+symbols_from symbols (s ∷ S) = symbols_from (with_names symbols (symbols_declared_by s)) S
 
 -- the declared symbols, in the order of their first declaration
 abbrev pub symbols_of : Database → List Name
@@ -45,14 +45,14 @@ AreVariableNumbers symbols s numbers = Unit {0}
 
 -- the symbols after one more statement
 abbrev pub symbols_after : Database → Stmt → List Name
-symbols_after S s = with_names (symbols_of S) (symbols_by s)
+symbols_after S s = with_names (symbols_of S) (symbols_declared_by s)
 
 -- a list, with the content of an option put in front
-abbrev pub option_list : {A : Type 0} → Option A → List A → List A
-option_list None xs = xs
-option_list (Some x) xs = x ∷ xs
+abbrev pub prepend_option : {A : Type 0} → Option A → List A → List A
+prepend_option None xs = xs
+prepend_option (Some x) xs = x ∷ xs
 
 -- the labels, in order
 abbrev pub labels_of : Database → List Name
 labels_of [] = []
-labels_of (s ∷ S) = option_list (label_of s) (labels_of S)
+labels_of (s ∷ S) = prepend_option (label_of s) (labels_of S)

@@ -1,7 +1,7 @@
 //! Adds to the numbering the names that a legal statement declares.
 ghost use Rattle.std.specs.Prelude.{◌≡◌, ◌++◌, None, true, false, IfOk, OnOk, OnErr};
 ghost use Rattle.mm_lex.specs.Alphabet.{Name, has_name};
-ghost use Rattle.scope.specs.Kinds.{Declared, IsNumberOf, declared_symbols, is_label_kind, is_symbol_kind, kind_in, with_kind, with_kinds};
+ghost use Rattle.scope.specs.Kinds.{Declared, IsNumberOf, declared_symbols, is_some_label, is_symbol_kind, kind_in, with_kind, with_kinds};
 ghost use Rattle.scope.specs.Declares.{IsRecordedBy, MayDeclare, declared_with};
 ghost use Rattle.scope.specs.Stored.SymbolNumbers.{AreRecorded};
 ghost use Rattle.scope.specs.declared.numbering.NameKind.TheVariants as shape_kind;
@@ -66,7 +66,7 @@ fn declare_symbols(
     recorded: &mut SymbolNumbers,
 ) -> Result<(), AllocError>
     requires symbol { is_symbol_kind kind ≡ true }
-    requires free { (x : Name) → has_name x symbols.now ≡ true → is_label_kind (kind_in names.old x) ≡ false }
+    requires free { (x : Name) → has_name x symbols.now ≡ true → is_some_label (kind_in names.old x) ≡ false }
     ensures ok { OnOk result (names.new ≡ with_kinds names.old kind symbols.now) }
     ensures recorded { OnOk result (AreRecorded (declared_symbols names.new) symbols.now recorded.new) }
     ensures more { (more : Declared) × (names.new ≡ names.old ++ more) }
@@ -88,7 +88,7 @@ fn declare_symbol(
     kind: NameKind,
 ) -> Result<u32, AllocError>
     requires is_symbol { is_symbol_kind kind ≡ true }
-    requires free { is_label_kind (kind_in names.old symbol.now) ≡ false }
+    requires free { is_some_label (kind_in names.old symbol.now) ≡ false }
     ensures ok { OnOk result (names.new ≡ with_kind names.old kind symbol.now) }
     ensures number { IfOk result (λ n. IsNumberOf (declared_symbols names.new) symbol.now n) }
     ensures more { (more : Declared) × (names.new ≡ names.old ++ more) }

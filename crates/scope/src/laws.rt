@@ -1,26 +1,26 @@
 //! Laws about active statements and about the rules, each the contract of a function that does
 //! nothing.
-ghost use Rattle.scope.specs.Laws.{ActiveBySentence, ActiveMore, ActiveClosed, ActiveLater, RulesIgnoreProofs};
+ghost use Rattle.scope.specs.Laws.{ActiveByCounts, ActiveAfterStatement, ActiveAfterClose, ActiveAfterBlocks, RulesIgnoreProofs};
 
 /// States that a statement is active at a later position exactly if no prefix of the statements
 /// between has more `$}` than `${`.
-pub fn active_by_sentence()
-    ensures { ActiveBySentence }
+pub fn active_by_counts()
+    ensures { ActiveByCounts }
 {}
 
 /// States which statements are active after one more statement that closes no block.
-pub fn active_more()
-    ensures { ActiveMore }
+pub fn active_after_statement()
+    ensures { ActiveAfterStatement }
 {}
 
 /// States which statements are active after a `$}`.
-pub fn active_closed()
-    ensures { ActiveClosed }
+pub fn active_after_close()
+    ensures { ActiveAfterClose }
 {}
 
 /// States which statements are active after later statements that close none of the earlier blocks.
-pub fn active_later()
-    ensures { ActiveLater }
+pub fn active_after_blocks()
+    ensures { ActiveAfterBlocks }
 {}
 
 /// States that no rule looks at a proof.

@@ -30,7 +30,10 @@ mod symbol_numbers;
 pub use declare::declare_names;
 pub use frame_statements::FrameStatement;
 pub use history::History;
-pub use laws::{active_by_sentence, active_closed, active_later, active_more, rules_ignore_proofs};
+pub use laws::{
+    active_after_blocks, active_after_close, active_after_statement, active_by_counts,
+    rules_ignore_proofs,
+};
 pub use numbering::{NameKind, Numbering};
 pub use rule::Rule;
 pub use rules::Rules;

@@ -100,9 +100,9 @@ impl Scope {
         if self.count == usize::MAX {
             return Err(Rule::Memory);
         }
-        let names = self.names.len();
-        let frame_statements = self.frame_statements.len();
-        let taken = append_legal(
+        let name_count = self.names.len();
+        let active_count = self.frame_statements.len();
+        let appended = append_legal(
             self.alloc,
             &mut self.rules,
             &mut self.names,
@@ -111,9 +111,9 @@ impl Scope {
             stmt,
             &mut self.recorded,
         );
-        if taken.is_err() {
-            self.names.truncate(names);
-            self.frame_statements.truncate(frame_statements);
+        if appended.is_err() {
+            self.names.truncate(name_count);
+            self.frame_statements.truncate(active_count);
             return Err(Rule::Memory);
         }
         self.count += 1;

@@ -8,7 +8,7 @@ use std::marker::Model;
 
 /// A stack of distinct numbers. Contracts see the list.
 ///
-/// `indexes` has an index for each number. That index is valid only if the number stands there in
+/// `indexes` has an index for each number. That index is valid only if the number is there in
 /// `numbers`, so a truncation of the stack leaves `indexes` as it is.
 #[derive(Drop)]
 pub struct Stack {

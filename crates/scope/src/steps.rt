@@ -9,7 +9,7 @@ use std::marker::{Model, PhantomData};
 #[derive(Drop)]
 pub struct Steps {
     /// Has no size: at run time a value stores nothing.
-    of: PhantomData<u8>,
+    phantom: PhantomData<u8>,
     pub ghost count: { ℕ },
 }
 
@@ -25,7 +25,9 @@ impl Steps {
     pub fn new() -> Steps
         ensures { result.count ≡ 0 }
     {
-        Steps { of: PhantomData }
+        Steps {
+            phantom: PhantomData,
+        }
     }
 
     /// Adds one to the count.

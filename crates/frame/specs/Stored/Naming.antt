@@ -1,7 +1,7 @@
 -- The names that statements declare, each with its kind.
 -- Internal to the code: no public clause cites it.
 use Rattle.std.specs.Prelude.{Bool, ◌||◌, [], ◌∷◌, Option}
-use Rattle.frame.specs.Words.{Database, Declared, is_constant_kind, is_variable_kind, declared_with, NameKind}
+use Rattle.frame.specs.Words.{Database, Declared, is_some_constant, is_some_variable, declared_with, NameKind}
 
 -- the names, followed by those that the statements declare
 abbrev pub naming_from : Declared → Database → Declared
@@ -14,4 +14,4 @@ naming_of S = naming_from [] S
 
 -- the kind is that of a symbol
 abbrev pub is_declared : Option NameKind → Bool
-is_declared kind = is_constant_kind kind || is_variable_kind kind
+is_declared kind = is_some_constant kind || is_some_variable kind

@@ -2,7 +2,7 @@
 -- labels. No public clause cites it.
 use Rattle.std.specs.Prelude.{◌≡◌, ℕ, ◌+◌, Bool, List, [], ◌∷◌, map, length, if◌then◌else◌}
 use Rattle.mm_lex.specs.Alphabet.{Name}
-use Rattle.scope.specs.Kinds.{is_symbol_kind, is_label}
+use Rattle.scope.specs.Kinds.{is_symbol_kind, is_label_kind}
 use Rattle.scope.specs.declared.numbering.NameKind.{NameKind}
 use Rattle.scope.specs.declared.numbering.CountedKind.{CountedKind}
 
@@ -29,4 +29,4 @@ pub record IsCounted (names : List Name) (entries : List CountedKind) (symbols l
   pub same : length entries ≡ length names
   pub counted : AreCounted 0 entries
   pub symbols_are : symbols ≡ indexes_where is_symbol_kind 0 entries
-  pub labels_are : labels ≡ indexes_where is_label 0 entries
+  pub labels_are : labels ≡ indexes_where is_label_kind 0 entries

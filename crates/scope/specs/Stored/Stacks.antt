@@ -31,13 +31,13 @@ can_push stack [] = true
 can_push stack (n ∷ ns) = not (list_any (λ m. m == n) stack) && can_push (stack ++ n ∷ []) ns
 
 -- a statement that neither opens nor closes a block, and neither declares a variable nor gives one
--- a typecode; n is how many frame statements it is (`stand`), 1 for a `$e` or `$d`, else 0
-pub record IsPlain (s : Stmt) (n : ℕ) : Type 0 where
+-- a typecode; `added` is how many frame statements it is, 1 for a `$e` or `$d`, else 0
+pub record IsPlain (s : Stmt) (added : ℕ) : Type 0 where
   pub no_open : is_open s ≡ false
   pub no_close : is_close s ≡ false
   pub no_variables : variables s ≡ []
   pub untyped : typed_by s ≡ []
-  pub stand : (at : ℕ) → length (as_frame_statement at s) ≡ n
+  pub added_is : (at : ℕ) → length (as_frame_statement at s) ≡ added
 
 -- the marked statements M are a prefix of S without an open block, the later ones close none of its
 -- blocks, and `mark` has the heights after the marked ones

@@ -1,4 +1,4 @@
-use Rattle.frame.proofs.Words.{◌≡◌, map, false, required_at, typecode_at, kept_with, ◌∙◌, ◌+◌, ◌-◌, ap, sym, subst, arith, refl, length, take, take_all, length-map, false≢true, ℕ, List, Option, decode, with_names, bare, expr_of, AreRecorded, symbols_by, symbols_in, AreBelow, floats_in, has_parts, names_in, labels_in, statements_of, stmt_of, AreFloats, AreCollected, AreHypotheses, hypotheses, IsFilledFrom}
+use Rattle.frame.proofs.Words.{◌≡◌, map, false, required_at, typecode_at, kept_with, ◌∙◌, ◌+◌, ◌-◌, ap, sym, subst, arith, refl, length, take, take_all, length-map, false≢true, ℕ, List, Option, decode, with_names, bare, expr_of, AreRecorded, symbols_declared_by, symbols_in, AreBelow, floats_in, has_parts, names_in, labels_in, statements_of, stmt_of, AreFloats, AreCollected, AreHypotheses, hypotheses, IsFilledFrom}
 use Rattle.frame.proofs.AssertionLemmas.{hypotheses-are, floats-are, ok-both, filled-kept, parts-for}
 use Rattle.frame.proofs.CollectLemmas.{collected-from}
 use Rattle.frame.proofs.CollectedLemmas.{collected-hypotheses, found-floats}
@@ -12,7 +12,7 @@ found c =
     let k = c.args.storage.now in let s = c.args.stmt.now in
     next-bare k c.in-Some.codes.now s
     (ap has_parts (sym (kind_of-bare s) ∙ sym c.kind.ensures) ∙ (sym c.has_parts.ensures ∙ c.if-not-has_parts.false))
-    (subst (λ (o : Option (List ℕ)). AreRecorded (with_names (names_in k) (symbols_by s)) (symbols_in s) o) c.in-Some.ensures.numbers c.requires.recorded)
+    (subst (λ (o : Option (List ℕ)). AreRecorded (with_names (names_in k) (symbols_declared_by s)) (symbols_in s) o) c.in-Some.ensures.numbers c.requires.recorded)
 
 all : (c : In-Some) (list : List ℕ) → AreCollected c.args.storage.now.entries (statements_of c.args.storage.now) c.in-Some.codes.now list → list ≡ hypotheses (statements_of c.args.storage.now) (bare c.args.stmt.now)
 all c list l =

@@ -1,4 +1,4 @@
-use Rattle.scope.proofs.Words.{◌≡◌, ◌∙◌, ap, sym, subst, ◌++◌, ◌∷◌, [], List, append_assoc, false, Name, has_name, name_eq, or_right, declared_symbols, is_symbol_kind, is_label_kind, kind_in, with_kinds, AreRecorded}
+use Rattle.scope.proofs.Words.{◌≡◌, ◌∙◌, ap, sym, subst, ◌++◌, ◌∷◌, [], List, append_assoc, false, Name, has_name, name_eq, or_right, declared_symbols, is_symbol_kind, is_some_label, kind_in, with_kinds, AreRecorded}
 use Rattle.scope.proofs.AcceptLemmas.{with_kinds-more}
 use Rattle.scope.proofs.SymbolNameLemmas.{names_where-append, label_free, recorded-later, recorded-more}
 use Rattle.scope.proofs.declare.declare_symbols.Goals as goal
@@ -15,7 +15,7 @@ loop-symbol-preserved c =
     let later : declared_symbols c.declare_symbol.new.names ≡ declared_symbols names ++ declared_symbols one.0 = ap declared_symbols (done ∙ one.1) ∙ names_where-append is_symbol_kind names one.0 in
     record {
       rest = ap (λ ns. with_kinds ns kind rest) done ∙ (ap (with_kinds names kind) (sym c.in-Some.ensures.steps) ∙ i.rest);
-      free = λ y h. subst (λ ns. is_label_kind (kind_in ns y) ≡ false) (sym done) (label_free names kind x y c.requires.symbol (i.free y (ap (has_name y) c.in-Some.ensures.steps ∙ or_right (name_eq y x) (has_name y rest) h)));
+      free = λ y h. subst (λ ns. is_some_label (kind_in ns y) ≡ false) (sym done) (label_free names kind x y c.requires.symbol (i.free y (ap (has_name y) c.in-Some.ensures.steps ∙ or_right (name_eq y x) (has_name y rest) h)));
       more = (i.more.0 ++ one.0, done ∙ (one.1 ∙ (ap (λ ns. ns ++ one.0) i.more.1 ∙ append_assoc c.args.names.now i.more.0 one.0)));
       recorded = (
         i.recorded.0 ++ x ∷ [],

@@ -1,4 +1,4 @@
-use Rattle.scope.proofs.Words.{◌≡◌, ◌∙◌, ap, sym, subst, Some, None, ◌==◌, Option, ℕ, List, list_any, Name, Database, Accepted, active_variables, typed_variables, is_variable, has_float, codes_or_len, Declared, kind_in, names_of_kind, MatchesKind, MatchesKinds, IsNumberOf, symbols_of, IsSort, sort_by, NameKind, Sort, Constant, Variable, Label, code-at, found-number}
+use Rattle.scope.proofs.Words.{◌≡◌, ◌∙◌, ap, sym, subst, Some, None, ◌==◌, Option, ℕ, List, list_any, Name, Database, Accepted, active_variables, typed_variables, is_variable, has_float, codes_or_len, Declared, kind_in, names_of_kind, MatchesKind, MatchesKinds, IsNumberOf, symbols_of, IsSort, variable_sort, NameKind, Sort, Constant, Variable, Label, code-at, found-number}
 use Rattle.scope.specs.declared.legal.Sort.TheVariants as sort
 use Rattle.scope.proofs.SortsLemmas.{constant-sort, label-sort, no-sort, variable-sort, numbers-has, is_variable-active, has_float-typed}
 use Rattle.scope.proofs.NamesLemmas.{symbols-distinct}
@@ -28,14 +28,14 @@ returns-in-None-clause-sort c =
 
 -- the sort of a variable, by whether its number is on each of the two stacks
 variable : (S : Database) (x : Name) (n : ℕ) (r : Sort) → MatchesKind S x (Some Variable) → IsNumberOf (symbols_of S) x n
-    → r ≡ sort_by (list_any (λ m. m == n) (codes_or_len (symbols_of S) (active_variables S))) (list_any (λ m. m == n) (codes_or_len (symbols_of S) (typed_variables S))) → IsSort S x r
+    → r ≡ variable_sort (list_any (λ m. m == n) (codes_or_len (symbols_of S) (active_variables S))) (list_any (λ m. m == n) (codes_or_len (symbols_of S) (typed_variables S))) → IsSort S x r
 variable S x n r t number is =
     let found = found-number (symbols_of S) x n (sym (code-at (symbols_of S) x n (symbols-distinct S) number.0 number.1)) in
     let active : list_any (λ m. m == n) (codes_or_len (symbols_of S) (active_variables S)) ≡ is_variable S x =
     ap (λ k. list_any (λ m. m == k) (codes_or_len (symbols_of S) (active_variables S))) (sym found.1) ∙ (numbers-has (symbols_of S) x (active_variables S) found.0 ∙ sym (is_variable-active S x)) in
     let typed : list_any (λ m. m == n) (codes_or_len (symbols_of S) (typed_variables S)) ≡ has_float S x =
     ap (λ k. list_any (λ m. m == k) (codes_or_len (symbols_of S) (typed_variables S))) (sym found.1) ∙ (numbers-has (symbols_of S) x (typed_variables S) found.0 ∙ sym (has_float-typed S x)) in
-    subst (λ (q : Sort). IsSort S x q) (sym (is ∙ (ap (λ a. sort_by a (list_any (λ m. m == n) (codes_or_len (symbols_of S) (typed_variables S)))) active ∙ ap (λ b. sort_by (is_variable S x) b) typed))) (variable-sort S x t)
+    subst (λ (q : Sort). IsSort S x q) (sym (is ∙ (ap (λ a. variable_sort a (list_any (λ m. m == n) (codes_or_len (symbols_of S) (typed_variables S)))) active ∙ ap (λ b. variable_sort (is_variable S x) b) typed))) (variable-sort S x t)
 
 pub returns-in-Some-default-Variable-clause-sort : goal.returns-in-Some-default-Variable-clause-sort
 returns-in-Some-default-Variable-clause-sort c =

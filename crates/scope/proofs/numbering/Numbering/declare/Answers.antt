@@ -1,4 +1,4 @@
-use Rattle.scope.proofs.Words.{◌≡◌, ◌+◌, ◌∙◌, ap, sym, subst, arith, length, length-append, rules, vec_len, ◌++◌, ◌∷◌, [], cond, map-append, Declared, kind_in, zip_kinds, names_of_kind, declared_symbols, IsNumberOf, is_symbol_kind, is_label, kinds_of, AreCounted, indexes_where, CountedKind}
+use Rattle.scope.proofs.Words.{◌≡◌, ◌+◌, ◌∙◌, ap, sym, subst, arith, length, length-append, rules, vec_len, ◌++◌, ◌∷◌, [], cond, map-append, Declared, kind_in, zip_kinds, names_of_kind, declared_symbols, IsNumberOf, is_symbol_kind, is_label_kind, kinds_of, AreCounted, indexes_where, CountedKind}
 use Rattle.scope.proofs.AcceptLemmas.{ok_of}
 use Rattle.scope.proofs.EntryLemmas.{indexes-count, new-number}
 use Rattle.scope.proofs.KindsLemmas.{none-kind, their-push, length-seen}
@@ -42,9 +42,9 @@ invariant_of-self-else-is_err c =
       symbols_are = symbols ∙ (ap (λ s. s ++ cond (is_symbol_kind c.args.kind) (c.in_ok-index.index ∷ []) []) c.self.invariant.symbols_are
           ∙ (ap (λ n. indexes_where is_symbol_kind 0 a.entries.items ++ cond (is_symbol_kind c.args.kind) (n ∷ []) []) index
           ∙ (sym (indexes-push is_symbol_kind 0 a.entries.items e) ∙ ap (indexes_where is_symbol_kind 0) (sym entries))));
-      labels_are = labels ∙ (ap (λ s. s ++ cond (is_label c.args.kind) (c.in_ok-index.index ∷ []) []) c.self.invariant.labels_are
-          ∙ (ap (λ n. indexes_where is_label 0 a.entries.items ++ cond (is_label c.args.kind) (n ∷ []) []) index
-          ∙ (sym (indexes-push is_label 0 a.entries.items e) ∙ ap (indexes_where is_label 0) (sym entries))));
+      labels_are = labels ∙ (ap (λ s. s ++ cond (is_label_kind c.args.kind) (c.in_ok-index.index ∷ []) []) c.self.invariant.labels_are
+          ∙ (ap (λ n. indexes_where is_label_kind 0 a.entries.items ++ cond (is_label_kind c.args.kind) (n ∷ []) []) index
+          ∙ (sym (indexes-push is_label_kind 0 a.entries.items e) ∙ ap (indexes_where is_label_kind 0) (sym entries))));
     }
 
 -- the number of symbols that were declared before

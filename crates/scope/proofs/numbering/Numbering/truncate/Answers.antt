@@ -1,4 +1,4 @@
-use Rattle.scope.proofs.Words.{◌∙◌, ap, sym, subst, arith, length, take, slice_get, take-map, take_all, zip_kinds, declared_symbols, declared_labels, is_symbol_kind, is_label, kinds_of, AreCounted, indexes_where}
+use Rattle.scope.proofs.Words.{◌∙◌, ap, sym, subst, arith, length, take, slice_get, take-map, take_all, zip_kinds, declared_symbols, declared_labels, is_symbol_kind, is_label_kind, kinds_of, AreCounted, indexes_where}
 use Rattle.scope.proofs.KindsLemmas.{their-take, length-seen}
 use Rattle.scope.proofs.KindCountLemmas.{kinds-length, counted-take, take-same, indexes-take}
 use Rattle.scope.proofs.EntryLemmas.{symbols-earlier_symbols, labels-earlier_symbols, earlier_symbols-within}
@@ -39,5 +39,5 @@ invariant_of-self c =
       symbols_are = c.truncate-3.ensures.items ∙ (ap (λ n. take n a.symbols.items) symbols ∙ (ap (take (length (declared_symbols D))) c.self.invariant.symbols_are
           ∙ (sym (indexes-take is_symbol_kind 0 c.args.len a.names a.entries.items c.self.invariant.same) ∙ ap (indexes_where is_symbol_kind 0) (sym c.truncate-2.ensures.items))));
       labels_are = c.truncate-4.ensures.items ∙ (ap (λ n. take n a.labels.items) labels ∙ (ap (take (length (declared_labels D))) c.self.invariant.labels_are
-          ∙ (sym (indexes-take is_label 0 c.args.len a.names a.entries.items c.self.invariant.same) ∙ ap (indexes_where is_label 0) (sym c.truncate-2.ensures.items))));
+          ∙ (sym (indexes-take is_label_kind 0 c.args.len a.names a.entries.items c.self.invariant.same) ∙ ap (indexes_where is_label_kind 0) (sym c.truncate-2.ensures.items))));
     }

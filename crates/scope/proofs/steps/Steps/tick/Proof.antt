@@ -21,7 +21,7 @@ module _ {M : Type 1} {𝓤 : Ura M} (𝓛 : Logic 𝓤) (at_mem : Memory → SP
   x = (record { ref_ptr = (b, o); ghost_name = γ; now = h }, tt)
 
   abbrev h' : Steps
-  h' = record { of = h.of; count = h.count + 1 }
+  h' = record { phantom = h.phantom; count = h.count + 1 }
 
   abbrev at : List Val × Unit {0}
   at = (vptr b o ∷ [], tt)
