@@ -3,7 +3,7 @@ use crate::statement_symbols::{first_symbol_token, label_of, symbol_at};
 use crate::text_tokens::TextTokens;
 use crate::written_lines::Lines;
 use mm_read::{ReadFault, Stmt, read};
-use rule_violation::{RuleViolation, never_closed, violation_of};
+use rule_violation::{RuleViolation, find_unclosed_block, violation_of};
 use scope::Rule;
 use std::alloc::Global;
 
@@ -71,7 +71,7 @@ fn explain_rule_in(alloc: Global, lines: &mut Lines<'_>, context: &RuleContext<'
 
 /// Writes that a block is never closed.
 fn explain_open_block(lines: &mut Lines<'_>, context: &RuleContext<'_>) {
-    if let Some(open) = never_closed(context.statements) {
+    if let Some(open) = find_unclosed_block(context.statements) {
         push_token_start(lines, context, open, 1);
         lines.push(b"this block is never closed\n");
     }

@@ -140,7 +140,7 @@ again X rest words w first second split count low is = (
   record {
     name = w;
     is_there = ap (λ n. slice_get words n) count ∙ (ap (λ ws. slice_get ws (length X)) (sym split) ∙ got_after X rest w);
-    is = ap (λ ws. slice_get ws first) (sym split) ∙ (got_before X (w ∷ rest) first (omega (arith, low, count)) ∙ ap Some is);
+    holds = ap (λ ws. slice_get ws first) (sym split) ∙ (got_before X (w ∷ rest) first (omega (arith, low, count)) ∙ ap Some is);
   },
 )
 

@@ -54,8 +54,8 @@ step n (Prove l e p) = omega arith
 pub closed_few : (n i h k : ℕ) (s : Stmt) → h ≡ i + 1 → n + h ≤ k → closed_blocks_from s n + i ≤ k
 closed_few n i h k s e few = omega (arith, step n s, e, few)
 
-module _ (S : Database) (i h : ℕ) (s : Stmt) (closed : ℕ) (t : Stmt → Bool) (inside : i < length S) (here : s ≡ get_or S i s) (next : h ≡ i + 1)
-    (counts : closed ≡ closed_blocks (drop h S)) where
+module _ (S : Database) (i h : ℕ) (s : Stmt) (closed_later : ℕ) (t : Stmt → Bool) (inside : i < length S) (here : s ≡ get_or S i s) (next : h ≡ i + 1)
+    (counts : closed_later ≡ closed_blocks (drop h S)) where
   -- the next index as the successor of this one
   after_is : suc i ≡ h
   after_is = omega (arith, next)
@@ -65,17 +65,17 @@ module _ (S : Database) (i h : ℕ) (s : Stmt) (closed : ℕ) (t : Stmt → Bool
   opened = drop-cons S i s inside ∙ (ap (λ x. x ∷ drop (suc i) S) (sym here) ∙ ap (λ k. s ∷ drop k S) after_is)
 
   -- the statement is active exactly if nothing after it closes its block
-  stays : stays_open 0 (drop h S) ≡ (closed == 0)
+  stays : stays_open 0 (drop h S) ≡ (closed_later == 0)
   stays = stays_open-closed 0 (drop h S) ∙ (zero_closed (closed_blocks (drop h S)) ∙ ap (λ n. n == 0) (sym counts))
 
   -- the number of closed blocks, with this statement
-  pub closed_on : closed_blocks_from s closed ≡ closed_blocks (drop i S)
+  pub closed_on : closed_blocks_from s closed_later ≡ closed_blocks (drop i S)
   closed_on = ap (closed_blocks_from s) counts ∙ ap closed_blocks (sym opened)
 
   -- a statement that passes the test, and after which no block is closed, is an active one that passes
-  pub found_active : (closed == 0 && t s) ≡ true → IsActiveAt S (i + 1) t
+  pub found_active : (closed_later == 0 && t s) ≡ true → IsActiveAt S (i + 1) t
   found_active h =
-      let parts : ((closed == 0) ≡ true) × (t s ≡ true) = and_parts (closed == 0) (t s) h in
+      let parts : ((closed_later == 0) ≡ true) × (t s ≡ true) = and_parts (closed_later == 0) (t s) h in
       record {
         at = record {
           stmt = s;
@@ -86,19 +86,19 @@ module _ (S : Database) (i h : ℕ) (s : Stmt) (closed : ℕ) (t : Stmt → Bool
       }
 
   -- an active statement from this one on passes exactly if this one does or one after it does
-  pub active_back : list_any (λ p. t p.1) (active_from (i + 1) (drop i S)) ≡ ((closed == 0 && t s) || list_any (λ p. t p.1) (active_from (h + 1) (drop h S)))
+  pub active_back : list_any (λ p. t p.1) (active_from (i + 1) (drop i S)) ≡ ((closed_later == 0 && t s) || list_any (λ p. t p.1) (active_from (h + 1) (drop h S)))
   active_back =
       ap (λ T. list_any (λ p. t p.1) (active_from (i + 1) T)) opened
       ∙ (by (stays_open 0 (drop h S)) (active_from (i + 1 + 1) (drop h S))
       ∙ (ap (λ b. (b && t s) || list_any (λ p. t p.1) (active_from (i + 1 + 1) (drop h S))) stays
-      ∙ ap (λ k. (closed == 0 && t s) || list_any (λ p. t p.1) (active_from (k + 1) (drop h S))) (sym next)))
+      ∙ ap (λ k. (closed_later == 0 && t s) || list_any (λ p. t p.1) (active_from (k + 1) (drop h S))) (sym next)))
     where
       by : (b : Bool) (es : List (ℕ × Stmt)) → list_any (λ p. t p.1) (cond b ((i + 1, s) ∷ es) es) ≡ ((b && t s) || list_any (λ p. t p.1) es)
       by true es = refl
       by false es = refl
 
   -- if neither this one passes nor one after it, none from this one on does
-  pub none_back : list_any (λ p. t p.1) (active_from (h + 1) (drop h S)) ≡ false → (closed == 0 && t s) ≡ false → list_any (λ p. t p.1) (active_from (i + 1) (drop i S)) ≡ false
+  pub none_back : list_any (λ p. t p.1) (active_from (h + 1) (drop h S)) ≡ false → (closed_later == 0 && t s) ≡ false → list_any (λ p. t p.1) (active_from (i + 1) (drop i S)) ≡ false
   none_back none not = active_back ∙ (ap (λ b. b || list_any (λ p. t p.1) (active_from (h + 1) (drop h S))) not ∙ none)
 
 -- no statement is left after the end

@@ -141,7 +141,7 @@ pub G5_is : {E : Type 0} (S : Database) (s : Stmt) (expr : Expr) (r : Result (Op
 G5_is S s expr r is =
     by_symbol S s G5 fault.Unknown (λ x. is_constant S x || is_variable S x) expr r (keeps_expr S s ∙ ap (list_all (λ x. is_constant S x || is_variable S x)) is)
     (λ x. sym (not-not (is_constant S x || is_variable S x)))
-    (λ k h. record { name = h.name; is_there = ap (λ e. slice_get e k) is ∙ h.is_there; is = or_parts (is_constant S h.name) (is_variable S h.name) (not-true (is_constant S h.name || is_variable S h.name) h.is) })
+    (λ k h. record { name = h.name; is_there = ap (λ e. slice_get e k) is ∙ h.is_there; holds = or_parts (is_constant S h.name) (is_variable S h.name) (not-true (is_constant S h.name || is_variable S h.name) h.holds) })
 
 -- G9 looks only at the expression of a `$e`, `$a` or `$p`
 keeps_typed : (S : Database) (s : Stmt) → keeps S s G9 ≡ are_typed S (typed_expr s)
@@ -162,7 +162,7 @@ pub G9_is : {E : Type 0} (S : Database) (s : Stmt) (expr : Expr) (r : Result (Op
 G9_is S s expr r is =
     by_symbol S s G9 fault.Untyped (λ x. not (is_variable S x) || has_float S x) expr r (keeps_typed S s ∙ ap (are_typed S) is)
     (λ x. not_and (is_variable S x) (has_float S x))
-    (λ k h. record { name = h.name; is_there = ap (λ e. slice_get e k) is ∙ h.is_there; is = let t = and_parts (is_variable S h.name) (not (has_float S h.name)) h.is in (t.0, not-true (has_float S h.name) t.1) })
+    (λ k h. record { name = h.name; is_there = ap (λ e. slice_get e k) is ∙ h.is_there; holds = let t = and_parts (is_variable S h.name) (not (has_float S h.name)) h.holds in (t.0, not-true (has_float S h.name) t.1) })
   where
     not_and : (a b : Bool) → (not a || b) ≡ not (a && not b)
     not_and true true = refl

@@ -20,7 +20,7 @@ use Rattle.rule_violation.specs.Search.{has_name_in, PassesAt, IsActiveAt}
 pub record HoldsAt (names : List Name) (index : ℕ) (P : Name → Type 0) : Type 0 where
   pub name : Name
   pub is_there : slice_get names index ≡ Some name
-  pub is : P name
+  pub holds : P name
 
 -- the violation is a symbol that passes the test
 abbrev pub IsSymbolViolation : List Name → (Name → Bool) → RuleViolation → Type 0
@@ -37,7 +37,7 @@ IsLabelConflict S x violation = ⊥
 abbrev pub IsTwice : List Name → ℕ → ℕ → Type 0
 IsTwice names first second = (first < second) × HoldsAt names second (λ x. slice_get names first ≡ Some x)
 
--- the violation is a name that is there twice
+-- the violation is a name that occurs twice
 abbrev pub IsRepeated : List Name → RuleViolation → Type 0
 IsRepeated names (Twice first second) = IsTwice names first second
 IsRepeated names violation = ⊥

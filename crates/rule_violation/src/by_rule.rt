@@ -19,9 +19,9 @@ use std::alloc::{AllocError, Global};
 /// Returns a violation of a rule that a statement breaks after the earlier ones. If the statement
 /// keeps the rule, the result is not specified. `scope::Rule` lists the rules G1 to G10.
 ///
-/// Errors: an allocation fails. Cost: a few passes over the labels, declared symbols and variables
-/// of `$f`s of the earlier statements, with a look-up of each among the symbols of the statement or
-/// a comparison with one name.
+/// Errors: an allocation fails. Cost: a few passes over the earlier statements; each label, declared
+/// symbol and variable of a `$f` is looked up among the symbols of the statement or compared with
+/// one name.
 pub fn violation_of(
     alloc: Global,
     earlier: &[Stmt],
@@ -222,24 +222,24 @@ fn untyped_violation(
 /// none.
 ///
 /// Cost: the number of statements from that `${` to the end, or of all if there is none.
-pub fn never_closed(statements: &[Stmt]) -> Option<usize>
+pub fn find_unclosed_block(statements: &[Stmt]) -> Option<usize>
     ensures { IfSome result (λ i. IsActiveAt statements.now i is_open) }
 {
-    let mut closed = 0usize;
+    let mut closed_later = 0usize;
     for i in (0..statements.len()).rev() {
         let stmt = &statements[i];
-        if is_active_open(closed, stmt) {
+        if is_active_open(closed_later, stmt) {
             return Some(i + 1);
         }
-        closed = closed_blocks_from(stmt, closed);
+        closed_later = closed_blocks_from(stmt, closed_later);
     }
     None
 }
 
 /// Returns whether the statement is a `${` whose block no later statement closes. Later statements
-/// close `closed` of the blocks that are open just after it.
-fn is_active_open(closed: usize, stmt: &Stmt) -> bool
-    ensures { result ≡ (closed == 0 && is_open stmt.now) }
+/// close `closed_later` of the blocks that are open just after it.
+fn is_active_open(closed_later: usize, stmt: &Stmt) -> bool
+    ensures { result ≡ (closed_later == 0 && is_open stmt.now) }
 {
-    closed == 0 && matches!(stmt, Stmt::Open)
+    closed_later == 0 && matches!(stmt, Stmt::Open)
 }

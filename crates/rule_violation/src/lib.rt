@@ -1,8 +1,8 @@
 //! Finds the symbol, label or statement that breaks a rule, and the earlier statement with which it
 //! conflicts.
 //!
-//! After a statement is refused, `violation_of` finds what breaks the rule. `never_closed` finds a
-//! `${` whose block is open at the end. `specs/Violations` defines violations.
+//! After a statement is refused, `violation_of` finds what breaks the rule. `find_unclosed_block`
+//! finds a `${` whose block is open at the end. `specs/Violations` defines violations.
 //!
 //! Reading order: `violation`, `search`, `marks`, `symbol_search`, `by_rule`.
 #![tactic(auto)]
@@ -13,5 +13,5 @@ mod search;
 mod symbol_search;
 mod violation;
 
-pub use by_rule::{never_closed, violation_of};
+pub use by_rule::{find_unclosed_block, violation_of};
 pub use violation::RuleViolation;

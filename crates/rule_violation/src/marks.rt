@@ -53,19 +53,19 @@ pub(crate) fn mark_active(
     requires { length marks.old ≡ length names.now }
     ensures { marks.new ≡ marked (λ x. list_any (λ p. has_name_in role x p.1) (active earlier.now)) mark names.now marks.old }
 {
-    let mut closed = 0usize;
+    let mut closed_later = 0usize;
     for i in (0..earlier.len()).rev() {
         let stmt = &earlier[i];
-        mark_where_active(closed, names, stmt, role, mark, marks);
-        closed = closed_blocks_from(stmt, closed);
+        mark_where_active(closed_later, names, stmt, role, mark, marks);
+        closed_later = closed_blocks_from(stmt, closed_later);
     }
 }
 
 /// Sets the mark to `mark` for each name of the table that the statement has in that role, if the
-/// statement is active. Later statements close `closed` of the blocks that are open just after it;
-/// it is active if they close none.
+/// statement is active. Later statements close `closed_later` of the blocks that are open just
+/// after it; it is active if they close none.
 fn mark_where_active(
-    closed: usize,
+    closed_later: usize,
     names: &NameTable,
     stmt: &Stmt,
     role: NameRole,
@@ -73,9 +73,9 @@ fn mark_where_active(
     marks: &mut [bool],
 )
     requires { length marks.old ≡ length names.now }
-    ensures { marks.new ≡ marked (λ x. closed == 0 && has_name_in role x stmt.now) mark names.now marks.old }
+    ensures { marks.new ≡ marked (λ x. closed_later == 0 && has_name_in role x stmt.now) mark names.now marks.old }
 {
-    if closed == 0 {
+    if closed_later == 0 {
         mark_stmt(names, stmt, role, mark, marks);
     }
 }
@@ -168,7 +168,7 @@ fn mark_word(names: &NameTable, word: &[u8], mark: bool, marks: &mut [bool])
 pub(crate) fn mark_of(names: &NameTable, marks: &[bool], name: &[u8]) -> bool
     requires count { length marks.now ≡ length names.now }
     requires named { has_name name.now names.now ≡ true }
-    ensures { (t : Name → Bool) → marks.now ≡ map t names.now → result ≡ t name.now }
+    ensures { (test : Name → Bool) → marks.now ≡ map test names.now → result ≡ test name.now }
 {
     match names.find(name) {
         Some(code) => marks[code],

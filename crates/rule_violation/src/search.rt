@@ -43,35 +43,35 @@ pub(crate) fn find_active(earlier: &[Stmt], role: NameRole, name: &[u8]) -> Opti
     ensures { MatchOption result (list_any (λ p. has_name_in role name.now p.1) (active earlier.now) ≡ false)
         (λ i. IsActiveAt earlier.now i (has_name_in role name.now)) }
 {
-    let mut closed = 0usize;
+    let mut closed_later = 0usize;
     for i in (0..earlier.len()).rev() {
         let stmt = &earlier[i];
-        if is_active_match(closed, stmt, role, name) {
+        if is_active_match(closed_later, stmt, role, name) {
             return Some(i + 1);
         }
-        closed = closed_blocks_from(stmt, closed);
+        closed_later = closed_blocks_from(stmt, closed_later);
     }
     None
 }
 
 /// Returns whether the statement has the name in that role and is active. Later statements close
-/// `closed` of the blocks that are open just after it; it is active if they close none.
-fn is_active_match(closed: usize, stmt: &Stmt, role: NameRole, name: &[u8]) -> bool
-    ensures { result ≡ (closed == 0 && has_name_in role name.now stmt.now) }
+/// `closed_later` of the blocks that are open just after it; it is active if they close none.
+fn is_active_match(closed_later: usize, stmt: &Stmt, role: NameRole, name: &[u8]) -> bool
+    ensures { result ≡ (closed_later == 0 && has_name_in role name.now stmt.now) }
 {
-    closed == 0 && has_name_in(stmt, role, name)
+    closed_later == 0 && has_name_in(stmt, role, name)
 }
 
 /// Returns how many of the blocks that are open just before the statement are closed by it or
-/// later. Later statements close `closed` of the blocks that are open just after it.
-pub(crate) fn closed_blocks_from(stmt: &Stmt, closed: usize) -> usize
-    requires { closed + 1 < 2 ^ 64 }
-    ensures { result ≡ closed_blocks_from stmt.now closed }
+/// later. Later statements close `closed_later` of the blocks that are open just after it.
+pub(crate) fn closed_blocks_from(stmt: &Stmt, closed_later: usize) -> usize
+    requires { closed_later + 1 < 2 ^ 64 }
+    ensures { result ≡ closed_blocks_from stmt.now closed_later }
 {
     match stmt {
-        Stmt::Open => closed.saturating_sub(1),
-        Stmt::Close => closed + 1,
-        _ => closed,
+        Stmt::Open => closed_later.saturating_sub(1),
+        Stmt::Close => closed_later + 1,
+        _ => closed_later,
     }
 }
 

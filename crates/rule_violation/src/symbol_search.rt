@@ -104,8 +104,8 @@ fn first_marked<'a>(
 ) -> Option<(usize, &'a [u8])>
     requires count { length marks.now ≡ length names.now }
     requires named { AreNamed names.now words.now }
-    ensures { (t : Name → Bool) → marks.now ≡ map t names.now
-        → MatchOption result (list_any t words.entry.now ≡ false) (λ r. IsNamePassingAt words.entry.now t r.0 r.1.now) }
+    ensures { (test : Name → Bool) → marks.now ≡ map test names.now
+        → MatchOption result (list_any test words.entry.now ≡ false) (λ r. IsNamePassingAt words.entry.now test r.0 r.1.now) }
 {
     let mut left = words.iter();
     for index in 0..words.len() {
