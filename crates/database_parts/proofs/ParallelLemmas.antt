@@ -11,7 +11,7 @@ use Rattle.scope.specs.Active.{bare, bares, before, stmt_at, is_assertion}
 use Rattle.frame.specs.Citations.{Carries}
 use Rattle.frame.specs.FrameOf.{hypotheses, mandatory_groups, together}
 use Rattle.frame.proofs.GroupsLemmas.{groups-pairs}
-use Rattle.database_parts.specs.Parts.{IsPart, nothing, keeps, skips, HasSameAssertion}
+use Rattle.database_parts.specs.Parts.{IsPartOf, nothing, keeps, skips, HasSameAssertion}
 use Rattle.database_parts.specs.Walk.{is_listed_assertion, HaveSameListedAssertions, IsSameFrame, IsWalked}
 
 -- ---- the property of an answer
@@ -26,16 +26,16 @@ ok-both (Err e) P Q R p q f = tt
 
 -- ---- parts
 
-pub part-whole : (S : Database) → IsPart S S
+pub part-whole : (S : Database) → IsPartOf S S
 part-whole [] = nothing
 part-whole (s ∷ S) = keeps (part-whole S)
 
-part-keep : (T S : Database) (s : Stmt) → IsPart T S → IsPart (T ++ s ∷ []) (S ++ s ∷ [])
+part-keep : (T S : Database) (s : Stmt) → IsPartOf T S → IsPartOf (T ++ s ∷ []) (S ++ s ∷ [])
 part-keep T S s nothing = keeps nothing
 part-keep T S s (keeps {part = T'} {whole = S'} p) = keeps (part-keep T' S' s p)
 part-keep T S s (skips {whole = S'} p) = skips (part-keep T S' s p)
 
-part-skip : (T S : Database) (s : Stmt) → IsPart T S → IsPart T (S ++ s ∷ [])
+part-skip : (T S : Database) (s : Stmt) → IsPartOf T S → IsPartOf T (S ++ s ∷ [])
 part-skip T S s nothing = skips nothing
 part-skip T S s (keeps {part = T'} {whole = S'} p) = keeps (part-skip T' S' s p)
 part-skip T S s (skips {whole = S'} p) = skips (part-skip T S' s p)
@@ -114,7 +114,7 @@ module _ (S T : Database) (labels : List Name) (n k : ℕ) (W P : Database) (w :
       record {
         whole_is = grown ∙ (ap (λ A. A ++ bare s ∷ []) w.whole_is ∙ sym (taken-more S n s less is));
         part_is = w.part_is;
-        part_of = subst (IsPart (take k T)) (sym (longer S n s less is)) (part-skip (take k T) (take n S) s w.part_of);
+        part_of = subst (IsPartOf (take k T)) (sym (longer S n s less is)) (part-skip (take k T) (take n S) s w.part_of);
         assertions = assertions-more S T labels n s w.assertions (get-some S n s s less is) (λ want. let f : true ≡ false = sym want ∙ unlisted in absurd (cc));
       }
 
@@ -126,7 +126,7 @@ module _ (S T : Database) (labels : List Name) (n k : ℕ) (W P : Database) (w :
       (record {
         whole_is = grown-whole ∙ (ap (λ A. A ++ bare s ∷ []) w.whole_is ∙ sym (taken-more S n s less is));
         part_is = grown-part ∙ (ap (λ A. A ++ bare s ∷ []) w.part_is ∙ sym (taken-more T k s g.0 g.1));
-        part_of = subst (λ U. IsPart U (take (n + 1) S)) (sym (longer T k s g.0 g.1)) (subst (IsPart (take k T ++ s ∷ [])) (sym (longer S n s less is)) (part-keep (take k T) (take n S) s w.part_of));
+        part_of = subst (λ U. IsPartOf U (take (n + 1) S)) (sym (longer T k s g.0 g.1)) (subst (IsPartOf (take k T ++ s ∷ [])) (sym (longer S n s less is)) (part-keep (take k T) (take n S) s w.part_of));
         assertions = assertions-more S T labels n s w.assertions (get-some S n s s less is) (λ want label c. same-here s met (listed-assertion labels s want) (has_same_frame_if_listed want) label c);
       })
 

@@ -2,7 +2,7 @@
 ghost use Rattle.std.specs.Prelude.{◌≡◌, ℕ, ◌+◌, ◌<◌, ◌∷◌, ◌++◌, [], map, length, true, IsTrue, IfOk, Some, slice_get};
 ghost use Rattle.mm_read.specs.Statements.{IsShaped, AreShaped};
 ghost use Rattle.scope.specs.Active.{bare, is_assertion, stmt_at};
-ghost use Rattle.database_parts.specs.Parts.{IsPart};
+ghost use Rattle.database_parts.specs.Parts.{IsPartOf};
 ghost use Rattle.database_parts.specs.Walk.{is_listed_assertion, HaveSameListedAssertions, IsSameFrame, IsWalked};
 
 use crate::labels::is_among;
@@ -23,12 +23,13 @@ struct Walk {
     found_count: usize,
 }
 
-/// Returns true only if the statements of `part` are some of those of `whole`, in order, and for each of the labels that an
-/// assertion of `whole` has, both have an assertion with that label, with the same expression, proof, mandatory hypotheses
-/// and mandatory pairs of disjoint variables.
+/// Returns true only if the statements of `part` are some of those of `whole`, in order, and for
+/// each of the labels that an assertion of `whole` has, both have an assertion with that label,
+/// with the same expression, proof, mandatory hypotheses and mandatory pairs of disjoint variables.
 ///
-/// Errors: an allocation fails. Cost: applying the rules to both, a comparison of each statement of `whole` with one of
-/// `part` and of each assertion with each label, and the frames of the assertions that have one of the labels.
+/// Errors: an allocation fails. Cost: applying the rules to both, a comparison of each statement of
+/// `whole` with one of `part` and of each assertion with each label, and the frames of the
+/// assertions that have one of the labels.
 pub fn is_confirmed_part(
     alloc: Global,
     whole: &[Stmt],
@@ -36,7 +37,7 @@ pub fn is_confirmed_part(
     labels: &[&str],
 ) -> Result<bool, AllocError>
     requires { AreShaped whole.now }
-    ensures part { IfOk result (λ yes. yes ≡ true → IsPart part.now whole.now) }
+    ensures part { IfOk result (λ yes. yes ≡ true → IsPartOf part.now whole.now) }
     ensures assertions { IfOk result (λ yes. yes ≡ true → HaveSameListedAssertions whole.now part.now (map (λ label. label.now) labels.now) (length whole.now)) }
 {
     let mut walk = Walk {
@@ -47,7 +48,8 @@ pub fn is_confirmed_part(
     walk_to_end(alloc, whole, part, labels, &mut walk)
 }
 
-/// Walks over both lists from the start. Returns false if `advance` does, or if statements of the part are left at the end.
+/// Walks over both lists from the start. Returns false if `advance` does, or if statements of the
+/// part are left at the end.
 fn walk_to_end(
     alloc: Global,
     whole: &[Stmt],
@@ -57,7 +59,7 @@ fn walk_to_end(
 ) -> Result<bool, AllocError>
     requires shaped { AreShaped whole.now }
     requires begins { IsWalked whole.now part.now (map (λ label. label.now) labels.now) 0 walk.old.found_count walk.old.whole_scope.statements walk.old.part_scope.statements }
-    ensures part { IfOk result (λ yes. yes ≡ true → IsPart part.now whole.now) }
+    ensures part { IfOk result (λ yes. yes ≡ true → IsPartOf part.now whole.now) }
     ensures assertions { IfOk result (λ yes. yes ≡ true → HaveSameListedAssertions whole.now part.now (map (λ label. label.now) labels.now) (length whole.now)) }
 {
     for index in 0..whole.len() {
@@ -68,8 +70,8 @@ fn walk_to_end(
     Ok(walk.found_count == part.len())
 }
 
-/// Advances past the statement of the whole at an index. Returns false if it is a listed assertion that is not next in the
-/// part or has another frame there, or if it breaks a rule.
+/// Advances past the statement of the whole at an index. Returns false if it is a listed assertion
+/// that is not next in the part or has another frame there, or if it breaks a rule.
 fn advance(
     alloc: Global,
     whole: &[Stmt],
@@ -138,7 +140,7 @@ fn is_listed(statement: &Stmt, labels: &[&str]) -> bool
 
 /// Returns whether there is a statement at an index, from 0, that is equal to this one.
 fn has_statement_at(statements: &[Stmt], index: usize, statement: &Stmt) -> bool
-    ensures stands { result ≡ true → slice_get statements.now index ≡ Some statement.now }
+    ensures equal { result ≡ true → slice_get statements.now index ≡ Some statement.now }
     ensures within { result ≡ true → index < length statements.now }
 {
     match statements.get(index) {
@@ -147,8 +149,8 @@ fn has_statement_at(statements: &[Stmt], index: usize, statement: &Stmt) -> bool
     }
 }
 
-/// Returns whether a listed assertion that is next in both lists has the same frame in both, and true for any other
-/// statement. `listed` is whether it is an assertion with one of the labels.
+/// Returns whether a listed assertion that is next in both lists has the same frame in both, and
+/// true for any other statement. `listed` is whether it is an assertion with one of the labels.
 fn has_same_frame_if_listed(
     alloc: Global,
     whole: &[Stmt],
@@ -168,7 +170,8 @@ fn has_same_frame_if_listed(
     Ok(are_frames_equal(whole, part, &whole_frame, &part_frame))
 }
 
-/// Returns whether two frames have equal statements as hypotheses, and the same groups of disjoint variables.
+/// Returns whether two frames have equal statements as hypotheses, and the same groups of disjoint
+/// variables.
 fn are_frames_equal(whole: &[Stmt], part: &[Stmt], whole_frame: &Frame, part_frame: &Frame) -> bool
     ensures positions { result ≡ true → map (stmt_at whole.now) whole_frame.now.hypotheses ≡ map (stmt_at part.now) part_frame.now.hypotheses }
     ensures groups { result ≡ true → whole_frame.now.groups ≡ part_frame.now.groups }

@@ -1,5 +1,5 @@
 -- The result of an extraction is an extract: the part if the code finds it to be one, and the whole list otherwise.
-use Rattle.extract.proofs.Words.{◌≡◌, ◌||◌, ℕ, true, List, [], ◌∷◌, ◌++◌, length, Some, Result, Ok, Err, IfOk, refl, list_any, AllByRecursion, ◌∙◌, ap, subst, or_right, Name, name_eq, has_name, Stmt, Open, Close, Const, Var, Disj, Float, Ess, Axiom, Prove, Database, Reads, name_same, label_of, is_assertion, stands-within, Good, NamesAssertion, AreValidLabels, IsPart, HasSameAssertion, is_listed_assertion, HaveSameListedAssertions, IsExtract, part-whole}
+use Rattle.extract.proofs.Words.{◌≡◌, ◌||◌, ℕ, true, List, [], ◌∷◌, ◌++◌, length, Some, Result, Ok, Err, IfOk, refl, list_any, AllByRecursion, ◌∙◌, ap, subst, or_right, Name, name_eq, has_name, Stmt, Open, Close, Const, Var, Disj, Float, Ess, Axiom, Prove, Database, Reads, name_same, label_of, is_assertion, stands-within, Good, NamesAssertion, AreValidLabels, IsPartOf, HasSameAssertion, is_listed_assertion, HaveSameListedAssertions, IsExtract, part-whole}
 
 -- ---- each label
 
@@ -22,7 +22,7 @@ listed-is labels (Ess l expr) label kind is h = let e = kind in cc
 
 -- ---- the part and the whole
 
-extract-of : {A : Type 0} (bytes : A → List ℕ) (S T : Database) (labels : List Name) {E : Type 0} (r : Result A E) → AreValidLabels S [] labels → Good T → IsPart T S → HaveSameListedAssertions S T labels (length S)
+extract-of : {A : Type 0} (bytes : A → List ℕ) (S T : Database) (labels : List Name) {E : Type 0} (r : Result A E) → AreValidLabels S [] labels → Good T → IsPartOf T S → HaveSameListedAssertions S T labels (length S)
     → IfOk r (λ text. Reads (bytes text) T) → IfOk r (λ text. IsExtract S labels (bytes text))
 extract-of bytes S T labels (Err e) valid good part found_same reads = tt
 extract-of bytes S T labels (Ok text) valid good part found_same reads =
@@ -31,10 +31,10 @@ extract-of bytes S T labels (Ok text) valid good part found_same reads =
     found : (label : Name) → NamesAssertion S label → has_name label labels ≡ true → HasSameAssertion S T label
     found label a h = found_same a.position a.stmt (stands-within S a.position a.stmt a.carries.stands).1 a.carries.stands (listed-is labels a.stmt label a.assertion a.carries.carried h) label a.carries
 
-pub extract-of-part : {A : Type 0} (bytes : A → List ℕ) (S T W P : Database) (labels : List Name) {E : Type 0} (r : Result A E) → W ≡ S → P ≡ T → AreValidLabels S [] labels → Good T → IsPart P W → HaveSameListedAssertions W P labels (length W)
+pub extract-of-part : {A : Type 0} (bytes : A → List ℕ) (S T W P : Database) (labels : List Name) {E : Type 0} (r : Result A E) → W ≡ S → P ≡ T → AreValidLabels S [] labels → Good T → IsPartOf P W → HaveSameListedAssertions W P labels (length W)
     → IfOk r (λ text. Reads (bytes text) T) → IfOk r (λ text. IsExtract S labels (bytes text))
 extract-of-part bytes S T W P labels r whole_is part_is valid good part found_same reads =
-    extract-of bytes S T labels r valid good (subst (λ U. IsPart U S) part_is (subst (IsPart P) whole_is part))
+    extract-of bytes S T labels r valid good (subst (λ U. IsPartOf U S) part_is (subst (IsPartOf P) whole_is part))
     (subst (λ U. HaveSameListedAssertions S U labels (length S)) part_is (subst (λ U. HaveSameListedAssertions U P labels (length U)) whole_is found_same)) reads
 
 pub extract-of-whole : {A : Type 0} (bytes : A → List ℕ) (S : Database) (labels : List Name) {E : Type 0} (r : Result A E) → AreValidLabels S [] labels → Good S

@@ -7,12 +7,12 @@ use Rattle.mm_lex.specs.Alphabet.{Name}
 use Rattle.mm_read.specs.Statements.{Database}
 use Rattle.mm_read.specs.Reads.{Reads}
 use Rattle.library.specs.Good.{Good}
-use Rattle.database_parts.specs.Parts.{IsPart, HasSameAssertion}
+use Rattle.database_parts.specs.Parts.{IsPartOf, HasSameAssertion}
 
 -- T is a part of S, is good, and has each of these assertions as in S
 pub record AreExtract (S : Database) (labels : List Name) (T : Database) : Type 0 where
   pub good : Good T
-  pub part : IsPart T S
+  pub part : IsPartOf T S
   pub assertions : AllByRecursion (HasSameAssertion S T) labels
 
 -- the text reads as such an extract
