@@ -19,9 +19,9 @@ use std::alloc::{AllocError, Global};
 /// Returns a violation of a rule that a statement breaks after the earlier ones. If the statement
 /// keeps the rule, the result is not specified. `scope::Rule` lists the rules G1 to G10.
 ///
-/// Errors: an allocation fails. Cost: a few passes over the earlier statements; each label, declared
-/// symbol and variable of a `$f` is looked up among the symbols of the statement or compared with
-/// one name.
+/// Errors: an allocation fails. Cost: a few passes over the earlier statements; each of their
+/// labels, declared symbols and variables of `$f`s is looked up among the symbols of the statement
+/// or compared with one name.
 pub fn violation_of(
     alloc: Global,
     earlier: &[Stmt],

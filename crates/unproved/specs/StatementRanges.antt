@@ -7,14 +7,16 @@ use Rattle.library.specs.Words.{Database, bares}
 use Rattle.library.specs.Judging.{IsProvedIfProvable}
 use Rattle.verify_pool.specs.Least.{IsLeast}
 
--- all statements, the names to which their frames give numbers, and a range: the positions after `start`, up to `end`
+-- all statements, the names to which their frames give numbers, and a range: the positions after
+-- `start`, up to `end`
 pub record RangeView : Type 0 where
   pub statements : Database
   pub names : List Name
   pub start : ℕ
   pub end : ℕ
 
--- `start` is at most `end`, which is at most the number of statements, and the frames are those of the statements
+-- `start` is at most `end`, which is at most the number of statements, and the frames are those of
+-- the statements
 pub record IsRangeWithFrames (frame_statements S : Database) (start end : ℕ) : Type 0 where
   pub frames_are : frame_statements ≡ bares S
   pub order : start ≤ end

@@ -1,6 +1,8 @@
 -- The `$p` that are not proved.
--- Source: Metamath, 4.2.6 and appendix B; that each is judged, whether or not earlier ones are proved, is this project's choice.
--- The code judges ranges of statements one after another, and continues after each `$p` that is not proved.
+-- Source: Metamath, 4.2.6 and appendix B; that each is judged, whether or not earlier ones are
+-- proved, is this project's choice.
+-- The code judges ranges of statements one after another, and continues after each `$p` that is not
+-- proved.
 use Rattle.std.specs.Prelude.{◌≡◌, ℕ, ◌-◌, ◌<◌, ◌≤◌, List, [], ◌∷◌, get_or, slice_set, IsTrue, IsFalse, Some}
 use Rattle.library.specs.Words.{AllLegal, AreShaped, Stmt, Database, Prove, Axiom, bares, proof_of, stmt_at, is_unfinished}
 use Rattle.mm_read.specs.declared.stmt.Stmt.TheVariants.{Open}
@@ -15,7 +17,8 @@ AreUnproved S start end (at ∷ positions) =
     (start < at) × (at ≤ end) × (¬ IsProvedIfProvable S at)
     × ((m : ℕ) → start < m → m < at → IsProvedIfProvable S m) × AreUnproved S at end positions
 
--- the cause for the `$p` at that position: unfinished exactly if a token of its proof has the byte `?`
+-- the cause for the `$p` at that position: unfinished exactly if a token of its proof has the byte
+-- `?`
 abbrev pub CauseAt : Database → ℕ → Cause → Type 0
 CauseAt S at (Proof n) =
     (n ≡ at) × ((s : Stmt) → stmt_at S at ≡ Some s → IsFalse (is_unfinished (proof_of s)))
@@ -37,7 +40,8 @@ assumed S (at ∷ positions) = assumed (slice_set S (at - 1) (as_axiom (get_or S
 abbrev pub IsPositionOf : ℕ → ℕ → Type 0
 IsPositionOf count at = (1 ≤ at) × (at ≤ count)
 
--- S is well shaped and legal, and the rules and the frames have been given exactly its statements, without their proofs
+-- S is well shaped and legal, and the rules and the frames have been given exactly its statements,
+-- without their proofs
 pub record IsLegalDatabase (rule_statements frame_statements S : Database) : Type 0 where
   pub rules_are : rule_statements ≡ bares S
   pub frames_are : frame_statements ≡ bares S

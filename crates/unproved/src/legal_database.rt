@@ -42,14 +42,14 @@ impl Model for LegalDatabase {
 }
 
 impl LegalDatabase {
-    /// Makes a `LegalDatabase` of these statements, or returns `None` if one of them is not legal or a
-    /// block is open at the end.
+    /// Makes a `LegalDatabase` of these statements, or returns `None` if one of them is not legal
+    /// or a block is open at the end.
     ///
     /// Errors: an allocation fails. Cost: the size of the statements.
     /// Source: Metamath, chapter 4.
     pub fn new(alloc: Global, statements: Vec<Stmt>) -> Result<Option<LegalDatabase>, AllocError>
         requires { AreShaped statements.items }
-        ensures legal { IfOk result (λ made. IfSome made (λ e. e ≡ statements.items)) }
+        ensures legal { IfOk result (λ made. IfSome made (λ database. database ≡ statements.items)) }
         ensures broken { result ≡ Ok None → ¬ AllLegal statements.items }
     {
         let mut rules = Rules::new(alloc);
@@ -81,12 +81,13 @@ impl LegalDatabase {
     }
 
     /// Returns the positions, from 1 and ascending, of every `$p` that is not proved, each judged
-    /// against earlier statements. The list does not depend on the number of workers; whether `AllocError`
-    /// is returned may.
+    /// against earlier statements. The list does not depend on the number of workers; whether
+    /// `AllocError` is returned may.
     ///
-    /// Errors: an allocation fails. Cost: that of the proofs, divided among the workers. In each range of at
-    /// most 2,048 statements the calling thread may judge proofs again: those after the first wrong one, heavy
-    /// ones that a worker puts off, or all of them if an allocation fails for a worker.
+    /// Errors: an allocation fails. Cost: that of the proofs, divided among the workers. In each
+    /// range of at most 2,048 statements the calling thread may judge proofs again: those after the
+    /// first wrong one, heavy ones that a worker puts off, or all of them if an allocation fails
+    /// for a worker.
     /// Source: Metamath, 4.2.6 and appendix B.
     pub fn unproved<R: Threads + Sync>(
         &self,
@@ -106,8 +107,9 @@ impl LegalDatabase {
         find_unproved(&search)
     }
 
-    /// Makes a library of the statements, with each unproved `$p` replaced by a `$a` that has the same label
-    /// and expression. `unproved` is the list that `LegalDatabase::unproved` returns. No proof is judged again.
+    /// Makes a library of the statements, with each unproved `$p` replaced by a `$a` that has the
+    /// same label and expression. `unproved` is the list that `LegalDatabase::unproved` returns. No
+    /// proof is judged again.
     ///
     /// Errors: an allocation fails. Cost: the size of the statements.
     #[tactic(auto, using(crate::proofs::AssumedGoodLemmas::good_assumed, crate::proofs::UnprovedLemmas::all_within))]
@@ -137,7 +139,7 @@ impl LegalDatabase {
     /// Returns the statements, with each `$p` at one of these positions replaced by a `$a`.
     fn into_assumed_statements(self, unproved: &[usize]) -> Vec<Stmt>
         requires { All (IsPositionOf (length self)) unproved.now }
-        ensures is { result.items ≡ assumed self unproved.now }
+        ensures replaced { result.items ≡ assumed self unproved.now }
         ensures shaped { AreShaped result.items }
     {
         let LegalDatabase { mut statements, .. } = self;
@@ -145,8 +147,8 @@ impl LegalDatabase {
         statements
     }
 
-    /// Returns the cause that names this position: `Unfinished` if a token of the proof there has the byte
-    /// `?`, else `Proof`. It is meant for a `$p` that is not proved.
+    /// Returns the cause for the `$p` at this position: `Unfinished` if a token of the proof there
+    /// has the byte `?`, else `Proof`. It is meant for a `$p` that is not proved.
     pub fn cause(&self, at: usize) -> Cause
         requires { IsPositionOf (length self.now) at }
         ensures { CauseAt self.now at result }
@@ -180,7 +182,7 @@ fn library_of_good(alloc: Global, statements: Vec<Stmt>) -> Result<Library, Allo
 fn make_axioms(statements: &mut Vec<Stmt>, unproved: &[usize])
     requires within { All (IsPositionOf (length statements.old.items)) unproved.now }
     requires shaped { AreShaped statements.old.items }
-    ensures is { statements.new.items ≡ assumed statements.old.items unproved.now }
+    ensures replaced { statements.new.items ≡ assumed statements.old.items unproved.now }
     ensures shaped { AreShaped statements.new.items }
 {
     for at in unproved {

@@ -30,9 +30,9 @@ pub(crate) struct Search<'a, R: Threads + Sync> {
 
 /// Returns the positions of the `$p` that are not proved, in order.
 ///
-/// Errors: an allocation fails. Cost: that of the proofs, divided among the workers. The calling thread
-/// may judge proofs again: those after a wrong one in its range, heavy ones that a worker puts off, or all
-/// of a range if an allocation fails for a worker.
+/// Errors: an allocation fails. Cost: that of the proofs, divided among the workers. The calling
+/// thread may judge proofs again: those after a wrong one in its range, heavy ones that a worker
+/// puts off, or all of a range if an allocation fails for a worker.
 pub(crate) fn find_unproved<R: Threads + Sync>(
     search: &Search<'_, R>,
 ) -> Result<Vec<usize>, AllocError>
@@ -51,8 +51,9 @@ pub(crate) fn find_unproved<R: Threads + Sync>(
     Ok(positions)
 }
 
-/// Returns the position where the range after `start` ends. A range ends with its first `$p` whose proof
-/// is unfinished; if it has none, after `MAX_RANGE_STATEMENTS` statements or with the last statement of all.
+/// Returns the position where the range after `start` ends. A range ends with its first `$p` whose
+/// proof is unfinished; if it has none, after `MAX_RANGE_STATEMENTS` statements or with the last
+/// statement of all.
 fn range_end(statements: &[Stmt], start: usize) -> usize
     requires { start < length statements.now }
     ensures later { start < result }

@@ -6,8 +6,9 @@ use std::marker::Model;
 use verify::{Answer, Checker};
 use verify_pool::Work;
 
-/// The statements at positions `start + 1` to `end`; the job of index `i` is that at `start + 1 + i`.
-/// Contracts see all statements, the names to which the frames give numbers, `start` and `end`.
+/// The statements at positions `start + 1` to `end`; the job of index `i` is the one at
+/// `start + 1 + i`. Contracts see all statements, the names to which the frames give numbers,
+/// `start` and `end`.
 #[derive(Drop)]
 pub(crate) struct StatementRange<'a> {
     pub(crate) frames: &'a Frames,

@@ -4,5 +4,5 @@ use Rattle.unproved.proofs.legal_database.LegalDatabase.into_assumed_library.Goa
 
 pub library_of_good-requires-clause-good : goal.library_of_good-requires-clause-good
 library_of_good-requires-clause-good c =
-    subst Good (sym c.into_assumed_statements-statements.ensures.is)
+    subst Good (sym c.into_assumed_statements-statements.ensures.replaced)
     (good_assumed c.args.self c.args.unproved.now (subst AllLegal c.self.view_is c.self.invariant.legal) c.requires)
