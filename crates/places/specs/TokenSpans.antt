@@ -13,7 +13,7 @@ use Rattle.mm_read.specs.Statements.{Database, stmt_tokens, tokens_of}
 pub record HasToken (S : Database) (statement token : ℕ) : Type 0 where
   pub stmt : Stmt
   pub statement_from_one : 1 ≤ statement
-  pub stands : slice_get S (statement - 1) ≡ Some stmt
+  pub is_there : slice_get S (statement - 1) ≡ Some stmt
   pub token_from_one : 1 ≤ token
   pub within : token ≤ length (stmt_tokens stmt)
 

@@ -36,7 +36,7 @@ pub fn token_span(
 /// Returns the span of the token with number `token` in the statement with number `statement`, both
 /// from 1. A number above those of the statement's own tokens counts on into the later statements.
 /// Returns `None` if `spans` has no such token. `spans` are meant to be those of all tokens, in
-/// order; the clause requires only that each is that of a word of the text.
+/// order; the clause requires of them only that each is that of a word of the text.
 ///
 /// Cost: the number of tokens before it.
 pub fn token_span_within(
@@ -46,7 +46,7 @@ pub fn token_span_within(
     token: usize,
 ) -> Option<Span>
     requires words { All (IsWordAt text.now) spans.now }
-    requires some { (1 ≤ statement) × (1 ≤ token) }
+    requires from_one { (1 ≤ statement) × (1 ≤ token) }
     ensures { result ≡ slice_get spans.now (index_after_ends (statement - 1) (words text.now spans.now) + (token - 1)) }
 {
     let first = first_token_index(text, spans, statement);
@@ -60,7 +60,7 @@ pub fn token_span_within(
 /// Cost: the number of tokens before it.
 pub(crate) fn first_token_index(text: &[u8], spans: &[Span], statement: usize) -> usize
     requires words { All (IsWordAt text.now) spans.now }
-    requires some { 1 ≤ statement }
+    requires from_one { 1 ≤ statement }
     ensures first { result ≡ index_after_ends (statement - 1) (words text.now spans.now) }
     ensures within { result ≤ length spans.now }
 {
