@@ -49,7 +49,7 @@ impl LegalDatabase {
     /// Source: Metamath, chapter 4.
     pub fn new(alloc: Global, statements: Vec<Stmt>) -> Result<Option<LegalDatabase>, AllocError>
         requires { AreShaped statements.items }
-        ensures legal { IfOk result (λ made. IfSome made (λ database. database ≡ statements.items)) }
+        ensures legal { IfOk result (λ made. IfSome made (λ value. value ≡ statements.items)) }
         ensures broken { result ≡ Ok None → ¬ AllLegal statements.items }
     {
         let mut rules = Rules::new(alloc);
