@@ -1,7 +1,7 @@
 //! Answers about the library of a node, which `play` and `serve` share.
 ghost use Rattle.std.specs.Prelude.{◌≡◌, ◌↔◌, ◌<◌, length, IfOk};
 ghost use Rattle.cluster.specs.declared.compare.Ahead.TheVariants.{First, Same, Second};
-ghost use Rattle.commands.specs.declared.node_question.LabelQuestion.TheVariants.{Trace, Tree, Usage};
+ghost use Rattle.commands.specs.declared.node_question.LabelQuestionKind.TheVariants.{Trace, Tree, Usage};
 ghost use Rattle.printed.specs.Counted.{counted_text};
 ghost use Rattle.program.specs.Answers.{IsLabelAnswer, labels_text};
 
@@ -9,7 +9,7 @@ use crate::answers::{tree, write_answer};
 use crate::fault::Fault;
 use crate::named_text::NamedText;
 use cluster::Ahead;
-use commands::{LabelQuestion, NodeQuestion};
+use commands::{LabelQuestionKind, NodeQuestion};
 use library::Library;
 use mm_lex::Word;
 use printed::{push_counted, push_labels};
@@ -29,10 +29,10 @@ pub fn label_answer(
 {
     let label = question.label.as_slice();
     match question.kind {
-        LabelQuestion::Trace => trace_answer(alloc, library, label),
-        LabelQuestion::Usage => usage_answer(alloc, library, label),
-        LabelQuestion::Tree => tree_answer(alloc, library, label),
-        LabelQuestion::Show | LabelQuestion::Proof => written_answer(alloc, library, question),
+        LabelQuestionKind::Trace => trace_answer(alloc, library, label),
+        LabelQuestionKind::Usage => usage_answer(alloc, library, label),
+        LabelQuestionKind::Tree => tree_answer(alloc, library, label),
+        LabelQuestionKind::Show | LabelQuestionKind::Proof => written_answer(alloc, library, question),
     }
 }
 
@@ -107,9 +107,9 @@ fn written_answer(
 
 /// Returns the text to which printed lines and columns refer: the export of the library, since its
 /// texts are not kept. Returns an empty text if the answer prints none.
-fn text_of(alloc: Global, library: &Library, kind: LabelQuestion) -> Result<Vec<u8>, AllocError> {
+fn text_of(alloc: Global, library: &Library, kind: LabelQuestionKind) -> Result<Vec<u8>, AllocError> {
     match kind {
-        LabelQuestion::Show => library.export(),
+        LabelQuestionKind::Show => library.export(),
         _ => Ok(Vec::new(alloc)),
     }
 }

@@ -2,7 +2,7 @@
 use crate::fault::Fault;
 use crate::scripts::read_script;
 use crate::streams::print;
-use commands::{NodeLine, PicturedSteps, PlayLine};
+use commands::{CommonLine, PicturedSteps, PlayLine};
 use net::{Event, StepFault};
 use run_pictures::{Part, Run, draw};
 use std::alloc::{AllocError, Global};
@@ -71,7 +71,7 @@ fn picture_of(
 /// Takes the step of a line, if it has one.
 fn take_step(run: &mut Run, line: PlayLine) -> Result<(), StepFault> {
     match line {
-        PlayLine::Node(line) => take_node_step(run, line),
+        PlayLine::Common(line) => take_node_step(run, line),
         PlayLine::Deliver { packet } => run.step(Event::Deliver(packet)),
         PlayLine::Apply { node } => run.apply_next(node),
         PlayLine::Show { .. } => Ok(()),
@@ -79,11 +79,11 @@ fn take_step(run: &mut Run, line: PlayLine) -> Result<(), StepFault> {
 }
 
 /// Takes the step of a line that `serve` has too.
-fn take_node_step(run: &mut Run, line: NodeLine) -> Result<(), StepFault> {
+fn take_node_step(run: &mut Run, line: CommonLine) -> Result<(), StepFault> {
     match line {
-        NodeLine::Offer(offered) => run.step(Event::Offer(offered.node, offered.entry)),
-        NodeLine::Begin { node } => run.step(Event::Begin(node)),
-        NodeLine::Restart { node } => run.step(Event::Restart(node)),
+        CommonLine::Offer(offered) => run.step(Event::Offer(offered.node, offered.entry)),
+        CommonLine::Begin { node } => run.step(Event::Begin(node)),
+        CommonLine::Restart { node } => run.step(Event::Restart(node)),
         _ => Ok(()),
     }
 }
