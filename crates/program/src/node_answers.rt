@@ -2,7 +2,7 @@
 ghost use Rattle.std.specs.Prelude.{◌≡◌, ◌↔◌, ◌<◌, length, IfOk};
 ghost use Rattle.cluster.specs.declared.compare.Ahead.TheVariants.{First, Same, Second};
 ghost use Rattle.commands.specs.declared.node_question.LabelQuestionKind.TheVariants.{Trace, Tree, Usage};
-ghost use Rattle.printed.specs.Counted.{counted_text};
+ghost use Rattle.printed.specs.Counted.{counted_lines_text};
 ghost use Rattle.program.specs.Answers.{IsLabelAnswer, labels_text};
 
 use crate::answers::{tree, write_answer};
@@ -12,7 +12,7 @@ use cluster::Ahead;
 use commands::{LabelQuestionKind, NodeQuestion};
 use library::Library;
 use mm_lex::Word;
-use printed::{push_counted, push_labels};
+use printed::{push_counted_lines, push_labels};
 use std::alloc::{AllocError, Global};
 
 /// Returns the answer to a question about a label: its word, the count of its lines, and the lines
@@ -74,10 +74,10 @@ fn tree_answer(alloc: Global, library: &Library, label: &[u8]) -> Result<Vec<u8>
 
 /// Returns a line of a word and the count of the lines, and the lines.
 fn counted(alloc: Global, word: &[u8], lines: &[u8]) -> Result<Vec<u8>, AllocError>
-    ensures { IfOk result (λ text. text.items ≡ counted_text word.now lines.now) }
+    ensures { IfOk result (λ text. text.items ≡ counted_lines_text word.now lines.now) }
 {
     let mut text = Vec::new(alloc);
-    push_counted(&mut text, word, lines)?;
+    push_counted_lines(&mut text, word, lines)?;
     Ok(text)
 }
 

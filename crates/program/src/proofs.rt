@@ -10,7 +10,7 @@ use commands::{ProofForm, ProofQuestion};
 use frame::Frames;
 use library::Library;
 use mm_lex::Word;
-use proof_pages::{PageContents, ProofSteps, RelatedItems, write_dot, write_page, write_plain};
+use proof_pages::{PageContents, ProofSteps, RelatedItems, write_dot, write_page, write_step_lines};
 use std::alloc::{AllocError, Global};
 use std::io::Write;
 use steps::{ProofTable, essential_table, proof_table};
@@ -84,7 +84,7 @@ fn write_table<O: Write>(
     if matches!(question.form, ProofForm::Picture) {
         write_dot(alloc, output, frames, question.label, steps)?;
     } else {
-        write_plain(alloc, output, frames, steps)?;
+        write_step_lines(alloc, output, frames, steps)?;
     }
     Ok(())
 }

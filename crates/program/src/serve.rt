@@ -18,7 +18,7 @@ use commands::{
 };
 use library::Verdict;
 use net::StepFault;
-use printed::{push_counted, push_list, push_verdict_line};
+use printed::{push_counted_lines, push_list, push_verdict_line};
 use std::alloc::Global;
 use std::io::{Read, Write};
 use std::sync::Wait;
@@ -102,7 +102,7 @@ impl<R: Wait> AnswerLines<ServedLine> for AnsweringDesk<'_, R> {
 fn push_help(alloc: Global, text: &mut Vec<u8>) -> Result<(), Fault> {
     let mut lines = Vec::from_slice(alloc, SERVE_LINES_HELP.as_bytes())?;
     lines.push(LINE_FEED)?;
-    Ok(push_counted(text, b"help", lines.as_slice())?)
+    Ok(push_counted_lines(text, b"help", lines.as_slice())?)
 }
 
 /// Carries out a line of a script, and appends its answer.

@@ -41,11 +41,11 @@ struct ShownSteps<'a> {
     from: usize,
 }
 
-/// Returns a picture, in SVG, of the marks of a part of a run. `weights` are those with which the run was
-/// made.
+/// Returns a picture, in SVG, of the marks of a part of a run. `weights` are those with which the
+/// run was made.
 ///
-/// Errors: `TooManySteps` if more than `MAX_ROWS` steps are to be shown, else `Memory` if an allocation
-/// fails. Cost: that of `Run::marks`, and the size of the picture.
+/// Errors: `TooManySteps` if more than `MAX_ROWS` steps are to be shown, else `Memory` if an
+/// allocation fails. Cost: that of `Run::marks`, and the size of the picture.
 pub fn draw(alloc: Global, weights: Weights, run: &Run, part: Part) -> Result<Vec<u8>, PictureFault>
     ensures too_many_steps { MAX_ROWS < length (shown_of run.now.steps part.from part.count)
         → result ≡ Err TooManySteps }
@@ -184,8 +184,8 @@ fn grid_row(row: usize) -> u32 {
     u32::try_from(row).unwrap_or(u32::MAX)
 }
 
-/// Returns the style of the point of an act: `Good` (green) if an entry is applied and added, `Bad` (red) if
-/// it is refused, else `Plain`.
+/// Returns the style of the point of an act: `Good` (green) if an entry is applied and added, `Bad`
+/// (red) if it is refused, else `Plain`.
 fn style(act: Act) -> PointStyle {
     match act {
         Act::Apply { verdict, .. } => verdict_style(verdict),

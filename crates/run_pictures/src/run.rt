@@ -19,8 +19,8 @@ use std::marker::Model;
 use synod::Weights;
 use world::World;
 
-/// A world of nodes and their libraries, with a record of its steps: the events that it took and the
-/// applications of entries, in order. In contracts a run is the world and the steps.
+/// A world of nodes and their libraries, with a record of its steps: the events that it took and
+/// the applications of entries, in order. In contracts a run is the world and the steps.
 #[derive(Drop)]
 pub struct Run {
     world: World,
@@ -79,8 +79,8 @@ impl Run {
         Ok(())
     }
 
-    /// Applies the next entry of the log of node `k` to its library and records the step. Does nothing if
-    /// there is no next entry.
+    /// Applies the next entry of the log of node `k` to its library and records the step. Does
+    /// nothing if there is no next entry.
     ///
     /// Errors: those of `World::apply_next`, or `Memory`; the run is then unchanged.
     #[tactic(auto, using(crate::proofs::RunLemmas::application_recorded, crate::proofs::RunLemmas::same_recorded))]
@@ -112,11 +112,11 @@ impl Run {
         shown(self.steps.as_slice(), part)
     }
 
-    /// Returns the marks of a part, which are all that a picture shows of it. The recorded steps of events
-    /// are exactly those of the events in the history, in order (`events`).
+    /// Returns the marks of a part, which are all that a picture shows of it. The recorded steps of
+    /// events are exactly those of the events in the history, in order (`events`).
     ///
-    /// Errors: an allocation fails. Cost: a scan of the shown steps for each packet that one of them posts
-    /// or delivers.
+    /// Errors: an allocation fails. Cost: a scan of the shown steps for each packet that one of
+    /// them posts or delivers.
     pub fn marks(&self, alloc: Global, part: Part) -> Result<Vec<Mark>, AllocError>
         requires { length (shown_of self.now.steps part.from part.count) ≤ MAX_ROWS }
         ensures marks { IfOk result (λ marks. marks.items ≡ marks_of
