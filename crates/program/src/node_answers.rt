@@ -32,7 +32,9 @@ pub fn label_answer(
         LabelQuestionKind::Trace => trace_answer(alloc, library, label),
         LabelQuestionKind::Usage => usage_answer(alloc, library, label),
         LabelQuestionKind::Tree => tree_answer(alloc, library, label),
-        LabelQuestionKind::Show | LabelQuestionKind::Proof => written_answer(alloc, library, question),
+        LabelQuestionKind::Show | LabelQuestionKind::Proof => written_answer(
+            alloc, library, question,
+        ),
     }
 }
 
@@ -60,7 +62,7 @@ fn counted_labels(alloc: Global, word: &[u8], labels: &[Word]) -> Result<Vec<u8>
 {
     let mut lines = Vec::new(alloc);
     push_labels(&mut lines, labels)?;
-    counted(alloc, word, lines.as_slice())
+    counted_lines(alloc, word, lines.as_slice())
 }
 
 /// Returns the answer to `tree`.
@@ -69,11 +71,11 @@ fn tree_answer(alloc: Global, library: &Library, label: &[u8]) -> Result<Vec<u8>
         library.now.replica.statements Tree label.now text.items) }
 {
     let lines = tree(alloc, library, label)?;
-    Ok(counted(alloc, b"tree", lines.as_slice())?)
+    Ok(counted_lines(alloc, b"tree", lines.as_slice())?)
 }
 
 /// Returns a line of a word and the count of the lines, and the lines.
-fn counted(alloc: Global, word: &[u8], lines: &[u8]) -> Result<Vec<u8>, AllocError>
+fn counted_lines(alloc: Global, word: &[u8], lines: &[u8]) -> Result<Vec<u8>, AllocError>
     ensures { IfOk result (λ text. text.items ≡ counted_lines_text word.now lines.now) }
 {
     let mut text = Vec::new(alloc);
@@ -102,12 +104,16 @@ fn written_answer(
         Err(fault) => return Err(fault),
         Ok(()) => {}
     }
-    Ok(counted(alloc, question.kind.verb(), lines.as_slice())?)
+    Ok(counted_lines(alloc, question.kind.verb(), lines.as_slice())?)
 }
 
 /// Returns the text to which printed lines and columns refer: the export of the library, since its
 /// texts are not kept. Returns an empty text if the answer prints none.
-fn text_of(alloc: Global, library: &Library, kind: LabelQuestionKind) -> Result<Vec<u8>, AllocError> {
+fn text_of(
+    alloc: Global,
+    library: &Library,
+    kind: LabelQuestionKind,
+) -> Result<Vec<u8>, AllocError> {
     match kind {
         LabelQuestionKind::Show => library.export(),
         _ => Ok(Vec::new(alloc)),

@@ -6,7 +6,7 @@ use crate::fault::Fault;
 use crate::node_answers::{ahead_line, compare_libraries, label_answer};
 use crate::scripts::{AnswerLines, answer_lines, read_script};
 use crate::why::{decision_of, push_why};
-use commands::{NodeEntryId, CommonLine, PlayLine};
+use commands::{CommonLine, NodeEntryId, PlayLine};
 use event_lines::push_events;
 use library::Entry;
 use net::Event;
@@ -50,7 +50,11 @@ impl AnswerLines<PlayLine> for World {
 }
 
 /// Carries out a line that `serve` has too, and appends its answer.
-fn answer_common_line(world: &mut World, line: CommonLine, text: &mut Vec<u8>) -> Result<(), Fault> {
+fn answer_common_line(
+    world: &mut World,
+    line: CommonLine,
+    text: &mut Vec<u8>,
+) -> Result<(), Fault> {
     match line {
         CommonLine::Offer(offered) => {
             push_step(world, Event::Offer(offered.node, offered.entry), text)

@@ -10,7 +10,9 @@ use commands::{ProofForm, ProofQuestion};
 use frame::Frames;
 use library::Library;
 use mm_lex::Word;
-use proof_pages::{PageContents, ProofSteps, RelatedItems, write_dot, write_page, write_step_lines};
+use proof_pages::{
+    PageContents, ProofSteps, RelatedItems, write_dot, write_page, write_step_lines,
+};
 use std::alloc::{AllocError, Global};
 use std::io::Write;
 use steps::{ProofTable, essential_table, proof_table};
@@ -123,7 +125,8 @@ fn write_proof_page<O: Write>(
     Ok(())
 }
 
-/// Returns the axioms of a theorem and the theorems that cite it, for its page, without a description.
+/// Returns the axioms of a theorem and the theorems that cite it, for its page, without a
+/// description.
 fn related_items<'a>(axioms: &'a [u32], cited_by: &'a [u32]) -> RelatedItems<'a> {
     RelatedItems {
         axioms,

@@ -13,7 +13,7 @@ use crate::served_nodes::{Nodes, NodesDesk, start_nodes, stop_nodes};
 use crate::session::{Script, ServedLine, Session};
 use crate::streams::print;
 use commands::{
-    LINE_FEED, NodeEntryId, CommonLine, OfferedEntry, SERVE_LINES_HELP, ServeLine, ServeOptions,
+    CommonLine, LINE_FEED, NodeEntryId, OfferedEntry, SERVE_LINES_HELP, ServeLine, ServeOptions,
     SessionLine,
 };
 use library::Verdict;

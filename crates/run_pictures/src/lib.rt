@@ -12,21 +12,21 @@
 //! from 0; `learned` is the number of its entries. To *apply* an entry is to give it to the library
 //! of the node, which returns a verdict.
 //!
-//! Reading order: `step` and `mark` (the types), specs/StepStart, Steps, Marks and RunView, `run`
-//! (a world whose steps are recorded), `part` (the steps that are shown), `marks`, `labels`,
-//! `drawing`.
+//! Reading order: `step` and `mark` (the types), `specs/StepStart`, `specs/Steps`, `specs/Marks`
+//! and `specs/RunView`, `run` (a world whose steps are recorded), `step_range` (the steps that are
+//! shown), `marks`, `labels`, `drawing`.
 #![tactic(auto)]
 
 mod drawing;
 mod labels;
 mod mark;
 mod marks;
-mod part;
 mod run;
 mod step;
+mod step_range;
 
 pub use drawing::{PictureFault, draw};
 pub use mark::{ArrowStart, Mark, StepPoint};
-pub use part::Part;
 pub use run::Run;
 pub use step::{Act, Step};
+pub use step_range::StepRange;
