@@ -57,7 +57,7 @@ impl LabelQuestionKind {
             }
             LabelQuestionKind::Proof => Question::Proof(ProofQuestion {
                 label,
-                is_essential: false,
+                essential_only: false,
                 form: ProofForm::Steps,
             }),
         })

@@ -27,7 +27,7 @@ const MAX_EXPLAINED: usize = 100;
 
 /// Returns whether a question is answered even if some `$p` are not proved.
 pub fn allows_unproved(request: &DatabaseQuestion<'_>) -> bool {
-    request.assumes || matches!(request.question, Question::CheckEach)
+    request.assumes_unproved || matches!(request.question, Question::CheckEach)
 }
 
 /// Returns whether a text has a byte `?` outside its comments, so that a proof may be unfinished.

@@ -5,7 +5,7 @@ ghost use Rattle.commands.specs.declared.node_question.LabelQuestionKind.TheVari
 ghost use Rattle.printed.specs.Counted.{counted_lines_text};
 ghost use Rattle.program.specs.Answers.{IsLabelAnswer, labels_text};
 
-use crate::answers::{tree, write_answer};
+use crate::answers::{derivation_lines, write_answer};
 use crate::fault::Fault;
 use crate::named_text::NamedText;
 use cluster::Ahead;
@@ -70,7 +70,7 @@ fn tree_answer(alloc: Global, library: &Library, label: &[u8]) -> Result<Vec<u8>
     ensures { IfOk result (λ text. IsLabelAnswer
         library.now.replica.statements Tree label.now text.items) }
 {
-    let lines = tree(alloc, library, label)?;
+    let lines = derivation_lines(alloc, library, label)?;
     Ok(counted_lines(alloc, b"tree", lines.as_slice())?)
 }
 

@@ -82,7 +82,7 @@ fn assume_or_refuse<R: AllocGlobal + Threads + Sync, O: Write, F: Write, S: Fold
     folder: &mut S,
 ) -> Result<u8, Fault> {
     let is_unproved = matches!(cause, Cause::Proof { .. } | Cause::Unfinished { .. });
-    if is_unproved && request.assumes {
+    if is_unproved && request.assumes_unproved {
         if let Some(database) = read_legal_database(rt, text)? {
             return assume_and_write(rt, request, text, database, streams, folder);
         }

@@ -67,7 +67,7 @@ fn write_steps<O: Write>(
 {
     if matches!(question.form, ProofForm::Page) {
         write_proof_page(alloc, proof, question, output)
-    } else if question.is_essential {
+    } else if question.essential_only {
         let essential = essential_table(alloc, proof.frames, proof.at, proof.steps)?;
         write_table(alloc, proof.frames, &essential, question, output)
     } else {
@@ -121,7 +121,7 @@ fn write_proof_page<O: Write>(
         }),
         related: related_items(&axioms, &cited_by),
     };
-    write_page(alloc, output, &contents, !question.is_essential)?;
+    write_page(alloc, output, &contents, !question.essential_only)?;
     Ok(())
 }
 

@@ -21,7 +21,7 @@ struct DatabaseText<'a> {
 /// Returns the block of the statement of each label, with an empty line between two.
 ///
 /// Errors: `NoLabel` if no statement has one of the labels; `Memory` if an allocation fails.
-pub fn blocks(
+pub fn blocks_of_labels(
     alloc: Global,
     library: &Library,
     text: NamedText<'_>,
