@@ -1,5 +1,5 @@
 -- A line that needs no text from the lines that follow, and a line that offers a text.
-use Rattle.commands.proofs.Words.{◌≡◌, ℕ, ◌+◌, Bool, true, false, List, drop, Option, Some, None, option_map, option_and_then, Result, Ok, Err, IsSome, IsErrAnd, ◌∷◌, refl, ◌∙◌, ap, sym, subst, arith, false≢true, Text, NodeEntryId, OfferedEntry, LineFault, ServeLine, SessionLine, Serve, Help, TextForm, split_at, SPACE, Words, by_first_word, line_by_first_word, entry_at, text_at, text_offer, RemainingLines, IsAdvanced, Parses, ParsesLine, without_text, text_line_or_else, help_or_line}
+use Rattle.commands.proofs.Words.{◌≡◌, ℕ, ◌+◌, Bool, true, false, List, drop, Option, Some, None, option_map, option_and_then, Result, Ok, Err, IsSome, IsErrAnd, ◌∷◌, refl, ◌∙◌, ap, sym, subst, arith, false≢true, Text, NodeEntryId, OfferedEntry, LineFault, ServeLine, SessionLine, Serve, Help, TextForm, split_at, SPACE, Words, by_first_word, line_by_first_word, first_entry_id, text_in_form, text_offer, RemainingLines, IsAdvanced, Parses, ParsesLine, without_text, text_line_or_else, help_or_line}
 use Rattle.commands.specs.declared.script.LineFault.TheVariants.{Bad, Memory as NoMemory}
 
 -- no line is taken
@@ -35,15 +35,15 @@ abbrev pub offered_text : NodeEntryId → List ℕ → OfferedEntry
 offered_text at text = record { node = at.node; entry = Text (record { author = at.author; serial = at.serial; text = text }) }
 
 pub offered_found : (form : TextForm) (ws rest : Words) (lines : List (List ℕ)) (at : NodeEntryId) (text : List ℕ) (count : ℕ)
-    → Some (at, rest) ≡ entry_at ws → text_at form rest lines ≡ Some (text, count) → text_offer form ws lines ≡ Some (offered_text at text, count)
+    → Some (at, rest) ≡ first_entry_id ws → text_in_form form rest lines ≡ Some (text, count) → text_offer form ws lines ≡ Some (offered_text at text, count)
 offered_found form ws rest lines at text count is found =
-    ap (λ o. option_and_then (λ e. option_and_then (λ t. Some (offered_text e.0 t.0, t.1)) (text_at form e.1 lines)) o) (sym is)
+    ap (λ o. option_and_then (λ e. option_and_then (λ t. Some (offered_text e.0 t.0, t.1)) (text_in_form form e.1 lines)) o) (sym is)
     ∙ ap (λ o. option_and_then (λ t. Some (offered_text at t.0, t.1)) o) found
 
 pub offered_missing : (form : TextForm) (ws rest : Words) (lines : List (List ℕ)) (at : NodeEntryId)
-    → Some (at, rest) ≡ entry_at ws → text_at form rest lines ≡ None → text_offer form ws lines ≡ None
+    → Some (at, rest) ≡ first_entry_id ws → text_in_form form rest lines ≡ None → text_offer form ws lines ≡ None
 offered_missing form ws rest lines at is none =
-    ap (λ o. option_and_then (λ e. option_and_then (λ t. Some (offered_text e.0 t.0, t.1)) (text_at form e.1 lines)) o) (sym is)
+    ap (λ o. option_and_then (λ e. option_and_then (λ t. Some (offered_text e.0 t.0, t.1)) (text_in_form form e.1 lines)) o) (sym is)
     ∙ ap (λ o. option_and_then (λ t. Some (offered_text at t.0, t.1)) o) none
 
 -- an error that is passed on

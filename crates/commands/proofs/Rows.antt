@@ -1,24 +1,24 @@
 -- Scripts with texts of several lines.
-use Rattle.commands.proofs.Words.{◌≡◌, ℕ, List, [], ◌∷◌, codes, Ok, Err, refl, Text, NodeLine, Offer, Begin, Node, script_of, play_line_of, serve_line_of}
-use Rattle.commands.specs.declared.serve_line.ServeLine.TheVariants.{Node as ServeNode}
+use Rattle.commands.proofs.Words.{◌≡◌, ℕ, List, [], ◌∷◌, codes, Ok, Err, refl, Text, CommonLine, Offer, Begin, Common, script_of, play_line_of, serve_line_of}
+use Rattle.commands.specs.declared.serve_line.ServeLine.TheVariants.{Common as ServeCommon}
 
 -- the offer of a text at node 1, by author 7 as number 3
-abbrev offers : List ℕ → NodeLine
+abbrev offers : List ℕ → CommonLine
 offers text = Offer (record { node = 1; entry = Text (record { author = 7; serial = 3; text = text }) })
 
 -- the text is the lines up to the word, with empty ones, and the next line follows the word
-lines : script_of play_line_of (codes "offer-lines 1 7 3 END\n$( a\n\nEND\nbegin 0\n") ≡ Ok (Node (offers (codes "$( a\n\n")) ∷ Node (Begin 0) ∷ [])
+lines : script_of play_line_of (codes "offer-lines 1 7 3 END\n$( a\n\nEND\nbegin 0\n") ≡ Ok (Common (offers (codes "$( a\n\n")) ∷ Common (Begin 0) ∷ [])
 lines = refl
 
 -- the word comes at once, and the script ends with it
-no_lines : script_of serve_line_of (codes "submit-lines 1 7 3 END\nEND") ≡ Ok (ServeNode (offers []) ∷ [])
+no_lines : script_of serve_line_of (codes "submit-lines 1 7 3 END\nEND") ≡ Ok (ServeCommon (offers []) ∷ [])
 no_lines = refl
 
 -- the text is a number of bytes, with line feeds among them
-bytes : script_of play_line_of (codes "offer-bytes 1 7 3 3\na\nb\nbegin 0") ≡ Ok (Node (offers (codes "a\nb")) ∷ Node (Begin 0) ∷ [])
+bytes : script_of play_line_of (codes "offer-bytes 1 7 3 3\na\nb\nbegin 0") ≡ Ok (Common (offers (codes "a\nb")) ∷ Common (Begin 0) ∷ [])
 bytes = refl
 
-no_bytes : script_of serve_line_of (codes "submit-bytes 1 7 3 0\n\n") ≡ Ok (ServeNode (offers []) ∷ [])
+no_bytes : script_of serve_line_of (codes "submit-bytes 1 7 3 0\n\n") ≡ Ok (ServeCommon (offers []) ∷ [])
 no_bytes = refl
 
 -- if the end of the text is missing, the line that offers the text is a bad line

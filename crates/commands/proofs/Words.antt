@@ -1,20 +1,20 @@
 -- The names that the proofs of this crate use, exported again from one place.
-pub use Rattle.commands.specs.LineWords.{Words, by_first_word, entry_at, line_by_first_word}
-pub use Rattle.commands.specs.NodeLines.{without_text, text_line_or_else}
+pub use Rattle.commands.specs.LineWords.{Words, by_first_word, first_entry_id, line_by_first_word}
+pub use Rattle.commands.specs.CommonLines.{without_text, text_line_or_else}
 pub use Rattle.commands.specs.OfferedEntry.{names_of, numbers_of, text_offer}
 pub use Rattle.commands.specs.Pieces.{split_at}
-pub use Rattle.commands.specs.PlayLines.{line_or_node_line, play_without_text, play_line_by, play_line_of, play_text_form, play_only_line}
+pub use Rattle.commands.specs.PlayLines.{line_or_common_line, play_without_text, play_line_by, play_line_of, play_text_form, play_only_line}
 pub use Rattle.commands.specs.RemainingLines.{IsAdvanced, RemainingLines}
 pub use Rattle.commands.specs.Scripts.{Parses, ParsesLine, prepended, script_from, script_of, with_line}
 pub use Rattle.commands.specs.ServeLines.{add_line_or_else, serve_line_by, serve_line_of, submit_form}
 pub use Rattle.commands.specs.SessionLines.{help_or_line}
-pub use Rattle.commands.specs.Texts.{bytes_before, first_bytes, lines_before, text_at}
+pub use Rattle.commands.specs.Texts.{bytes_before, first_bytes, lines_before, text_in_form}
 pub use Rattle.commands.specs.declared.line_words.NodeEntryId.{NodeEntryId}
 pub use Rattle.commands.specs.declared.line_words.TheConstants.{SPACE}
-pub use Rattle.commands.specs.declared.node_line.NodeLine.{NodeLine}
-pub use Rattle.commands.specs.declared.node_line.NodeLine.TheVariants.{Begin, Offer}
+pub use Rattle.commands.specs.declared.common_line.CommonLine.{CommonLine}
+pub use Rattle.commands.specs.declared.common_line.CommonLine.TheVariants.{Begin, Offer}
 pub use Rattle.commands.specs.declared.offered_entry.OfferedEntry.{OfferedEntry}
-pub use Rattle.commands.specs.declared.play_line.PlayLine.TheVariants.{Node}
+pub use Rattle.commands.specs.declared.play_line.PlayLine.TheVariants.{Common}
 pub use Rattle.commands.specs.declared.script.LineFault.{LineFault}
 pub use Rattle.commands.specs.declared.script.TheConstants.{LINE_FEED}
 pub use Rattle.commands.specs.declared.serve_line.ServeLine.{ServeLine}

@@ -4,7 +4,7 @@ pub mod RemainingLines
 pub mod Texts
 pub mod OfferedEntry
 pub mod NodeQuestions
-pub mod NodeLines
+pub mod CommonLines
 pub mod PlayLines
 pub mod ServeLines
 pub mod SessionLines

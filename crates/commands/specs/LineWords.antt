@@ -26,9 +26,9 @@ abbrev pub line_by_first_word : {L : Type 0} → (List ℕ → Words → Option 
 line_by_first_word line_of line = by_first_word line_of (split_at SPACE line)
 
 -- the first word as a number, and the words after it
-abbrev pub number_at : Words → Option (ℕ × Words)
-number_at [] = None
-number_at (w ∷ ws) = option_map (λ n. (n, ws)) (number_of w)
+abbrev pub first_number : Words → Option (ℕ × Words)
+first_number [] = None
+first_number (w ∷ ws) = option_map (λ n. (n, ws)) (number_of w)
 
 -- the value, if no word follows it
 abbrev pub last_value : {A : Type 0} → A × Words → Option A
@@ -43,7 +43,7 @@ has_no_words (w ∷ ws) = false
 -- the only word as a number
 abbrev pub one_number : Words → Option ℕ
 one_number ws = do
-  n ← number_at ws
+  n ← first_number ws
   last_value n
 
 -- the node with a number, or 255 if the number is greater; no cluster has a node 255
@@ -55,26 +55,26 @@ abbrev pub one_node : Words → Option ℕ
 one_node ws = option_map node_of (one_number ws)
 
 -- the first word as a node, and the words after it
-abbrev pub node_at : Words → Option (ℕ × Words)
-node_at ws = option_map (λ k. (node_of k.0, k.1)) (number_at ws)
+abbrev pub first_node : Words → Option (ℕ × Words)
+first_node ws = option_map (λ k. (node_of k.0, k.1)) (first_number ws)
 
 -- two nodes: J K
 abbrev pub two_nodes : Words → Option NodePair
 two_nodes ws = do
-  j ← node_at ws
+  j ← first_node ws
   k ← one_node j.1
   Some (record { first = j.0; second = k })
 
 -- the first three words as a node, an author and a serial number (K AUTHOR SERIAL), and the words after them
-abbrev pub entry_at : Words → Option (NodeEntryId × Words)
-entry_at ws = do
-  k ← number_at ws
-  a ← number_at k.1
-  s ← number_at a.1
+abbrev pub first_entry_id : Words → Option (NodeEntryId × Words)
+first_entry_id ws = do
+  k ← first_number ws
+  a ← first_number k.1
+  s ← first_number a.1
   Some (record { node = node_of k.0; author = a.0; serial = s.0 }, s.1)
 
 -- the only three words as K AUTHOR SERIAL
-abbrev pub one_entry : Words → Option NodeEntryId
-one_entry ws = do
-  e ← entry_at ws
+abbrev pub one_entry_id : Words → Option NodeEntryId
+one_entry_id ws = do
+  e ← first_entry_id ws
   last_value e

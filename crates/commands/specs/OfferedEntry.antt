@@ -8,14 +8,14 @@ use Rattle.library.specs.Charters.{is_rising}
 use Rattle.commands.specs.declared.offered_entry.OfferedEntry.{OfferedEntry}
 use Rattle.commands.specs.declared.text_form.TextForm.{TextForm}
 use Rattle.numbers.specs.Numbers.{number_of}
-use Rattle.commands.specs.LineWords.{◌>>=◌, Words, entry_at}
-use Rattle.commands.specs.Texts.{text_at}
+use Rattle.commands.specs.LineWords.{◌>>=◌, Words, first_entry_id}
+use Rattle.commands.specs.Texts.{text_in_form}
 
 -- K AUTHOR SERIAL and a text, and how many of the lines that follow are the text
 abbrev pub text_offer : TextForm → Words → List (List ℕ) → Option (OfferedEntry × ℕ)
 text_offer form ws lines = do
-  e ← entry_at ws
-  t ← text_at form e.1 lines
+  e ← first_entry_id ws
+  t ← text_in_form form e.1 lines
   Some (record { node = (e.0).node; entry = Text (record { author = (e.0).author; serial = (e.0).serial; text = t.0 }) }, t.1)
 
 -- these words as numbers
@@ -44,6 +44,6 @@ names_of ws = do
 -- K AUTHOR SERIAL NAME ..
 abbrev pub charter_offer : Words → Option OfferedEntry
 charter_offer ws = do
-  e ← entry_at ws
+  e ← first_entry_id ws
   names ← names_of e.1
   Some (record { node = (e.0).node; entry = Charter (e.0).author (e.0).serial names })

@@ -28,7 +28,7 @@ abbrev pub prepended : {L : Type 0} → L → Result (List L) ℕ → Result (Li
 prepended line (Ok lines) = Ok (line ∷ lines)
 prepended line (Err bad) = Err bad
 
--- a line, and the result of those after it once `found.1` of them are taken as its text
+-- the line found, before the result of the lines after its text; if the line is bad, its number
 abbrev pub with_line : {L : Type 0} → ℕ → Option (L × ℕ) → (ℕ → Result (List L) ℕ) → Result (List L) ℕ
 with_line number None rest = Err number
 with_line number (Some found) rest = prepended found.0 (rest found.1)

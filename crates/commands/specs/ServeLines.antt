@@ -4,12 +4,12 @@
 use Rattle.std.specs.Prelude.{ℕ, List, codes, Option, Some, None, option_map, if◌then◌else◌}
 use Rattle.std.specs.Str.{bytes_eq}
 use Rattle.commands.specs.declared.serve_line.ServeLine.{ServeLine}
-use Rattle.commands.specs.declared.serve_line.ServeLine.TheVariants.{Node, Settle, Add}
-use Rattle.commands.specs.LineWords.{Words, line_by_first_word, one_entry}
+use Rattle.commands.specs.declared.serve_line.ServeLine.TheVariants.{Common, Settle, Add}
+use Rattle.commands.specs.LineWords.{Words, line_by_first_word, one_entry_id}
 use Rattle.commands.specs.declared.text_form.TextForm.{TextForm}
-use Rattle.commands.specs.declared.node_line.NodeLine.TheVariants.{Offer}
+use Rattle.commands.specs.declared.common_line.CommonLine.TheVariants.{Offer}
 use Rattle.commands.specs.Texts.{form_by}
-use Rattle.commands.specs.NodeLines.{node_line, without_text, text_line_or_else}
+use Rattle.commands.specs.CommonLines.{common_line, without_text, text_line_or_else}
 
 -- the form of the text that a verb submits
 abbrev pub submit_form : List ℕ → Option TextForm
@@ -21,16 +21,16 @@ add_form verb = form_by (codes "add") (codes "add-lines") (codes "add-bytes") ve
 
 -- the line without a text that `serve` has and `play` does not
 abbrev pub serve_only_line : List ℕ → Words → Option ServeLine
-serve_only_line verb ws = if bytes_eq verb (codes "settle") then option_map (λ e. Settle e) (one_entry ws) else None
+serve_only_line verb ws = if bytes_eq verb (codes "settle") then option_map (λ e. Settle e) (one_entry_id ws) else None
 
 -- this line if it is one, else a line that both commands have
-abbrev pub line_or_node_line : Option ServeLine → List ℕ → Words → Option ServeLine
-line_or_node_line (Some line) verb ws = Some line
-line_or_node_line None verb ws = option_map (λ l. Node l) (node_line verb ws)
+abbrev pub line_or_common_line : Option ServeLine → List ℕ → Words → Option ServeLine
+line_or_common_line (Some line) verb ws = Some line
+line_or_common_line None verb ws = option_map (λ l. Common l) (common_line verb ws)
 
 -- a line that gives no text
 abbrev pub serve_without_text : List (List ℕ) → List ℕ → Words → Option (ServeLine × ℕ)
-serve_without_text lines verb ws = without_text (line_or_node_line (serve_only_line verb ws) verb ws)
+serve_without_text lines verb ws = without_text (line_or_common_line (serve_only_line verb ws) verb ws)
 
 -- a line that adds a text, or gives none
 abbrev pub add_line_or_else : List (List ℕ) → List ℕ → Words → Option (ServeLine × ℕ)
@@ -38,7 +38,7 @@ add_line_or_else lines verb ws = text_line_or_else (λ o. Add o) (add_form verb)
 
 -- the line with a verb and the words after it, given the lines that follow
 abbrev pub serve_line_by : List (List ℕ) → List ℕ → Words → Option (ServeLine × ℕ)
-serve_line_by lines verb ws = text_line_or_else (λ o. Node (Offer o)) (submit_form verb) (add_line_or_else lines verb ws) ws lines
+serve_line_by lines verb ws = text_line_or_else (λ o. Common (Offer o)) (submit_form verb) (add_line_or_else lines verb ws) ws lines
 
 -- the line of `serve` that these bytes are, given the lines that follow, and how many of those are its text
 abbrev pub serve_line_of : List ℕ → List (List ℕ) → Option (ServeLine × ℕ)

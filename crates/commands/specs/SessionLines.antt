@@ -10,7 +10,7 @@ use Rattle.commands.specs.declared.text_form.TextForm.{TextForm}
 use Rattle.commands.specs.declared.text_form.TextForm.TheVariants.{Rest, Lines, Bytes}
 use Rattle.commands.specs.declared.session_texts.TextEnd.{TextEnd}
 use Rattle.commands.specs.declared.session_texts.TextEnd.TheVariants.{AtWord, AfterBytes}
-use Rattle.commands.specs.LineWords.{◌>>=◌, Words, line_by_first_word, entry_at, one_number}
+use Rattle.commands.specs.LineWords.{◌>>=◌, Words, line_by_first_word, first_entry_id, one_number}
 use Rattle.commands.specs.Texts.{one_word}
 use Rattle.commands.specs.ServeLines.{submit_form, add_form, serve_line_of}
 
@@ -48,7 +48,7 @@ end_by Bytes ws = option_map (λ n. bytes n) (one_number ws)
 abbrev pub text_end_by : List ℕ → Words → Option End
 text_end_by verb ws = do
   form ← first_form (submit_form verb) (add_form verb)
-  e ← entry_at ws
+  e ← first_entry_id ws
   end_by form e.1
 
 -- the end of the text of a line, if the text is on the lines that follow

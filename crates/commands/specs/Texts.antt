@@ -39,11 +39,11 @@ one_word ([] ∷ ws) = None
 one_word ((c ∷ cs) ∷ ws) = last_value (c ∷ cs, ws)
 
 -- the text that the words give in this form, given the lines that follow, and how many of those it takes
-abbrev pub text_at : TextForm → Words → List (List ℕ) → Option (List ℕ × ℕ)
-text_at Rest ws lines = Some (join_with_byte SPACE ws, 0)
-text_at Lines ws lines = do
+abbrev pub text_in_form : TextForm → Words → List (List ℕ) → Option (List ℕ × ℕ)
+text_in_form Rest ws lines = Some (join_with_byte SPACE ws, 0)
+text_in_form Lines ws lines = do
   word ← one_word ws
   lines_before word lines
-text_at Bytes ws lines = do
+text_in_form Bytes ws lines = do
   n ← one_number ws
   bytes_before n lines

@@ -66,7 +66,7 @@ fn request<'a>(alloc: Global, matches: &ArgMatches<'a>) -> Result<Request<'a>, C
         Some(("pages", options)) => Ok(Request::Pages(SiteRequest {
             folder: options.get_str("folder").unwrap_or(""),
             name: options.get_str("name"),
-            assumes: options.get_flag("assume"),
+            assumes_unproved: options.get_flag("assume"),
         })),
         Some(("play", options)) => {
             let nodes = node_count(alloc, options)?;
@@ -90,7 +90,7 @@ fn request<'a>(alloc: Global, matches: &ArgMatches<'a>) -> Result<Request<'a>, C
         Some((command, options)) => Ok(Request::Ask(DatabaseQuestion {
             question: question(alloc, command, options)?,
             name: options.get_str("name"),
-            assumes: options.get_flag("assume"),
+            assumes_unproved: options.get_flag("assume"),
         })),
         None => Err(no_command(alloc)),
     }
@@ -116,7 +116,7 @@ fn question<'a>(
         },
         "proof" => Question::Proof(ProofQuestion {
             label,
-            is_essential: options.get_flag("essential"),
+            essential_only: options.get_flag("essential"),
             form: proof_form(options),
         }),
         "extract" => Question::Extract(labels(alloc, options)?),

@@ -1,5 +1,5 @@
 //! The commands of the program and their options.
-use crate::script_help::{PLAY_LINES, SERVE_LINES};
+use crate::script_help::{PLAY_LINES_HELP, SERVE_LINES_HELP};
 use clap::{Arg, ArgAction, ArgMatches, Command, Error};
 use std::alloc::{AllocError, Global};
 
@@ -7,7 +7,7 @@ use std::alloc::{AllocError, Global};
 pub const VERSION: &str = "1.0.0";
 
 /// The form of an argument.
-enum Form {
+enum ArgumentForm {
     /// A label.
     Label,
     /// A pattern, or words to search for.
@@ -31,140 +31,140 @@ enum Form {
 /// An argument or an option of a command.
 struct Argument {
     name: &'static str,
-    form: Form,
+    form: ArgumentForm,
     help: &'static str,
 }
 
 const LABEL: Argument = Argument {
     name: "label",
-    form: Form::Label,
+    form: ArgumentForm::Label,
     help: "A label of the database; one that begins with - stands after --",
 };
 
 const ASSERTION_LABELS: Argument = Argument {
     name: "labels",
-    form: Form::Labels,
+    form: ArgumentForm::Labels,
     help: "The labels of assertions; those that begin with - stand after --",
 };
 
 const STATEMENT_LABELS: Argument = Argument {
     name: "labels",
-    form: Form::Labels,
+    form: ArgumentForm::Labels,
     help: "The labels of statements; those that begin with - stand after --",
 };
 
 const PATTERN: Argument = Argument {
     name: "pattern",
-    form: Form::Pattern,
+    form: ArgumentForm::Pattern,
     help: "Symbols in one argument, $? for any one symbol, $* for any number of symbols; \
            one that begins with - stands after --",
 };
 
 const HYPOTHESES: Argument = Argument {
     name: "hypotheses",
-    form: Form::FlagWithout("words"),
+    form: ArgumentForm::FlagWithout("words"),
     help: "Also assertions that have the pattern in one of their $e",
 };
 
 const WORDS: Argument = Argument {
     name: "words",
-    form: Form::Flag,
+    form: ArgumentForm::Flag,
     help: "PATTERN is words that the description has, in any case of letters",
 };
 
 const FOLDER: Argument = Argument {
     name: "folder",
-    form: Form::Folder,
+    form: ArgumentForm::Folder,
     help: "The folder that the pages are written into, made if it is not there",
 };
 
 const NAME: Argument = Argument {
     name: "name",
-    form: Form::Optional("FILE"),
+    form: ArgumentForm::Optional("FILE"),
     help: "A name that stands before each place that is printed, FILE:LINE:COLUMN",
 };
 
 const ASSUME: Argument = Argument {
     name: "assume",
-    form: Form::Flag,
+    form: ArgumentForm::Flag,
     help: "Take each $p that has no right proof as a $a, and answer for the rest",
 };
 
 const CHECK_ALL: Argument = Argument {
     name: "all",
-    form: Form::Flag,
+    form: ArgumentForm::Flag,
     help: "Judge every $p by itself, and print each that is not proved",
 };
 
 const NODES: Argument = Argument {
     name: "nodes",
-    form: Form::Required("N"),
+    form: ArgumentForm::Required("N"),
     help: "How many nodes there are, 1 to 9",
 };
 
 const WORKERS: Argument = Argument {
     name: "workers",
-    form: Form::Required("W"),
+    form: ArgumentForm::Required("W"),
     help: "How many threads check the proofs of one entry, 1 to 16",
 };
 
 const WEIGHTS: Argument = Argument {
     name: "weights",
-    form: Form::Optional("W,W,.."),
+    form: ArgumentForm::Optional("W,W,.."),
     help: "The weight of each node, 1 to 100; else each weighs 1",
 };
 
 const WEATHER: Argument = Argument {
     name: "weather",
-    form: Form::Optional("SEED"),
+    form: ArgumentForm::Optional("SEED"),
     help: "Lose, repeat or delay one packet in four, as a generator with this seed draws",
 };
 
 const LIVE: Argument = Argument {
     name: "live",
-    form: Form::Flag,
+    form: ArgumentForm::Flag,
     help: "Answer each line before the next one is read, and go on after a bad one",
 };
 
 const PICTURE: Argument = Argument {
     name: "picture",
-    form: Form::Flag,
+    form: ArgumentForm::Flag,
     help: "In place of the answers an SVG picture of the run, of at most 200 steps",
 };
 
 const FROM: Argument = Argument {
     name: "from",
-    form: Form::OptionalWith("N", "picture"),
+    form: ArgumentForm::OptionalWith("N", "picture"),
     help: "The first step of the picture, counted from 0",
 };
 
 const EVENTS: Argument = Argument {
     name: "events",
-    form: Form::OptionalWith("M", "picture"),
+    form: ArgumentForm::OptionalWith("M", "picture"),
     help: "How many steps the picture shows, 1 to 200; else all from the first on",
 };
 
 const USAGE_ALL: Argument = Argument {
     name: "all",
-    form: Form::Flag,
+    form: ArgumentForm::Flag,
     help: "Also those that use it indirectly",
 };
 
 const ESSENTIAL: Argument = Argument {
     name: "essential",
-    form: Form::Flag,
+    form: ArgumentForm::Flag,
     help: "Only the steps a reader needs, without the building of syntax",
 };
 
 const DOT: Argument = Argument {
     name: "dot",
-    form: Form::FlagWithout("html"),
+    form: ArgumentForm::FlagWithout("html"),
     help: "A picture of the steps, for Graphviz",
 };
 
 const HTML: Argument = Argument {
     name: "html",
-    form: Form::Flag,
+    form: ArgumentForm::Flag,
     help: "A page that stands alone",
 };
 
@@ -290,8 +290,8 @@ fn command<'a>(alloc: Global, definition: &CommandDefinition) -> Result<Command<
     let CommandDefinition(name, usage, help, arguments) = *definition;
     let mut command = Command::new(alloc, name).about(help).override_usage(usage);
     match name {
-        "play" => command = command.after_help(PLAY_LINES),
-        "serve" => command = command.after_help(SERVE_LINES),
+        "play" => command = command.after_help(PLAY_LINES_HELP),
+        "serve" => command = command.after_help(SERVE_LINES_HELP),
         _ => {}
     }
     for argument in arguments {
@@ -304,20 +304,22 @@ fn command<'a>(alloc: Global, definition: &CommandDefinition) -> Result<Command<
 fn clap_argument<'a>(alloc: Global, argument: &Argument) -> Result<Arg<'a>, AllocError> {
     let arg = Arg::new(alloc, argument.name).help(argument.help);
     match argument.form {
-        Form::Label => Ok(arg.required(true).value_name("LABEL")),
-        Form::Pattern => Ok(arg.required(true).value_name("PATTERN")),
-        Form::Folder => Ok(arg.required(true).value_name("FOLDER")),
-        Form::Labels => Ok(
+        ArgumentForm::Label => Ok(arg.required(true).value_name("LABEL")),
+        ArgumentForm::Pattern => Ok(arg.required(true).value_name("PATTERN")),
+        ArgumentForm::Folder => Ok(arg.required(true).value_name("FOLDER")),
+        ArgumentForm::Labels => Ok(
             arg.required(true)
                 .value_name("LABEL")
                 .action(ArgAction::Append)
                 .num_args(1..),
         ),
-        Form::Flag => Ok(flag(arg, argument.name)),
-        Form::FlagWithout(other) => flag(arg, argument.name).conflicts_with(other),
-        Form::Required(value) => Ok(option(arg, argument.name, value).required(true)),
-        Form::Optional(value) => Ok(option(arg, argument.name, value)),
-        Form::OptionalWith(value, other) => option(arg, argument.name, value).requires_arg(other),
+        ArgumentForm::Flag => Ok(flag(arg, argument.name)),
+        ArgumentForm::FlagWithout(other) => flag(arg, argument.name).conflicts_with(other),
+        ArgumentForm::Required(value) => Ok(option(arg, argument.name, value).required(true)),
+        ArgumentForm::Optional(value) => Ok(option(arg, argument.name, value)),
+        ArgumentForm::OptionalWith(value, other) => option(arg, argument.name, value).requires_arg(
+            other,
+        ),
     }
 }
 

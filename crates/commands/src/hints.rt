@@ -21,7 +21,7 @@ pub(crate) fn push_hint(
 ) -> Result<(), AllocError> {
     if let [file] = words {
         if is_file_name(file) {
-            return push_file(text, InputKind::Database, &["check"], file);
+            return push_file_hint(text, InputKind::Database, &["check"], file);
         }
         return Ok(());
     }
@@ -32,11 +32,11 @@ pub(crate) fn push_hint(
             if let Some(kind) = input_kind_of(alloc, others.as_slice())
                 && (kind == InputKind::Database || is_file_name(words[index]))
             {
-                return push_file(text, kind, others.as_slice(), words[index]);
+                return push_file_hint(text, kind, others.as_slice(), words[index]);
             }
         }
     }
-    push_files(alloc, words, text)
+    push_files_hint(alloc, words, text)
 }
 
 /// Returns whether the word at an index may be the name of a file: it is not an option, and it is
@@ -78,7 +78,7 @@ fn input_kind_of(alloc: Global, words: &[&str]) -> Option<InputKind> {
 }
 
 /// Appends the line that says how to give one file to the command.
-fn push_file(
+fn push_file_hint(
     text: &mut String,
     kind: InputKind,
     words: &[&str],
@@ -99,7 +99,7 @@ fn push_file(
 
 /// Appends the line that says how to give two files to a command about a database, if the last two
 /// words are names of files and the others are such a command.
-fn push_files(alloc: Global, words: &[&str], text: &mut String) -> Result<(), AllocError> {
+fn push_files_hint(alloc: Global, words: &[&str], text: &mut String) -> Result<(), AllocError> {
     let [front @ .., first, second] = words else {
         return Ok(());
     };

@@ -2,24 +2,24 @@
 //!
 //! Crates above use `parse_command_line`, which returns the `Request` of a command line, and
 //! `parse_script`. The main contract: `parse_script` returns the lines by the definition of the
-//! command's lines (`specs/PlayLines`, `specs/ServeLines`, `specs/SessionLines`), or the number of the
-//! first bad line. No other crate depends on `clap`.
+//! command's lines (`specs/PlayLines`, `specs/ServeLines`, `specs/SessionLines`), or the number of
+//! the first bad line. No other crate depends on `clap`.
 //!
 //! Reading order: `request` (the request of a command line), `weights` (numbers of a command line),
 //! `grammar` (its commands and options) with `script_help`, `hints` (on files among the words),
 //! `picture_options`, `command_line`; `pieces` (a text between separators), `line_words` (the words
 //! of a line), `lines` (the lines of a script), `text_form` (a text on the line or on those that
-//! follow), `offered_entry`, `node_question` (labels), `node_line`, `play_line`, `serve_line`
+//! follow), `offered_entry`, `node_question` (labels), `common_line`, `play_line`, `serve_line`
 //! and `session_line` (the request of a line), `session_texts` (where a text ends), `script` (all
 //! lines).
 #![tactic(auto)]
 
 mod command_line;
+mod common_line;
 mod grammar;
 mod hints;
 mod line_words;
 mod lines;
-mod node_line;
 mod node_question;
 mod offered_entry;
 mod picture_options;
@@ -35,11 +35,11 @@ mod text_form;
 mod weights;
 
 pub use command_line::parse_command_line;
+pub use common_line::CommonLine;
 pub use grammar::VERSION;
 pub use line_words::{NodeEntryId, NodePair};
 pub use lines::Lines;
-pub use node_line::NodeLine;
-pub use node_question::{LabelQuestion, NodeQuestion};
+pub use node_question::{LabelQuestionKind, NodeQuestion};
 pub use offered_entry::OfferedEntry;
 pub use play_line::PlayLine;
 pub use request::{
@@ -47,7 +47,7 @@ pub use request::{
     ServeOptions, SiteRequest,
 };
 pub use script::{LINE_FEED, Line, LineFault, ScriptFault, parse_script};
-pub use script_help::{SERVE_LINES, expected_form, first_word};
+pub use script_help::{SERVE_LINES_HELP, expected_form, first_word};
 pub use serve_line::ServeLine;
 pub use session_line::SessionLine;
 pub use session_texts::{TextEnd, text_end};

@@ -1,8 +1,8 @@
 //! The words of a line. The first is its verb.
 ghost use Rattle.std.specs.Prelude.{◌≡◌, option_map};
 ghost use Rattle.std.specs.List.{join_with_byte};
-ghost use Rattle.commands.specs.LineWords.{number_at, one_number, node_of, node_at, one_node};
-ghost use Rattle.commands.specs.LineWords.{entry_at, one_entry, has_no_words, two_nodes};
+ghost use Rattle.commands.specs.LineWords.{first_number, one_number, node_of, first_node, one_node};
+ghost use Rattle.commands.specs.LineWords.{first_entry_id, one_entry_id, has_no_words, two_nodes};
 
 use crate::pieces::Pieces;
 use numbers::parse_number;
@@ -42,14 +42,14 @@ impl<'a> Pieces<'a, SPACE> {
 
     /// Takes the next word as a number. Returns `None` if it is not a number.
     pub fn take_number(&mut self) -> Option<u64>
-        ensures { option_map (λ number. (number, self.new)) result ≡ number_at self.old }
+        ensures { option_map (λ number. (number, self.new)) result ≡ first_number self.old }
     {
         parse_number(self.take()?)
     }
 
     /// Takes the next word as the number of a node. Returns `None` if it is not a number.
     pub fn take_node(&mut self) -> Option<u8>
-        ensures { option_map (λ node. (node, self.new)) result ≡ node_at self.old }
+        ensures { option_map (λ node. (node, self.new)) result ≡ first_node self.old }
     {
         let number = self.take_number()?;
         Some(node_with_number(number))
@@ -57,8 +57,8 @@ impl<'a> Pieces<'a, SPACE> {
 
     /// Takes the next three words as `K AUTHOR SERIAL`: a node, and the author and serial number of
     /// an entry. Returns `None` unless they are three numbers.
-    pub fn take_entry(&mut self) -> Option<NodeEntryId>
-        ensures { option_map (λ entry. (entry, self.new)) result ≡ entry_at self.old }
+    pub fn take_entry_id(&mut self) -> Option<NodeEntryId>
+        ensures { option_map (λ entry_id. (entry_id, self.new)) result ≡ first_entry_id self.old }
     {
         let node = node_with_number(self.take_number()?);
         let author = self.take_number()?;
@@ -106,13 +106,13 @@ impl<'a> Pieces<'a, SPACE> {
 
     /// Returns the three remaining words as `K AUTHOR SERIAL`, or `None` unless exactly three
     /// numbers are left.
-    pub fn only_entry(mut self) -> Option<NodeEntryId>
-        ensures { result ≡ one_entry self.entry }
+    pub fn only_entry_id(mut self) -> Option<NodeEntryId>
+        ensures { result ≡ one_entry_id self.entry }
     {
-        let entry = self.take_entry()?;
+        let entry_id = self.take_entry_id()?;
         match self.take() {
             Some(_word) => None,
-            None => Some(entry),
+            None => Some(entry_id),
         }
     }
 }

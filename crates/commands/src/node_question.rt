@@ -1,7 +1,7 @@
 //! Questions about a label in the library of a node.
 ghost use Rattle.std.specs.Prelude.{◌≡◌};
 ghost use Rattle.commands.specs.Scripts.{Parses};
-ghost use Rattle.commands.specs.NodeQuestions.{label_question_of, node_question_of};
+ghost use Rattle.commands.specs.NodeQuestions.{label_question_kind_of, node_question_of};
 
 use crate::line_words::Words;
 use crate::request::{ProofForm, ProofQuestion, Question};
@@ -13,7 +13,7 @@ use std::str;
 
 /// The kind of a question about a label. The label itself stands in `NodeQuestion`.
 #[derive(Clone, Copy, Debug, PartialEq, Eq)]
-pub enum LabelQuestion {
+pub enum LabelQuestionKind {
     /// `trace`: the `$a` that the `$p` rests on, directly or through other `$p`.
     Trace,
     /// `tree`: the derivation of the `$p`.
@@ -26,15 +26,15 @@ pub enum LabelQuestion {
     Proof,
 }
 
-impl LabelQuestion {
+impl LabelQuestionKind {
     /// Returns the verb of the question.
     pub fn verb(self) -> &'static [u8] {
         match self {
-            LabelQuestion::Trace => b"trace",
-            LabelQuestion::Tree => b"tree",
-            LabelQuestion::Usage => b"usage",
-            LabelQuestion::Show => b"show",
-            LabelQuestion::Proof => b"proof",
+            LabelQuestionKind::Trace => b"trace",
+            LabelQuestionKind::Tree => b"tree",
+            LabelQuestionKind::Usage => b"usage",
+            LabelQuestionKind::Show => b"show",
+            LabelQuestionKind::Proof => b"proof",
         }
     }
 
@@ -48,16 +48,16 @@ impl LabelQuestion {
         label: &[u8],
     ) -> Result<Question<'_>, AllocError> {
         Ok(match self {
-            LabelQuestion::Trace => Question::Trace(label),
-            LabelQuestion::Tree => Question::Tree(label),
-            LabelQuestion::Usage => Question::Usage { label, all: false },
-            LabelQuestion::Show => {
+            LabelQuestionKind::Trace => Question::Trace(label),
+            LabelQuestionKind::Tree => Question::Tree(label),
+            LabelQuestionKind::Usage => Question::Usage { label, all: false },
+            LabelQuestionKind::Show => {
                 let text = str::from_utf8(label).unwrap_or("");
                 Question::Show(Vec::from_slice(alloc, &[text])?)
             }
-            LabelQuestion::Proof => Question::Proof(ProofQuestion {
+            LabelQuestionKind::Proof => Question::Proof(ProofQuestion {
                 label,
-                is_essential: false,
+                essential_only: false,
                 form: ProofForm::Steps,
             }),
         })
@@ -68,24 +68,24 @@ impl LabelQuestion {
 #[derive(Drop)]
 pub struct NodeQuestion {
     pub node: u8,
-    pub kind: LabelQuestion,
+    pub kind: LabelQuestionKind,
     pub label: Bytes,
 }
 
 /// Returns the kind of question about a label that a verb asks, or `None` if it asks none.
-pub(crate) fn label_question(verb: &[u8]) -> Option<LabelQuestion>
-    ensures { result ≡ label_question_of verb.now }
+pub(crate) fn label_question_kind(verb: &[u8]) -> Option<LabelQuestionKind>
+    ensures { result ≡ label_question_kind_of verb.now }
 {
     if verb == b"trace".as_slice() {
-        Some(LabelQuestion::Trace)
+        Some(LabelQuestionKind::Trace)
     } else if verb == b"tree".as_slice() {
-        Some(LabelQuestion::Tree)
+        Some(LabelQuestionKind::Tree)
     } else if verb == b"usage".as_slice() {
-        Some(LabelQuestion::Usage)
+        Some(LabelQuestionKind::Usage)
     } else if verb == b"show".as_slice() {
-        Some(LabelQuestion::Show)
+        Some(LabelQuestionKind::Show)
     } else if verb == b"proof".as_slice() {
-        Some(LabelQuestion::Proof)
+        Some(LabelQuestionKind::Proof)
     } else {
         None
     }
@@ -94,7 +94,7 @@ pub(crate) fn label_question(verb: &[u8]) -> Option<LabelQuestion>
 /// Parses `K LABEL`, the words after the verb, as a question of this kind.
 pub(crate) fn parse_question(
     alloc: Global,
-    kind: LabelQuestion,
+    kind: LabelQuestionKind,
     mut words: Words<'_>,
 ) -> Result<NodeQuestion, LineFault>
     ensures { Parses (node_question_of kind words.entry) result }

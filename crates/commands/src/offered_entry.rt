@@ -22,7 +22,7 @@ pub struct OfferedEntry {
 }
 
 /// Parses `K AUTHOR SERIAL` and a text in this form, and takes the lines that are the text.
-pub(crate) fn parse_text<'a>(
+pub(crate) fn parse_text_offer<'a>(
     alloc: Global,
     form: TextForm,
     mut words: Words<'a>,
@@ -31,35 +31,38 @@ pub(crate) fn parse_text<'a>(
     ensures { ParsesLine (text_offer form words.entry lines.old.lines)
         lines.old lines.new result }
 {
-    let at = words.take_entry().ok_or(LineFault::Bad)?;
+    let entry_id = words.take_entry_id().ok_or(LineFault::Bad)?;
     let text = take_text(form, words, lines).ok_or(LineFault::Bad)?;
     let Ok(text) = Bytes::copy_from_slice(alloc, text) else {
         return Err(LineFault::Memory);
     };
     Ok(OfferedEntry {
-        node: at.node,
+        node: entry_id.node,
         entry: Entry::Text(Submission {
-            author: at.author,
-            serial: at.serial,
+            author: entry_id.author,
+            serial: entry_id.serial,
             text,
         }),
     })
 }
 
 /// Parses `K AUTHOR SERIAL NAME ..`. Each `NAME` is the number of an author that the charter lists.
-pub(crate) fn parse_charter(alloc: Global, mut words: Words<'_>) -> Result<OfferedEntry, LineFault>
+pub(crate) fn parse_charter_offer(
+    alloc: Global,
+    mut words: Words<'_>,
+) -> Result<OfferedEntry, LineFault>
     ensures { Parses (charter_offer words.entry) result }
 {
-    let at = words.take_entry().ok_or(LineFault::Bad)?;
+    let entry_id = words.take_entry_id().ok_or(LineFault::Bad)?;
     if !are_names(words.copy()) {
         return Err(LineFault::Bad);
     }
-    let names = Names::new(numbers(alloc, words)?).ok_or(LineFault::Bad)?;
+    let names = Names::new(parse_numbers(alloc, words)?).ok_or(LineFault::Bad)?;
     Ok(OfferedEntry {
-        node: at.node,
+        node: entry_id.node,
         entry: Entry::Charter {
-            author: at.author,
-            serial: at.serial,
+            author: entry_id.author,
+            serial: entry_id.serial,
             names,
         },
     })
@@ -96,7 +99,7 @@ fn is_above(number: u64, last: Option<u64>) -> bool
 }
 
 /// Parses each of the words as a number.
-fn numbers(alloc: Global, mut words: Words<'_>) -> Result<Vec<u64>, LineFault>
+fn parse_numbers(alloc: Global, mut words: Words<'_>) -> Result<Vec<u64>, LineFault>
     ensures { MatchResult result
         (λ numbers. numbers_of words.entry ≡ Some numbers.items)
         (λ fault. fault ≡ Bad → numbers_of words.entry ≡ None) }

@@ -1,12 +1,12 @@
 //! The lines of `play`.
 ghost use Rattle.std.specs.Prelude.{◌≡◌};
 ghost use Rattle.commands.specs.Scripts.{Parses};
-ghost use Rattle.commands.specs.PlayLines.{line_or_node_line, play_line_of, play_text_form, play_only_line};
+ghost use Rattle.commands.specs.PlayLines.{line_or_common_line, play_line_of, play_text_form, play_only_line};
 
+use crate::common_line::{CommonLine, parse_common_line};
 use crate::line_words::Words;
 use crate::lines::Lines;
-use crate::node_line::{NodeLine, parse_node_line};
-use crate::offered_entry::parse_text;
+use crate::offered_entry::parse_text_offer;
 use crate::script::{Line, LineFault};
 use crate::text_form::{TextForm, form_of};
 use std::alloc::Global;
@@ -15,7 +15,7 @@ use std::alloc::Global;
 #[derive(Drop)]
 pub enum PlayLine {
     /// A line that both commands have; `offer`, `offer-lines` and `offer-bytes` offer a text.
-    Node(NodeLine),
+    Common(CommonLine),
     /// `deliver N`: a packet is delivered.
     Deliver { packet: u64 },
     /// `apply K`: the next entry of the node's log is applied.
@@ -36,8 +36,8 @@ impl Line for PlayLine {
         let verb = words.take().ok_or(LineFault::Bad)?;
         match text_form(verb) {
             Some(form) => {
-                let offered = parse_text(alloc, form, words, lines)?;
-                Ok(PlayLine::Node(NodeLine::Offer(offered)))
+                let offered = parse_text_offer(alloc, form, words, lines)?;
+                Ok(PlayLine::Common(CommonLine::Offer(offered)))
             }
             None => parse_without_text(alloc, verb, words),
         }
@@ -58,12 +58,12 @@ fn text_form(verb: &[u8]) -> Option<TextForm>
 
 /// Parses the words after a verb that offers no text.
 fn parse_without_text(alloc: Global, verb: &[u8], words: Words<'_>) -> Result<PlayLine, LineFault>
-    ensures { Parses (line_or_node_line (play_only_line verb.now words.entry) verb.now words.entry) result }
+    ensures { Parses (line_or_common_line (play_only_line verb.now words.entry) verb.now words.entry) result }
 {
     if let Some(line) = parse_play_only(verb, words.copy()) {
         return Ok(line);
     }
-    Ok(PlayLine::Node(parse_node_line(alloc, verb, words)?))
+    Ok(PlayLine::Common(parse_common_line(alloc, verb, words)?))
 }
 
 /// Parses the words after a verb that `serve` does not have.

@@ -60,7 +60,7 @@ pub struct DatabaseQuestion<'a> {
     /// `--name`: the name that is printed before each line and column.
     pub name: Option<&'a str>,
     /// `--assume`: each `$p` that is not proved is taken as a `$a`.
-    pub assumes: bool,
+    pub assumes_unproved: bool,
 }
 
 /// A request for a site of a database, with the options about the database.
@@ -71,7 +71,7 @@ pub struct SiteRequest<'a> {
     /// `--name`: the name that is printed before each line and column.
     pub name: Option<&'a str>,
     /// `--assume`: each `$p` that is not proved is taken as a `$a`.
-    pub assumes: bool,
+    pub assumes_unproved: bool,
 }
 
 /// A question about a library. It borrows the labels that it names.
@@ -110,7 +110,7 @@ pub enum Question<'a> {
 pub struct ProofQuestion<'a> {
     pub label: &'a [u8],
     /// `--essential`: whether only the essential steps are shown.
-    pub is_essential: bool,
+    pub essential_only: bool,
     pub form: ProofForm,
 }
 

@@ -3,7 +3,7 @@ use crate::line_words::SPACE;
 use crate::pieces::split_first_piece;
 
 /// The help on the lines of `play`: two spaces, a line, two spaces or more, and its meaning.
-pub(crate) const PLAY_LINES: &str = "\
+pub(crate) const PLAY_LINES_HELP: &str = "\
 Lines, K a node from 0:
   offer K AUTHOR SERIAL TEXT         offer a text at node K
   offer-lines K AUTHOR SERIAL WORD   the same, the lines up to WORD alone
@@ -30,7 +30,7 @@ Lines, K a node from 0:
 
 /// The help on the lines of `serve`: two spaces, a line, two spaces or more, and its meaning. A
 /// session also has the line `help`.
-pub const SERVE_LINES: &str = "\
+pub const SERVE_LINES_HELP: &str = "\
 Lines, K a node from 0:
   add K AUTHOR SERIAL TEXT           submit a text until it is decided
   add-lines K AUTHOR SERIAL WORD     the same, the lines up to WORD alone
@@ -65,7 +65,7 @@ const SESSION_VERBS: &str = "add, add-lines, add-bytes, submit, submit-lines, su
 
 /// Returns the form of the line of a session that begins with a verb, or all verbs if none does.
 pub fn expected_form(verb: &[u8]) -> &'static str {
-    for line in SERVE_LINES.lines() {
+    for line in SERVE_LINES_HELP.lines() {
         if let Some(line) = line.strip_prefix("  ") {
             let form = match line.split_once("  ") {
                 Some((form, _meaning)) => form,

@@ -1,13 +1,13 @@
 //! The lines of `serve`.
 ghost use Rattle.std.specs.Prelude.{◌≡◌};
 ghost use Rattle.commands.specs.Scripts.{Parses, ParsesLine};
-ghost use Rattle.commands.specs.ServeLines.{add_form, add_line_or_else, line_or_node_line, serve_line_of};
+ghost use Rattle.commands.specs.ServeLines.{add_form, add_line_or_else, line_or_common_line, serve_line_of};
 ghost use Rattle.commands.specs.ServeLines.{serve_only_line, submit_form};
 
+use crate::common_line::{CommonLine, parse_common_line};
 use crate::line_words::{NodeEntryId, Words};
 use crate::lines::Lines;
-use crate::node_line::{NodeLine, parse_node_line};
-use crate::offered_entry::{OfferedEntry, parse_text};
+use crate::offered_entry::{OfferedEntry, parse_text_offer};
 use crate::script::{Line, LineFault};
 use crate::text_form::{TextForm, form_of};
 use std::alloc::Global;
@@ -16,7 +16,7 @@ use std::alloc::Global;
 #[derive(Drop)]
 pub enum ServeLine {
     /// A line that both commands have; `submit`, `submit-lines` and `submit-bytes` offer a text.
-    Node(NodeLine),
+    Common(CommonLine),
     /// `settle K AUTHOR SERIAL`: the verdict of the node's library, as soon as it is known.
     Settle(NodeEntryId),
     /// `add`, `add-lines` and `add-bytes`: a text is submitted until its verdict is known.
@@ -35,8 +35,8 @@ impl Line for ServeLine {
         let verb = words.take().ok_or(LineFault::Bad)?;
         match submitted_form(verb) {
             Some(form) => {
-                let offered = parse_text(alloc, form, words, lines)?;
-                Ok(ServeLine::Node(NodeLine::Offer(offered)))
+                let offered = parse_text_offer(alloc, form, words, lines)?;
+                Ok(ServeLine::Common(CommonLine::Offer(offered)))
             }
             None => parse_add_or_else(alloc, verb, words, lines),
         }
@@ -79,7 +79,7 @@ fn parse_add_or_else<'a>(
 {
     match added_form(verb) {
         Some(form) => {
-            let offered = parse_text(alloc, form, words, lines)?;
+            let offered = parse_text_offer(alloc, form, words, lines)?;
             Ok(ServeLine::Add(offered))
         }
         None => parse_without_text(alloc, verb, words),
@@ -88,12 +88,12 @@ fn parse_add_or_else<'a>(
 
 /// Parses the words after a verb that gives no text.
 fn parse_without_text(alloc: Global, verb: &[u8], words: Words<'_>) -> Result<ServeLine, LineFault>
-    ensures { Parses (line_or_node_line (serve_only_line verb.now words.entry) verb.now words.entry) result }
+    ensures { Parses (line_or_common_line (serve_only_line verb.now words.entry) verb.now words.entry) result }
 {
     if let Some(line) = parse_serve_only(verb, words.copy()) {
         return Ok(line);
     }
-    Ok(ServeLine::Node(parse_node_line(alloc, verb, words)?))
+    Ok(ServeLine::Common(parse_common_line(alloc, verb, words)?))
 }
 
 /// Parses the words after a verb that `play` does not have.
@@ -101,7 +101,7 @@ fn parse_serve_only(verb: &[u8], words: Words<'_>) -> Option<ServeLine>
     ensures { result ≡ serve_only_line verb.now words.entry }
 {
     if verb == b"settle".as_slice() {
-        Some(ServeLine::Settle(words.only_entry()?))
+        Some(ServeLine::Settle(words.only_entry_id()?))
     } else {
         None
     }

@@ -23,7 +23,7 @@ pub fn text_end(line: &[u8]) -> Option<TextEnd<'_>>
 {
     let mut words = Words::new(line);
     let form = text_form(words.take()?)?;
-    let _at = words.take_entry()?;
+    let _at = words.take_entry_id()?;
     end_of(form, words)
 }
 

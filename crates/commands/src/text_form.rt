@@ -3,7 +3,7 @@ ghost use Rattle.std.specs.Prelude.{◌≡◌, ℕ, ◌==◌, ◌≤◌, Some, N
 ghost use Rattle.std.specs.Prelude.{count_by, option_map, slice_index, IsTrue, ◌<◌};
 ghost use Rattle.commands.specs.Pieces.{split_at};
 ghost use Rattle.commands.specs.RemainingLines.{IsAdvanced};
-ghost use Rattle.commands.specs.Texts.{bytes_before, form_by, lines_before, one_word, text_at};
+ghost use Rattle.commands.specs.Texts.{bytes_before, form_by, lines_before, one_word, text_in_form};
 
 use crate::line_words::Words;
 use crate::lines::Lines;
@@ -46,9 +46,9 @@ pub(crate) fn take_text<'a>(
     lines: &mut Lines<'a>,
 ) -> Option<&'a [u8]>
     ensures { MatchOption result
-        (text_at form words.entry lines.old.lines ≡ None)
+        (text_in_form form words.entry lines.old.lines ≡ None)
         (λ text. (count : ℕ)
-        × (text_at form words.entry lines.old.lines ≡ Some (text.now, count))
+        × (text_in_form form words.entry lines.old.lines ≡ Some (text.now, count))
         × IsAdvanced count lines.old lines.new) }
 {
     match form {

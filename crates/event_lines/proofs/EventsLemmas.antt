@@ -1,6 +1,6 @@
 -- A script that is made of the lines of events.
-use Rattle.event_lines.proofs.Words.{◌≡◌, ℕ, ◌+◌, ◌^◌, ◌<◌, ◌==◌, Bool, true, false, List, [], ◌∷◌, ◌++◌, codes, count_by, decimal, map, flat_map, Some, Result, Ok, refl, AllByRecursion, list_any, sym, ◌∙◌, ap, arith, length, take, drop, get_or, append_assoc, append-nil, length-append, subst, take_at, drop_at, get_or_at, Entry, Text, Charter, AreNames, Submission, Event, Offer, Begin, Deliver, Restart, Carried, PlayLine, Node, split_at, prepended, script_from, script_of, with_line, play_line_of, bytes_before, text_passed, bytes_found, bytes_rest, EventIsInRange, EntryIsInRange, TextIsInRange, lines_of_event, lines_of_events, offer_lines, text_offer_lines, play_line_of_event, spaced, node_author_serial_words}
-use Rattle.commands.specs.declared.node_line.NodeLine.TheVariants.{Offer as OfferLine}
+use Rattle.event_lines.proofs.Words.{◌≡◌, ℕ, ◌+◌, ◌^◌, ◌<◌, ◌==◌, Bool, true, false, List, [], ◌∷◌, ◌++◌, codes, count_by, decimal, map, flat_map, Some, Result, Ok, refl, AllByRecursion, list_any, sym, ◌∙◌, ap, arith, length, take, drop, get_or, append_assoc, append-nil, length-append, subst, take_at, drop_at, get_or_at, Entry, Text, Charter, AreNames, Submission, Event, Offer, Begin, Deliver, Restart, Carried, PlayLine, Common, split_at, prepended, script_from, script_of, with_line, play_line_of, bytes_before, text_passed, bytes_found, bytes_rest, EventIsInRange, EntryIsInRange, TextIsInRange, lines_of_event, lines_of_events, offer_lines, text_offer_lines, play_line_of_event, spaced, node_author_serial_words}
+use Rattle.commands.specs.declared.common_line.CommonLine.TheVariants.{Offer as OfferLine}
 use Rattle.event_lines.proofs.DecimalLemmas.{without-decimal}
 use Rattle.event_lines.proofs.WordsLemmas.{Without, without-append, without-spaced, split_before}
 use Rattle.event_lines.proofs.LinesLemmas.{begin_says, restart_says, deliver_says, offer_says, bytes_say, charter_says}
@@ -93,7 +93,7 @@ module _ (k a s : ℕ) (node : k < 256) (author : a < 2 ^ 64) (serial : s < 2 ^ 
   -- an offer of a text without line feeds
   read_offer : (text : List ℕ) → Without 10 text
       → IsRead (codes "offer" ++ spaced (node_author_serial_words k a s) ++ codes " " ++ text ++ codes "\n")
-      (Node (OfferLine (record { node = k; entry = Text (record { author = a; serial = s; text = text }) })))
+      (Common (OfferLine (record { node = k; entry = Text (record { author = a; serial = s; text = text }) })))
   read_offer text none =
       let place : List ℕ = spaced (node_author_serial_words k a s) in
       let line : List ℕ = codes "offer" ++ (place ++ codes " " ++ text) in
@@ -101,13 +101,13 @@ module _ (k a s : ℕ) (node : k < 256) (author : a < 2 ^ 64) (serial : s < 2 ^ 
       = sym (append_assoc (codes "offer" ++ place) (codes " ") text ∙ (append_assoc (codes "offer") place (codes " " ++ text) ∙ ap (λ l. codes "offer" ++ l) (sym (append_assoc place (codes " ") text)))) in
       let free : Without 10 line = without-append 10 (codes "offer") (place ++ codes " " ++ text) refl
       (without-append 10 (place ++ codes " ") text (without-append 10 place (codes " ") (without-spaced 10 (node_author_serial_words k a s) refl (node_author_serial_words_free 10 (omega arith) [] tt)) refl) none) in
-      let P : List ℕ → Type 0 = λ l. IsRead (l ++ codes "\n") (Node (OfferLine (record { node = k; entry = Text (record { author = a; serial = s; text = text }) }))) in
+      let P : List ℕ → Type 0 = λ l. IsRead (l ++ codes "\n") (Common (OfferLine (record { node = k; entry = Text (record { author = a; serial = s; text = text }) }))) in
       subst P form (read_without_text line free (longer (codes "offer") (place ++ codes " " ++ text) (omega arith)) _ (λ lines. offer_says k a s lines node author serial text (node_author_serial_words_free 32 (omega arith) [] tt)))
 
   -- an offer of the bytes of a text
   read_bytes_offer : (text : List ℕ) → length text < 2 ^ 64
       → IsRead (codes "offer-bytes" ++ spaced (node_author_serial_words k a s) ++ spaced (decimal (length text) ∷ []) ++ codes "\n" ++ text ++ codes "\n")
-      (Node (OfferLine (record { node = k; entry = Text (record { author = a; serial = s; text = text }) })))
+      (Common (OfferLine (record { node = k; entry = Text (record { author = a; serial = s; text = text }) })))
   read_bytes_offer text small =
       let n : List (List ℕ) = decimal (length text) ∷ [] in
       let line : List ℕ = codes "offer-bytes" ++ spaced (node_author_serial_words k a s ++ n) in
@@ -115,7 +115,7 @@ module _ (k a s : ℕ) (node : k < 256) (author : a < 2 ^ 64) (serial : s < 2 ^ 
       = ap (λ l. codes "offer-bytes" ++ l) (spaced-append (node_author_serial_words k a s) n) ∙ sym (append_assoc (codes "offer-bytes") (spaced (node_author_serial_words k a s)) (spaced n)) in
       let free : Without 10 line = without-append 10 (codes "offer-bytes") (spaced (node_author_serial_words k a s ++ n)) refl
       (without-spaced 10 (node_author_serial_words k a s ++ n) refl (node_author_serial_words_free 10 (omega arith) n (free_of 10 (length text) (omega arith) small, tt))) in
-      let P : List ℕ → Type 0 = λ l. IsRead (l ++ codes "\n" ++ text ++ codes "\n") (Node (OfferLine (record { node = k; entry = Text (record { author = a; serial = s; text = text }) }))) in
+      let P : List ℕ → Type 0 = λ l. IsRead (l ++ codes "\n" ++ text ++ codes "\n") (Common (OfferLine (record { node = k; entry = Text (record { author = a; serial = s; text = text }) }))) in
       subst P form (read_bytes line free (longer (codes "offer-bytes") (spaced (node_author_serial_words k a s ++ n)) (omega arith)) text _
       (λ rest. bytes_say k a s (split_at 10 (text ++ 10 ∷ rest)) node author serial (length text) (count_by (λ b. b == 10) text + 1) text small (bytes_at text rest)
       (node_author_serial_words_free 32 (omega arith) n (free_of 32 (length text) (omega arith) small, tt))))
@@ -123,14 +123,14 @@ module _ (k a s : ℕ) (node : k < 256) (author : a < 2 ^ 64) (serial : s < 2 ^ 
   -- a charter
   read_charter : (names : List ℕ) → AreNames names → AllByRecursion (λ n. n < 2 ^ 64) names
       → IsRead (codes "charter" ++ spaced (node_author_serial_words k a s) ++ spaced (map decimal names) ++ codes "\n")
-      (Node (OfferLine (record { node = k; entry = Charter a s names })))
+      (Common (OfferLine (record { node = k; entry = Charter a s names })))
   read_charter names are small =
       let line : List ℕ = codes "charter" ++ spaced (node_author_serial_words k a s ++ map decimal names) in
       let form : line ≡ codes "charter" ++ spaced (node_author_serial_words k a s) ++ spaced (map decimal names)
       = ap (λ l. codes "charter" ++ l) (spaced-append (node_author_serial_words k a s) (map decimal names)) ∙ sym (append_assoc (codes "charter") (spaced (node_author_serial_words k a s)) (spaced (map decimal names))) in
       let free : Without 10 line = without-append 10 (codes "charter") (spaced (node_author_serial_words k a s ++ map decimal names)) refl
       (without-spaced 10 (node_author_serial_words k a s ++ map decimal names) refl (node_author_serial_words_free 10 (omega arith) (map decimal names) (names_free 10 names (omega arith) small))) in
-      let P : List ℕ → Type 0 = λ l. IsRead (l ++ codes "\n") (Node (OfferLine (record { node = k; entry = Charter a s names }))) in
+      let P : List ℕ → Type 0 = λ l. IsRead (l ++ codes "\n") (Common (OfferLine (record { node = k; entry = Charter a s names }))) in
       subst P form (read_without_text line free (longer (codes "charter") (spaced (node_author_serial_words k a s ++ map decimal names)) (omega arith)) _
       (λ lines. charter_says k a s lines node author serial names are small (node_author_serial_words_free 32 (omega arith) (map decimal names) (names_free 32 names (omega arith) small))))
 

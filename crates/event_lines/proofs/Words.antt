@@ -1,17 +1,17 @@
 -- Re-exports of the definitions and lemmas with which this crate is proved.
 pub use Rattle.commands.proofs.ScriptsLemmas.{text_passed}
 pub use Rattle.commands.proofs.TextsLemmas.{bytes_found, bytes_rest}
-pub use Rattle.commands.specs.LineWords.{Words, last_value, by_first_word, entry_at, node_of, number_at, one_node, one_number}
-pub use Rattle.commands.specs.NodeLines.{without_text}
+pub use Rattle.commands.specs.LineWords.{Words, last_value, by_first_word, first_entry_id, node_of, first_number, one_node, one_number}
+pub use Rattle.commands.specs.CommonLines.{without_text}
 pub use Rattle.commands.specs.OfferedEntry.{are_names, names_of, numbers_of}
 pub use Rattle.commands.specs.Pieces.{split_at}
-pub use Rattle.commands.specs.PlayLines.{line_or_node_line, play_line_by, play_line_of}
+pub use Rattle.commands.specs.PlayLines.{line_or_common_line, play_line_by, play_line_of}
 pub use Rattle.commands.specs.Scripts.{prepended, script_from, script_of, with_line}
-pub use Rattle.commands.specs.Texts.{bytes_before, text_at}
+pub use Rattle.commands.specs.Texts.{bytes_before, text_in_form}
 pub use Rattle.commands.specs.declared.line_words.NodeEntryId.{NodeEntryId}
 pub use Rattle.commands.specs.declared.offered_entry.OfferedEntry.{OfferedEntry}
 pub use Rattle.commands.specs.declared.play_line.PlayLine.{PlayLine}
-pub use Rattle.commands.specs.declared.play_line.PlayLine.TheVariants.{Node}
+pub use Rattle.commands.specs.declared.play_line.PlayLine.TheVariants.{Common}
 pub use Rattle.commands.specs.declared.text_form.TextForm.{TextForm}
 pub use Rattle.commands.specs.declared.text_form.TextForm.TheVariants.{Bytes, Rest}
 pub use Rattle.event_lines.specs.EventLines.{EventIsInRange, EntryIsInRange, TextIsInRange, offer_lines, lines_of_event, lines_of_events, spaced, spaced_word, play_line_of_event, text_offer_lines, node_author_serial_words}

@@ -11,9 +11,9 @@ use Rattle.net.specs.declared.event.Event.{Event}
 use Rattle.net.specs.declared.event.Event.TheVariants.{Offer, Begin, Deliver, Restart}
 use Rattle.world.specs.declared.carried.Carried.{Carried}
 use Rattle.commands.specs.declared.script.TheConstants.{LINE_FEED}
-use Rattle.commands.specs.declared.node_line.NodeLine.TheVariants.{Offer as OfferLine, Begin as BeginLine, Restart as RestartLine}
+use Rattle.commands.specs.declared.common_line.CommonLine.TheVariants.{Offer as OfferLine, Begin as BeginLine, Restart as RestartLine}
 use Rattle.commands.specs.declared.play_line.PlayLine.{PlayLine}
-use Rattle.commands.specs.declared.play_line.PlayLine.TheVariants.{Node, Deliver as DeliverLine}
+use Rattle.commands.specs.declared.play_line.PlayLine.TheVariants.{Common, Deliver as DeliverLine}
 
 -- a space and a word
 abbrev pub spaced_word : List ℕ → List ℕ
@@ -70,10 +70,10 @@ counted_event_lines events =
 
 -- the line of `play` for an event
 abbrev pub play_line_of_event : Event Carried → PlayLine
-play_line_of_event (Offer node value) = Node (OfferLine (record { node = node; entry = value.0 }))
-play_line_of_event (Begin node) = Node (BeginLine node)
+play_line_of_event (Offer node value) = Common (OfferLine (record { node = node; entry = value.0 }))
+play_line_of_event (Begin node) = Common (BeginLine node)
 play_line_of_event (Deliver number) = DeliverLine number
-play_line_of_event (Restart node) = Node (RestartLine node)
+play_line_of_event (Restart node) = Common (RestartLine node)
 
 -- the author, the serial number and the length of the text fit in 64 bits
 abbrev pub TextIsInRange : Submission → Type 0

@@ -29,8 +29,8 @@ pub fn event_lines(alloc: Global, events: &[Event<Carried>]) -> Result<Vec<u8>, 
     Ok(text)
 }
 
-/// Appends a line `events N` and the lines of the events. N is the number of their line feeds, those in
-/// offered texts included.
+/// Appends a line `events N` and the lines of the events. N is the number of their line feeds,
+/// those in offered texts included.
 ///
 /// Errors: an allocation fails. Cost: the size of the lines.
 pub fn push_events(

@@ -1,8 +1,8 @@
 //! The history of a run as a script of `play`, which has a line for each event.
 //!
 //! The main contract: the text of `event_lines` is parsed as exactly the lines of `play` for these
-//! events, in order. `program` uses `push_events`, which appends the count of line feeds and then this
-//! text to an answer.
+//! events, in order. `program` uses `push_events`, which appends the count of line feeds and then
+//! this text to an answer.
 #![tactic(auto)]
 
 mod events;

@@ -7,4 +7,4 @@ mod laws;
 mod name;
 
 pub use laws::{names_differ, names_stay_in_a_folder};
-pub use name::{INDEX, STYLE, push_file_name};
+pub use name::{INDEX_FILE, STYLE_FILE, push_file_name};

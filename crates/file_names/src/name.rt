@@ -9,10 +9,10 @@ use numbers::push_number;
 use std::alloc::AllocError;
 
 /// The name of the file that lists all assertions.
-pub const INDEX: &str = "index.html";
+pub const INDEX_FILE: &str = "index.html";
 
 /// The name of the file that holds the style sheet of the site.
-pub const STYLE: &str = "style.css";
+pub const STYLE_FILE: &str = "style.css";
 
 /// The greatest length in bytes of a label that its file name spells, that is, has in it with some
 /// bytes escaped. The file of a longer one is named by its position. Since a byte becomes two at

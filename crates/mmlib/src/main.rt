@@ -1,5 +1,5 @@
-//! The program `mmlib`, formal mathematics in the Metamath language: passes its arguments and streams
-//! to the crate `program`, which does the rest.
+//! The program `mmlib`, formal mathematics in the Metamath language: passes its arguments and
+//! streams to the crate `program`, which does the rest.
 #![tactic(auto)]
 
 use folders::SystemFolder;
@@ -11,7 +11,7 @@ use std::{env, io};
 fn main(rt: HostRuntime) -> ExitCode {
     let mut output = rt.stdout();
     // Standard error, for help, explanations and the text of a bad command line. A `Fault` is printed on `output`.
-    let mut faults = rt.stderr();
+    let mut stderr = rt.stderr();
     // As `run` returns it: 1 after a refusal or a failed write, 2 for a bad command line.
     let status = match arguments(&rt) {
         Ok(arguments) => match as_words(rt.alloc(), arguments.as_slice()) {
@@ -20,7 +20,7 @@ fn main(rt: HostRuntime) -> ExitCode {
                 words.as_slice(),
                 &mut rt.stdin(),
                 &mut output,
-                &mut faults,
+                &mut stderr,
                 &mut SystemFolder::new(&rt),
             ),
             Err(AllocError) => Fault::from(AllocError).print(&mut output),
@@ -28,7 +28,7 @@ fn main(rt: HostRuntime) -> ExitCode {
         Err(error) if error.kind() == io::ErrorKind::OutOfMemory => {
             Fault::from(AllocError).print(&mut output)
         }
-        Err(_) => match print(&mut faults, b"error: the arguments are no text\n") {
+        Err(_) => match print(&mut stderr, b"error: the arguments are no text\n") {
             Ok(()) => 2,
             Err(_) => 1,
         },

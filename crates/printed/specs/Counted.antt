@@ -11,8 +11,8 @@ abbrev pub line_feeds_of : List ℕ → ℕ
 line_feeds_of text = count_by (λ b. b == 10) text
 
 -- a line of a word and the count of the lines, and then the lines
-abbrev pub counted_text : List ℕ → List ℕ → List ℕ
-counted_text word lines = word ++ codes " " ++ decimal (line_feeds_of lines) ++ codes "\n" ++ lines
+abbrev pub counted_lines_text : List ℕ → List ℕ → List ℕ
+counted_lines_text word lines = word ++ codes " " ++ decimal (line_feeds_of lines) ++ codes "\n" ++ lines
 
 -- an entry of a log, after a space
 abbrev pub spaced_value_text : Option Carried → List ℕ

@@ -89,17 +89,19 @@ abbrev pub verdict_text_or : Option Verdict → List ℕ → List ℕ
 verdict_text_or None undecided = undecided
 verdict_text_or (Some verdict) undecided = verdict_text verdict
 
--- an entry of a log, after a space; a log on one line, without a line feed
+-- an entry of a log, after a space
 abbrev pub spaced_entry_text : Option Entry → List ℕ
 spaced_entry_text entry = codes " " ++ entry_text entry
 
+-- a log on one line, without a line feed
 abbrev pub log_text : List (Option Entry) → List ℕ
 log_text log = codes "log" ++ flat_map spaced_entry_text log
 
--- the line of an assertion; the assertions of a library: their count, and a line for each assertion
+-- the line of an assertion
 abbrev pub assertion_line : Listed → List ℕ
 assertion_line l = (if l.proved then codes "proved " else codes "axiom ") ++ l.label ++ codes "\n"
 
+-- the assertions of a library: their count, and a line for each assertion
 abbrev pub list_text : List Listed → List ℕ
 list_text ls = codes "list " ++ decimal (length ls) ++ codes "\n" ++ flat_map assertion_line ls
 

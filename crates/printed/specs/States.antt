@@ -25,9 +25,9 @@ role_and_promise state = role_text state.role ++ codes " promise " ++ ballot_tex
 abbrev pub counts_text : NodeState → ℕ → List ℕ
 counts_text state applied = count_text (codes " learned ") state.log_len ++ count_text (codes " applied ") applied ++ count_text (codes " waiting ") state.waiting
 
--- the end of the line
-abbrev pub down_text : Bool → List ℕ
-down_text down = (if down then codes " down" else []) ++ codes "\n"
+-- the end of the line: whether the node is down, and a line feed
+abbrev pub line_end_text : Bool → List ℕ
+line_end_text down = (if down then codes " down" else []) ++ codes "\n"
 
 abbrev pub state_text : NodeState → ℕ → Bool → List ℕ
-state_text state applied down = role_and_promise state ++ counts_text state applied ++ down_text down
+state_text state applied down = role_and_promise state ++ counts_text state applied ++ line_end_text down

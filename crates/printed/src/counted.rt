@@ -1,7 +1,7 @@
 //! Answers of several lines, which begin with their line count, and the entries that a node
 //! learned.
 ghost use Rattle.std.specs.Prelude.{◌≡◌, ◌++◌, OnOk};
-ghost use Rattle.printed.specs.Counted.{counted_text, learned_text, line_feeds_of};
+ghost use Rattle.printed.specs.Counted.{counted_lines_text, learned_text, line_feeds_of};
 
 use crate::packets::push_spaced_value;
 use numbers::push_number;
@@ -9,8 +9,8 @@ use std::alloc::AllocError;
 use world::Carried;
 
 /// Appends a line of a word and the count of `lines`, and then `lines`, each with its line feed.
-pub fn push_counted(text: &mut Vec<u8>, word: &[u8], lines: &[u8]) -> Result<(), AllocError>
-    ensures { OnOk result (text.new.items ≡ text.old.items ++ counted_text word.now lines.now) }
+pub fn push_counted_lines(text: &mut Vec<u8>, word: &[u8], lines: &[u8]) -> Result<(), AllocError>
+    ensures { OnOk result (text.new.items ≡ text.old.items ++ counted_lines_text word.now lines.now) }
 {
     text.extend_from_slice(word)?;
     text.extend_from_slice(b" ")?;

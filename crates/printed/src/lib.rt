@@ -4,8 +4,8 @@
 //! specified.
 //!
 //! Crates above use the clause of each call: the appended text is exactly that of a definition in
-//! `specs`. `C1` to `C7` are the causes of a refusal (`library::Cause`), `G1` to `G10` the rules of a
-//! database (`scope::Rule`).
+//! `specs`. `C1` to `C7` are the causes of a refusal (`library::Cause`), `G1` to `G10` the rules of
+//! a database (`scope::Rule`).
 //!
 //! Reading order: `verdict_text`, `packets`, `answers` (logs, lists and exports), `counted`,
 //! `states`, `tree_text`; `broken_rules` (the first statement of a database that breaks a rule) and
@@ -26,7 +26,7 @@ pub use answers::{
     push_verdict_line,
 };
 pub use broken_rules::first_broken_rule;
-pub use counted::{push_counted, push_learned};
+pub use counted::{push_counted_lines, push_learned};
 pub use outline::outline_text;
 pub use packets::push_packet;
 pub use states::push_state;

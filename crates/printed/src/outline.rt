@@ -25,17 +25,17 @@ pub fn outline_text(alloc: Global, text: &[u8]) -> Result<Vec<u8>, AllocError>
 {
     match read(alloc, text) {
         Ok(statements) => outline(alloc, statements.as_slice()),
-        Err(ReadFault::Text(LexFault::Text { offset })) => refusal(
+        Err(ReadFault::Text(LexFault::Text { offset })) => refusal_line(
             alloc,
             b"refused C2 byte ",
             offset,
         ),
-        Err(ReadFault::Text(LexFault::Comment { offset })) => refusal(
+        Err(ReadFault::Text(LexFault::Comment { offset })) => refusal_line(
             alloc,
             b"refused C2 byte ",
             offset,
         ),
-        Err(ReadFault::Shape { token }) => refusal(alloc, b"refused C3 token ", token),
+        Err(ReadFault::Shape { token }) => refusal_line(alloc, b"refused C3 token ", token),
         Err(ReadFault::Memory | ReadFault::Text(LexFault::Memory)) => Err(AllocError),
     }
 }
@@ -45,13 +45,13 @@ fn outline(alloc: Global, statements: &[Stmt]) -> Result<Vec<u8>, AllocError>
     requires { AreShaped statements.now }
     ensures { IfOk result (λ bytes. bytes.items ≡ outline_of statements.now) }
 {
-    let mut bytes = lines(alloc, statements)?;
+    let mut bytes = statement_lines(alloc, statements)?;
     push_rules_line(&mut bytes, first_broken_rule(alloc, statements)?)?;
     Ok(bytes)
 }
 
 /// Returns a line for each statement.
-fn lines(alloc: Global, statements: &[Stmt]) -> Result<Vec<u8>, AllocError>
+fn statement_lines(alloc: Global, statements: &[Stmt]) -> Result<Vec<u8>, AllocError>
     requires { AreShaped statements.now }
     ensures { IfOk result (λ bytes. bytes.items ≡ outline_lines 1 statements.now) }
 {
@@ -98,7 +98,7 @@ fn push_rules_line(bytes: &mut Vec<u8>, broken: Option<(usize, Rule)>) -> Result
 }
 
 /// Returns the line for a text that cannot be parsed: some words and a number.
-fn refusal(alloc: Global, words: &[u8], number: usize) -> Result<Vec<u8>, AllocError>
+fn refusal_line(alloc: Global, words: &[u8], number: usize) -> Result<Vec<u8>, AllocError>
     ensures { IfOk result (λ bytes. bytes.items ≡ numbered_line words.now number) }
 {
     let mut bytes = Vec::from_slice(alloc, words)?;

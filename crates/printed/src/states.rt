@@ -1,7 +1,7 @@
 //! The state that a node reports, as text.
 ghost use Rattle.std.specs.Prelude.{◌≡◌, ◌++◌, OnOk};
 ghost use Rattle.printed.specs.States.{role_text, role_and_promise, count_text, counts_text};
-ghost use Rattle.printed.specs.States.{down_text, state_text};
+ghost use Rattle.printed.specs.States.{line_end_text, state_text};
 
 use crate::packets::push_ballot;
 use numbers::push_number;
@@ -19,7 +19,7 @@ pub fn push_state(
 {
     push_role_and_promise(text, state)?;
     push_counts(text, state, applied)?;
-    push_down(text, is_down)
+    push_line_end(text, is_down)
 }
 
 /// Appends the role, and the ballot that the node promised.
@@ -65,9 +65,9 @@ fn push_count(text: &mut Vec<u8>, name: &[u8], number: u64) -> Result<(), AllocE
     push_number(text, number)
 }
 
-/// Appends ` down` if the node is down, and a line feed.
-fn push_down(text: &mut Vec<u8>, is_down: bool) -> Result<(), AllocError>
-    ensures { OnOk result (text.new.items ≡ text.old.items ++ down_text is_down) }
+/// Appends the end of the line: ` down` if the node is down, and a line feed.
+fn push_line_end(text: &mut Vec<u8>, is_down: bool) -> Result<(), AllocError>
+    ensures { OnOk result (text.new.items ≡ text.old.items ++ line_end_text is_down) }
 {
     let down = if is_down { b" down".as_slice() } else { b"" };
     text.extend_from_slice(down)?;

@@ -30,19 +30,23 @@ fn push_cause(text: &mut Vec<u8>, cause: Cause) -> Result<(), AllocError>
         Cause::TooLong => text.extend_from_slice(b"C1"),
         Cause::Text => text.extend_from_slice(b"C2"),
         Cause::Shape => text.extend_from_slice(b"C3"),
-        Cause::NotChartered { statement } => push_coded(text, b"C7 ", statement),
+        Cause::NotChartered { statement } => push_code_and_statement(text, b"C7 ", statement),
         Cause::Rule { statement, rule } => {
-            push_coded(text, b"C4 ", statement)?;
+            push_code_and_statement(text, b"C4 ", statement)?;
             text.extend_from_slice(b" ")?;
             text.extend_from_slice(rule_name(rule))
         }
-        Cause::Proof { statement } => push_coded(text, b"C5 ", statement),
-        Cause::Unfinished { statement } => push_coded(text, b"C6 ", statement),
+        Cause::Proof { statement } => push_code_and_statement(text, b"C5 ", statement),
+        Cause::Unfinished { statement } => push_code_and_statement(text, b"C6 ", statement),
     }
 }
 
 /// Appends a code and the number of a statement.
-fn push_coded(text: &mut Vec<u8>, code: &[u8], statement: usize) -> Result<(), AllocError>
+fn push_code_and_statement(
+    text: &mut Vec<u8>,
+    code: &[u8],
+    statement: usize,
+) -> Result<(), AllocError>
     ensures { OnOk result (text.new.items ≡ text.old.items ++ code.now ++ decimal statement) }
 {
     text.extend_from_slice(code)?;

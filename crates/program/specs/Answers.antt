@@ -5,21 +5,21 @@ use Rattle.std.specs.Prelude.{◌≡◌, ℕ, List, false, codes, flat_map}
 use Rattle.library.specs.Words.{Name, Database}
 use Rattle.library.specs.Queries.{IsTrace, IsUsage, IsTreeOf}
 use Rattle.verify.specs.Derivations.{Derivation}
-use Rattle.commands.specs.declared.node_question.LabelQuestion.{LabelQuestion}
-use Rattle.commands.specs.declared.node_question.LabelQuestion.TheVariants.{Trace, Tree, Usage}
-use Rattle.printed.specs.Counted.{counted_text}
+use Rattle.commands.specs.declared.node_question.LabelQuestionKind.{LabelQuestionKind}
+use Rattle.commands.specs.declared.node_question.LabelQuestionKind.TheVariants.{Trace, Tree, Usage}
+use Rattle.printed.specs.Counted.{counted_lines_text}
 use Rattle.printed.specs.Trees.{label_line, tree_lines}
 
 -- a line of a word and the count of the labels, and a line for each label
 abbrev pub labels_text : List ℕ → List Name → List ℕ
-labels_text word labels = counted_text word (flat_map label_line labels)
+labels_text word labels = counted_lines_text word (flat_map label_line labels)
 
 -- the answer to the question about the label; the answers to `show` and `proof` are not specified
-abbrev pub IsLabelAnswer : Database → LabelQuestion → Name → List ℕ → Type 0
+abbrev pub IsLabelAnswer : Database → LabelQuestionKind → Name → List ℕ → Type 0
 IsLabelAnswer S Trace label text =
     (labels : List Name) × IsTrace S label labels × (text ≡ labels_text (codes "trace") labels)
 IsLabelAnswer S Usage label text =
     (labels : List Name) × IsUsage S label false labels × (text ≡ labels_text (codes "usage") labels)
 IsLabelAnswer S Tree label text =
-    (t : Derivation) × IsTreeOf S label t × (text ≡ counted_text (codes "tree") (tree_lines S 0 t))
+    (t : Derivation) × IsTreeOf S label t × (text ≡ counted_lines_text (codes "tree") (tree_lines S 0 t))
 IsLabelAnswer S kind label text = Unit {0}

@@ -8,7 +8,7 @@ use crate::fault::Fault;
 use crate::named_text::NamedText;
 use crate::proofs::write_proof;
 use crate::searches::matching_lines;
-use crate::shown::blocks;
+use crate::shown::blocks_of_labels;
 use crate::streams::print;
 use commands::Question;
 use extract::extract;
@@ -41,7 +41,7 @@ pub fn write_answer<O: Write>(
         }
         Question::List => print(output, assertion_lines(alloc, library)?.as_slice()),
         Question::Export => print(output, library.export()?.as_slice()),
-        Question::Tree(label) => print(output, tree(alloc, library, label)?.as_slice()),
+        Question::Tree(label) => print(output, derivation_lines(alloc, library, label)?.as_slice()),
         Question::Trace(label) => print_labels(alloc, library.trace(label)?.as_slice(), output),
         Question::Usage { label, all } => {
             print_labels(alloc, library.usage(label, *all)?.as_slice(), output)
@@ -56,7 +56,7 @@ pub fn write_answer<O: Write>(
         Question::Show(labels) => {
             print(
                 output,
-                blocks(alloc, library, text, labels.as_slice())?.as_slice(),
+                blocks_of_labels(alloc, library, text, labels.as_slice())?.as_slice(),
             )
         }
         Question::Find(query) => {
@@ -117,7 +117,7 @@ fn assertion_lines(alloc: Global, library: &Library) -> Result<Vec<u8>, AllocErr
 }
 
 /// Returns a line for each node of the derivation of a `$p`.
-pub fn tree(alloc: Global, library: &Library, label: &[u8]) -> Result<Vec<u8>, Fault>
+pub fn derivation_lines(alloc: Global, library: &Library, label: &[u8]) -> Result<Vec<u8>, Fault>
     ensures { IfOk result (λ lines. (t : Derivation)
         × IsTreeOf library.now.replica.statements label.now t
         × (lines.items ≡ tree_lines library.now.replica.statements 0 t)) }

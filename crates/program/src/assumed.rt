@@ -20,7 +20,7 @@ const MAX_NAMED: usize = 10;
 
 /// Prints the answer about the statements of a text, each `$p` that is not proved taken as a `$a`;
 /// returns the exit status. The count of these `$p` and the labels of the first `MAX_NAMED` go to
-/// `faults`.
+/// `stderr`.
 ///
 /// The library is leaked: the end of the process frees all of it at once.
 pub fn answer_assuming<R: AllocGlobal + Threads + Sync, O: Write, F: Write>(
@@ -29,30 +29,30 @@ pub fn answer_assuming<R: AllocGlobal + Threads + Sync, O: Write, F: Write>(
     text: NamedText<'_>,
     database: LegalDatabase,
     output: &mut O,
-    faults: &mut F,
+    stderr: &mut F,
 ) -> Result<u8, Fault> {
-    let library = assume_unproved(rt, database, faults)?;
+    let library = assume_unproved(rt, database, stderr)?;
     let answered = answer_accepted(
         rt.alloc(),
         &library,
         text,
         &request.question,
         output,
-        faults,
+        stderr,
     );
     forget(library);
     answered
 }
 
 /// Returns a library of the statements of a text, each `$p` that is not proved taken as a `$a`. The
-/// count of these `$p` and the labels of the first `MAX_NAMED` go to `faults`.
+/// count of these `$p` and the labels of the first `MAX_NAMED` go to `stderr`.
 pub fn assume_unproved<R: AllocGlobal + Threads + Sync, F: Write>(
     rt: &R,
     database: LegalDatabase,
-    faults: &mut F,
+    stderr: &mut F,
 ) -> Result<Library, AllocError> {
     let unproved = database.unproved(rt, Workers::offered(rt))?;
-    print_assumed(rt.alloc(), &database, unproved.as_slice(), faults);
+    print_assumed(rt.alloc(), &database, unproved.as_slice(), stderr);
     database.into_assumed_library(unproved.as_slice())
 }
 
@@ -62,13 +62,13 @@ fn print_assumed<F: Write>(
     alloc: Global,
     database: &LegalDatabase,
     unproved: &[usize],
-    faults: &mut F,
+    stderr: &mut F,
 ) {
     if unproved.is_empty() {
         return;
     }
     if let Ok(line) = assumed_line(alloc, database, unproved) {
-        let _ = print(faults, line.as_slice());
+        let _ = print(stderr, line.as_slice());
     }
 }
 

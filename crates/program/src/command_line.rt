@@ -18,24 +18,24 @@ use std::thread::Threads;
 ///
 /// The status is 0 if all is good (the version too), 1 after a refusal (of the input, of a line,
 /// out of memory) or a failed write, 2 for a bad command line, help, bad weights or a bad script.
-/// Answers, refusals and the bad lines of scripts go to `output`, the standard output of `mmlib`; all
-/// else that is printed (help, the text of a bad command line, explanations, notes, the progress of
-/// `pages`) goes to `faults`, its standard error.
+/// Answers, refusals and the bad lines of scripts go to `output`, the standard output of `mmlib`;
+/// all else that is printed (help, the text of a bad command line, explanations, notes, the
+/// progress of `pages`) goes to `stderr`, its standard error.
 pub fn run<
     R: AllocGlobal + Threads + Wait + Copy + Send + Sync + Drop + 'static,
     I: Read,
     O: Write,
     F: Write,
     S: Folder,
->(rt: &R, words: &[&str], input: &mut I, output: &mut O, faults: &mut F, folder: &mut S) -> u8 {
+>(rt: &R, words: &[&str], input: &mut I, output: &mut O, stderr: &mut F, folder: &mut S) -> u8 {
     let answered = match parse_command_line(rt.alloc(), words) {
-        Ok(request) => answer(rt, request, input, output, faults, folder),
+        Ok(request) => answer(rt, request, input, output, stderr, folder),
         Err(CommandLineFault::Memory) => Err(Fault::from(AllocError)),
-        Err(CommandLineFault::Bad { text }) => print(faults, text.as_bytes()).map(|()| 2),
+        Err(CommandLineFault::Bad { text }) => print(stderr, text.as_bytes()).map(|()| 2),
     };
     match answered {
         Ok(status) => status,
-        Err(fault) => fault.report(output, faults),
+        Err(fault) => fault.report(output, stderr),
     }
 }
 
@@ -51,14 +51,14 @@ fn answer<
     request: Request<'_>,
     input: &mut I,
     output: &mut O,
-    faults: &mut F,
+    stderr: &mut F,
     folder: &mut S,
 ) -> Result<u8, Fault> {
     match request {
         Request::Version => print_version(output),
-        Request::Outline { name } => print_outline(rt.alloc(), name, input, output, faults),
-        Request::Ask(question) => answer_question(rt, &question, input, output, faults),
-        Request::Pages(request) => write_pages(rt, request, input, output, faults, folder),
+        Request::Outline { name } => print_outline(rt.alloc(), name, input, output, stderr),
+        Request::Ask(question) => answer_question(rt, &question, input, output, stderr),
+        Request::Pages(request) => write_pages(rt, request, input, output, stderr, folder),
         Request::Play { weights } => play(rt.alloc(), weights, input, output),
         Request::Picture { weights, steps } => {
             print_picture(rt.alloc(), weights, steps, input, output)

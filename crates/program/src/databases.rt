@@ -3,8 +3,8 @@ use crate::answers::write_answer;
 use crate::each_proof::{allows_unproved, answer_unproved, may_be_unfinished};
 use crate::fault::Fault;
 use crate::named_text::NamedText;
-use crate::refused_questions::print_refused;
-use crate::refused_texts::{print_outline_reason, print_refusal};
+use crate::refused_questions::print_refused_question;
+use crate::refused_texts::{print_outline_reason, print_refused_text};
 use crate::streams::{print, read_text};
 use bytes::Bytes;
 use commands::{DatabaseQuestion, Question};
@@ -17,13 +17,13 @@ use std::thread::Threads;
 use verify_pool::{OpenGate, Workers};
 
 /// Prints the outline of a database, and returns the exit status. The reason for a refusal goes to
-/// `faults`, with the name of the file before each line and column.
+/// `stderr`, with the name of the file before each line and column.
 pub fn print_outline<I: Read, O: Write, F: Write>(
     alloc: Global,
     name: Option<&str>,
     input: &mut I,
     output: &mut O,
-    faults: &mut F,
+    stderr: &mut F,
 ) -> Result<u8, Fault> {
     let text = read_text(alloc, input)?;
     let text = NamedText {
@@ -31,14 +31,14 @@ pub fn print_outline<I: Read, O: Write, F: Write>(
         bytes: text.as_slice(),
     };
     if text.bytes.len() > MAX_BYTES {
-        return print_refusal(alloc, text, Cause::TooLong, output, faults);
+        return print_refused_text(alloc, text, Cause::TooLong, output, stderr);
     }
     let lines = outline_text(alloc, text.bytes)?;
     print(output, lines.as_slice())?;
     if lines.ends_with(b"good\n") {
         return Ok(0);
     }
-    print_outline_reason(alloc, text, faults);
+    print_outline_reason(alloc, text, stderr);
     Ok(1)
 }
 
@@ -51,11 +51,11 @@ pub fn answer_question<R: AllocGlobal + Threads + Sync, I: Read, O: Write, F: Wr
     request: &DatabaseQuestion<'_>,
     input: &mut I,
     output: &mut O,
-    faults: &mut F,
+    stderr: &mut F,
 ) -> Result<u8, Fault> {
     let text = Bytes::from_vec(read_text(rt.alloc(), input)?)?;
     let mut library = Library::new(rt.alloc());
-    let answered = answer_with_library(rt, request, &text, &mut library, output, faults);
+    let answered = answer_with_library(rt, request, &text, &mut library, output, stderr);
     forget(library);
     answered
 }
@@ -67,20 +67,20 @@ fn answer_with_library<R: AllocGlobal + Threads + Sync, O: Write, F: Write>(
     bytes: &Bytes,
     library: &mut Library,
     output: &mut O,
-    faults: &mut F,
+    stderr: &mut F,
 ) -> Result<u8, Fault> {
     let text = NamedText {
         name: request.name,
         bytes: bytes.as_slice(),
     };
     if allows_unproved(request) && may_be_unfinished(text.bytes) {
-        if let Some(status) = answer_unproved(rt, request, text, output, faults)? {
+        if let Some(status) = answer_unproved(rt, request, text, output, stderr)? {
             return Ok(status);
         }
     }
     match apply_text(rt, library, bytes)? {
-        Verdict::Refused(cause) => answer_refused(rt, request, text, cause, output, faults),
-        _ => answer_accepted(rt.alloc(), library, text, &request.question, output, faults),
+        Verdict::Refused(cause) => answer_refused(rt, request, text, cause, output, stderr),
+        _ => answer_accepted(rt.alloc(), library, text, &request.question, output, stderr),
     }
 }
 
@@ -99,30 +99,30 @@ pub fn apply_text<R: Threads + Sync>(
 }
 
 /// Prints the answer about a library, and returns the exit status. `text` has the same statements,
-/// in order. The reason for a refusal goes to `faults`.
+/// in order. The reason for a refusal goes to `stderr`.
 pub fn answer_accepted<O: Write, F: Write>(
     alloc: Global,
     library: &Library,
     text: NamedText<'_>,
     question: &Question<'_>,
     output: &mut O,
-    faults: &mut F,
+    stderr: &mut F,
 ) -> Result<u8, Fault> {
     match write_answer(alloc, library, text, question, output) {
         Ok(()) => {
-            note_if_empty(library, question, faults);
+            note_if_empty(library, question, stderr);
             Ok(0)
         }
-        Err(fault) => print_refused(library, question, fault, output, faults),
+        Err(fault) => print_refused_question(library, question, fault, output, stderr),
     }
 }
 
-/// Prints on `faults` that the database of a `check` has no statement, if it has none.
-fn note_if_empty<F: Write>(library: &Library, question: &Question<'_>, faults: &mut F) {
+/// Prints on `stderr` that the database of a `check` has no statement, if it has none.
+fn note_if_empty<F: Write>(library: &Library, question: &Question<'_>, stderr: &mut F) {
     if matches!(question, Question::Check | Question::CheckEach)
         && library.statements().is_empty()
     {
-        let _ = print(faults, b"the database has no statement\n");
+        let _ = print(stderr, b"the database has no statement\n");
     }
 }
 
@@ -134,13 +134,13 @@ fn answer_refused<R: AllocGlobal + Threads + Sync, O: Write, F: Write>(
     text: NamedText<'_>,
     cause: Cause,
     output: &mut O,
-    faults: &mut F,
+    stderr: &mut F,
 ) -> Result<u8, Fault> {
     let is_unproved = matches!(cause, Cause::Proof { .. } | Cause::Unfinished { .. });
     if is_unproved && allows_unproved(request) {
-        if let Some(status) = answer_unproved(rt, request, text, output, faults)? {
+        if let Some(status) = answer_unproved(rt, request, text, output, stderr)? {
             return Ok(status);
         }
     }
-    print_refusal(rt.alloc(), text, cause, output, faults)
+    print_refused_text(rt.alloc(), text, cause, output, stderr)
 }

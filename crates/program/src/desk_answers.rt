@@ -1,5 +1,5 @@
-//! Answers about a node, asked at a desk: the calls of `nodes` by which any thread asks the nodes that
-//! `serve` starts.
+//! Answers about a node, asked at a desk: the calls of `nodes` by which any thread asks the nodes
+//! that `serve` starts.
 ghost use Rattle.std.specs.Prelude.{◌≡◌, ◌++◌, ◌≤◌, ℕ, List, Err, IfOk, OnOk};
 ghost use Rattle.cluster.specs.Cell.{Cell};
 ghost use Rattle.net.specs.declared.event.Event.{Event as TakenEvent};

@@ -27,7 +27,7 @@ const MAX_EXPLAINED: usize = 100;
 
 /// Returns whether a question is answered even if some `$p` are not proved.
 pub fn allows_unproved(request: &DatabaseQuestion<'_>) -> bool {
-    request.assumes || matches!(request.question, Question::CheckEach)
+    request.assumes_unproved || matches!(request.question, Question::CheckEach)
 }
 
 /// Returns whether a text has a byte `?` outside its comments, so that a proof may be unfinished.
@@ -55,14 +55,14 @@ pub fn answer_unproved<R: AllocGlobal + Threads + Sync, O: Write, F: Write>(
     request: &DatabaseQuestion<'_>,
     text: NamedText<'_>,
     output: &mut O,
-    faults: &mut F,
+    stderr: &mut F,
 ) -> Result<Option<u8>, Fault> {
     let Some(database) = read_legal_database(rt, text)? else {
         return Ok(None);
     };
     let status = match request.question {
-        Question::CheckEach => print_each(rt, text, database, output, faults)?,
-        _ => answer_assuming(rt, request, text, database, output, faults)?,
+        Question::CheckEach => print_each(rt, text, database, output, stderr)?,
+        _ => answer_assuming(rt, request, text, database, output, stderr)?,
     };
     Ok(Some(status))
 }
@@ -84,7 +84,7 @@ pub fn read_legal_database<R: AllocGlobal + Threads + Sync>(
 }
 
 /// Prints a line for each `$p` of a text that is not proved and the count of those that are, and
-/// explains the first `MAX_EXPLAINED` lines on `faults`; returns the exit status.
+/// explains the first `MAX_EXPLAINED` lines on `stderr`; returns the exit status.
 ///
 /// The statements are leaked: the end of the process frees all of them at once.
 fn print_each<R: AllocGlobal + Threads + Sync, O: Write, F: Write>(
@@ -92,9 +92,9 @@ fn print_each<R: AllocGlobal + Threads + Sync, O: Write, F: Write>(
     text: NamedText<'_>,
     database: LegalDatabase,
     output: &mut O,
-    faults: &mut F,
+    stderr: &mut F,
 ) -> Result<u8, Fault> {
-    let printed = print_unproved(rt, text, &database, output, faults);
+    let printed = print_unproved(rt, text, &database, output, stderr);
     forget(database);
     printed
 }
@@ -105,7 +105,7 @@ fn print_unproved<R: AllocGlobal + Threads + Sync, O: Write, F: Write>(
     text: NamedText<'_>,
     database: &LegalDatabase,
     output: &mut O,
-    faults: &mut F,
+    stderr: &mut F,
 ) -> Result<u8, Fault> {
     let alloc = rt.alloc();
     let unproved = database.unproved(rt, Workers::offered(rt))?;
@@ -114,7 +114,7 @@ fn print_unproved<R: AllocGlobal + Threads + Sync, O: Write, F: Write>(
     if unproved.is_empty() {
         return Ok(0);
     }
-    explain_each(alloc, text, database, unproved.as_slice(), faults);
+    explain_each(alloc, text, database, unproved.as_slice(), stderr);
     Ok(1)
 }
 
@@ -141,7 +141,7 @@ fn explain_each<F: Write>(
     text: NamedText<'_>,
     database: &LegalDatabase,
     unproved: &[usize],
-    faults: &mut F,
+    stderr: &mut F,
 ) {
     let Ok(tokens) = TextTokens::new(alloc, text.bytes) else {
         return;
@@ -150,7 +150,7 @@ fn explain_each<F: Write>(
         let Ok(lines) = explain_unproved(alloc, text.name, &tokens, database, *at) else {
             return;
         };
-        if print(faults, lines.as_slice()).is_err() {
+        if print(stderr, lines.as_slice()).is_err() {
             return;
         }
     }

@@ -80,30 +80,30 @@ impl Fault {
         }
     }
 
-    /// Writes the line of this fault, and to `faults` a sentence if the input, the output or a long
+    /// Writes the line of this fault, and to `stderr` a sentence if the input, the output or a long
     /// run is at fault; returns the exit status, as `print` does.
-    pub fn report<O: Write, F: Write>(&self, output: &mut O, faults: &mut F) -> u8 {
+    pub fn report<O: Write, F: Write>(&self, output: &mut O, stderr: &mut F) -> u8 {
         match self.write(output) {
             Ok(()) => {
-                self.write_sentence(faults);
+                self.write_sentence(stderr);
                 self.status()
             }
             Err(unwritten) => {
-                unwritten.write_sentence(faults);
+                unwritten.write_sentence(stderr);
                 1
             }
         }
     }
 
-    /// Writes the sentence of this fault to `faults`, if it has one. Ignores a failed write.
-    fn write_sentence<F: Write>(&self, faults: &mut F) {
+    /// Writes the sentence of this fault to `stderr`, if it has one. Ignores a failed write.
+    fn write_sentence<F: Write>(&self, stderr: &mut F) {
         let words = match self {
             Fault::Input => b"standard input cannot be read\n".as_slice(),
             Fault::Output => b"standard output cannot be written\n".as_slice(),
             Fault::LongRun => LONG_RUN,
             _ => return,
         };
-        let _ = print(faults, words);
+        let _ = print(stderr, words);
     }
 }
 

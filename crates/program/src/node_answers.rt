@@ -1,18 +1,18 @@
 //! Answers about the library of a node, which `play` and `serve` share.
 ghost use Rattle.std.specs.Prelude.{◌≡◌, ◌↔◌, ◌<◌, length, IfOk};
 ghost use Rattle.cluster.specs.declared.compare.Ahead.TheVariants.{First, Same, Second};
-ghost use Rattle.commands.specs.declared.node_question.LabelQuestion.TheVariants.{Trace, Tree, Usage};
-ghost use Rattle.printed.specs.Counted.{counted_text};
+ghost use Rattle.commands.specs.declared.node_question.LabelQuestionKind.TheVariants.{Trace, Tree, Usage};
+ghost use Rattle.printed.specs.Counted.{counted_lines_text};
 ghost use Rattle.program.specs.Answers.{IsLabelAnswer, labels_text};
 
-use crate::answers::{tree, write_answer};
+use crate::answers::{derivation_lines, write_answer};
 use crate::fault::Fault;
 use crate::named_text::NamedText;
 use cluster::Ahead;
-use commands::{LabelQuestion, NodeQuestion};
+use commands::{LabelQuestionKind, NodeQuestion};
 use library::Library;
 use mm_lex::Word;
-use printed::{push_counted, push_labels};
+use printed::{push_counted_lines, push_labels};
 use std::alloc::{AllocError, Global};
 
 /// Returns the answer to a question about a label: its word, the count of its lines, and the lines
@@ -29,10 +29,12 @@ pub fn label_answer(
 {
     let label = question.label.as_slice();
     match question.kind {
-        LabelQuestion::Trace => trace_answer(alloc, library, label),
-        LabelQuestion::Usage => usage_answer(alloc, library, label),
-        LabelQuestion::Tree => tree_answer(alloc, library, label),
-        LabelQuestion::Show | LabelQuestion::Proof => written_answer(alloc, library, question),
+        LabelQuestionKind::Trace => trace_answer(alloc, library, label),
+        LabelQuestionKind::Usage => usage_answer(alloc, library, label),
+        LabelQuestionKind::Tree => tree_answer(alloc, library, label),
+        LabelQuestionKind::Show | LabelQuestionKind::Proof => written_answer(
+            alloc, library, question,
+        ),
     }
 }
 
@@ -60,7 +62,7 @@ fn counted_labels(alloc: Global, word: &[u8], labels: &[Word]) -> Result<Vec<u8>
 {
     let mut lines = Vec::new(alloc);
     push_labels(&mut lines, labels)?;
-    counted(alloc, word, lines.as_slice())
+    counted_lines(alloc, word, lines.as_slice())
 }
 
 /// Returns the answer to `tree`.
@@ -68,16 +70,16 @@ fn tree_answer(alloc: Global, library: &Library, label: &[u8]) -> Result<Vec<u8>
     ensures { IfOk result (λ text. IsLabelAnswer
         library.now.replica.statements Tree label.now text.items) }
 {
-    let lines = tree(alloc, library, label)?;
-    Ok(counted(alloc, b"tree", lines.as_slice())?)
+    let lines = derivation_lines(alloc, library, label)?;
+    Ok(counted_lines(alloc, b"tree", lines.as_slice())?)
 }
 
 /// Returns a line of a word and the count of the lines, and the lines.
-fn counted(alloc: Global, word: &[u8], lines: &[u8]) -> Result<Vec<u8>, AllocError>
-    ensures { IfOk result (λ text. text.items ≡ counted_text word.now lines.now) }
+fn counted_lines(alloc: Global, word: &[u8], lines: &[u8]) -> Result<Vec<u8>, AllocError>
+    ensures { IfOk result (λ text. text.items ≡ counted_lines_text word.now lines.now) }
 {
     let mut text = Vec::new(alloc);
-    push_counted(&mut text, word, lines)?;
+    push_counted_lines(&mut text, word, lines)?;
     Ok(text)
 }
 
@@ -102,14 +104,18 @@ fn written_answer(
         Err(fault) => return Err(fault),
         Ok(()) => {}
     }
-    Ok(counted(alloc, question.kind.verb(), lines.as_slice())?)
+    Ok(counted_lines(alloc, question.kind.verb(), lines.as_slice())?)
 }
 
 /// Returns the text to which printed lines and columns refer: the export of the library, since its
 /// texts are not kept. Returns an empty text if the answer prints none.
-fn text_of(alloc: Global, library: &Library, kind: LabelQuestion) -> Result<Vec<u8>, AllocError> {
+fn text_of(
+    alloc: Global,
+    library: &Library,
+    kind: LabelQuestionKind,
+) -> Result<Vec<u8>, AllocError> {
     match kind {
-        LabelQuestion::Show => library.export(),
+        LabelQuestionKind::Show => library.export(),
         _ => Ok(Vec::new(alloc)),
     }
 }

@@ -4,7 +4,7 @@ use crate::databases::apply_text;
 use crate::each_proof::read_legal_database;
 use crate::fault::Fault;
 use crate::named_text::NamedText;
-use crate::refused_texts::print_refusal;
+use crate::refused_texts::print_refused_text;
 use crate::streams::{print, read_text};
 use bytes::Bytes;
 use commands::SiteRequest;
@@ -18,7 +18,7 @@ use std::thread::Threads;
 use unproved::LegalDatabase;
 
 /// Writes a site into the folder of the request: a page for each assertion of a database, a list of
-/// them and a style sheet; returns the exit status. The reason for a refusal goes to `faults`, and
+/// them and a style sheet; returns the exit status. The reason for a refusal goes to `stderr`, and
 /// so does the progress if there are many pages.
 ///
 /// The library is leaked: the end of the process frees all of it at once.
@@ -27,12 +27,12 @@ pub fn write_pages<R: AllocGlobal + Threads + Sync, I: Read, O: Write, F: Write,
     request: SiteRequest<'_>,
     input: &mut I,
     output: &mut O,
-    faults: &mut F,
+    stderr: &mut F,
     folder: &mut S,
 ) -> Result<u8, Fault> {
     let text = Bytes::from_vec(read_text(rt.alloc(), input)?)?;
     let mut library = Library::new(rt.alloc());
-    let streams = Streams { output, faults };
+    let streams = Streams { output, stderr };
     let answered = apply_and_write(rt, request, &text, &mut library, streams, folder);
     forget(library);
     answered
@@ -42,7 +42,7 @@ pub fn write_pages<R: AllocGlobal + Threads + Sync, I: Read, O: Write, F: Write,
 #[derive(Drop)]
 struct Streams<'a, O, F> {
     output: &'a mut O,
-    faults: &'a mut F,
+    stderr: &'a mut F,
 }
 
 /// Adds a text to an empty library, and writes the pages of the library.
@@ -82,13 +82,13 @@ fn assume_or_refuse<R: AllocGlobal + Threads + Sync, O: Write, F: Write, S: Fold
     folder: &mut S,
 ) -> Result<u8, Fault> {
     let is_unproved = matches!(cause, Cause::Proof { .. } | Cause::Unfinished { .. });
-    if is_unproved && request.assumes {
+    if is_unproved && request.assumes_unproved {
         if let Some(database) = read_legal_database(rt, text)? {
             return assume_and_write(rt, request, text, database, streams, folder);
         }
     }
-    let Streams { output, faults } = streams;
-    print_refusal(rt.alloc(), text, cause, output, faults)
+    let Streams { output, stderr } = streams;
+    print_refused_text(rt.alloc(), text, cause, output, stderr)
 }
 
 /// Writes the pages of the statements of a text, each `$p` that is not proved taken as a `$a`.
@@ -100,9 +100,9 @@ fn assume_and_write<R: AllocGlobal + Threads + Sync, O: Write, F: Write, S: Fold
     streams: Streams<'_, O, F>,
     folder: &mut S,
 ) -> Result<u8, Fault> {
-    let Streams { output, faults } = streams;
-    let library = assume_unproved(rt, database, faults)?;
-    let streams = Streams { output, faults };
+    let Streams { output, stderr } = streams;
+    let library = assume_unproved(rt, database, stderr)?;
+    let streams = Streams { output, stderr };
     let answered = write_site_files(
         rt.alloc(),
         &library,
@@ -116,7 +116,7 @@ fn assume_and_write<R: AllocGlobal + Threads + Sync, O: Write, F: Write, S: Fold
 }
 
 /// Writes the files of the site of a library that was read from a text, and returns the exit
-/// status. The name of a file that cannot be written goes to `faults`, and so does the progress.
+/// status. The name of a file that cannot be written goes to `stderr`, and so does the progress.
 fn write_site_files<O: Write, F: Write, S: Folder>(
     alloc: Global,
     library: &Library,
@@ -125,35 +125,35 @@ fn write_site_files<O: Write, F: Write, S: Folder>(
     streams: Streams<'_, O, F>,
     folder: &mut S,
 ) -> Result<u8, Fault> {
-    let Streams { output, faults } = streams;
+    let Streams { output, stderr } = streams;
     let site = Site { text, library };
-    match write_site(alloc, &site, path, folder, faults) {
+    match write_site(alloc, &site, path, folder, stderr) {
         Ok(()) => Ok(0),
         Err(SiteFault::Memory) => Err(Fault::Memory(AllocError)),
         Err(SiteFault::Folder) => {
             print(output, b"refused Output\n")?;
-            let _ = print_folder_fault(faults, path);
+            let _ = print_folder_fault(stderr, path);
             Ok(1)
         }
         Err(SiteFault::File(name)) => {
             print(output, b"refused Output\n")?;
-            let _ = print_file_fault(faults, path, name.as_slice());
+            let _ = print_file_fault(stderr, path, name.as_slice());
             Ok(1)
         }
     }
 }
 
 /// Prints which folder cannot be opened.
-fn print_folder_fault<F: Write>(faults: &mut F, path: &str) -> Result<(), Fault> {
-    faults.write_all(b"the folder ")?;
-    faults.write_all(path.as_bytes())?;
-    print(faults, b" cannot be opened\n")
+fn print_folder_fault<F: Write>(stderr: &mut F, path: &str) -> Result<(), Fault> {
+    stderr.write_all(b"the folder ")?;
+    stderr.write_all(path.as_bytes())?;
+    print(stderr, b" cannot be opened\n")
 }
 
 /// Prints which file of a folder cannot be written.
-fn print_file_fault<F: Write>(faults: &mut F, path: &str, name: &[u8]) -> Result<(), Fault> {
-    faults.write_all(path.as_bytes())?;
-    faults.write_all(b"/")?;
-    faults.write_all(name)?;
-    print(faults, b" cannot be written\n")
+fn print_file_fault<F: Write>(stderr: &mut F, path: &str, name: &[u8]) -> Result<(), Fault> {
+    stderr.write_all(path.as_bytes())?;
+    stderr.write_all(b"/")?;
+    stderr.write_all(name)?;
+    print(stderr, b" cannot be written\n")
 }

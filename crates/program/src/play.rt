@@ -6,7 +6,7 @@ use crate::fault::Fault;
 use crate::node_answers::{ahead_line, compare_libraries, label_answer};
 use crate::scripts::{AnswerLines, answer_lines, read_script};
 use crate::why::{decision_of, push_why};
-use commands::{NodeEntryId, NodeLine, PlayLine};
+use commands::{CommonLine, NodeEntryId, PlayLine};
 use event_lines::push_events;
 use library::Entry;
 use net::Event;
@@ -34,7 +34,7 @@ pub fn play<I: Read, O: Write>(
 impl AnswerLines<PlayLine> for World {
     fn answer(&mut self, line: PlayLine, text: &mut Vec<u8>) -> Result<(), Fault> {
         match line {
-            PlayLine::Node(line) => answer_node_line(self, line, text),
+            PlayLine::Common(line) => answer_common_line(self, line, text),
             PlayLine::Deliver { packet } => push_step(self, Event::Deliver(packet), text),
             PlayLine::Apply { node } => Ok(push_verdict_line(
                 text,
@@ -50,37 +50,41 @@ impl AnswerLines<PlayLine> for World {
 }
 
 /// Carries out a line that `serve` has too, and appends its answer.
-fn answer_node_line(world: &mut World, line: NodeLine, text: &mut Vec<u8>) -> Result<(), Fault> {
+fn answer_common_line(
+    world: &mut World,
+    line: CommonLine,
+    text: &mut Vec<u8>,
+) -> Result<(), Fault> {
     match line {
-        NodeLine::Offer(offered) => {
+        CommonLine::Offer(offered) => {
             push_step(world, Event::Offer(offered.node, offered.entry), text)
         }
-        NodeLine::Begin { node } => push_step(world, Event::Begin(node), text),
-        NodeLine::Restart { node } => push_step(world, Event::Restart(node), text),
-        NodeLine::List { node } => Ok(push_library_list(text, world.library(node)?)?),
-        NodeLine::Status(entry_id) => {
+        CommonLine::Begin { node } => push_step(world, Event::Begin(node), text),
+        CommonLine::Restart { node } => push_step(world, Event::Restart(node), text),
+        CommonLine::List { node } => Ok(push_library_list(text, world.library(node)?)?),
+        CommonLine::Status(entry_id) => {
             let verdict = world
                 .library(entry_id.node)?
                 .status(entry_id.author, entry_id.serial);
             Ok(push_verdict_line(text, verdict, b"unknown")?)
         }
-        NodeLine::Export { node } => Ok(push_export(text, world.library(node)?)?),
-        NodeLine::Log { node } => Ok(push_log(text, world.log(node)?.as_slice())?),
-        NodeLine::Why(entry_id) => push_decision(world, entry_id, text),
-        NodeLine::State { node } => {
+        CommonLine::Export { node } => Ok(push_export(text, world.library(node)?)?),
+        CommonLine::Log { node } => Ok(push_log(text, world.log(node)?.as_slice())?),
+        CommonLine::Why(entry_id) => push_decision(world, entry_id, text),
+        CommonLine::State { node } => {
             let (state, applied) = (world.state(node)?, world.applied(node)?);
             Ok(push_state(text, &state, applied, false)?)
         }
-        NodeLine::Ask(question) => {
+        CommonLine::Ask(question) => {
             let alloc = *text.allocator();
             let answer = label_answer(alloc, world.library(question.node)?, &question)?;
             Ok(text.extend_from_slice(answer.as_slice())?)
         }
-        NodeLine::Compare(pair) => {
+        CommonLine::Compare(pair) => {
             let ahead = compare_libraries(world.library(pair.first)?, world.library(pair.second)?);
             Ok(text.extend_from_slice(ahead_line(ahead))?)
         }
-        NodeLine::Events => Ok(push_history(world, text)?),
+        CommonLine::Events => Ok(push_history(world, text)?),
     }
 }
 

@@ -2,9 +2,9 @@
 use crate::fault::Fault;
 use crate::scripts::read_script;
 use crate::streams::print;
-use commands::{NodeLine, PicturedSteps, PlayLine};
+use commands::{CommonLine, PicturedSteps, PlayLine};
 use net::{Event, StepFault};
-use run_pictures::{Part, Run, draw};
+use run_pictures::{Run, StepRange, draw};
 use std::alloc::{AllocError, Global};
 use std::io::{Read, Write};
 use synod::Weights;
@@ -22,56 +22,56 @@ pub fn print_picture<I: Read, O: Write>(
 ) -> Result<u8, Fault> {
     let lines = read_script::<PlayLine, I>(alloc, input)?;
     let mut run = Run::new(alloc, weights)?;
-    print_run(alloc, weights, &mut run, lines, part_of(steps), output)
+    print_run(alloc, weights, &mut run, lines, range_of(steps), output)
 }
 
-/// Takes the steps of a script, and prints the picture of a part of the run.
+/// Takes the steps of a script, and prints the picture of a range of them.
 fn print_run<O: Write>(
     alloc: Global,
     weights: Weights,
     run: &mut Run,
     lines: Vec<PlayLine>,
-    part: Part,
+    range: StepRange,
     output: &mut O,
 ) -> Result<u8, Fault> {
-    let picture = picture_of(alloc, weights, run, lines, part)?;
+    let picture = play_and_draw(alloc, weights, run, lines, range)?;
     print(output, picture.as_slice())?;
     Ok(0)
 }
 
-/// Returns which part of a run is asked for.
-fn part_of(steps: PicturedSteps) -> Part {
-    Part {
-        from: at_most(steps.from),
-        count: at_most(steps.count.unwrap_or(u64::MAX)),
+/// Returns which range of steps is asked for.
+fn range_of(steps: PicturedSteps) -> StepRange {
+    StepRange {
+        from: saturated_index(steps.from),
+        count: saturated_index(steps.count.unwrap_or(u64::MAX)),
     }
 }
 
 /// Returns a number as an index, or the greatest index if the number is greater.
-fn at_most(number: u64) -> usize {
+fn saturated_index(number: u64) -> usize {
     usize::try_from(number).unwrap_or(usize::MAX)
 }
 
-/// Takes the steps of a script, and returns the picture of a part of the run.
-fn picture_of(
+/// Takes the steps of a script, and returns the picture of a range of them.
+fn play_and_draw(
     alloc: Global,
     weights: Weights,
     run: &mut Run,
     lines: Vec<PlayLine>,
-    part: Part,
+    range: StepRange,
 ) -> Result<Vec<u8>, Fault> {
     for line in lines {
         if let Err(StepFault::Memory) = take_step(run, line) {
             return Err(Fault::Memory(AllocError));
         }
     }
-    Ok(draw(alloc, weights, run, part)?)
+    Ok(draw(alloc, weights, run, range)?)
 }
 
 /// Takes the step of a line, if it has one.
 fn take_step(run: &mut Run, line: PlayLine) -> Result<(), StepFault> {
     match line {
-        PlayLine::Node(line) => take_node_step(run, line),
+        PlayLine::Common(line) => take_common_step(run, line),
         PlayLine::Deliver { packet } => run.step(Event::Deliver(packet)),
         PlayLine::Apply { node } => run.apply_next(node),
         PlayLine::Show { .. } => Ok(()),
@@ -79,11 +79,11 @@ fn take_step(run: &mut Run, line: PlayLine) -> Result<(), StepFault> {
 }
 
 /// Takes the step of a line that `serve` has too.
-fn take_node_step(run: &mut Run, line: NodeLine) -> Result<(), StepFault> {
+fn take_common_step(run: &mut Run, line: CommonLine) -> Result<(), StepFault> {
     match line {
-        NodeLine::Offer(offered) => run.step(Event::Offer(offered.node, offered.entry)),
-        NodeLine::Begin { node } => run.step(Event::Begin(node)),
-        NodeLine::Restart { node } => run.step(Event::Restart(node)),
+        CommonLine::Offer(offered) => run.step(Event::Offer(offered.node, offered.entry)),
+        CommonLine::Begin { node } => run.step(Event::Begin(node)),
+        CommonLine::Restart { node } => run.step(Event::Restart(node)),
         _ => Ok(()),
     }
 }

@@ -10,7 +10,9 @@ use commands::{ProofForm, ProofQuestion};
 use frame::Frames;
 use library::Library;
 use mm_lex::Word;
-use proof_pages::{PageContents, ProofSteps, RelatedItems, write_dot, write_page, write_plain};
+use proof_pages::{
+    PageContents, ProofSteps, RelatedItems, write_dot, write_page, write_step_lines,
+};
 use std::alloc::{AllocError, Global};
 use std::io::Write;
 use steps::{ProofTable, essential_table, proof_table};
@@ -65,7 +67,7 @@ fn write_steps<O: Write>(
 {
     if matches!(question.form, ProofForm::Page) {
         write_proof_page(alloc, proof, question, output)
-    } else if question.is_essential {
+    } else if question.essential_only {
         let essential = essential_table(alloc, proof.frames, proof.at, proof.steps)?;
         write_table(alloc, proof.frames, &essential, question, output)
     } else {
@@ -84,7 +86,7 @@ fn write_table<O: Write>(
     if matches!(question.form, ProofForm::Picture) {
         write_dot(alloc, output, frames, question.label, steps)?;
     } else {
-        write_plain(alloc, output, frames, steps)?;
+        write_step_lines(alloc, output, frames, steps)?;
     }
     Ok(())
 }
@@ -119,11 +121,12 @@ fn write_proof_page<O: Write>(
         }),
         related: related_items(&axioms, &cited_by),
     };
-    write_page(alloc, output, &contents, !question.is_essential)?;
+    write_page(alloc, output, &contents, !question.essential_only)?;
     Ok(())
 }
 
-/// Returns the axioms of a theorem and the theorems that cite it, for its page, without a description.
+/// Returns the axioms of a theorem and the theorems that cite it, for its page, without a
+/// description.
 fn related_items<'a>(axioms: &'a [u32], cited_by: &'a [u32]) -> RelatedItems<'a> {
     RelatedItems {
         axioms,

@@ -7,19 +7,19 @@ use library::{AskFault, Library};
 use mm_read::Stmt;
 use std::io::Write;
 
-/// Prints the line for a question that is refused, and the reason on `faults`; returns the exit
+/// Prints the line for a question that is refused, and the reason on `stderr`; returns the exit
 /// status.
 ///
 /// Errors: the output cannot be written.
-pub fn print_refused<O: Write, F: Write>(
+pub fn print_refused_question<O: Write, F: Write>(
     library: &Library,
     question: &Question<'_>,
     fault: Fault,
     output: &mut O,
-    faults: &mut F,
+    stderr: &mut F,
 ) -> Result<u8, Fault> {
     fault.write(output)?;
-    let _ = write_reason(library, question, &fault, faults);
+    let _ = write_reason(library, question, &fault, stderr);
     Ok(1)
 }
 
@@ -28,41 +28,45 @@ fn write_reason<F: Write>(
     library: &Library,
     question: &Question<'_>,
     fault: &Fault,
-    faults: &mut F,
+    stderr: &mut F,
 ) -> Result<(), Fault> {
     let label = refused_label(library, question, fault);
     match fault {
         Fault::Ask(AskFault::NoLabel) | Fault::Extract(ExtractFault::NoLabel) => {
-            faults.write_all(b"no statement has the label ")?;
-            faults.write_all(label)?;
+            stderr.write_all(b"no statement has the label ")?;
+            stderr.write_all(label)?;
         }
         Fault::Ask(AskFault::NotProvable) => {
-            write_keyword(library, label, faults)?;
-            faults.write_all(b"; only a $p has a proof")?;
+            write_label_and_keyword(library, label, stderr)?;
+            stderr.write_all(b"; only a $p has a proof")?;
         }
         Fault::Ask(AskFault::TooLarge) => {
-            faults.write_all(b"the tree has more than 65536 nodes or is deeper than 1024; proof ")?;
-            faults.write_all(label)?;
-            faults.write_all(b" shows the same steps without a limit")?;
+            stderr.write_all(b"the tree has more than 65536 nodes or is deeper than 1024; proof ")?;
+            stderr.write_all(label)?;
+            stderr.write_all(b" shows the same steps without a limit")?;
         }
         Fault::Extract(ExtractFault::NotAssertion) => {
-            write_keyword(library, label, faults)?;
-            faults.write_all(b"; only an assertion can be extracted")?;
+            write_label_and_keyword(library, label, stderr)?;
+            stderr.write_all(b"; only an assertion can be extracted")?;
         }
         Fault::Extract(ExtractFault::SameLabel) => {
-            faults.write_all(label)?;
-            faults.write_all(b" is named twice")?;
+            stderr.write_all(label)?;
+            stderr.write_all(b" is named twice")?;
         }
         _ => return Ok(()),
     }
-    print(faults, b"\n")
+    print(stderr, b"\n")
 }
 
 /// Writes a label, and the keyword of the statement that has it.
-fn write_keyword<F: Write>(library: &Library, label: &[u8], faults: &mut F) -> Result<(), Fault> {
-    faults.write_all(label)?;
-    faults.write_all(b" is a ")?;
-    Ok(faults.write_all(keyword_of(library, label))?)
+fn write_label_and_keyword<F: Write>(
+    library: &Library,
+    label: &[u8],
+    stderr: &mut F,
+) -> Result<(), Fault> {
+    stderr.write_all(label)?;
+    stderr.write_all(b" is a ")?;
+    Ok(stderr.write_all(keyword_of(library, label))?)
 }
 
 /// Returns the label for which a question is refused, or an empty label if it has none.

@@ -9,19 +9,19 @@ use printed::{first_broken_rule, push_verdict};
 use std::alloc::{AllocError, Global};
 use std::io::Write;
 
-/// Prints the line for a text that is refused, and the reason on `faults`; returns the exit status.
+/// Prints the line for a text that is refused, and the reason on `stderr`; returns the exit status.
 ///
 /// If an allocation for the reason fails, only the line is printed.
-pub fn print_refusal<O: Write, F: Write>(
+pub fn print_refused_text<O: Write, F: Write>(
     alloc: Global,
     text: NamedText<'_>,
     cause: Cause,
     output: &mut O,
-    faults: &mut F,
+    stderr: &mut F,
 ) -> Result<u8, Fault> {
     print(output, refusal_line(alloc, cause)?.as_slice())?;
     if let Some(fault) = fault_of(cause) {
-        print_reason(alloc, text, fault, faults);
+        print_reason(alloc, text, fault, stderr);
     }
     Ok(1)
 }
@@ -53,17 +53,17 @@ fn print_reason<F: Write>(
     alloc: Global,
     text: NamedText<'_>,
     fault: DatabaseFault,
-    faults: &mut F,
+    stderr: &mut F,
 ) {
     if let Ok(lines) = explain_refusal(alloc, text.name, text.bytes, fault) {
-        let _ = print(faults, lines.as_slice());
+        let _ = print(stderr, lines.as_slice());
     }
 }
 
 /// Prints why the outline of a text refuses it.
-pub fn print_outline_reason<F: Write>(alloc: Global, text: NamedText<'_>, faults: &mut F) {
+pub fn print_outline_reason<F: Write>(alloc: Global, text: NamedText<'_>, stderr: &mut F) {
     if let Ok(Some(fault)) = outline_fault(alloc, text.bytes) {
-        print_reason(alloc, text, fault, faults);
+        print_reason(alloc, text, fault, stderr);
     }
 }
 

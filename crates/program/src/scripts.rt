@@ -6,8 +6,8 @@ use std::alloc::Global;
 use std::io::{Read, Write};
 use std::vec::IntoIter;
 
-/// The capacity in bytes that is reserved for an answer. The answer to an event and a verdict need no
-/// more.
+/// The capacity in bytes that is reserved for an answer. The answer to an event and a verdict need
+/// no more.
 const ANSWER_CAPACITY: usize = 128;
 
 /// Nodes that answer the lines of a script or a session.

@@ -13,12 +13,12 @@ use crate::served_nodes::{Nodes, NodesDesk, start_nodes, stop_nodes};
 use crate::session::{Script, ServedLine, Session};
 use crate::streams::print;
 use commands::{
-    LINE_FEED, NodeEntryId, NodeLine, OfferedEntry, SERVE_LINES, ServeLine, ServeOptions,
+    CommonLine, LINE_FEED, NodeEntryId, OfferedEntry, SERVE_LINES_HELP, ServeLine, ServeOptions,
     SessionLine,
 };
 use library::Verdict;
 use net::StepFault;
-use printed::{push_counted, push_list, push_verdict_line};
+use printed::{push_counted_lines, push_list, push_verdict_line};
 use std::alloc::Global;
 use std::io::{Read, Write};
 use std::sync::Wait;
@@ -100,9 +100,9 @@ impl<R: Wait> AnswerLines<ServedLine> for AnsweringDesk<'_, R> {
 
 /// Appends the help of a session, after the count of its lines.
 fn push_help(alloc: Global, text: &mut Vec<u8>) -> Result<(), Fault> {
-    let mut lines = Vec::from_slice(alloc, SERVE_LINES.as_bytes())?;
+    let mut lines = Vec::from_slice(alloc, SERVE_LINES_HELP.as_bytes())?;
     lines.push(LINE_FEED)?;
-    Ok(push_counted(text, b"help", lines.as_slice())?)
+    Ok(push_counted_lines(text, b"help", lines.as_slice())?)
 }
 
 /// Carries out a line of a script, and appends its answer.
@@ -112,7 +112,7 @@ fn answer_serve_line<R: Wait>(
     text: &mut Vec<u8>,
 ) -> Result<(), Fault> {
     match line {
-        ServeLine::Node(line) => answer_node_line(answering, line, text),
+        ServeLine::Common(line) => answer_common_line(answering, line, text),
         ServeLine::Settle(entry_id) => {
             Ok(push_verdict_line(
                 text,
@@ -141,27 +141,27 @@ fn add_until_decided<R: Wait>(
 }
 
 /// Carries out a line that `play` has too, and appends its answer.
-fn answer_node_line<R: Wait>(
+fn answer_common_line<R: Wait>(
     answering: &AnsweringDesk<'_, R>,
-    line: NodeLine,
+    line: CommonLine,
     text: &mut Vec<u8>,
 ) -> Result<(), Fault> {
     let AnsweringDesk { rt, desk, .. } = *answering;
     match line {
-        NodeLine::Offer(offered) => desk.submit(rt, offered.node, offered.entry)?,
-        NodeLine::Begin { node } => desk.begin(rt, node)?,
-        NodeLine::Restart { node } => desk.restart(rt, node)?,
-        NodeLine::List { node } => return Ok(push_node_list(rt, desk, node, text)?),
-        NodeLine::Status(entry_id) => {
+        CommonLine::Offer(offered) => desk.submit(rt, offered.node, offered.entry)?,
+        CommonLine::Begin { node } => desk.begin(rt, node)?,
+        CommonLine::Restart { node } => desk.restart(rt, node)?,
+        CommonLine::List { node } => return Ok(push_node_list(rt, desk, node, text)?),
+        CommonLine::Status(entry_id) => {
             return Ok(push_verdict_line(text, status(rt, desk, entry_id)?, b"unknown")?);
         }
-        NodeLine::Export { node } => return answering.push_export(node, text),
-        NodeLine::Log { node } => return answering.push_log(node, text),
-        NodeLine::Why(entry_id) => return answering.push_why(entry_id, text),
-        NodeLine::State { node } => return answering.push_state(node, text),
-        NodeLine::Ask(question) => return answering.push_label_answer(&question, text),
-        NodeLine::Compare(pair) => return answering.push_compared(pair, text),
-        NodeLine::Events => return answering.push_events(text),
+        CommonLine::Export { node } => return answering.push_export(node, text),
+        CommonLine::Log { node } => return answering.push_log(node, text),
+        CommonLine::Why(entry_id) => return answering.push_why(entry_id, text),
+        CommonLine::State { node } => return answering.push_state(node, text),
+        CommonLine::Ask(question) => return answering.push_label_answer(&question, text),
+        CommonLine::Compare(pair) => return answering.push_compared(pair, text),
+        CommonLine::Events => return answering.push_events(text),
     }
     Ok(text.extend_from_slice(b"ok\n")?)
 }

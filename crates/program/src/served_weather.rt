@@ -1,4 +1,5 @@
-//! The weather of the nodes that `serve` starts: which of their packets are lost, repeated or delayed.
+//! The weather of the nodes that `serve` starts: which of their packets are lost, repeated or
+//! delayed.
 ghost use Rattle.std.specs.Prelude.{◌≡◌, vec_len, IfOk};
 
 use drawn_weather::DrawnWeather;

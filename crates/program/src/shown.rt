@@ -21,7 +21,7 @@ struct DatabaseText<'a> {
 /// Returns the block of the statement of each label, with an empty line between two.
 ///
 /// Errors: `NoLabel` if no statement has one of the labels; `Memory` if an allocation fails.
-pub fn blocks(
+pub fn blocks_of_labels(
     alloc: Global,
     library: &Library,
     text: NamedText<'_>,
@@ -160,8 +160,8 @@ fn first_line_and_column(
     Ok(line_and_column(database.text, offset.min(database.text.len())))
 }
 
-/// Returns the description of the first statement of a text, if it has one; `spans` are the spans of
-/// the descriptions of its statements.
+/// Returns the description of the first statement of a text, if it has one; `spans` are the spans
+/// of the descriptions of its statements.
 fn first_description<'a>(text: &'a [u8], spans: &[Option<Span>]) -> Option<&'a [u8]> {
     match spans.first() {
         Some(Some(span)) => text.get(span.start..span.end),

@@ -9,7 +9,7 @@ use library::{Cause, Entry, Library, Verdict};
 use mm_read::{ReadFault, read};
 use numbers::push_number;
 use places::{line_and_column, token_span};
-use printed::push_counted;
+use printed::push_counted_lines;
 use std::alloc::{AllocError, Global};
 use std::collections::BTreeSet;
 
@@ -90,9 +90,9 @@ fn push_added(added: &mut Vec<Bytes>, library: &Library, entry: &Entry) -> Resul
 pub fn push_why(alloc: Global, text: &mut Vec<u8>, decision: &Decision) -> Result<(), AllocError> {
     match decision {
         Decision::Unknown => text.extend_from_slice(b"unknown\n"),
-        Decision::Added => push_counted(text, b"why", b""),
+        Decision::Added => push_counted_lines(text, b"why", b""),
         Decision::Refused(refused) => {
-            push_counted(text, b"why", reason(alloc, refused)?.as_slice())
+            push_counted_lines(text, b"why", reason(alloc, refused)?.as_slice())
         }
     }
 }

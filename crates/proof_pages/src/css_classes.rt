@@ -1,4 +1,5 @@
-//! The CSS classes of variables: one for each typecode. The style sheet gives each class its colour.
+//! The CSS classes of variables: one for each typecode. The style sheet gives each class its
+//! colour.
 use frame::Frames;
 use mm_read::Stmt;
 use std::alloc::{AllocError, Global};
@@ -24,9 +25,11 @@ impl CssClasses {
         }
     }
 
-    /// Gives the variable of the statement at a position the class of its typecode, if that statement is a `$f`.
+    /// Gives the variable of the statement at a position the class of its typecode, if that
+    /// statement is a `$f`.
     ///
-    /// Errors: an allocation fails. Cost: constant, except that tables grow to the greatest symbol number.
+    /// Errors: an allocation fails. Cost: constant, except that tables grow to the greatest symbol
+    /// number.
     pub fn record(
         &mut self,
         statements: &[Stmt],

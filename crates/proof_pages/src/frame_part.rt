@@ -10,8 +10,8 @@ use entries::Groups;
 use frame::FrameBuffers;
 use std::alloc::{AllocError, Global};
 
-/// Appends the mandatory hypotheses, the disjoint variables, and a legend: the typecode of each `$f` that is a
-/// hypothesis or that a step cites, in the colour of its variables.
+/// Appends the mandatory hypotheses, the disjoint variables, and a legend: the typecode of each
+/// `$f` that is a hypothesis or that a step cites, in the colour of its variables.
 pub fn push_frame(
     alloc: Global,
     page: &mut Vec<u8>,

@@ -12,15 +12,16 @@ use mm_read::Stmt;
 use std::alloc::{AllocError, Global};
 use std::io::Write;
 
-/// The start of the index, before its rows. Its title says "statements"; the rows are those of the assertions.
+/// The start of the index, before its rows. Its title says "statements"; the rows are those of the
+/// assertions.
 pub const INDEX_START: &[u8] =
     b"<!DOCTYPE html>\n<html lang=\"en\">\n<head>\n<meta charset=\"utf-8\">\n<meta name=\"viewport\" content=\"width=device-width, initial-scale=1\">\n<title>All statements</title>\n<link rel=\"stylesheet\" href=\"style.css\">\n</head>\n<body>\n<h1>All statements</h1>\n<table>\n<thead>\n<tr><th>Kind</th><th>Label</th><th>Expression</th></tr>\n</thead>\n<tbody>\n";
 
-/// Writes the index of a site: a row for each assertion, in order, with its kind, its label as a link
-/// to its page, and its expression.
+/// Writes the index of a site: a row for each assertion, in order, with its kind, its label as a
+/// link to its page, and its expression.
 ///
-/// Errors: `Memory`, `Output`; part of it may be written then. Cost: the size of the index; buffers at
-/// most 64 KiB and one row.
+/// Errors: `Memory`, `Output`; part of it may be written then. Cost: the size of the index; buffers
+/// at most 64 KiB and one row.
 pub fn write_index<W: Write>(
     alloc: Global,
     out: &mut W,

@@ -1,9 +1,9 @@
-//! Writes proofs for readers: the steps as lines of text, as a graph in the DOT language of Graphviz, and as an HTML
-//! page, alone or as part of a site.
+//! Writes proofs for readers: the steps as lines of text, as a graph in the DOT language of
+//! Graphviz, and as an HTML page, alone or as part of a site.
 //!
-//! Each label, symbol and description of a database is escaped in a page, by `push_html` of `markup`, and in a graph, by
-//! its `push_quoted`; a line of text has it as it is. A file name in a link needs no escape: `file_names` makes it from
-//! the label.
+//! Each label, symbol and description of a database is escaped in a page, by `push_html` of
+//! `markup`, and in a graph, by its `push_quoted`; a line of text has it as it is. A file name in a
+//! link needs no escape: `file_names` makes it from the label.
 //!
 //! Reading order: `step_lines`, `graph`, `writing`; `notation`, `rows`; `contents`, `css_classes`,
 //! `page_values`, `partition`, `style`, `opening`, `frame_part`, `proof_part`, `page`, `index`.
@@ -29,4 +29,4 @@ pub use contents::{PageContents, ProofSteps, RelatedItems};
 pub use index::write_index;
 pub use page::{write_page, write_site_page};
 pub use style::style_sheet;
-pub use writing::{WriteFault, write_dot, write_plain};
+pub use writing::{WriteFault, write_dot, write_step_lines};

@@ -20,7 +20,7 @@ pub(crate) struct Notation<'a> {
     pub frames: &'a Frames,
     /// The CSS classes of the variables.
     pub css_classes: &'a CssClasses,
-    /// Whether the label of an assertion is a link to its page.
+    /// Whether the page is one of a site, on which the label of an assertion links to its page.
     pub is_linked: bool,
 }
 
@@ -138,8 +138,8 @@ pub fn push_label(
     }
 }
 
-/// Appends the label of the statement at a position, if there is one: as a link to its page if it is an
-/// assertion and labels are linked.
+/// Appends the label of the statement at a position, if there is one: as a link to its page if it
+/// is an assertion and labels are linked.
 ///
 /// Errors: an allocation fails. Cost: the size of the label.
 pub(crate) fn push_label_at(

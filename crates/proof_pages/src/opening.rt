@@ -6,7 +6,8 @@ use crate::style::{PAGE_START, STYLE_SHEET};
 use markup::push_html;
 use std::alloc::AllocError;
 
-/// Appends the head of a page, with its title and its style, and the start of the body: the title as a heading.
+/// Appends the head of a page, with its title and its style, and the start of the body: the title
+/// as a heading.
 fn push_head(page: &mut Vec<u8>, title: &[u8], is_linked: bool) -> Result<(), AllocError> {
     page.extend_from_slice(PAGE_START)?;
     push_html(page, title)?;
@@ -27,8 +28,8 @@ fn push_style(page: &mut Vec<u8>, is_linked: bool) -> Result<(), AllocError> {
     page.extend_from_slice(b"</style>\n")
 }
 
-/// Appends the part before the hypotheses: the head, the label as a heading, on a page of a site the kind and a link to
-/// the index, the description, and the expression.
+/// Appends the part before the hypotheses: the head, the label as a heading, on a page of a site
+/// the kind and a link to the index, the description, and the expression.
 pub fn push_opening(page: &mut Vec<u8>, values: &PageValues<'_>) -> Result<(), AllocError> {
     let contents = values.contents;
     push_head(page, assertion_label(values), values.notation.is_linked)?;
@@ -52,8 +53,8 @@ fn assertion_label<'a>(values: &PageValues<'a>) -> &'a [u8] {
     label_of(&contents.statements[contents.at - 1])
 }
 
-/// Appends the kind ("Theorem" if there is a proof, else "Axiom") and a link to the index, if the page is one of a
-/// site.
+/// Appends the kind ("Theorem" if there is a proof, else "Axiom") and a link to the index, if the
+/// page is one of a site.
 fn push_kind_and_index_link(page: &mut Vec<u8>, values: &PageValues<'_>) -> Result<(), AllocError> {
     if !values.notation.is_linked {
         return Ok(());

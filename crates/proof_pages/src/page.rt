@@ -14,13 +14,14 @@ use frame::Frames;
 use std::alloc::{AllocError, Global};
 use std::io::Write;
 
-/// Writes a page that stands alone: the assertion, its description if `contents` has one, its hypotheses and disjoint
-/// variables; if `contents` has a proof, the essential steps, with `shows_all_steps` also all steps, and the axioms that
-/// the assertion rests on; then the theorems that cite it.
+/// Writes a page that stands alone: the assertion, its description if `contents` has one, its
+/// hypotheses and disjoint variables; if `contents` has a proof, the essential steps, with
+/// `shows_all_steps` also all steps, and the axioms that the assertion rests on; then the theorems
+/// that cite it.
 ///
-/// Errors: `Memory`, `Output`; part of the page may be written then. Cost: the size of the page, the number of all
-/// steps, and tables up to the greatest symbol number; buffers at most 64 KiB, one row of steps, and all that
-/// the page has besides the steps.
+/// Errors: `Memory`, `Output`; part of the page may be written then. Cost: the size of the page,
+/// the number of all steps, and tables up to the greatest symbol number; buffers at most 64 KiB,
+/// one row of steps, and all that the page has besides the steps.
 pub fn write_page<W: Write>(
     alloc: Global,
     out: &mut W,
@@ -33,8 +34,8 @@ pub fn write_page<W: Write>(
 }
 
 /// Writes the page of an assertion as part of a site: the page of `write_page` with only the
-/// essential steps, with the word "Theorem" if `contents` has a proof and else "Axiom", and with links to
-/// the style sheet, to the index and to the pages of the assertions that it names.
+/// essential steps, with the word "Theorem" if `contents` has a proof and else "Axiom", and with
+/// links to the style sheet, to the index and to the pages of the assertions that it names.
 ///
 /// Errors and cost: those of `write_page`.
 pub fn write_site_page<W: Write>(
@@ -100,8 +101,8 @@ fn hypotheses_of(alloc: Global, frames: &Frames, at: usize) -> Result<Vec<u32>, 
     Ok(hypotheses)
 }
 
-/// Returns the CSS classes of the variables: a variable has one if its `$f` is one of the hypotheses or is cited by a
-/// step.
+/// Returns the CSS classes of the variables: a variable has one if its `$f` is one of the
+/// hypotheses or is cited by a step.
 fn css_classes_of(
     alloc: Global,
     contents: &PageContents<'_>,

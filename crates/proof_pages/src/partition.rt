@@ -76,7 +76,8 @@ fn typecode_at(frames: &Frames, position: usize) -> Option<u32> {
     }
 }
 
-/// Returns the symbol numbers of the expression of the statement at a position, none if it has no expression.
+/// Returns the symbol numbers of the expression of the statement at a position, none if it has no
+/// expression.
 pub fn expr_at(frames: &Frames, position: usize) -> &[u32] {
     if position == 0 || position > frames.len() {
         return &[];

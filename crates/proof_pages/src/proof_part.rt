@@ -9,7 +9,8 @@ use std::alloc::{AllocError, Global};
 use std::io::Write;
 use steps::ProofTable;
 
-/// Writes the proof and the axioms that it rests on, if there is a proof. Bytes not yet written to `out` stay in `page`.
+/// Writes the proof and the axioms that it rests on, if there is a proof. Bytes not yet written to
+/// `out` stay in `page`.
 pub fn write_proof<W: Write>(
     alloc: Global,
     out: &mut W,

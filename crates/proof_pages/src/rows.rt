@@ -1,4 +1,5 @@
-//! Rows of tables, and lists of labels. The end tags of rows, cells and items are omitted, as HTML allows.
+//! Rows of tables, and lists of labels. The end tags of rows, cells and items are omitted, as HTML
+//! allows.
 ghost use Rattle.std.specs.Prelude.{◌≡◌, ◌<◌, ◌++◌, length, get_or, flat_map, OnOk};
 ghost use Rattle.steps.specs.Rows.{no_row};
 ghost use Rattle.proof_pages.specs.TableRows.{link_html, row_start, number_and_links_html, row_rest, step_html, item_html, list_html, labels_html};
@@ -70,8 +71,9 @@ pub fn push_row_rest(
     page.extend_from_slice(b"\n")
 }
 
-/// Appends the step at an index as a row: its number, links to the rows of the steps that it takes, the label of
-/// the statement that it cites, its expression. The ids of the rows of one table share the prefix `id_prefix`.
+/// Appends the step at an index as a row: its number, links to the rows of the steps that it takes,
+/// the label of the statement that it cites, its expression. The ids of the rows of one table share
+/// the prefix `id_prefix`.
 ///
 /// Errors: an allocation fails. Cost: the size of the row.
 pub(crate) fn push_html_step(

@@ -38,7 +38,7 @@ fn push_comma_and_number(text: &mut Vec<u8>, index: usize) -> Result<(), AllocEr
     push_step_number(text, index)
 }
 
-fn push_others(text: &mut Vec<u8>, indexes: &[usize]) -> Result<(), AllocError>
+fn push_other_numbers(text: &mut Vec<u8>, indexes: &[usize]) -> Result<(), AllocError>
     ensures { OnOk result (text.new.items ≡ text.old.items ++ flat_map comma_and_number indexes.now) }
 {
     for index in indexes {
@@ -55,7 +55,7 @@ fn push_taken(text: &mut Vec<u8>, indexes: &[usize]) -> Result<(), AllocError>
         None => text.extend_from_slice(b"-"),
         Some((first, others)) => {
             push_step_number(text, *first)?;
-            push_others(text, others)
+            push_other_numbers(text, others)
         }
     }
 }
@@ -77,8 +77,8 @@ fn push_expr(text: &mut Vec<u8>, frames: &Frames, expr: &[u32]) -> Result<(), Al
     Ok(())
 }
 
-/// Appends the step at an index as a line: its number, the numbers of the steps that it takes, the label of the
-/// statement that it cites, its expression.
+/// Appends the step at an index as a line: its number, the numbers of the steps that it takes, the
+/// label of the statement that it cites, its expression.
 ///
 /// Errors: an allocation fails. Cost: the size of the line.
 pub(crate) fn push_step(

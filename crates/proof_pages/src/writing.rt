@@ -52,12 +52,12 @@ pub(crate) fn write_buffered<W: Write>(out: &mut W, text: &[u8]) -> Result<(), W
     }
 }
 
-/// Writes a line for each step: its number, the numbers of the steps that it takes, the label of the statement that
-/// it cites, its expression.
+/// Writes a line for each step: its number, the numbers of the steps that it takes, the label of
+/// the statement that it cites, its expression.
 ///
-/// Errors: `Memory`, `Output`; some lines may be written then. Cost: the size of the lines; buffers at most 64 KiB and
-/// one line.
-pub fn write_plain<W: Write>(
+/// Errors: `Memory`, `Output`; some lines may be written then. Cost: the size of the lines; buffers
+/// at most 64 KiB and one line.
+pub fn write_step_lines<W: Write>(
     alloc: Global,
     out: &mut W,
     frames: &Frames,
@@ -76,7 +76,7 @@ pub fn write_plain<W: Write>(
 
 /// Writes the steps as a graph in the DOT language of Graphviz.
 ///
-/// Errors and cost: those of `write_plain`.
+/// Errors and cost: those of `write_step_lines`.
 pub fn write_dot<W: Write>(
     alloc: Global,
     out: &mut W,

@@ -7,7 +7,7 @@ const NO_STATEMENT: &[u8] = b"the database has no statement\n";
 
 /// What a run is to print, and its exit status.
 #[derive(Clone, Copy)]
-pub struct Expected<'a> {
+pub struct ExpectedOutput<'a> {
     pub output: &'a [u8],
     /// The number of lines of the output, if `output` is only its beginning.
     pub lines: Option<u64>,
@@ -18,15 +18,15 @@ pub struct Expected<'a> {
 
 /// What a run printed, and its exit status.
 #[derive(Drop)]
-pub struct Printed {
+pub struct PrintedOutput {
     pub output: Vec<u8>,
     /// The text on standard error.
     pub stderr: Vec<u8>,
     pub status: u8,
 }
 
-/// Returns the exit status that a row expects if it gives none: 1 if a line of the output begins with
-/// `refused`, else 0.
+/// Returns the exit status that a row expects if it gives none: 1 if a line of the output begins
+/// with `refused`, else 0.
 pub fn default_status(output: &[u8]) -> u8 {
     for line in output.split(|byte| *byte == b'\n') {
         if line.starts_with(b"refused") {
@@ -39,8 +39,8 @@ pub fn default_status(output: &[u8]) -> u8 {
 /// Returns how the output of a run differs from the expected one, if it does.
 pub fn compare(
     alloc: Global,
-    expected: &Expected<'_>,
-    printed: &Printed,
+    expected: &ExpectedOutput<'_>,
+    printed: &PrintedOutput,
 ) -> Result<Option<String>, AllocError> {
     if let Some(lines) = expected.lines {
         if !matches_beginning(printed.output.as_slice(), expected.output, lines) {
@@ -67,7 +67,7 @@ fn matches_beginning(output: &[u8], beginning: &[u8], lines: u64) -> bool {
 }
 
 /// Returns whether the text on standard error is as expected.
-fn stderr_matches(expected: &Expected<'_>, text: &[u8]) -> bool {
+fn stderr_matches(expected: &ExpectedOutput<'_>, text: &[u8]) -> bool {
     match expected.stderr {
         ExpectedStderr::Unspecified => {
             text.is_empty()

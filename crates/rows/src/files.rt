@@ -34,8 +34,8 @@ fn push_name(alloc: Global, name: &str, names: &mut Vec<String>) -> Result<(), A
     Ok(())
 }
 
-/// Appends the text of a file of rows. A line `include FILE` is replaced by the lines of that file, in which
-/// such lines are not replaced.
+/// Appends the text of a file of rows. A line `include FILE` is replaced by the lines of that file,
+/// in which such lines are not replaced.
 pub fn push_file<R: Files + AllocGlobal>(
     rt: &R,
     folder: &str,

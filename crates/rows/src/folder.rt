@@ -10,7 +10,7 @@ use std::thread::Threads;
 
 /// A run of the rows of a folder.
 #[derive(Drop)]
-struct Run<'a, R> {
+struct FolderRun<'a, R> {
     rt: &'a R,
     folder: &'a str,
     /// How many rows passed.
@@ -23,7 +23,7 @@ struct Run<'a, R> {
 pub fn run_folder<
     R: AllocGlobal + Files + Print + Threads + Wait + Copy + Send + Sync + Drop + Clone + 'static,
 >(rt: &R, folder: &str) -> io::Result<bool> {
-    let mut run = Run {
+    let mut run = FolderRun {
         rt,
         folder,
         passed: 0,
@@ -31,7 +31,7 @@ pub fn run_folder<
     };
     let mut names = Vec::new(rt.alloc());
     run.run_files(&mut names)?;
-    let Run { passed, failed, .. } = run;
+    let FolderRun { passed, failed, .. } = run;
     if failed > 0 || passed == 0 {
         println!(rt; "{passed} rows passed, {failed} failed")?;
         return Ok(false);
@@ -42,7 +42,7 @@ pub fn run_folder<
 
 impl<
     R: AllocGlobal + Files + Print + Threads + Wait + Copy + Send + Sync + Drop + Clone + 'static,
-> Run<'_, R> {
+> FolderRun<'_, R> {
     /// Runs the files of the folder. `names` must be empty and receives their names.
     fn run_files(&mut self, names: &mut Vec<String>) -> io::Result<()> {
         push_row_files(self.rt, self.folder, names)?;

@@ -1,8 +1,8 @@
 //! Runs the program for a row, and compares what it prints with what the row expects.
-use crate::expected_output::{Expected, Printed, compare, default_status};
+use crate::expected_output::{ExpectedOutput, PrintedOutput, compare, default_status};
 use crate::failing_streams::{FailingReader, FailingWriter};
 use crate::limited_folder::LimitedFolder;
-use crate::row::{Ending, ExpectedStderr, Mode, Row, Truncation};
+use crate::row::{Ending, ExpectedStderr, Row, StreamMode, Truncation};
 use folders::MemoryFolder;
 use program::run;
 use std::alloc::{AllocError, Global};
@@ -97,22 +97,22 @@ impl<'a, 'w, R: AllocGlobal + Threads + Wait + Copy + Send + Sync + Drop + 'stat
     fn judge_input(&self, input: &[u8], output: &[u8]) -> Difference {
         let expected = expected_of(self.row, output);
         match self.row.mode {
-            Mode::Whole => self.judge_whole(input, &expected),
-            Mode::Truncated => self.judge_truncations(input, output),
-            Mode::NoReads => self.judge_no_reads(&expected),
-            Mode::FailingReads => self.judge_failing_reads(input, &expected),
-            Mode::FailingWrites => self.judge_failing_writes(input, &expected),
+            StreamMode::Whole => self.judge_whole(input, &expected),
+            StreamMode::Truncated => self.judge_truncations(input, output),
+            StreamMode::NoReads => self.judge_no_reads(&expected),
+            StreamMode::FailingReads => self.judge_failing_reads(input, &expected),
+            StreamMode::FailingWrites => self.judge_failing_writes(input, &expected),
         }
     }
 
     /// Runs the program on the whole input, and compares.
-    fn judge_whole(&self, mut input: &[u8], expected: &Expected<'_>) -> Difference {
+    fn judge_whole(&self, mut input: &[u8], expected: &ExpectedOutput<'_>) -> Difference {
         let printed = self.run_on(&mut input);
         compare(self.rt.alloc(), expected, &printed)
     }
 
     /// Runs the program on a reader.
-    fn run_on<I: Read>(&self, input: &mut I) -> Printed {
+    fn run_on<I: Read>(&self, input: &mut I) -> PrintedOutput {
         let mut output = Vec::new(self.rt.alloc());
         let mut stderr = Vec::new(self.rt.alloc());
         let mut folder = LimitedFolder::new(self.rt.alloc(), self.row.folder_calls);
@@ -125,15 +125,15 @@ impl<'a, 'w, R: AllocGlobal + Threads + Wait + Copy + Send + Sync + Drop + 'stat
             &mut folder,
         );
         let _ = push_files(&mut output, &folder.folder);
-        Printed {
+        PrintedOutput {
             output,
             stderr,
             status,
         }
     }
 
-    /// Truncates the input at each byte in turn. `elsewhere` is the expected output for a truncation
-    /// that the row does not list.
+    /// Truncates the input at each byte in turn. `elsewhere` is the expected output for a
+    /// truncation that the row does not list.
     fn judge_truncations(&self, input: &[u8], elsewhere: &[u8]) -> Difference {
         for end in 0..input.len() + 1 {
             match self.judge_truncated(&input[..end], elsewhere) {
@@ -153,7 +153,7 @@ impl<'a, 'w, R: AllocGlobal + Threads + Wait + Copy + Send + Sync + Drop + 'stat
     }
 
     /// Runs the program on a reader that it must not call.
-    fn judge_no_reads(&self, expected: &Expected<'_>) -> Difference {
+    fn judge_no_reads(&self, expected: &ExpectedOutput<'_>) -> Difference {
         let mut reader = FailingReader::new(b"", 0);
         let printed = self.run_on(&mut reader);
         if reader.failed {
@@ -163,7 +163,7 @@ impl<'a, 'w, R: AllocGlobal + Threads + Wait + Copy + Send + Sync + Drop + 'stat
     }
 
     /// Runs the program on readers that fail at each of their calls, until one reads all.
-    fn judge_failing_reads(&self, input: &[u8], expected: &Expected<'_>) -> Difference {
+    fn judge_failing_reads(&self, input: &[u8], expected: &ExpectedOutput<'_>) -> Difference {
         for calls in 0..input.len() + 2 {
             let mut reader = FailingReader::new(input, calls);
             match self.judge_failing_read(&mut reader, calls, expected) {
@@ -182,7 +182,7 @@ impl<'a, 'w, R: AllocGlobal + Threads + Wait + Copy + Send + Sync + Drop + 'stat
         &self,
         reader: &mut FailingReader<'_>,
         calls: usize,
-        expected: &Expected<'_>,
+        expected: &ExpectedOutput<'_>,
     ) -> Difference {
         let alloc = self.rt.alloc();
         let printed = self.run_on(reader);
@@ -194,13 +194,13 @@ impl<'a, 'w, R: AllocGlobal + Threads + Wait + Copy + Send + Sync + Drop + 'stat
         difference_at(alloc, format_args!("{calls} reads"), &difference)
     }
 
-    /// Runs the program on writers that fail after each proper prefix of the output, and on one that
-    /// writes all.
-    fn judge_failing_writes(&self, input: &[u8], expected: &Expected<'_>) -> Difference {
+    /// Runs the program on writers that fail after each proper prefix of the output, and on one
+    /// that writes all.
+    fn judge_failing_writes(&self, input: &[u8], expected: &ExpectedOutput<'_>) -> Difference {
         let message = Vec::from_slice(self.rt.alloc(), b"standard output cannot be written\n")?;
         let stderr = ExpectedStderr::Exactly(message);
         for calls in 0..expected.output.len() {
-            let prefix = Expected {
+            let prefix = ExpectedOutput {
                 output: &expected.output[..calls],
                 lines: None,
                 stderr: &stderr,
@@ -215,7 +215,7 @@ impl<'a, 'w, R: AllocGlobal + Threads + Wait + Copy + Send + Sync + Drop + 'stat
     }
 
     /// Runs the program on a writer that fails after this output.
-    fn judge_failing_write(&self, mut input: &[u8], prefix: &Expected<'_>) -> Difference {
+    fn judge_failing_write(&self, mut input: &[u8], prefix: &ExpectedOutput<'_>) -> Difference {
         let alloc = self.rt.alloc();
         let calls = prefix.output.len();
         let mut writer = FailingWriter::new(alloc, calls);
@@ -230,7 +230,7 @@ impl<'a, 'w, R: AllocGlobal + Threads + Wait + Copy + Send + Sync + Drop + 'stat
             &mut folder,
         );
         let called_again = writer.called_again;
-        let printed = Printed {
+        let printed = PrintedOutput {
             output: writer.text,
             stderr,
             status,
@@ -253,10 +253,11 @@ fn push_files(output: &mut Vec<u8>, folder: &MemoryFolder) -> Result<(), AllocEr
     Ok(())
 }
 
-/// Returns how what is printed after a failed read differs from the refusal of the input, if it does.
-fn failed_read_difference(alloc: Global, printed: &Printed) -> Difference {
+/// Returns how what is printed after a failed read differs from the refusal of the input, if it
+/// does.
+fn failed_read_difference(alloc: Global, printed: &PrintedOutput) -> Difference {
     let message = Vec::from_slice(alloc, b"standard input cannot be read\n")?;
-    let refused = Expected {
+    let refused = ExpectedOutput {
         output: b"refused Input\n",
         lines: None,
         stderr: &ExpectedStderr::Exactly(message),
@@ -273,8 +274,8 @@ fn joined(alloc: Global, first: &[u8], second: &[u8]) -> Result<Vec<u8>, AllocEr
 }
 
 /// Returns what the row expects, with this output.
-fn expected_of<'a>(row: &'a Row, output: &'a [u8]) -> Expected<'a> {
-    Expected {
+fn expected_of<'a>(row: &'a Row, output: &'a [u8]) -> ExpectedOutput<'a> {
+    ExpectedOutput {
         output,
         lines: row.lines,
         stderr: &row.stderr,
@@ -296,8 +297,8 @@ fn output_at<'a>(truncations: &'a [Truncation], end: usize, elsewhere: &'a [u8])
 fn failed_write_difference(
     alloc: Global,
     called_again: bool,
-    prefix: &Expected<'_>,
-    printed: &Printed,
+    prefix: &ExpectedOutput<'_>,
+    printed: &PrintedOutput,
 ) -> Difference {
     if called_again {
         return Ok(Some(String::from_str(alloc, "more was written")?));

@@ -1,9 +1,9 @@
-//! Runs the rows of a folder. A row is a test case of the program: a command line, an input, and the
-//! output that is expected.
+//! Runs the rows of a folder. A row is a test case of the program: a command line, an input, and
+//! the output that is expected.
 //!
 //! Reading order: `row` (a row), `row_texts` and `row_parser` (its syntax), `files` (the files of a
-//! folder); `failing_streams` (readers and writers that fail), `limited_folder` (a folder that refuses
-//! calls), `expected_output` (compares outputs), `judging` (whether a row holds), `folder`
+//! folder); `failing_streams` (readers and writers that fail), `limited_folder` (a folder that
+//! refuses calls), `expected_output` (compares outputs), `judging` (whether a row holds), `folder`
 //! (`run_folder`).
 #![tactic(auto)]
 

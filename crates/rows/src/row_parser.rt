@@ -1,6 +1,6 @@
 //! Parses the rows of a file.
-use crate::row::{Ending, ExpectedStderr, Mode, Row, Truncation};
-use crate::row_texts::{RowFault, push_line, push_lines, word_of};
+use crate::row::{Ending, ExpectedStderr, Row, StreamMode, Truncation};
+use crate::row_texts::{RowLineFault, push_line, push_lines, word_of};
 use numbers::parse_number;
 use std::alloc::{AllocError, Global};
 
@@ -28,15 +28,17 @@ pub fn parse_rows(alloc: Global, text: &str) -> Result<Vec<Row>, ParseFault> {
         }
         match parse_line(alloc, &mut rows, line) {
             Ok(()) => {}
-            Err(RowFault::NotALine) => return Err(ParseFault::Line(String::from_str(alloc, line)?)),
-            Err(RowFault::Memory) => return Err(ParseFault::Memory),
+            Err(RowLineFault::NotALine) => return Err(ParseFault::Line(String::from_str(
+                alloc, line,
+            )?)),
+            Err(RowLineFault::Memory) => return Err(ParseFault::Memory),
         }
     }
     Ok(rows)
 }
 
 /// Parses a line, which begins a row or belongs to the last one.
-fn parse_line(alloc: Global, rows: &mut Vec<Row>, line: &str) -> Result<(), RowFault> {
+fn parse_line(alloc: Global, rows: &mut Vec<Row>, line: &str) -> Result<(), RowLineFault> {
     match line.strip_prefix("row ") {
         Some(sentence) => {
             let row = new_row(alloc, sentence)?;
@@ -45,7 +47,7 @@ fn parse_line(alloc: Global, rows: &mut Vec<Row>, line: &str) -> Result<(), RowF
         }
         None => match rows.last_mut() {
             Some(row) => parse_row_line(alloc, row, line),
-            None => Err(RowFault::NotALine),
+            None => Err(RowLineFault::NotALine),
         },
     }
 }
@@ -61,24 +63,24 @@ fn new_row(alloc: Global, sentence: &str) -> Result<Row, AllocError> {
         lines: None,
         stderr: ExpectedStderr::Unspecified,
         status: None,
-        mode: Mode::Whole,
+        mode: StreamMode::Whole,
         folder_calls: None,
         truncations: Vec::new(alloc),
     })
 }
 
 /// Parses a line of a row: its keyword, and the text after a space, or an empty text without one.
-fn parse_row_line(alloc: Global, row: &mut Row, line: &str) -> Result<(), RowFault> {
+fn parse_row_line(alloc: Global, row: &mut Row, line: &str) -> Result<(), RowLineFault> {
     let (keyword, text) = line.split_once(' ').unwrap_or((line, ""));
     match keyword {
         "run" => add_command(alloc, row, text),
         "status" => set_status(row, text),
         "lines" => set_lines(row, text),
         "files" => set_folder_calls(row, text),
-        "cut" => set_mode(row, Mode::Truncated, text, ""),
-        "reads" if text == "none" => set_mode(row, Mode::NoReads, text, "none"),
-        "reads" => set_mode(row, Mode::FailingReads, text, "fail"),
-        "writes" => set_mode(row, Mode::FailingWrites, text, "fail"),
+        "cut" => set_mode(row, StreamMode::Truncated, text, ""),
+        "reads" if text == "none" => set_mode(row, StreamMode::NoReads, text, "none"),
+        "reads" => set_mode(row, StreamMode::FailingReads, text, "fail"),
+        "writes" => set_mode(row, StreamMode::FailingWrites, text, "fail"),
         "!" => add_stderr_line(alloc, row, text),
         "!~" => set_stderr_beginning(alloc, row, text),
         "</" => add_ending(alloc, row, text, "\\"),
@@ -88,7 +90,7 @@ fn parse_row_line(alloc: Global, row: &mut Row, line: &str) -> Result<(), RowFau
 }
 
 /// Appends a command line: words separated by spaces.
-fn add_command(alloc: Global, row: &mut Row, text: &str) -> Result<(), RowFault> {
+fn add_command(alloc: Global, row: &mut Row, text: &str) -> Result<(), RowLineFault> {
     let mut words = Vec::new(alloc);
     for word in text.split(' ').filter(|word| !word.is_empty()) {
         let word = word_of(alloc, word)?;
@@ -99,45 +101,50 @@ fn add_command(alloc: Global, row: &mut Row, text: &str) -> Result<(), RowFault>
 }
 
 /// Sets the exit status.
-fn set_status(row: &mut Row, text: &str) -> Result<(), RowFault> {
-    let number = parse_number(text.as_bytes()).ok_or(RowFault::NotALine)?;
+fn set_status(row: &mut Row, text: &str) -> Result<(), RowLineFault> {
+    let number = parse_number(text.as_bytes()).ok_or(RowLineFault::NotALine)?;
     if number > 255 {
-        return Err(RowFault::NotALine);
+        return Err(RowLineFault::NotALine);
     }
     row.status = Some(number as u8);
     Ok(())
 }
 
 /// Sets the number of lines of the output.
-fn set_lines(row: &mut Row, text: &str) -> Result<(), RowFault> {
-    row.lines = Some(parse_number(text.as_bytes()).ok_or(RowFault::NotALine)?);
+fn set_lines(row: &mut Row, text: &str) -> Result<(), RowLineFault> {
+    row.lines = Some(parse_number(text.as_bytes()).ok_or(RowLineFault::NotALine)?);
     Ok(())
 }
 
 /// Sets how many calls the folder answers.
-fn set_folder_calls(row: &mut Row, text: &str) -> Result<(), RowFault> {
-    row.folder_calls = Some(parse_number(text.as_bytes()).ok_or(RowFault::NotALine)?);
+fn set_folder_calls(row: &mut Row, text: &str) -> Result<(), RowLineFault> {
+    row.folder_calls = Some(parse_number(text.as_bytes()).ok_or(RowLineFault::NotALine)?);
     Ok(())
 }
 
 /// Sets the mode, at most once, and before the input and the output.
-fn set_mode(row: &mut Row, mode: Mode, text: &str, expected: &str) -> Result<(), RowFault> {
+fn set_mode(
+    row: &mut Row,
+    mode: StreamMode,
+    text: &str,
+    expected: &str,
+) -> Result<(), RowLineFault> {
     if text != expected
         || !row.input.is_empty()
         || !row.output.is_empty()
-        || row.mode != Mode::Whole
+        || row.mode != StreamMode::Whole
     {
-        return Err(RowFault::NotALine);
+        return Err(RowLineFault::NotALine);
     }
     row.mode = mode;
     Ok(())
 }
 
 /// Appends a line to the expected standard error.
-fn add_stderr_line(alloc: Global, row: &mut Row, text: &str) -> Result<(), RowFault> {
+fn add_stderr_line(alloc: Global, row: &mut Row, text: &str) -> Result<(), RowLineFault> {
     match &mut row.stderr {
         ExpectedStderr::Exactly(lines) => push_line(lines, text, 0),
-        ExpectedStderr::Beginning(_) => Err(RowFault::NotALine),
+        ExpectedStderr::Beginning(_) => Err(RowLineFault::NotALine),
         ExpectedStderr::Unspecified => {
             let mut lines = Vec::new(alloc);
             push_line(&mut lines, text, 0)?;
@@ -148,13 +155,13 @@ fn add_stderr_line(alloc: Global, row: &mut Row, text: &str) -> Result<(), RowFa
 }
 
 /// Sets the beginning of the standard error, in place of what earlier lines say of it.
-fn set_stderr_beginning(alloc: Global, row: &mut Row, text: &str) -> Result<(), RowFault> {
+fn set_stderr_beginning(alloc: Global, row: &mut Row, text: &str) -> Result<(), RowLineFault> {
     row.stderr = ExpectedStderr::Beginning(word_of(alloc, text)?.into_bytes());
     Ok(())
 }
 
 /// Appends one of several endings of the input, and its ending of the output.
-fn add_ending(alloc: Global, row: &mut Row, text: &str, answer: &str) -> Result<(), RowFault> {
+fn add_ending(alloc: Global, row: &mut Row, text: &str, answer: &str) -> Result<(), RowLineFault> {
     let mut ending = Ending {
         input: Vec::new(alloc),
         output: Vec::new(alloc),
@@ -166,18 +173,18 @@ fn add_ending(alloc: Global, row: &mut Row, text: &str, answer: &str) -> Result<
 }
 
 /// Appends `ENDING => ANSWER`, one of several endings of the input and its ending of the output.
-fn add_ending_with_answer(alloc: Global, row: &mut Row, text: &str) -> Result<(), RowFault> {
-    let (text, answer) = text.rsplit_once(" => ").ok_or(RowFault::NotALine)?;
+fn add_ending_with_answer(alloc: Global, row: &mut Row, text: &str) -> Result<(), RowLineFault> {
+    let (text, answer) = text.rsplit_once(" => ").ok_or(RowLineFault::NotALine)?;
     add_ending(alloc, row, text, answer)
 }
 
-/// Appends lines to the input, the output or both. The keyword may end in `*` and a number, which says
-/// how many lines.
-fn add_lines(alloc: Global, row: &mut Row, keyword: &str, text: &str) -> Result<(), RowFault> {
+/// Appends lines to the input, the output or both. The keyword may end in `*` and a number, which
+/// says how many lines.
+fn add_lines(alloc: Global, row: &mut Row, keyword: &str, text: &str) -> Result<(), RowLineFault> {
     let (keyword, times) = match keyword.split_once('*') {
         Some((keyword, times)) => (
             keyword,
-            parse_number(times.as_bytes()).ok_or(RowFault::NotALine)?,
+            parse_number(times.as_bytes()).ok_or(RowLineFault::NotALine)?,
         ),
         None => (keyword, 1),
     };
@@ -185,19 +192,24 @@ fn add_lines(alloc: Global, row: &mut Row, keyword: &str, text: &str) -> Result<
         "<" => push_lines(&mut row.input, text, times),
         ">" => push_lines(&mut row.output, text, times),
         "<>" => {
-            let (text, answer) = text.rsplit_once(" => ").ok_or(RowFault::NotALine)?;
+            let (text, answer) = text.rsplit_once(" => ").ok_or(RowLineFault::NotALine)?;
             push_lines(&mut row.input, text, times)?;
             match row.mode {
-                Mode::Truncated => add_truncation(alloc, row, text, answer),
+                StreamMode::Truncated => add_truncation(alloc, row, text, answer),
                 _ => push_lines(&mut row.output, answer, times),
             }
         }
-        _ => Err(RowFault::NotALine),
+        _ => Err(RowLineFault::NotALine),
     }
 }
 
 /// Appends the output for the input truncated after its last line so far.
-fn add_truncation(alloc: Global, row: &mut Row, text: &str, answer: &str) -> Result<(), RowFault> {
+fn add_truncation(
+    alloc: Global,
+    row: &mut Row,
+    text: &str,
+    answer: &str,
+) -> Result<(), RowLineFault> {
     let after = row.input.len();
     let mut output = Vec::new(alloc);
     push_line(&mut output, answer, 0)?;

@@ -6,9 +6,9 @@ ghost use Rattle.run_pictures.specs.declared.drawing.PictureFault.TheVariants.{M
 
 use crate::labels::{learned_note, packet_label, packet_title, step_label};
 use crate::mark::{ArrowStart, Mark, StepPoint};
-use crate::part::Part;
 use crate::run::Run;
 use crate::step::{Act, Step};
+use crate::step_range::StepRange;
 use library::Verdict;
 use std::alloc::{AllocError, Global};
 use synod::Weights;
@@ -41,27 +41,32 @@ struct ShownSteps<'a> {
     from: usize,
 }
 
-/// Returns a picture, in SVG, of the marks of a part of a run. `weights` are those with which the run was
-/// made.
+/// Returns a picture, in SVG, of the marks of a range of steps. `weights` are those with which the
+/// run was made.
 ///
-/// Errors: `TooManySteps` if more than `MAX_ROWS` steps are to be shown, else `Memory` if an allocation
-/// fails. Cost: that of `Run::marks`, and the size of the picture.
-pub fn draw(alloc: Global, weights: Weights, run: &Run, part: Part) -> Result<Vec<u8>, PictureFault>
-    ensures too_many_steps { MAX_ROWS < length (shown_of run.now.steps part.from part.count)
+/// Errors: `TooManySteps` if more than `MAX_ROWS` steps are to be shown, else `Memory` if an
+/// allocation fails. Cost: that of `Run::marks`, and the size of the picture.
+pub fn draw(
+    alloc: Global,
+    weights: Weights,
+    run: &Run,
+    range: StepRange,
+) -> Result<Vec<u8>, PictureFault>
+    ensures too_many_steps { MAX_ROWS < length (shown_of run.now.steps range.from range.count)
         → result ≡ Err TooManySteps }
-    ensures only_memory { length (shown_of run.now.steps part.from part.count) ≤ MAX_ROWS
+    ensures only_memory { length (shown_of run.now.steps range.from range.count) ≤ MAX_ROWS
         → IsOkUnless result Memory }
 {
-    let shown = run.shown(part);
+    let shown = run.shown(range);
     if shown.len() as u64 > MAX_ROWS {
         return Err(PictureFault::TooManySteps);
     }
     let steps = ShownSteps {
         world: run.world(),
         shown,
-        from: part.from,
+        from: range.from,
     };
-    let marks = run.marks(alloc, part)?;
+    let marks = run.marks(alloc, range)?;
     Ok(picture_of(alloc, weights, steps, marks.as_slice())?)
 }
 
@@ -184,8 +189,8 @@ fn grid_row(row: usize) -> u32 {
     u32::try_from(row).unwrap_or(u32::MAX)
 }
 
-/// Returns the style of the point of an act: `Good` (green) if an entry is applied and added, `Bad` (red) if
-/// it is refused, else `Plain`.
+/// Returns the style of the point of an act: `Good` (green) if an entry is applied and added, `Bad`
+/// (red) if it is refused, else `Plain`.
 fn style(act: Act) -> PointStyle {
     match act {
         Act::Apply { verdict, .. } => verdict_style(verdict),

@@ -12,15 +12,16 @@ use std::alloc::{AllocError, Global};
 use synod::Packet;
 use world::{Carried, World};
 
-/// The greatest number of bytes that a label shows of a packet's printed form or of an offered text.
+/// The greatest number of bytes that a label shows of a packet's printed form or of an offered
+/// text.
 const MAX_SHOWN: usize = 48;
 
 /// The byte that replaces one that is not printable ASCII.
 const REPLACEMENT: u8 = b'?';
 
-/// Returns the label of a step: its kind, followed by the author, the serial number and the start of the
-/// text for an offer, the number of the packet for a delivery, the slot and the verdict for an application.
-/// The offer of a charter is labelled `charter`, with its author and serial number.
+/// Returns the label of a step: its kind, followed by the author, the serial number and the start
+/// of the text for an offer, the number of the packet for a delivery, the slot and the verdict for
+/// an application. The offer of a charter is labelled `charter`, with its author and serial number.
 pub(crate) fn step_label(alloc: Global, world: &World, act: Act) -> Result<Vec<u8>, AllocError> {
     let mut label = Vec::new(alloc);
     match act {
@@ -67,7 +68,8 @@ fn push_numbered(label: &mut Vec<u8>, before: &[u8], number: u64) -> Result<(), 
     push_number(label, number)
 }
 
-/// Appends at most `MAX_SHOWN` bytes, with `?` for each that is not printable ASCII, and ` ..` if there are more.
+/// Appends at most `MAX_SHOWN` bytes, with `?` for each that is not printable ASCII, and ` ..` if
+/// there are more.
 fn push_start(label: &mut Vec<u8>, bytes: &[u8]) -> Result<(), AllocError> {
     for byte in bytes.iter().take(MAX_SHOWN) {
         label.push(printable(*byte))?;

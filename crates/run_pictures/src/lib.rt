@@ -1,29 +1,32 @@
-//! Draws a picture of a run: a row for each event and for each application of an entry, an arrow for
-//! each delivery of a packet, and a stump, the beginning of an arrow, for each packet that a shown step posts and no
-//! shown step delivers.
+//! Draws a picture of a run: a row for each event and for each application of an entry, an arrow
+//! for each delivery of a packet, and a stump, the beginning of an arrow, for each packet that a
+//! shown step posts and no shown step delivers.
 //!
-//! The main contracts: a `Run` records exactly the steps of the events in its history, and `Run::marks`
-//! returns exactly the marks of a part of the recorded steps (`specs/Steps`, `specs/Marks`). `draw` draws these marks.
+//! The main contracts: a `Run` records exactly the steps of the events in its history, and
+//! `Run::marks` returns exactly the marks of a part of the recorded steps (`specs/Steps`,
+//! `specs/Marks`). `draw` draws these marks.
 //!
-//! Terms: each node has a *weight*, and a set of nodes is a quorum if it has more than half of the total weight. A
-//! node *posts* packets when it takes an event; the packets of all nodes are numbered from 0 in the order of posting.
-//! The log of a node has entries in consecutive *slots*, from 0; `learned` is the number of its entries. To *apply* an
-//! entry is to give it to the library of the node, which returns a verdict.
+//! Terms: each node has a *weight*, and a set of nodes is a quorum if it has more than half of the
+//! total weight. A node *posts* packets when it takes an event; the packets of all nodes are
+//! numbered from 0 in the order of posting. The log of a node has entries in consecutive *slots*,
+//! from 0; `learned` is the number of its entries. To *apply* an entry is to give it to the library
+//! of the node, which returns a verdict.
 //!
-//! Reading order: `step` and `mark` (the types), specs/StepStart, Steps, Marks and RunView, `run` (a world whose
-//! steps are recorded), `part` (the steps that are shown), `marks`, `labels`, `drawing`.
+//! Reading order: `step` and `mark` (the types), `specs/StepStart`, `specs/Steps`, `specs/Marks`
+//! and `specs/RunView`, `run` (a world whose steps are recorded), `step_range` (the steps that are
+//! shown), `marks`, `labels`, `drawing`.
 #![tactic(auto)]
 
 mod drawing;
 mod labels;
 mod mark;
 mod marks;
-mod part;
 mod run;
 mod step;
+mod step_range;
 
 pub use drawing::{PictureFault, draw};
 pub use mark::{ArrowStart, Mark, StepPoint};
-pub use part::Part;
 pub use run::Run;
 pub use step::{Act, Step};
+pub use step_range::StepRange;

@@ -7,8 +7,8 @@ pub struct StepPoint {
     pub node: u8,
 }
 
-/// The beginning of an arrow: the node that posted the packet, and the row of the step that posted it, or
-/// `None` if that step is not shown.
+/// The beginning of an arrow: the node that posted the packet, and the row of the step that posted
+/// it, or `None` if that step is not shown.
 #[derive(Clone, Copy, Debug, PartialEq, Eq)]
 pub struct ArrowStart {
     pub row: Option<usize>,

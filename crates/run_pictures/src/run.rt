@@ -10,8 +10,8 @@ ghost use Rattle.run_pictures.specs.Steps.{act_of, step_start_of, is_event, lear
 
 use crate::mark::Mark;
 use crate::marks::collect_marks;
-use crate::part::{Part, shown};
 use crate::step::{Act, Step, StepStart};
+use crate::step_range::{StepRange, shown};
 use library::{Entry, Verdict};
 use net::{Event, StepFault};
 use std::alloc::{AllocError, Global};
@@ -19,8 +19,8 @@ use std::marker::Model;
 use synod::Weights;
 use world::World;
 
-/// A world of nodes and their libraries, with a record of its steps: the events that it took and the
-/// applications of entries, in order. In contracts a run is the world and the steps.
+/// A world of nodes and their libraries, with a record of its steps: the events that it took and
+/// the applications of entries, in order. In contracts a run is the world and the steps.
 #[derive(Drop)]
 pub struct Run {
     world: World,
@@ -79,8 +79,8 @@ impl Run {
         Ok(())
     }
 
-    /// Applies the next entry of the log of node `k` to its library and records the step. Does nothing if
-    /// there is no next entry.
+    /// Applies the next entry of the log of node `k` to its library and records the step. Does
+    /// nothing if there is no next entry.
     ///
     /// Errors: those of `World::apply_next`, or `Memory`; the run is then unchanged.
     #[tactic(auto, using(crate::proofs::RunLemmas::application_recorded, crate::proofs::RunLemmas::same_recorded))]
@@ -105,25 +105,25 @@ impl Run {
         &self.world
     }
 
-    /// Returns the steps of a part.
-    pub fn shown(&self, part: Part) -> &[Step]
-        ensures { result.now ≡ shown_of self.now.steps part.from part.count }
+    /// Returns the steps of a range.
+    pub fn shown(&self, range: StepRange) -> &[Step]
+        ensures { result.now ≡ shown_of self.now.steps range.from range.count }
     {
-        shown(self.steps.as_slice(), part)
+        shown(self.steps.as_slice(), range)
     }
 
-    /// Returns the marks of a part, which are all that a picture shows of it. The recorded steps of events
-    /// are exactly those of the events in the history, in order (`events`).
+    /// Returns the marks of a range, which are all that a picture shows of it. The recorded steps
+    /// of events are exactly those of the events in the history, in order (`events`).
     ///
-    /// Errors: an allocation fails. Cost: a scan of the shown steps for each packet that one of them posts
-    /// or delivers.
-    pub fn marks(&self, alloc: Global, part: Part) -> Result<Vec<Mark>, AllocError>
-        requires { length (shown_of self.now.steps part.from part.count) ≤ MAX_ROWS }
+    /// Errors: an allocation fails. Cost: a scan of the shown steps for each packet that one of
+    /// them posts or delivers.
+    pub fn marks(&self, alloc: Global, range: StepRange) -> Result<Vec<Mark>, AllocError>
+        requires { length (shown_of self.now.steps range.from range.count) ≤ MAX_ROWS }
         ensures marks { IfOk result (λ marks. marks.items ≡ marks_of
-            (packets_of self.now.world) (shown_of self.now.steps part.from part.count)) }
+            (packets_of self.now.world) (shown_of self.now.steps range.from range.count)) }
         ensures events { filter is_event self.now.steps ≡ steps_of self.now.world.history }
     {
-        collect_marks(alloc, &self.world, self.shown(part))
+        collect_marks(alloc, &self.world, self.shown(range))
     }
 }
 

@@ -10,11 +10,11 @@ pub struct Step {
     /// The node at which it happened; for a delivery, the receiver of the packet.
     pub node: u8,
     pub act: Act,
-    /// The number of packets posted before it, which is the number of the first packet that it posted, if any; 0 for an
-    /// application.
+    /// The number of packets posted before it, which is the number of the first packet that it
+    /// posted, if any; 0 for an application.
     pub first_post: u64,
-    /// One more than the number of the last packet that it posted, or `first_post` if it posted none; 0 for an
-    /// application.
+    /// One more than the number of the last packet that it posted, or `first_post` if it posted
+    /// none; 0 for an application.
     pub end_post: u64,
     /// The number of entries of the node's log before the step.
     pub learned_before: u32,

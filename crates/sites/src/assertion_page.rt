@@ -21,7 +21,8 @@ pub struct PageSources<'a> {
     pub descriptions: Vec<Option<Span>>,
 }
 
-/// Appends the page of the assertion at an index, or nothing if the statement there is not an assertion.
+/// Appends the page of the assertion at an index, or nothing if the statement there is not an
+/// assertion.
 pub fn push_page(
     alloc: Global,
     sources: &PageSources<'_>,

@@ -6,7 +6,7 @@ ghost use Rattle.sites.specs.SiteFiles.{WritesNamed, page_file_of_label, page_fi
 use crate::assertion_page::{PageSources, push_page};
 use crate::progress::print_progress;
 use cross_references::cross_references;
-use file_names::{INDEX, STYLE, push_file_name};
+use file_names::{INDEX_FILE, STYLE_FILE, push_file_name};
 use folders::{Folder, FolderFault};
 use library::{AskFault, Library};
 use mm_lex::Word;
@@ -42,23 +42,26 @@ impl From<AllocError> for SiteFault {
     }
 }
 
+/// Pages are written into a `Vec`, where a write fails only if an allocation fails.
 impl From<WriteFault> for SiteFault {
     fn from(_fault: WriteFault) -> SiteFault {
         SiteFault::Memory
     }
 }
 
+/// Only labels of `$p` of the library are asked for, so an allocation failed.
 impl From<AskFault> for SiteFault {
     fn from(_fault: AskFault) -> SiteFault {
         SiteFault::Memory
     }
 }
 
-/// Writes the style sheet, a page for each assertion and an index of them into the folder at a path. The
-/// progress of a site with many pages is printed to `progress`.
+/// Writes the style sheet, a page for each assertion and an index of them into the folder at a
+/// path. The progress of a site with many pages is printed to `progress`.
 ///
 /// Errors: `Memory`, `Folder` or `File`; the files before the error are written. Cost: that of
-/// `cross_references`, of each proof's steps, and the bytes written; one page is in memory at a time.
+/// `cross_references`, of each proof's steps, and the bytes written; one page is in memory at a
+/// time.
 pub fn write_site<F: Write, S: Folder>(
     alloc: Global,
     site: &Site<'_>,
@@ -70,7 +73,7 @@ pub fn write_site<F: Write, S: Folder>(
         (site_files site.now.library.now.replica.statements) folder.new) }
 {
     open_folder(path, folder)?;
-    write_file(alloc, folder, STYLE.as_bytes(), style_sheet())?;
+    write_file(alloc, folder, STYLE_FILE.as_bytes(), style_sheet())?;
     write_pages(alloc, site, folder, progress)?;
     write_index_page(alloc, site.library, folder)
 }
@@ -94,7 +97,7 @@ fn write_index_page<S: Folder>(
 {
     let mut page = Vec::new(alloc);
     write_index(alloc, &mut page, library.statements())?;
-    write_file(alloc, folder, INDEX.as_bytes(), page.as_slice())
+    write_file(alloc, folder, INDEX_FILE.as_bytes(), page.as_slice())
 }
 
 /// Writes a file into the folder.
@@ -143,7 +146,8 @@ fn write_pages<F: Write, S: Folder>(
     Ok(())
 }
 
-/// Writes the page of the assertion at an index. Returns whether the statement there is an assertion.
+/// Writes the page of the assertion at an index. Returns whether the statement there is an
+/// assertion.
 fn write_page<S: Folder>(
     alloc: Global,
     sources: &PageSources<'_>,

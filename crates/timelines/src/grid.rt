@@ -22,8 +22,8 @@ pub(crate) const TOP_EDGE: u64 = 34;
 /// How far a stump goes sideways for each column from its node to that of its receiver.
 const STUMP_WIDTH: u64 = 44;
 
-/// How far a stump from a node to itself goes to the left; also added to the width of a stump to a node
-/// at the left.
+/// How far a stump from a node to itself goes to the left; also added to the width of a stump to a
+/// node at the left.
 const OWN_STUMP_WIDTH: u64 = 22;
 
 /// How far a stump goes down.
@@ -82,6 +82,6 @@ pub(crate) fn stump_end(from: u8, to: u8) -> u64 {
 }
 
 /// Returns the width of a picture of `nodes` nodes whose longest text has this many characters.
-pub(crate) fn width(nodes: u8, characters: u32) -> u64 {
+pub(crate) fn picture_width(nodes: u8, characters: u32) -> u64 {
     column_x(nodes.saturating_sub(1)) + CHARACTER_WIDTH * u64::from(characters) + 40
 }

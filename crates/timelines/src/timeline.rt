@@ -1,5 +1,5 @@
 //! A picture that is drawn row by row.
-use crate::grid::{GridPoint, row_y, width};
+use crate::grid::{GridPoint, picture_width, row_y};
 use crate::parts::{
     push_arrow, push_break, push_node, push_numbered, push_point, push_row, push_span, push_stump,
     push_stump_numbers,
@@ -182,7 +182,11 @@ impl Timeline {
         self.end_row()?;
         let bottom = row_y(self.rows);
         let mut svg = Vec::new(alloc);
-        push_numbered(&mut svg, HEAD, width(self.nodes, self.longest_row_length))?;
+        push_numbered(
+            &mut svg,
+            HEAD,
+            picture_width(self.nodes, self.longest_row_length),
+        )?;
         push_numbered(&mut svg, b"\" height=\"", bottom)?;
         svg.extend_from_slice(STYLE)?;
         for node in 0..self.nodes {

@@ -1,5 +1,5 @@
 use Rattle.commands.proofs.Words.{◌≡◌, ◌++◌, option_map, length, numbers_of}
-use Rattle.commands.proofs.offered_entry.numbers.Given as goal
+use Rattle.commands.proofs.offered_entry.parse_numbers.Given as goal
 
 abbrev pub decreases-loop-word : goal.decreases-loop-word
 decreases-loop-word l = length l.words

@@ -1,6 +1,6 @@
 use Rattle.proof_pages.proofs.Words.{[], arith, no_row, step_line}
 use Rattle.proof_pages.proofs.WritingLemmas.{row_on}
-use Rattle.proof_pages.proofs.writing.write_plain.Goals as goal
+use Rattle.proof_pages.proofs.writing.write_step_lines.Goals as goal
 
 pub loop-index-preserved : goal.loop-index-preserved
 loop-index-preserved g c =

@@ -1,17 +1,17 @@
 //! The lines that scripts of `play` and of `serve` have in common.
 ghost use Rattle.std.specs.Prelude.{◌≡◌};
 ghost use Rattle.commands.specs.Scripts.{Parses};
-ghost use Rattle.commands.specs.NodeLines.{overview_line, node_line, node_line_without_label};
+ghost use Rattle.commands.specs.CommonLines.{overview_line, common_line, common_line_without_label};
 
 use crate::line_words::{NodeEntryId, NodePair, Words};
-use crate::node_question::{NodeQuestion, label_question, parse_question};
-use crate::offered_entry::{OfferedEntry, parse_charter};
+use crate::node_question::{NodeQuestion, label_question_kind, parse_question};
+use crate::offered_entry::{OfferedEntry, parse_charter_offer};
 use crate::script::LineFault;
 use std::alloc::Global;
 
 /// A line that both commands have: an event at a node, or a question.
 #[derive(Drop)]
-pub enum NodeLine {
+pub enum CommonLine {
     /// `charter K AUTHOR SERIAL NAME ..`, `offer` and `submit`: an entry is offered.
     Offer(OfferedEntry),
     /// `begin K`: the node begins a ballot.
@@ -41,71 +41,71 @@ pub enum NodeLine {
 /// Parses the words after a verb as a line that both commands have.
 ///
 /// Errors: `Bad` if the verb and the words are no such line; else `Memory` if an allocation fails.
-pub(crate) fn parse_node_line(
+pub(crate) fn parse_common_line(
     alloc: Global,
     verb: &[u8],
     words: Words<'_>,
-) -> Result<NodeLine, LineFault>
-    ensures { Parses (node_line verb.now words.entry) result }
+) -> Result<CommonLine, LineFault>
+    ensures { Parses (common_line verb.now words.entry) result }
 {
     if verb == b"charter".as_slice() {
-        let offered = parse_charter(alloc, words)?;
-        return Ok(NodeLine::Offer(offered));
+        let offered = parse_charter_offer(alloc, words)?;
+        return Ok(CommonLine::Offer(offered));
     }
-    match label_question(verb) {
+    match label_question_kind(verb) {
         Some(kind) => {
             let question = parse_question(alloc, kind, words)?;
-            Ok(NodeLine::Ask(question))
+            Ok(CommonLine::Ask(question))
         }
         None => parse_without_label(verb, words).ok_or(LineFault::Bad),
     }
 }
 
 /// Parses the words after a verb that offers no entry and asks about no label.
-fn parse_without_label(verb: &[u8], words: Words<'_>) -> Option<NodeLine>
-    ensures { result ≡ node_line_without_label verb.now words.entry }
+fn parse_without_label(verb: &[u8], words: Words<'_>) -> Option<CommonLine>
+    ensures { result ≡ common_line_without_label verb.now words.entry }
 {
     if verb == b"begin".as_slice() {
-        Some(NodeLine::Begin {
+        Some(CommonLine::Begin {
             node: words.only_node()?,
         })
     } else if verb == b"restart".as_slice() {
-        Some(NodeLine::Restart {
+        Some(CommonLine::Restart {
             node: words.only_node()?,
         })
     } else if verb == b"status".as_slice() {
-        Some(NodeLine::Status(words.only_entry()?))
+        Some(CommonLine::Status(words.only_entry_id()?))
     } else if verb == b"why".as_slice() {
-        Some(NodeLine::Why(words.only_entry()?))
+        Some(CommonLine::Why(words.only_entry_id()?))
     } else if verb == b"compare".as_slice() {
-        Some(NodeLine::Compare(words.only_pair()?))
+        Some(CommonLine::Compare(words.only_pair()?))
     } else {
         parse_overview(verb, words)
     }
 }
 
 /// Parses a question about a whole library or log, about the state of a node or about the history.
-fn parse_overview(verb: &[u8], words: Words<'_>) -> Option<NodeLine>
+fn parse_overview(verb: &[u8], words: Words<'_>) -> Option<CommonLine>
     ensures { result ≡ overview_line verb.now words.entry }
 {
     if verb == b"list".as_slice() {
-        Some(NodeLine::List {
+        Some(CommonLine::List {
             node: words.only_node()?,
         })
     } else if verb == b"export".as_slice() {
-        Some(NodeLine::Export {
+        Some(CommonLine::Export {
             node: words.only_node()?,
         })
     } else if verb == b"log".as_slice() {
-        Some(NodeLine::Log {
+        Some(CommonLine::Log {
             node: words.only_node()?,
         })
     } else if verb == b"state".as_slice() {
-        Some(NodeLine::State {
+        Some(CommonLine::State {
             node: words.only_node()?,
         })
     } else if verb == b"events".as_slice() && words.has_no_words() {
-        Some(NodeLine::Events)
+        Some(CommonLine::Events)
     } else {
         None
     }

@@ -1,23 +1,23 @@
-//! The part of a run that is shown.
+//! The range of the steps of a run that a picture shows.
 ghost use Rattle.std.specs.Prelude.{◌≡◌, take, drop};
 ghost use Rattle.run_pictures.specs.Marks.{shown_of};
 
 use crate::step::Step;
 
-/// A part of a run: a range of its steps. Events and applications are counted together, from 0.
+/// A range of the steps of a run. Events and applications are counted together, from 0.
 #[derive(Clone, Copy, Debug, PartialEq, Eq)]
-pub struct Part {
-    /// The index of the first step of the part, from 0.
+pub struct StepRange {
+    /// The index of the first step of the range, from 0.
     pub from: usize,
-    /// The number of steps of the part; it has fewer if the run ends before.
+    /// The number of steps of the range; it has fewer if the run ends before.
     pub count: usize,
 }
 
-/// Returns the steps of a part.
-pub(crate) fn shown(steps: &[Step], part: Part) -> &[Step]
-    ensures { result.now ≡ shown_of steps.now part.from part.count }
+/// Returns the steps of a range.
+pub(crate) fn shown(steps: &[Step], range: StepRange) -> &[Step]
+    ensures { result.now ≡ shown_of steps.now range.from range.count }
 {
-    take_steps(skip_steps(steps, part.from), part.count)
+    take_steps(skip_steps(steps, range.from), range.count)
 }
 
 /// Returns the steps after the first `count`.
