@@ -48,7 +48,7 @@ impl<'a> Work for Proofs<'a> {
     }
 
     fn begin(&self, checker: &mut Checker) {
-        checker.begin();
+        checker.clear_cache();
     }
 
     fn judge(&self, index: usize, checker: &mut Checker) -> Result<Answer, AllocError> {

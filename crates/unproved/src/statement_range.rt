@@ -43,7 +43,7 @@ impl<'a> Work for StatementRange<'a> {
     }
 
     fn begin(&self, checker: &mut Checker) {
-        checker.begin();
+        checker.clear_cache();
     }
 
     fn judge(&self, index: usize, checker: &mut Checker) -> Result<Answer, AllocError> {

@@ -149,7 +149,7 @@ fn extent_with_number(extents: &[Extent], number: usize) -> Extent
 }
 
 /// Returns the extent of a node, from those of earlier nodes.
-fn extent_at(node: &Node, extents: &[Extent]) -> Extent
+fn node_extent(node: &Node, extents: &[Extent]) -> Extent
     requires after { IsAfter (length extents.now) node.now }
     requires measured { (ts : List Derivation) × (extents.now ≡ map extent_of ts) }
     ensures { (ts : List Derivation) → extents.now ≡ map extent_of ts → result ≡ extent_of (derive ts node.now) }
@@ -176,7 +176,7 @@ pub fn measure(alloc: Global, nodes: &[Node]) -> Result<Vec<Extent>, AllocError>
 {
     let mut extents = Vec::new(alloc);
     for node in nodes {
-        let one = extent_at(node, &extents);
+        let one = node_extent(node, &extents);
         extents.push(one)?;
     }
     Ok(extents)

@@ -53,7 +53,7 @@ impl Checkers {
 
     /// Sets whether the checker of the calling thread takes heavy proofs.
     pub(crate) fn admit_heavy(&mut self, are_admitted: bool) {
-        self.calling.limit(if are_admitted {
+        self.calling.set_symbol_limit(if are_admitted {
             usize::MAX
         } else {
             MAX_WORKER_SYMBOLS
@@ -98,7 +98,7 @@ impl Checkers {
     {
         while self.workers.len() < count {
             let mut checker = Checker::new(self.alloc);
-            checker.limit(MAX_WORKER_SYMBOLS);
+            checker.set_symbol_limit(MAX_WORKER_SYMBOLS);
             self.workers.push(Worker {
                 checker,
                 least: Ok(None),
