@@ -11,7 +11,7 @@ use mm_read::Stmt;
 use scope::{Rule, Rules, Steps};
 use std::alloc::{AllocError, Global};
 use std::thread::{Threads, join_mut};
-use verify_pool::{Checkers, Gate, Workers, judge_all};
+use verify_pool::{Checkers, Gate, PoolSize, judge_all};
 
 /// The proofs of a first part of a text are judged ahead only if that part has more statements than this.
 const AHEAD_THRESHOLD: usize = 8_192;
@@ -36,7 +36,7 @@ pub(crate) struct StepCounts {
 pub(crate) struct Parallel<'a, G: Gate + Sync, R: Threads + Sync> {
     pub rt: &'a R,
     pub alloc: Global,
-    pub workers: Workers,
+    pub workers: PoolSize,
     pub gate: &'a G,
 }
 
@@ -114,7 +114,7 @@ pub(crate) fn add_all_verifying<G: Gate + Sync, R: Threads + Sync>(
         requires { IsSync G.row × IsSync R.row × (1 ≤ workers_ahead) × (workers_ahead ≤ 16) × AreShaped first.now }
         ensures { (result ≤ length first.entry.now) × AreProvedTo first.entry.now result × (ahead.entry.now.count ≤ ahead.exit.now.count) × (ahead.exit.now.count ≤ ahead.entry.now.count + length first.entry.now) }
     {
-        let workers = Workers::of(workers_ahead);
+        let workers = PoolSize::new(workers_ahead);
         let parallel = Parallel {
             rt,
             alloc,

@@ -41,7 +41,7 @@ impl<'a> Work for Proofs<'a> {
 
     ghost right = { IsRightProof };
 
-    ghost fits = { λ proofs. IsCacheFor (bares proofs.statements) proofs.names };
+    ghost is_cache_for = { λ proofs. IsCacheFor (bares proofs.statements) proofs.names };
 
     fn count(&self) -> usize {
         self.positions.len()

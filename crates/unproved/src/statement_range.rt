@@ -36,7 +36,7 @@ impl<'a> Work for StatementRange<'a> {
 
     ghost right = { IsProvedIn };
 
-    ghost fits = { λ range. IsCacheFor (bares range.statements) range.names };
+    ghost is_cache_for = { λ range. IsCacheFor (bares range.statements) range.names };
 
     fn count(&self) -> usize {
         self.end - self.start
