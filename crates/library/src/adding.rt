@@ -82,9 +82,8 @@ pub(crate) fn add_all(statements: &[Stmt], tables: &mut Tables, steps: &mut Step
 
 /// Adds the statements as `add_all` does. If they are the first of a library, there are at least two workers and
 /// `count_ahead` returns more than 0, another thread meanwhile adds so many of them to tables of its own and judges
-/// their proofs. Half of the workers less one take part in that, but at least one, so that a processor is left to the
-/// calling thread. The position returned as `proved_to` is the last of that part if its proofs are found to be right, else
-/// 0.
+/// their proofs. Half of the workers, less one but at least one, take part in that, so that a processor is left to the
+/// calling thread. The position returned as `proved_to` is the last of that part if its proofs are found right, else 0.
 ///
 /// Cost: that of `add_all`, and meanwhile that of `verify_ahead`, for which `steps` counts each statement of that part at
 /// most once more.

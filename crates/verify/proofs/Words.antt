@@ -88,7 +88,7 @@ pub use Rattle.verify.specs.ReadPlaces.{BeginsWith, IsMistyped, ReadTo, ReadsAll
 pub use Rattle.verify.specs.ResultPlaces.{Adds, AreHeld, AreResultRanges, HeldResults, CachesLast, Marks, Recalls, UnchangedUnlessDone, below, held, results_in, top}
 pub use Rattle.verify.specs.Right.{Derives, IsProvable, IsRight, IsSmall, IsAnswerTo, weight_limit}
 pub use Rattle.verify.specs.Spells.{IsCitable, Spells, SpellsAll, cites_assertion, cites_hypothesis, marks, recalls, spells_more, spells_none}
-pub use Rattle.verify.specs.StepsByNumber.{AreCached, AreKnown, AreNamed, HasCited, IsCached, MayCite, StepsByNumber, StepsWithTable, without_cached, named}
+pub use Rattle.verify.specs.StepsByNumber.{AreCached, AreNamedAndCached, AreNamed, HasCited, IsCached, MayCite, StepsByNumber, StepsWithTable, without_cached, named}
 pub use Rattle.verify.specs.Stops.{IsNotOnly, StopsAt}
 pub use Rattle.verify.specs.declared.answer.Answer.TheVariants.{Proved, Wrong}
 pub use Rattle.verify.specs.declared.answer.Answer.{Answer}

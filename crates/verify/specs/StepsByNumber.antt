@@ -44,13 +44,13 @@ pub record AreCached (S : Database) (at : ℕ) (names : List Name) (table : List
   pub each : (k : ℕ) → k < length table → IsCached S at names (get_or table k Nothing) (get_or saved k [])
 
 -- the codes have names, and the cached results are right
-pub record AreKnown (S : Database) (at : ℕ) (names : List Name) (table : List LabelEntry) (st : Results ℕ) : Type 0 where
+pub record AreNamedAndCached (S : Database) (at : ℕ) (names : List Name) (table : List LabelEntry) (st : Results ℕ) : Type 0 where
   pub are_named : AreNamed names st
   pub cached : AreCached S at names table st.saved
 
 -- the effect of an item if the first saved results are cached for labels
 abbrev pub StepsWithTable : Bool → Database → ℕ → List Name → List LabelEntry → Item → Results ℕ → Results ℕ → Type 0
-StepsWithTable ok S at names table item old new = StepsByNumber ok S at names item (without_cached (length table) old) (without_cached (length table) new) × (IsTrue ok → AreKnown S at names table new)
+StepsWithTable ok S at names table item old new = StepsByNumber ok S at names item (without_cached (length table) old) (without_cached (length table) new) × (IsTrue ok → AreNamedAndCached S at names table new)
 
 -- ---- the requirements for running an item
 

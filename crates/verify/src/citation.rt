@@ -7,7 +7,7 @@ ghost use Rattle.mm_lex.specs.Alphabet.{Name};
 ghost use Rattle.mm_read.specs.declared.stmt.Stmt.{Stmt as Statement};
 ghost use Rattle.proof_code.specs.ItemNumbers.{item_of};
 ghost use Rattle.scope.specs.Active.{stmt_at};
-ghost use Rattle.verify.specs.StepsByNumber.{AreKnown, AreNamed, StepsWithTable, HasCited, IsReady, MayCite};
+ghost use Rattle.verify.specs.StepsByNumber.{AreNamedAndCached, AreNamed, StepsWithTable, HasCited, IsReady, MayCite};
 ghost use Rattle.verify.specs.CitationCache.{IsCacheFor, HasListsAt, IsCitedBy};
 ghost use Rattle.verify.specs.LabelTable.{AreEntries, IsEntry, viewed_entries};
 ghost use Rattle.verify.specs.ResultPlaces.{UnchangedUnlessDone};
@@ -253,7 +253,7 @@ pub fn step(
     buffers: &mut Buffers,
 ) -> Result<bool, AllocError>
     requires ready { IsReady context.now buffers.old.results.about }
-    requires known { AreKnown context.now.frames.now.statements context.now.at context.now.frames.now.names table.now buffers.old.results.results }
+    requires named_and_cached { AreNamedAndCached context.now.frames.now.statements context.now.at context.now.frames.now.names table.now buffers.old.results.results }
     requires entries { (labels : List Name) × AreEntries context.now.frames.now.statements context.now.at labels table.now }
     requires kept { IsCacheFor context.now.frames.now.statements context.now.frames.now.names buffers.old.kept }
     ensures about { buffers.new.results.about ≡ context.now.pairs }
@@ -290,7 +290,7 @@ pub fn run_item(
     buffers: &mut Buffers,
 ) -> Result<bool, AllocError>
     requires ready { IsReady context.now buffers.old.results.about }
-    requires known { AreKnown context.now.frames.now.statements context.now.at context.now.frames.now.names table.now buffers.old.results.results }
+    requires named_and_cached { AreNamedAndCached context.now.frames.now.statements context.now.at context.now.frames.now.names table.now buffers.old.results.results }
     requires entries { (labels : List Name) × AreEntries context.now.frames.now.statements context.now.at labels (viewed_entries (option_map (λ v. v.now) view) ++ table.now) }
     requires kept { IsCacheFor context.now.frames.now.statements context.now.frames.now.names buffers.old.kept }
     ensures about { buffers.new.results.about ≡ context.now.pairs }
@@ -305,7 +305,7 @@ pub fn run_item(
     }
 }
 
-/// Runs one item, by its number, if the first numbers are those of many mandatory hypotheses.
+/// Runs one item, by its number, where the first numbers are those of the mandatory hypotheses, which a view finds by index.
 ///
 /// Errors: an allocation fails. Cost: that of `step`, and of finding the hypothesis by its index.
 #[cold]
@@ -318,7 +318,7 @@ fn step_by_view(
     buffers: &mut Buffers,
 ) -> Result<bool, AllocError>
     requires ready { IsReady context.now buffers.old.results.about }
-    requires known { AreKnown context.now.frames.now.statements context.now.at context.now.frames.now.names table.now buffers.old.results.results }
+    requires named_and_cached { AreNamedAndCached context.now.frames.now.statements context.now.at context.now.frames.now.names table.now buffers.old.results.results }
     requires entries { (labels : List Name) × AreEntries context.now.frames.now.statements context.now.at labels (map Hypothesis view.now ++ table.now) }
     requires kept { IsCacheFor context.now.frames.now.statements context.now.frames.now.names buffers.old.kept }
     ensures about { buffers.new.results.about ≡ context.now.pairs }

@@ -1,5 +1,5 @@
-//! Keeps, for assertions that the proofs of a text cite again and again, the long lists by which they are cited, and the facts
-//! on pairs of variables that were found when such lists were made.
+//! A cache for the proofs of a text: the long lists of assertions that are cited often, and facts on pairs of variables that
+//! were found when such lists were made.
 
 ghost use Rattle.std.specs.Prelude.{◌≡◌, ◌<◌, ◌==◌, ◌++◌, ◌∷◌, [], ℕ, List, length, map, true, get_or, slice_get, Some, IfOk, IfSome, OnOk};
 ghost use Rattle.std.specs.List.{list_all, list_any};
@@ -298,7 +298,8 @@ impl CitationCache {
         }
     }
 
-    /// Counts one more citation of the assertion at a position, whose lists are long, and returns whether these are to be kept.
+    /// Returns whether the lists of the assertion at a position, which are long, are to be kept; if not, counts one more citation
+    /// of it.
     ///
     /// Cost: log n for n assertions whose citations are counted.
     pub fn count_citation(&mut self, position: usize) -> bool

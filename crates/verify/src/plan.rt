@@ -191,8 +191,8 @@ pub fn is_small(extent: Extent) -> bool
 
 /// Returns the derivation that the items of a right proof of the `$p` at that position spell.
 ///
-/// Errors: `Wrong` if they are no right proof; `TooLarge` if the derivation has more than 65,536
-/// nodes or a depth above 1,024, for which it is measured before it is made; `Memory` if an
+/// Errors: `Wrong` if the items are not a right proof; `TooLarge` if the derivation has more than
+/// 65,536 nodes or a depth above 1,024 (it is measured before it is made); `Memory` if an
 /// allocation fails, even if one of the others applies.
 /// Cost: a check, the mandatory hypotheses of the assertion of each citation, and the tree. Source:
 /// Metamath, 4.2.6 and appendix B.

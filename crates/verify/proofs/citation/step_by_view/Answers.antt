@@ -6,7 +6,7 @@ use Rattle.verify.proofs.citation.step_by_view.Goals as goal
 
 pub returns-then-number-eq0-clause-effect : goal.returns-then-number-eq0-clause-effect
 returns-then-number-eq0-clause-effect c = λ labels are.
-    IfOk-weaker c.mark.result _ _ (λ ok. mark-on _ _ _ c.requires.ready.legal c.args.table.now _ _ c.requires.known labels c.args.number ok c.if-number-eq0.true) c.mark.ensures.marks
+    IfOk-weaker c.mark.result _ _ (λ ok. mark-on _ _ _ c.requires.ready.legal c.args.table.now _ _ c.requires.named_and_cached labels c.args.number ok c.if-number-eq0.true) c.mark.ensures.marks
 
 pub cite_entry-requires-clause-entry : goal.cite_entry-requires-clause-entry
 cite_entry-requires-clause-entry c = (
@@ -24,7 +24,7 @@ returns-then-number-many-clause-effect c = λ labels are.
     let S = c.args.context.now.frames.now.statements in let names = c.args.context.now.frames.now.names in let at = c.args.context.now.at in
     let old = c.args.buffers.now.results.results in let new = c.cite_entry.new.buffers.results.results in
     IfOk-weaker c.cite_entry.result _ _
-    (λ ok cited. viewed_entries-on S names at c.requires.ready.legal c.args.table.now old new c.requires.known labels c.args.number k (map Hypothesis view) Nothing (suc_back c.args.number c.if-number-eq0.false) are (omega arith) ok
+    (λ ok cited. viewed_entries-on S names at c.requires.ready.legal c.args.table.now old new c.requires.named_and_cached labels c.args.number k (map Hypothesis view) Nothing (suc_back c.args.number c.if-number-eq0.false) are (omega arith) ok
     (subst (λ e. HasCited S at names e old new ok) (sym same) cited)) c.cite_entry.ensures.effect
 
 pub step-requires-clause-entries : goal.step-requires-clause-entries
