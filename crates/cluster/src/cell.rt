@@ -20,7 +20,7 @@ use std::marker::Model;
 use std::thread::Threads;
 use switch::Switch;
 use synod::{Keep, Weights, copy_value};
-use verify_pool::{Gate, Workers};
+use verify_pool::{Gate, PoolSize};
 use world::{Carried, NodeLibrary};
 
 /// The entries that a node has taken over from its log, and the library of those applied, the first of them.
@@ -176,7 +176,7 @@ pub fn apply_on(cell: &mut NodeCell) -> Result<Option<Verdict>, StepFault>
 pub fn apply_on_with<G: Gate + Sync, R: Threads + Sync>(
     rt: &R,
     cell: &mut NodeCell,
-    workers: Workers,
+    workers: PoolSize,
     gate: &G,
 ) -> Result<Option<Verdict>, StepFault>
     ensures applies { AppliesNext cell.old.node_library cell.new.node_library (next_entry cell.old) result }

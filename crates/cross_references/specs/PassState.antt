@@ -23,9 +23,9 @@ pub record IsRoundTable (list last_rounds : List ℕ) (round : ℕ) : Type 0 whe
   pub not_later : (k : ℕ) → get_or last_rounds k 0 ≤ round
   pub listed : (k : ℕ) → get_or last_rounds k 0 ≡ round → In k list
 
--- citing the statement at c adds the position a to the list of axioms: a `$a` is at c and a is c, or a is in the list of c
+-- citing the statement at c adds the position p to a list of axioms: p is c, and a `$a` is there; or p is in the list of c
 abbrev pub AddsAxiom : Database → List (List ℕ) → ℕ → ℕ → Type 0
-AddsAxiom S lists c a = (IsAxiomAt S c × (a ≡ c)) ⊎ In a (get_or lists (c - 1) [])
+AddsAxiom S lists c p = (IsAxiomAt S c × (p ≡ c)) ⊎ In p (get_or lists (c - 1) [])
 
 -- each position is one of 1 to `count`
 abbrev pub AreWithin : ℕ → List ℕ → Type 0

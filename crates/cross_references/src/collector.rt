@@ -52,7 +52,7 @@ impl Collector {
         Ok(())
     }
 
-    /// Adds a position, unless it is at most the `last` of `new` and was added in this round.
+    /// Adds a position. One that is at most the `last` of `new` is added only once in a round.
     #[tactic(auto, using(crate::proofs::ListLemmas::has_already, crate::proofs::ListLemmas::has_pushed, crate::proofs::ListLemmas::rounds_more))]
     pub fn add(&mut self, position: usize) -> Result<(), AllocError>
         ensures { OnOk result (HasMore (λ p. p ≡ position) self.old self.new) }

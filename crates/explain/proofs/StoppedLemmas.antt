@@ -4,7 +4,7 @@ use Rattle.explain.specs.declared.reason.Reason.TheVariants as reason
 use Rattle.explain.specs.FirstFault.{IsEndReason}
 use Rattle.explain.proofs.RunItemLemmas.{mark_fails, recall_heavy, cite_stuck, recall_item, what_is, found-at}
 use Rattle.verify.specs.StepsByNumber.{named}
-use Rattle.verify.specs.Stops.{IsOther}
+use Rattle.verify.specs.Stops.{IsNotOnly}
 use Rattle.verify.proofs.Words.{take_all, length-map, slice_get-get_or, slice_get_within}
 
 module _ (S : Database) (names : List Name) (at : ℕ) (items : List Item) (k labels : ℕ) (st : Results ℕ) (stopped : IsStopped S at names items k labels st) where
@@ -55,7 +55,7 @@ module _ (S : Database) (names : List Name) (at : ℕ) (items : List Item) (k la
   first_at s what fault there fails = (held, what, runs_well, there, fails)
 
 -- the fault at the end
-module _ (S : Database) (names : List Name) (at : ℕ) (items : List Item) (labels : ℕ) (st : Results ℕ) (s : Stmt) (stopped : IsStopped S at names items (length items) labels st) (other : IsOther names st s) where
+module _ (S : Database) (names : List Name) (at : ℕ) (items : List Item) (labels : ℕ) (st : Results ℕ) (s : Stmt) (stopped : IsStopped S at names items (length items) labels st) (other : IsNotOnly names st s) where
   whole : RunsWithinLimit S at items (held S names at items (length items) labels st stopped)
   whole = subst (λ is. RunsWithinLimit S at is (held S names at items (length items) labels st stopped)) (take_all (length items) items (omega arith)) (runs_well S names at items (length items) labels st stopped)
 

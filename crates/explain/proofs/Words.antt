@@ -81,7 +81,7 @@ pub use Rattle.verify.proofs.Named.{all-drop}
 pub use Rattle.verify.proofs.Words.{IfOk-weaker, get_or_default, item-cite, map-append, slice_get-map, take_more}
 pub use Rattle.verify.specs.LabelTable.{IsEntry}
 pub use Rattle.verify.specs.Machine.{IsSaved, Results, Runs, State, start}
-pub use Rattle.verify.specs.Proves.{label_or_none, mandatory_labels}
+pub use Rattle.verify.specs.Proves.{label_or_empty, mandatory_labels}
 pub use Rattle.verify.specs.Right.{IsProvable}
 pub use Rattle.verify.specs.StepsByNumber.{without_cached}
 pub use Rattle.verify.specs.Stops.{IsStopped}

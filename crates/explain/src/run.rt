@@ -7,7 +7,7 @@ ghost use Rattle.explain.specs.CitationResults.{named_without_cached};
 ghost use Rattle.explain.specs.FirstFault.{IsItemFault, IsEndReason, IsFirstFault};
 ghost use Rattle.explain.specs.declared.reason.Fault.TheVariants.{TooManySymbols, NoMarkedResult};
 ghost use Rattle.verify.specs.Right.{IsProvable, IsRight};
-ghost use Rattle.verify.specs.Stops.{IsOther, IsStopped};
+ghost use Rattle.verify.specs.Stops.{IsNotOnly, IsStopped};
 
 use crate::citation::citation_fault;
 use crate::reason::{Fault, Reason};
@@ -40,10 +40,10 @@ pub fn first_fault(
     match failure {
         Failure::Item {
             item,
-            labels,
+            label_count,
             results,
         } => {
-            let fault = item_fault(alloc, frames, at, items, item, labels, &results)?;
+            let fault = item_fault(alloc, frames, at, items, item, label_count, &results)?;
             Ok(Some(Reason::Item { item, fault }))
         }
         Failure::End { results } => Ok(Some(end_reason(alloc, &results)?)),

@@ -1,5 +1,5 @@
 -- Statements added one by one, and those that are left to judge after them.
-use Rattle.library.proofs.Words.{◌≡◌, ℕ, ◌+◌, ◌<◌, [], ◌∷◌, ◌++◌, length, length-append, take, drop, get_or, Option, Some, None, Result, Ok, Err, IfSome, arith, refl, sym, ◌∙◌, ap, append_assoc, map_more, drop_more, Stmt, Database, IsKnown, BrokenRule as Rule, bare, bares, broken_rule, first_broken, Memory}
+use Rattle.library.proofs.Words.{◌≡◌, ℕ, ◌+◌, ◌<◌, [], ◌∷◌, ◌++◌, length, length-append, take, drop, get_or, Option, Some, None, Result, Ok, Err, IfSome, arith, refl, sym, ◌∙◌, ap, append_assoc, map_more, drop_more, Stmt, Database, AreProvedBetween, BrokenRule as Rule, bare, bares, broken_rule, first_broken, Memory}
 use Rattle.library.proofs.JoinedRulesLemmas.{first_broken-taken}
 
 pub taken-more : (S : Database) (i : ℕ) (s : Stmt) → i < length S → s ≡ get_or S i s → bares (take (i + 1) S) ≡ bares (take i S) ++ bare s ∷ []
@@ -33,7 +33,7 @@ rule-at-end None result rule shown closed err = absurd (let e = closed refl in c
 rule-at-end (Some other) result rule shown closed err = ap Some (let e = shown in cc)
 
 -- if no proofs are judged ahead, exactly the first statements are known
-pub known-none : (T : Database) (known n : ℕ) → known ≡ n → (L : Database) → length L ≡ n → IsKnown (L ++ T) (length L) known
+pub known-none : (T : Database) (known n : ℕ) → known ≡ n → (L : Database) → length L ≡ n → AreProvedBetween (L ++ T) (length L) known
 known-none T known n is L alone = record {
   low = omega (arith, is, alone);
   within = omega (arith, is, alone, length-append L T);

@@ -5,7 +5,7 @@ use Rattle.library.proofs.UnprovedLemmas.{known-alone, to-later}
 
 -- a `$p` that is proved among the first statements of a library is known to be proved among all
 pub added-ahead : {old new : Tables} (S : Database) (count known : ℕ) (a : AddOutcome) → count ≤ length S → length old.frames.statements ≤ 0
-    → known ≤ length (take count S) → AreProvedTo (take count S) known → IsAdded old new S a → IsAdded old new S (record { broken = a.broken; known = known })
+    → known ≤ length (take count S) → AreProvedTo (take count S) known → IsAdded old new S a → IsAdded old new S (record { broken = a.broken; proved_to = known })
 added-ahead S count known a within alone low proved e =
     let cut = length-take-le count S within in
     record {
@@ -15,5 +15,5 @@ added-ahead S count known a within alone low proved e =
       closed = e.closed;
       begins = e.begins;
       marked = e.marked;
-      known = λ L same. known-alone S known (omega (arith, low, within, cut)) (to-later S count known low proved) L (omega (arith, same, alone));
+      proved_to = λ L same. known-alone S known (omega (arith, low, within, cut)) (to-later S count known low proved) L (omega (arith, same, alone));
     }

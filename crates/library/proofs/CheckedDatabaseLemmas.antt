@@ -1,5 +1,5 @@
 -- A text is added whole or not at all; good statements with a judged text are good.
-use Rattle.library.proofs.Words.{◌≡◌, ℕ, zero, suc, ◌+◌, ◌-◌, ◌<◌, ◌≤◌, ◌&&◌, [], ◌∷◌, ◌++◌, length, take, drop, get_or, Option, Some, None, refl, list_all, sym, ◌∙◌, ap, subst, arith, inl, inr, Result, Ok, IfOk, length-append, true_from_ne_false, true≢false, map-append, take-append-drop, length-take-le, length-map, take_rest, take-append_seam, drop-append_seam, Stmt, Database, AreShaped, is_shaped, BrokenRule, bare, bares, is_provable, stmt_at, first_broken, stands-within, IsProvable, Good, IsProved, IsFirstUnproved, IsKnown, IsLeastUnproved, IsJudged, IsChecked, list_all-append, IsAdded, IsAddedAfter, Tables}
+use Rattle.library.proofs.Words.{◌≡◌, ℕ, zero, suc, ◌+◌, ◌-◌, ◌<◌, ◌≤◌, ◌&&◌, [], ◌∷◌, ◌++◌, length, take, drop, get_or, Option, Some, None, refl, list_all, sym, ◌∙◌, ap, subst, arith, inl, inr, Result, Ok, IfOk, length-append, true_from_ne_false, true≢false, map-append, take-append-drop, length-take-le, length-map, take_rest, take-append_seam, drop-append_seam, Stmt, Database, AreShaped, is_shaped, BrokenRule, bare, bares, is_provable, stmt_at, first_broken, stands-within, IsProvable, Good, IsProved, IsFirstUnproved, AreProvedBetween, IsLeastUnproved, IsJudged, IsChecked, list_all-append, IsAdded, IsAddedAfter, Tables}
 use Rattle.library.specs.declared.adding.AddOutcome.{AddOutcome}
 use Rattle.library.proofs.FrontLemmas.{stmt_at-after, stands_index}
 use Rattle.library.proofs.GoodLemmas.{provable-where, provable-after, proved-later}
@@ -60,7 +60,7 @@ module _ (S : Database) (front : ℕ) (within : front ≤ length S) where
       (first-after (take front S) (drop front S) at s (least-cut (Some at) least)
       (ap (λ U. stmt_at U at) (take-append-drop front S) ∙ stands_index S at s (omega (arith, least.0)) least.1 is))
 
-pub known-front : (S : Database) (front known : ℕ) → IsKnown S front known → front ≤ length S
+pub known-front : (S : Database) (front known : ℕ) → AreProvedBetween S front known → front ≤ length S
 known-front S front known h = omega (arith, h.low, h.within)
 
 -- if no broken rule is found, none is broken
@@ -95,7 +95,7 @@ module _ (S : Database) (front : ℕ) {tables : Tables} (checked : IsChecked (ta
         closed = h.closed;
         begins = rw checked.frames_are at h.begins;
         marked = h.marked ∙ checked.marked_is;
-        known = rw (take-append-drop front S, length-take-le front S within) at (h.known (take front S) alone);
+        proved_to = rw (take-append-drop front S, length-take-le front S within) at (h.proved_to (take front S) alone);
       }
 
 -- good statements are good with a text appended that was judged to be right

@@ -1,5 +1,5 @@
 -- The users of a statement, and the `$a` that a proof uses: the labels of the positions that a walk has marked.
-use Rattle.library.proofs.Words.{◌≡◌, ◌↔◌, ◌⊎◌, ℕ, zero, suc, ◌+◌, ◌-◌, ◌<◌, ◌≤◌, Bool, true, false, cond, ◌&&◌, List, [], ◌∷◌, ◌++◌, length, replicate, get_or, false_from_ne_true, Some, None, Option, slice_get, slice_set, refl, sym, ◌∙◌, ap, subst, arith, inl, inr, append-nil, cases_eq, map-append, Name, Stmt, Prove, Database, bares, stmt_at, is_provable, stands-within, Item, label_or_none, Good, HasItems, Cites, RestsOn, directly, through, IsUser, Rises, IsIn, AreLabelsOf, IsMarked, mark, ItemsCiteMarked, ProofCitesMarked, Axiom, IsProvable, Uses, is_axiom, IsAxiomAt, IsMarkedAxiom, get-last, get-more, set-get_or}
+use Rattle.library.proofs.Words.{◌≡◌, ◌↔◌, ◌⊎◌, ℕ, zero, suc, ◌+◌, ◌-◌, ◌<◌, ◌≤◌, Bool, true, false, cond, ◌&&◌, List, [], ◌∷◌, ◌++◌, length, replicate, get_or, false_from_ne_true, Some, None, Option, slice_get, slice_set, refl, sym, ◌∙◌, ap, subst, arith, inl, inr, append-nil, cases_eq, map-append, Name, Stmt, Prove, Database, bares, stmt_at, is_provable, stands-within, Item, label_or_empty, Good, HasItems, Cites, RestsOn, directly, through, IsUser, Rises, IsIn, AreLabelsOf, IsMarked, mark, ItemsCiteMarked, ProofCitesMarked, Axiom, IsProvable, Uses, is_axiom, IsAxiomAt, IsMarkedAxiom, get-last, get-more, set-get_or}
 use Rattle.library.proofs.ProvingLemmas.{not-there}
 use Rattle.library.proofs.UseMarkLemmas.{mark-count, mark-kept, mark-sound, mark-whole, one-marked, get-either, marked-within}
 use Rattle.library.proofs.CitationWalkLemmas.{cites-below, cites-of, cited-of}
@@ -29,13 +29,13 @@ module _ (S : Database) (P : ℕ → Type 0) (p : ℕ) (labels : List Name) (are
   below : (k : ℕ) → IsIn k are.positions → k < suc p
   below k i = let h = ((are.passing k).0 i).0 in omega (arith, h)
 
-  labels-take : P (suc p) → AreLabelsOf S (Upto P (suc p)) (labels ++ label_or_none (stmt_at S (suc p)) ∷ [])
+  labels-take : P (suc p) → AreLabelsOf S (Upto P (suc p)) (labels ++ label_or_empty (stmt_at S (suc p)) ∷ [])
   labels-take passes =
       record {
         positions = are.positions ++ suc p ∷ [];
         rising = rises-last 0 (suc p) are.positions below (omega arith) are.rising;
         passing = λ k. (forth k, back k);
-        labelled = ap (λ ls. ls ++ label_or_none (stmt_at S (suc p)) ∷ []) are.labelled ∙ sym (map-append (λ a. label_or_none (stmt_at S a)) are.positions (suc p ∷ []));
+        labelled = ap (λ ls. ls ++ label_or_empty (stmt_at S (suc p)) ∷ []) are.labelled ∙ sym (map-append (λ a. label_or_empty (stmt_at S a)) are.positions (suc p ∷ []));
       }
     where
       forth : (k : ℕ) → IsIn k (are.positions ++ suc p ∷ []) → Upto P (suc p) k
@@ -63,7 +63,7 @@ module _ (S : Database) (P : ℕ → Type 0) (p : ℕ) (labels : List Name) (are
       ]
 
   -- the label of the next position is added if it has the property
-  pub labels-next : (b : Bool) → (b ≡ true → P (suc p)) → (P (suc p) → b ≡ true) → AreLabelsOf S (Upto P (suc p)) (labels ++ cond b (label_or_none (stmt_at S (suc p)) ∷ []) [])
+  pub labels-next : (b : Bool) → (b ≡ true → P (suc p)) → (P (suc p) → b ≡ true) → AreLabelsOf S (Upto P (suc p)) (labels ++ cond b (label_or_empty (stmt_at S (suc p)) ∷ []) [])
   labels-next true passes shown = labels-take (passes refl)
   labels-next false passes shown = subst (AreLabelsOf S (Upto P (suc p))) (sym (append-nil labels)) (labels-pass (λ h. let f = shown h in let e : false ≡ true = f in cc))
 
@@ -110,7 +110,7 @@ when-some found all at b e = absurd (let f = e in cc)
 
 -- if the proof cites a marked statement, its label is added, and it is marked too if all users are meant
 module _ (S : Database) (all : Bool) (a p : ℕ) (marks marks' : List Bool) (labels labels' : List Name) (good : Good S) (within : suc p ≤ length S) (w : IsSearched S all a p marks labels) (found : Bool)
-    (meets : found ≡ true ↔ ProofCitesMarked S (suc p) marks) (set : marks' ≡ mark (cond (found && all) (Some (suc p)) None) marks) (added : labels' ≡ labels ++ cond found (label_or_none (stmt_at S (suc p)) ∷ []) []) where
+    (meets : found ≡ true ↔ ProofCitesMarked S (suc p) marks) (set : marks' ≡ mark (cond (found && all) (Some (suc p)) None) marks) (added : labels' ≡ labels ++ cond found (label_or_empty (stmt_at S (suc p)) ∷ []) []) where
   abbrev Here : Option ℕ
   Here = cond (found && all) (Some (suc p)) None
 
@@ -202,7 +202,7 @@ module _ (S : Database) (all : Bool) (a p : ℕ) (marks : List Bool) (labels : L
   next = omega arith
 
   noted : (marks' : List Bool) (labels' : List Name) (found : Bool) → (found ≡ true ↔ ProofCitesMarked S (suc p) marks) → marks' ≡ mark (cond (found && all) (Some (suc p)) None) marks
-      → labels' ≡ labels ++ cond found (label_or_none (stmt_at S (suc p)) ∷ []) [] → IsSearched S all a (p + 1) marks' labels'
+      → labels' ≡ labels ++ cond found (label_or_empty (stmt_at S (suc p)) ∷ []) [] → IsSearched S all a (p + 1) marks' labels'
   noted marks' labels' found meets set added = subst (λ k. IsSearched S all a k marks' labels') (sym next) (searched-next S all a p marks marks' labels labels' good (omega (arith, within)) w found meets set added)
 
   misses : (false ≡ true ↔ ProofCitesMarked S (suc p) marks) → IsSearched S all a (p + 1) marks labels
@@ -221,9 +221,9 @@ module _ (S : Database) (all : Bool) (a p : ℕ) (marks : List Bool) (labels : L
     pub search-miss : found ≡ false → IsSearched S all a (p + 1) marks labels
     search-miss e = misses (told false e)
 
-    pub search-user : (s : Stmt) (label : Name) → stmt_at S (p + 1) ≡ Some s → label_or_none (Some s) ≡ label → a ≤ p → found ≡ true → IsSearched S all a (p + 1) (slice_set marks p all) (labels ++ label ∷ [])
+    pub search-user : (s : Stmt) (label : Name) → stmt_at S (p + 1) ≡ Some s → label_or_empty (Some s) ≡ label → a ≤ p → found ≡ true → IsSearched S all a (p + 1) (slice_set marks p all) (labels ++ label ∷ [])
     search-user s label stands is above e =
-        noted (slice_set marks p all) (labels ++ label ∷ []) true (told true e) (set-all all marks p unmarked) (ap (λ l. labels ++ l ∷ []) (sym (ap label_or_none (subst (λ n. stmt_at S n ≡ Some s) next stands) ∙ is)))
+        noted (slice_set marks p all) (labels ++ label ∷ []) true (told true e) (set-all all marks p unmarked) (ap (λ l. labels ++ l ∷ []) (sym (ap label_or_empty (subst (λ n. stmt_at S n ≡ Some s) next stands) ∙ is)))
       where
         unmarked : get_or marks p false ≡ false
         unmarked = false_from_ne_true (get_or marks p false) (λ m. elim ((w.marked (suc p)).0 m) [ inl is ↦ absurd (omega (arith, above, is)) | inr q ↦ absurd (let h = q.0 in omega (arith, h)) ])
@@ -234,7 +234,7 @@ kind-of : (S : Database) (a : ℕ) (s : Stmt) → stmt_at S a ≡ Some s → IsA
 kind-of S a s stands h = ap is_axiom (let e : Some s ≡ Some h.stmt = sym stands ∙ h.stands in let same : s ≡ h.stmt = cc in same) ∙ h.kind
 
 -- a statement that is no `$a` adds no label
-pub no-axiom : (s : Stmt) (labels : List Name) → ((label : Name) (expr : List Name) → s ≡ Axiom label expr → ⊥) → labels ++ cond (is_axiom s) (label_or_none (Some s) ∷ []) [] ≡ labels
+pub no-axiom : (s : Stmt) (labels : List Name) → ((label : Name) (expr : List Name) → s ≡ Axiom label expr → ⊥) → labels ++ cond (is_axiom s) (label_or_empty (Some s) ∷ []) [] ≡ labels
 no-axiom (Axiom label expr) labels other = absurd (other label expr refl)
 no-axiom s labels other = append-nil labels
 
@@ -247,10 +247,10 @@ module _ (S : Database) (ms : List Bool) where
   listed-none = labels-none S (IsMarkedAxiom S ms) 0 (λ j upto h. let w = marked-within ms j h.0 in omega (arith, upto, w.0))
 
   pub listed-more : (p : ℕ) (labels labels' : List Name) (s : Stmt) → slice_get S p ≡ Some s → get_or ms p false ≡ true
-      → labels' ≡ labels ++ cond (is_axiom s) (label_or_none (Some s) ∷ []) [] → AreListed p labels → AreListed (p + 1) labels'
+      → labels' ≡ labels ++ cond (is_axiom s) (label_or_empty (Some s) ∷ []) [] → AreListed p labels → AreListed (p + 1) labels'
   listed-more p labels labels' s stands marked added are =
       subst (λ n. AreListed n labels') (let e : suc p ≡ p + 1 = omega arith in e)
-      (subst (AreListed (suc p)) (sym (added ∙ ap (λ o. labels ++ cond (is_axiom s) (label_or_none o ∷ []) []) (sym stands)))
+      (subst (AreListed (suc p)) (sym (added ∙ ap (λ o. labels ++ cond (is_axiom s) (label_or_empty o ∷ []) []) (sym stands)))
       (labels-next S (IsMarkedAxiom S ms) p labels are (is_axiom s) (λ kind. (marked, record { stmt = s; stands = stands; kind = kind })) (λ h. kind-of S (suc p) s stands h.1)))
 
   pub listed-skip : (p : ℕ) (labels : List Name) → get_or ms p false ≡ false → AreListed p labels → AreListed (p + 1) labels

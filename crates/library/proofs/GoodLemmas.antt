@@ -1,6 +1,6 @@
 -- Good statements with a text after them: only the `$p` of the text have to be proved. Those before it stay proved, since a
 -- derivation depends on earlier statements only.
-use Rattle.library.proofs.Words.{◌≡◌, ℕ, ◌-◌, ◌≤◌, IsTrue, List, ◌∷◌, ◌++◌, length, map, zero, suc, ◌+◌, refl, ◌⊎◌, list_all, sym, ◌∙◌, ap, subst, arith, inl, inr, map-append, length-map, Name, Stmt, Expr, Database, before, is_variable, bare, bares, stmt_at, proof_of, stands-within, hypotheses, mandatory_groups, Carries, IsHypothesis, IsInstance, premises, expr_at, option_expr, Item, Derivation, Derivations, hyp, apply, more, Spells, SpellsAll, cites_hypothesis, cites_assertion, recalls, marks, spells_none, spells_more, IsRight, IsProvable, stmt_stays, Writes, mandatory_labels, label_or_none, IsProved, are_groups_disjoint, Concludes, ConcludeAll}
+use Rattle.library.proofs.Words.{◌≡◌, ℕ, ◌-◌, ◌≤◌, IsTrue, List, ◌∷◌, ◌++◌, length, map, zero, suc, ◌+◌, refl, ◌⊎◌, list_all, sym, ◌∙◌, ap, subst, arith, inl, inr, map-append, length-map, Name, Stmt, Expr, Database, before, is_variable, bare, bares, stmt_at, proof_of, stands-within, hypotheses, mandatory_groups, Carries, IsHypothesis, IsInstance, premises, expr_at, option_expr, Item, Derivation, Derivations, hyp, apply, more, Spells, SpellsAll, cites_hypothesis, cites_assertion, recalls, marks, spells_none, spells_more, IsRight, IsProvable, stmt_stays, Writes, mandatory_labels, label_or_empty, IsProved, are_groups_disjoint, Concludes, ConcludeAll}
 use Rattle.frame.specs.Substitution.{Images, apply as applied}
 use Rattle.library.proofs.FrontLemmas.{stmt_at-front, before-front, active-later, map-stand, hypotheses-at, stmt_at-after}
 
@@ -103,9 +103,9 @@ provable-after S T (suc n) s p = record { stands = stmt_at-after S T n ∙ p.sta
 
 labels-front : (S T : Database) (at : ℕ) (s : Stmt) → at ≤ length S → mandatory_labels (S ++ T) at s ≡ mandatory_labels S at s
 labels-front S T at s within =
-    ap (λ U. map (λ i. label_or_none (stmt_at (S ++ T) i)) (hypotheses U s)) (before-front S T at within)
-    ∙ map-stand S (λ i. label_or_none (stmt_at (S ++ T) i)) (λ i. label_or_none (stmt_at S i))
-    (λ i h. ap label_or_none (stmt_at-front S T i h)) (hypotheses (before S at) s) (hypotheses-at S at s)
+    ap (λ U. map (λ i. label_or_empty (stmt_at (S ++ T) i)) (hypotheses U s)) (before-front S T at within)
+    ∙ map-stand S (λ i. label_or_empty (stmt_at (S ++ T) i)) (λ i. label_or_empty (stmt_at S i))
+    (λ i h. ap label_or_empty (stmt_at-front S T i h)) (hypotheses (before S at) s) (hypotheses-at S at s)
 
 -- a proved `$p` stays proved when statements are appended
 pub proved-later : (S T : Database) (at : ℕ) → IsProved S at → IsProved (S ++ T) at

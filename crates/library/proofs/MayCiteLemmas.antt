@@ -1,5 +1,5 @@
 -- A proof cites only mandatory hypotheses and statements that a token before `)` names.
-use Rattle.library.proofs.Words.{◌≡◌, ◌↔◌, ◌⊎◌, ℕ, zero, suc, ◌+◌, Bool, true, false, ◌||◌, if◌then◌else◌, List, [], ◌∷◌, ◌++◌, Option, Some, None, slice_get, refl, list_all, list_any, sym, ◌∙◌, ap, subst, inl, inr, true≢false, append-nil, bytes_eq-Decides, or_right, and_parts, false_from_ne_true, any_passes_from_place, Name, name_eq, has_name, is_label, Stmt, Float, Ess, Database, bare, bares, before, stmt_at, label_of, proof_of, hypotheses, Carries, is_hypothesis_kind, HasLabelsOnce, IsPosition, Item, Cite, Recall, Mark, AreItems, Writes, begin, finish, label_or_none, mandatory_labels, IsProvable, IsMarked, is_marked, listed_in, ListsNone, ListsSome, ProofCitesMarked, Cites, name_same, map-back}
+use Rattle.library.proofs.Words.{◌≡◌, ◌↔◌, ◌⊎◌, ℕ, zero, suc, ◌+◌, Bool, true, false, ◌||◌, if◌then◌else◌, List, [], ◌∷◌, ◌++◌, Option, Some, None, slice_get, refl, list_all, list_any, sym, ◌∙◌, ap, subst, inl, inr, true≢false, append-nil, bytes_eq-Decides, or_right, and_parts, false_from_ne_true, any_passes_from_place, Name, name_eq, has_name, is_label, Stmt, Float, Ess, Database, bare, bares, before, stmt_at, label_of, proof_of, hypotheses, Carries, is_hypothesis_kind, HasLabelsOnce, IsPosition, Item, Cite, Recall, Mark, AreItems, Writes, begin, finish, label_or_empty, mandatory_labels, IsProvable, IsMarked, is_marked, listed_in, ListsNone, ListsSome, ProofCitesMarked, Cites, name_same, map-back}
 use Rattle.library.proofs.FrontLemmas.{hypothesis-there, hypotheses-at, hypotheses-bare}
 use Rattle.library.proofs.UseMarkLemmas.{get-either, position-is}
 use Rattle.library.proofs.CitationWalkLemmas.{carries-bare}
@@ -95,7 +95,7 @@ module _ (F : Database) (once : HasLabelsOnce F) (marks : List Bool) where
                 ∙ ap (λ b. b || has_name token (listed_in rest)) (name_same token)));
           }
 
-pub kind-labelled : (t : Stmt) → is_hypothesis_kind t ≡ true → label_of t ≡ Some (label_or_none (Some t))
+pub kind-labelled : (t : Stmt) → is_hypothesis_kind t ≡ true → label_of t ≡ Some (label_or_empty (Some t))
 kind-labelled (Float label constant variable) h = refl
 kind-labelled (Ess label expr) h = refl
 kind-labelled t h = absurd (let e = h in cc)
@@ -105,11 +105,11 @@ module _ (S F : Database) (same : F ≡ bares S) (once : HasLabelsOnce F) (at : 
   hypothesis-cited : (k : ℕ) (label : Name) (a : ℕ) (r : Stmt) → slice_get (mandatory_labels (bares S) at s) k ≡ Some label → Carries F a r label
       → slice_get (hypotheses (before F at) (bare s)) k ≡ Some a
   hypothesis-cited k label a r e c =
-      let m = map-back (λ i. label_or_none (stmt_at (bares S) i)) (hypotheses (before (bares S) at) s) k label e in
+      let m = map-back (λ i. label_or_empty (stmt_at (bares S) i)) (hypotheses (before (bares S) at) s) k label e in
       let i = m.0 in
       let there : slice_get (hypotheses (before F at) (bare s)) k ≡ Some i = ap (λ ps. slice_get ps k) (hypotheses-bare (before F at) s ∙ ap (λ U. hypotheses (before U at) s) same) ∙ m.1 in
       let h = hypothesis-there F (hypotheses (before F at) (bare s)) k i there (hypotheses-at F at (bare s)) in
-      let labelled : label_or_none (Some h.stmt) ≡ label = ap label_or_none (sym h.stands ∙ ap (λ U. stmt_at U i) same) ∙ sym m.2 in
+      let labelled : label_or_empty (Some h.stmt) ≡ label = ap label_or_empty (sym h.stands ∙ ap (λ U. stmt_at U i) same) ∙ sym m.2 in
       there ∙ ap Some (once i a h.stmt r label (record { stands = h.stands; carried = kind-labelled h.stmt h.kind ∙ ap Some labelled }) c)
 
   -- if no mandatory hypothesis is marked, and no token names a marked statement, the proof cites none

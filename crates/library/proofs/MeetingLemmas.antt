@@ -1,5 +1,5 @@
 -- Whether a compressed proof cites a marked statement, by its numbers and a test of each of its labels.
-use Rattle.library.proofs.Words.{◌≡◌, ◌↔◌, ℕ, zero, suc, ◌+◌, ◌-◌, ◌<◌, ◌≤◌, Bool, true, false, ◌||◌, if◌then◌else◌, List, [], ◌∷◌, ◌++◌, length, map, get_or, slice_index_or, take, drop, Option, Some, None, option_map, slice_get, refl, list_any, true≢false, length-append, sym, ◌∙◌, ap, subst, arith, append_assoc, inl, inr, slice_get-map, bytes_eq-Decides, map-append, length-map, length-drop, take_more, drop_more, get_or_append_left, append-nil, both_ways, true_from_ne_false, cases_lt, Name, name_eq, has_name, Stmt, Database, bare, bares, before, stmt_at, proof_of, hypotheses, HasLabelsOnce, IsPosition, Item, Cite, Recall, item_of, items_of, finish, Writes, WritesCompressed, WritesFinishedCompressed, WritesFinishedNormal, is_compressed, label_or_none, mandatory_labels, IsProvable, Good, HasItems, is_marked, cited_position, AreLabelMarks, ItemsCiteMarked, ProofCitesMarked, listed_in, ListsNone, ListsSome, get_or-map, get_or_from_slice_get, slice_get_within, get_or-append_right, take-add, cases_Bool, map-map, IsHeading, share_label, positions-end, apart-written, shared-none, item-cite, item-recall}
+use Rattle.library.proofs.Words.{◌≡◌, ◌↔◌, ℕ, zero, suc, ◌+◌, ◌-◌, ◌<◌, ◌≤◌, Bool, true, false, ◌||◌, if◌then◌else◌, List, [], ◌∷◌, ◌++◌, length, map, get_or, slice_index_or, take, drop, Option, Some, None, option_map, slice_get, refl, list_any, true≢false, length-append, sym, ◌∙◌, ap, subst, arith, append_assoc, inl, inr, slice_get-map, bytes_eq-Decides, map-append, length-map, length-drop, take_more, drop_more, get_or_append_left, append-nil, both_ways, true_from_ne_false, cases_lt, Name, name_eq, has_name, Stmt, Database, bare, bares, before, stmt_at, proof_of, hypotheses, HasLabelsOnce, IsPosition, Item, Cite, Recall, item_of, items_of, finish, Writes, WritesCompressed, WritesFinishedCompressed, WritesFinishedNormal, is_compressed, label_or_empty, mandatory_labels, IsProvable, Good, HasItems, is_marked, cited_position, AreLabelMarks, ItemsCiteMarked, ProofCitesMarked, listed_in, ListsNone, ListsSome, get_or-map, get_or_from_slice_get, slice_get_within, get_or-append_right, take-add, cases_Bool, map-map, IsHeading, share_label, positions-end, apart-written, shared-none, item-cite, item-recall}
 use Rattle.library.proofs.FrontLemmas.{AreHypothesesAt, hypotheses-at}
 use Rattle.library.proofs.UseMarkLemmas.{meets-items}
 use Rattle.library.proofs.MayCiteLemmas.{kind-labelled, cited-label}
@@ -17,18 +17,18 @@ module _ (S : Database) (marks : List Bool) where
         tests = ap (λ bs. bs ++ is_marked marks o ∷ []) w.tests ∙ sym (map-append (is_marked marks) w.label_positions (o ∷ []));
       }
 
-  named-all : (ps : List ℕ) → AreHypothesesAt S ps → (k : ℕ) → k < length (map (λ i. label_or_none (stmt_at S i)) ps) → IsPosition S (get_or (map (λ i. label_or_none (stmt_at S i)) ps) k []) (get_or (map (λ i. Some i) ps) k None)
+  named-all : (ps : List ℕ) → AreHypothesesAt S ps → (k : ℕ) → k < length (map (λ i. label_or_empty (stmt_at S i)) ps) → IsPosition S (get_or (map (λ i. label_or_empty (stmt_at S i)) ps) k []) (get_or (map (λ i. Some i) ps) k None)
   named-all [] h k less = absurd (omega (arith, less))
   named-all (p ∷ ps) h zero less =
       let one = h.0 in
-      (one.stmt, record { stands = one.stands; carried = kind-labelled one.stmt one.kind ∙ ap (λ o. Some (label_or_none o)) (sym one.stands) })
+      (one.stmt, record { stands = one.stands; carried = kind-labelled one.stmt one.kind ∙ ap (λ o. Some (label_or_empty o)) (sym one.stands) })
   named-all (p ∷ ps) h (suc k) less = named-all ps h.1 k (omega (arith, less))
 
-  hypotheses-wanted : (ps : List ℕ) → AreHypothesesAt S ps → AreLabelMarks S (map (λ i. label_or_none (stmt_at S i)) ps) marks (map (λ p. is_marked marks (Some p)) ps)
+  hypotheses-wanted : (ps : List ℕ) → AreHypothesesAt S ps → AreLabelMarks S (map (λ i. label_or_empty (stmt_at S i)) ps) marks (map (λ p. is_marked marks (Some p)) ps)
   hypotheses-wanted ps h =
       record {
         label_positions = map (λ i. Some i) ps;
-        named = record { count = length-map ps (λ i. Some i) ∙ sym (length-map ps (λ i. label_or_none (stmt_at S i))); each = named-all ps h };
+        named = record { count = length-map ps (λ i. Some i) ∙ sym (length-map ps (λ i. label_or_empty (stmt_at S i))); each = named-all ps h };
         tests = sym (map-map (is_marked marks) (λ i. Some i) ps);
       }
 
@@ -166,7 +166,7 @@ pub tells-nothing : (S : Database) (tokens labels : List Name) (mandatory : ℕ)
 tells-nothing S tokens labels mandatory marks found long none = λ other written. absurd (none labels long other written)
 
 pub labels-long : (S : Database) (at : ℕ) (s : Stmt) (positions : List ℕ) → positions ≡ hypotheses (before S at) s → length (mandatory_labels S at s) ≡ length positions
-labels-long S at s positions are = length-map (hypotheses (before S at) s) (λ i. label_or_none (stmt_at S i)) ∙ ap length (sym are)
+labels-long S at s positions are = length-map (hypotheses (before S at) s) (λ i. label_or_empty (stmt_at S i)) ∙ ap length (sym are)
 
 -- ---- normal proofs
 

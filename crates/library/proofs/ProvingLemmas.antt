@@ -1,5 +1,5 @@
 -- From the answer of the verifier to whether a `$p` is proved; the labels with which its tokens write items.
-use Rattle.library.proofs.Words.{◌≡◌, ℕ, ◌⊎◌, ◌↔◌, refl, true, false, IsTrue, List, map, Option, Some, None, Result, Ok, Err, IfOk, MatchOption, sym, ◌∙◌, ap, subst, inl, inr, both_ways, Name, Stmt, Database, bare, bares, before, proof_of, stmt_at, is_provable, Item, Writes, WritesFinishedCompressed, WritesFinishedNormal, IsMalformed, is_compressed, is_unfinished, label_or_none, mandatory_labels, Proves, IsProvable, IsRight, IsAnswerTo, provable-bare, IsProvedIfProvable, HasItems, one_answer, malformed-none, ◌+◌, ◌<◌, [], ◌∷◌, ◌++◌, length, take, get_or, option_map, slice_get, slice_get-get_or, unwrap_or, map_more, Float, Ess, Prove, is_assertion, stmt_at-bares, hypotheses, is_hypothesis_kind, label_of-bare, CodeFault, Malformed, Answer, Proved, Wrong}
+use Rattle.library.proofs.Words.{◌≡◌, ℕ, ◌⊎◌, ◌↔◌, refl, true, false, IsTrue, List, map, Option, Some, None, Result, Ok, Err, IfOk, MatchOption, sym, ◌∙◌, ap, subst, inl, inr, both_ways, Name, Stmt, Database, bare, bares, before, proof_of, stmt_at, is_provable, Item, Writes, WritesFinishedCompressed, WritesFinishedNormal, IsMalformed, is_compressed, is_unfinished, label_or_empty, mandatory_labels, Proves, IsProvable, IsRight, IsAnswerTo, provable-bare, IsProvedIfProvable, HasItems, one_answer, malformed-none, ◌+◌, ◌<◌, [], ◌∷◌, ◌++◌, length, take, get_or, option_map, slice_get, slice_get-get_or, unwrap_or, map_more, Float, Ess, Prove, is_assertion, stmt_at-bares, hypotheses, is_hypothesis_kind, label_of-bare, CodeFault, Malformed, Answer, Proved, Wrong}
 use Rattle.proof_code.specs.declared.fault.CodeFault.TheVariants.{Unfinished}
 use Rattle.library.proofs.FrontLemmas.{hypotheses-bare, IsHypothesisAt, kind-bare, hypotheses-at, hypothesis-there}
 
@@ -51,7 +51,7 @@ module _ (S F : Database) (at : ℕ) (s : Stmt) (same : F ≡ bares S) (provable
   pub labels-bare : (t : Stmt) → t ≡ bare s → mandatory_labels F at t ≡ mandatory_labels (bares S) at s
   labels-bare t e =
       ap (mandatory_labels F at) e
-      ∙ (ap (map (λ i. label_or_none (stmt_at F i))) (hypotheses-bare (before F at) s)
+      ∙ (ap (map (λ i. label_or_empty (stmt_at F i))) (hypotheses-bare (before F at) s)
       ∙ ap (λ U. mandatory_labels U at s) same)
 
   proves-stands : (tokens : List Name) → proof_of s ≡ tokens → Proves F at tokens → IsProvedIfProvable S at
@@ -118,23 +118,23 @@ hypothesis-of S F at s ps k p d same provable are less is =
 pub kind-of : (S : Database) (p : ℕ) → IsHypothesisAt S p → (s : Stmt) → stmt_at S p ≡ Some s → is_hypothesis_kind s ≡ true
 kind-of S p h s stands = let e : Some h.stmt ≡ Some s = sym h.stands ∙ stands in ap is_hypothesis_kind (let same : h.stmt ≡ s = cc in sym same) ∙ h.kind
 
-label-bare : (o : Option Stmt) → label_or_none (option_map bare o) ≡ label_or_none o
+label-bare : (o : Option Stmt) → label_or_empty (option_map bare o) ≡ label_or_empty o
 label-bare None = refl
 label-bare (Some s) = ap (λ l. unwrap_or l []) (label_of-bare s)
 
 -- the labels of the first hypotheses, with that of the next one
-pub labels-more : (S : Database) (ps : List ℕ) (k p d : ℕ) (label : Name) (before after : List Name) → k < length ps → p ≡ get_or ps k d → label ≡ label_or_none (stmt_at S p)
-    → before ≡ map (λ i. label_or_none (stmt_at (bares S) i)) (take k ps) → after ≡ before ++ label ∷ [] → after ≡ map (λ i. label_or_none (stmt_at (bares S) i)) (take (k + 1) ps)
+pub labels-more : (S : Database) (ps : List ℕ) (k p d : ℕ) (label : Name) (before after : List Name) → k < length ps → p ≡ get_or ps k d → label ≡ label_or_empty (stmt_at S p)
+    → before ≡ map (λ i. label_or_empty (stmt_at (bares S) i)) (take k ps) → after ≡ before ++ label ∷ [] → after ≡ map (λ i. label_or_empty (stmt_at (bares S) i)) (take (k + 1) ps)
 labels-more S ps k p d label before after less is labelled so_far added =
-    let one : label ≡ label_or_none (stmt_at (bares S) p) = labelled ∙ (sym (label-bare (stmt_at S p)) ∙ ap label_or_none (sym (stmt_at-bares S p))) in
+    let one : label ≡ label_or_empty (stmt_at (bares S) p) = labelled ∙ (sym (label-bare (stmt_at S p)) ∙ ap label_or_empty (sym (stmt_at-bares S p))) in
     added ∙ (ap (λ r. r ++ label ∷ []) so_far
-    ∙ (ap (λ l. map (λ i. label_or_none (stmt_at (bares S) i)) (take k ps) ++ l ∷ []) (one ∙ ap (λ i. label_or_none (stmt_at (bares S) i)) is)
-    ∙ sym (map_more (λ i. label_or_none (stmt_at (bares S) i)) ps k d less)))
+    ∙ (ap (λ l. map (λ i. label_or_empty (stmt_at (bares S) i)) (take k ps) ++ l ∷ []) (one ∙ ap (λ i. label_or_empty (stmt_at (bares S) i)) is)
+    ∙ sym (map_more (λ i. label_or_empty (stmt_at (bares S) i)) ps k d less)))
 
 pub labels-all : (S F : Database) (at : ℕ) (s : Stmt) (ps : List ℕ) (k : ℕ) (labels : List Name) → F ≡ bares S → IsProvable S at s → ((x : Stmt) → stmt_at F at ≡ Some x → ps ≡ hypotheses (before F at) x)
-    → take k ps ≡ ps → labels ≡ map (λ i. label_or_none (stmt_at (bares S) i)) (take k ps) → labels ≡ mandatory_labels (bares S) at s
+    → take k ps ≡ ps → labels ≡ map (λ i. label_or_empty (stmt_at (bares S) i)) (take k ps) → labels ≡ mandatory_labels (bares S) at s
 labels-all S F at s ps k labels same provable are all so_far =
-    so_far ∙ ap (map (λ i. label_or_none (stmt_at (bares S) i)))
+    so_far ∙ ap (map (λ i. label_or_empty (stmt_at (bares S) i)))
     (all ∙ (are (bare s) (stands-bare S F at s same provable) ∙ (hypotheses-bare (before F at) s ∙ ap (λ U. hypotheses (before U at) s) same)))
 
 pub other-kind : (s : Stmt) → is_hypothesis_kind s ≡ true → ((label constant variable : Name) → s ≡ Float label constant variable → ⊥) → ((label : Name) (expr : List Name) → s ≡ Ess label expr → ⊥) → ⊥

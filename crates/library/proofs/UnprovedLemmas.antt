@@ -1,5 +1,5 @@
 -- The positions of the `$p` after the first statements, and the first of these that is not proved.
-use Rattle.library.proofs.Words.{◌≡◌, ℕ, zero, suc, ◌+◌, ◌-◌, ◌<◌, ◌≤◌, List, [], ◌∷◌, ◌++◌, length, get_or, Option, Some, None, slice_get, slice_get-get_or, get_or_default, ◌∙◌, ap, sym, subst, arith, inl, inr, cases_eq, cases_order, Stmt, Database, stmt_at, IsProvable, AreProofs, AreProvablesAfter, IsProvedIfProvable, IsKnown, IsLeastUnproved, true, AreShaped, is_shaped, and_parts, list_all, take, drop, cases_lt, take-append-drop, IsProved, AreProvedTo, list_all-append, IsLeast}
+use Rattle.library.proofs.Words.{◌≡◌, ℕ, zero, suc, ◌+◌, ◌-◌, ◌<◌, ◌≤◌, List, [], ◌∷◌, ◌++◌, length, get_or, Option, Some, None, slice_get, slice_get-get_or, get_or_default, ◌∙◌, ap, sym, subst, arith, inl, inr, cases_eq, cases_order, Stmt, Database, stmt_at, IsProvable, AreProofs, AreProvablesAfter, IsProvedIfProvable, AreProvedBetween, IsLeastUnproved, true, AreShaped, is_shaped, and_parts, list_all, take, drop, cases_lt, take-append-drop, IsProved, AreProvedTo, list_all-append, IsLeast}
 use Rattle.library.proofs.FrontLemmas.{stands_index}
 use Rattle.library.proofs.GoodLemmas.{provable-where, proved-later}
 
@@ -125,7 +125,7 @@ to-later S count end within are at below s p =
     none (suc n) e q = absurd (omega (arith, e, below, within))
 
 -- the first unproved `$p` after those that are known to be proved is the first of all
-pub known-least : (S : Database) (front known : ℕ) (found : Option ℕ) → IsKnown S front known → IsLeastUnproved S known found → IsLeastUnproved S front found
+pub known-least : (S : Database) (front known : ℕ) (found : Option ℕ) → AreProvedBetween S front known → IsLeastUnproved S known found → IsLeastUnproved S front found
 known-least S front known None h least = λ at above within. elim (cases_lt known at) [ inl more ↦ least at more within | inr less ↦ h.proved at above less ]
 known-least S front known (Some at) h least = (
   (let a = least.0 in let low = h.low in omega (arith, a, low)),
@@ -135,7 +135,7 @@ known-least S front known (Some at) h least = (
 )
 
 -- the facts on a text before which there are no statements
-pub known-alone : (T : Database) (known : ℕ) → known ≤ length T → AreProvedTo T known → (L : Database) → length L ≡ 0 → IsKnown (L ++ T) (length L) known
+pub known-alone : (T : Database) (known : ℕ) → known ≤ length T → AreProvedTo T known → (L : Database) → length L ≡ 0 → AreProvedBetween (L ++ T) (length L) known
 known-alone T known within are [] alone = record { low = omega arith; within = within; proved = λ at above below. are at below }
 known-alone T known within are (s ∷ L) alone = absurd (omega (arith, alone))
 

@@ -8,7 +8,7 @@ use Rattle.library.specs.Words.{Database, AreShaped, bares, is_closed, first_bro
 use Rattle.library.specs.declared.adding.AddOutcome.{AddOutcome}
 use Rattle.library.specs.declared.adding.StepCounts.{StepCounts}
 use Rattle.library.specs.declared.adding.Tables.{Tables}
-use Rattle.library.specs.Judging.{IsPrefix, IsKnown, IsProvedIfProvable}
+use Rattle.library.specs.Judging.{IsPrefix, AreProvedBetween, IsProvedIfProvable}
 
 -- the number of statements that were given to rules and frames, by all threads
 abbrev pub count_of : StepCounts → ℕ
@@ -26,7 +26,7 @@ pub record IsAdded (old new : Tables) (T : Database) (a : AddOutcome) : Type 0 w
   pub closed : a.broken ≡ Ok None → IsTrue (is_closed new.rules.statements)
   pub begins : IsPrefix old.frames.statements new.frames.statements
   pub marked : new.rules.marked ≡ old.rules.marked
-  pub known : (L : Database) → length L ≡ length old.frames.statements → IsKnown (L ++ T) (length L) a.known
+  pub proved_to : (L : Database) → length L ≡ length old.frames.statements → AreProvedBetween (L ++ T) (length L) a.proved_to
 
 -- adding the statements T does not lower the count of steps, and raises it by at most two for each
 abbrev pub IsCounted : StepCounts → StepCounts → Database → Type 0
@@ -51,4 +51,4 @@ pub record IsAddedAfter (S : Database) (start : ℕ) (tables : Tables) (a : AddO
   pub closed : a.broken ≡ Ok None → IsTrue (is_closed tables.rules.statements)
   pub begins : IsPrefix (bares (take start S)) tables.frames.statements
   pub marked : tables.rules.marked ≡ bares (take start S)
-  pub known : IsKnown S start a.known
+  pub proved_to : AreProvedBetween S start a.proved_to

@@ -25,11 +25,11 @@ IsLeastUnproved S start None = (at : ℕ) → start < at → at ≤ length S →
 IsLeastUnproved S start (Some at) =
     (start < at) × (at ≤ length S) × (¬ IsProvedIfProvable S at) × ((m : ℕ) → start < m → m < at → IsProvedIfProvable S m)
 
--- after the first `start` statements, up to the position `known`, each `$p` is proved
-pub record IsKnown (S : Database) (start known : ℕ) : Type 0 where
-  pub low : start ≤ known
-  pub within : known ≤ length S
-  pub proved : (at : ℕ) → start < at → at ≤ known → IsProvedIfProvable S at
+-- after the first `start` statements, up to the position `end`, each `$p` is proved
+pub record AreProvedBetween (S : Database) (start end : ℕ) : Type 0 where
+  pub low : start ≤ end
+  pub within : end ≤ length S
+  pub proved : (at : ℕ) → start < at → at ≤ end → IsProvedIfProvable S at
 
 -- the statements T are good after L, or this is why they are not
 abbrev pub IsJudged : Database → Database → Option Cause → Type 0

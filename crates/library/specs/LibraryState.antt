@@ -48,19 +48,19 @@ IsDecision verdict = ⊥
 
 -- the judging of a text raises the count of steps by at most three for each statement, and not at all if the text does not
 -- read (the count is that of the statements that are given to the rules and frames)
-pub record HasFewStepsText (submission : Submission) (before after : ℕ) : Type 0 where
+pub record HasFewStepsForText (submission : Submission) (before after : ℕ) : Type 0 where
   pub read : (T : Database) → Reads submission.text T → after ≤ before + 3 * length T
   pub unread : ((T : Database) → ¬ Reads submission.text T) → after ≡ before
 
 -- the judging of an entry that was not decided before: a charter leaves the count as it is
-abbrev pub HasFewStepsEntry : Entry → ℕ → ℕ → Type 0
-HasFewStepsEntry (Text submission) before after = HasFewStepsText submission before after
-HasFewStepsEntry (Charter author serial names) before after = after ≡ before
+abbrev pub HasFewStepsForEntry : Entry → ℕ → ℕ → Type 0
+HasFewStepsForEntry (Text submission) before after = HasFewStepsForText submission before after
+HasFewStepsForEntry (Charter author serial names) before after = after ≡ before
 
 -- the application of an entry, given the verdict decided before under its author and serial number, if any
 abbrev pub HasFewStepsAt : Option Verdict → Entry → ℕ → ℕ → Type 0
 HasFewStepsAt (Some first) entry before after = after ≡ before
-HasFewStepsAt None entry before after = HasFewStepsEntry entry before after
+HasFewStepsAt None entry before after = HasFewStepsForEntry entry before after
 
 -- how far one application may raise the count of steps: a no-operation and a repeat not at all
 abbrev pub HasFewSteps : ReplicaState → Option Entry → ℕ → ℕ → Type 0

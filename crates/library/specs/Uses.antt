@@ -3,7 +3,7 @@
 -- Source: Metamath, 4.2.6 and appendix B: a proof cites by labels; a label that is listed and not cited does not count.
 -- The code walks the positions once, from the `$p` down or from the statement up; here one citation leads to the next.
 use Rattle.std.specs.Prelude.{◌≡◌, ◌↔◌, ℕ, ◌<◌, Bool, true, false, IsTrue, List, [], ◌∷◌, map, Some, slice_get}
-use Rattle.library.specs.Words.{Name, Stmt, Axiom, Database, bares, stmt_at, proof_of, Carries, Item, Writes, label_or_none, mandatory_labels, IsProvable}
+use Rattle.library.specs.Words.{Name, Stmt, Axiom, Database, bares, stmt_at, proof_of, Carries, Item, Writes, label_or_empty, mandatory_labels, IsProvable}
 use Rattle.proof_code.specs.declared.item.Item.TheVariants.{Cite}
 
 -- the tokens of the `$p` at j write these items
@@ -66,4 +66,4 @@ pub record AreLabelsOf (S : Database) (Passes : ℕ → Type 0) (labels : List N
   pub positions : List ℕ
   pub rising : Rises 0 positions
   pub passing : (a : ℕ) → IsIn a positions ↔ Passes a
-  pub labelled : labels ≡ map (λ a. label_or_none (stmt_at S a)) positions
+  pub labelled : labels ≡ map (λ a. label_or_empty (stmt_at S a)) positions

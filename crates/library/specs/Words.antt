@@ -12,5 +12,5 @@ pub use Rattle.proof_code.specs.Writes.{Writes, finish, is_unfinished}
 pub use Rattle.proof_code.specs.declared.item.Item.{Item}
 pub use Rattle.scope.specs.Active.{bares, is_closed, is_provable, proof_of, stmt_at}
 pub use Rattle.scope.specs.Legal.{AllLegal, first_broken}
-pub use Rattle.verify.specs.Proves.{label_or_none, mandatory_labels}
+pub use Rattle.verify.specs.Proves.{label_or_empty, mandatory_labels}
 pub use Rattle.verify.specs.Right.{Derives, IsProvable, IsRight, IsSmall}

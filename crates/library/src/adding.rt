@@ -11,7 +11,7 @@ use mm_read::Stmt;
 use scope::{Rule, Rules, Steps};
 use std::alloc::{AllocError, Global};
 use std::thread::{Threads, join_mut};
-use verify_pool::{Checkers, Gate, Workers, judge_all};
+use verify_pool::{Checkers, Gate, PoolSize, judge_all};
 
 /// The proofs of a first part of a text are judged ahead only if that part has more statements than this.
 const AHEAD_THRESHOLD: usize = 8_192;
@@ -36,7 +36,7 @@ pub(crate) struct StepCounts {
 pub(crate) struct Parallel<'a, G: Gate + Sync, R: Threads + Sync> {
     pub rt: &'a R,
     pub alloc: Global,
-    pub workers: Workers,
+    pub workers: PoolSize,
     pub gate: &'a G,
 }
 
@@ -47,7 +47,7 @@ pub(crate) struct AddOutcome {
     /// end breaks G10 at the number after the last statement. An error if an allocation failed.
     pub broken: Result<Option<(usize, Rule)>, AllocError>,
     /// A position up to which each new `$p` is known to be proved.
-    pub known: usize,
+    pub proved_to: usize,
 }
 
 /// Adds the statements to the frames and the rules, up to the first that breaks a rule. Before that, tries to reserve
@@ -61,7 +61,7 @@ pub(crate) fn add_all(statements: &[Stmt], tables: &mut Tables, steps: &mut Step
     ensures rises { steps.old.count ≤ steps.new.count }
     ensures counted { steps.new.count ≤ steps.old.count + length statements.now }
 {
-    let known = tables.frames.len();
+    let proved_to = tables.frames.len();
     tables.frames.reserve(statements.len() / 2);
     for (index, statement) in statements.iter().enumerate() {
         if let Err(rule) = tables.frames.add(&mut tables.rules, statement, steps) {
@@ -70,21 +70,20 @@ pub(crate) fn add_all(statements: &[Stmt], tables: &mut Tables, steps: &mut Step
             } else {
                 Ok(Some((index + 1, rule)))
             };
-            return AddOutcome { broken, known };
+            return AddOutcome { broken, proved_to };
         }
     }
     let broken = match tables.rules.close_at_end() {
         Ok(()) => Ok(None),
         Err(rule) => Ok(Some((statements.len() + 1, rule))),
     };
-    AddOutcome { broken, known }
+    AddOutcome { broken, proved_to }
 }
 
 /// Adds the statements as `add_all` does. If they are the first of a library, there are at least two workers and
 /// `count_ahead` returns more than 0, another thread meanwhile adds so many of them to tables of its own and judges
-/// their proofs. Half of the workers less one take part in that, but at least one, so that a processor is left to the
-/// calling thread. The position returned as `known` is the last of that part if its proofs are found to be right, else
-/// 0.
+/// their proofs. Half of the workers, less one but at least one, take part in that, so that a processor is left to the
+/// calling thread. The position returned as `proved_to` is the last of that part if its proofs are found right, else 0.
 ///
 /// Cost: that of `add_all`, and meanwhile that of `verify_ahead`, for which `steps` counts each statement of that part at
 /// most once more.
@@ -114,7 +113,7 @@ pub(crate) fn add_all_verifying<G: Gate + Sync, R: Threads + Sync>(
         requires { IsSync G.row × IsSync R.row × (1 ≤ workers_ahead) × (workers_ahead ≤ 16) × AreShaped first.now }
         ensures { (result ≤ length first.entry.now) × AreProvedTo first.entry.now result × (ahead.entry.now.count ≤ ahead.exit.now.count) × (ahead.exit.now.count ≤ ahead.entry.now.count + length first.entry.now) }
     {
-        let workers = Workers::of(workers_ahead);
+        let workers = PoolSize::new(workers_ahead);
         let parallel = Parallel {
             rt,
             alloc,
@@ -127,8 +126,8 @@ pub(crate) fn add_all_verifying<G: Gate + Sync, R: Threads + Sync>(
         requires { AreShaped statements.now × (tables.now.frames.statements ≡ tables.now.rules.statements) }
         ensures { IsAdded tables.entry.now tables.exit.now statements.entry.now result × (calling.entry.now.count ≤ calling.exit.now.count) × (calling.exit.now.count ≤ calling.entry.now.count + length statements.entry.now) }
     { add_all(statements, tables, calling) };
-    let (known, mut added) = join_mut(rt, &mut verify, &mut add);
-    added.known = known;
+    let (proved_to, mut added) = join_mut(rt, &mut verify, &mut add);
+    added.proved_to = proved_to;
     added
 }
 

@@ -3,7 +3,7 @@ ghost use Rattle.std.specs.Prelude.{◌≡◌, ◌+◌, ◌-◌, ◌*◌, ◌≤
 ghost use Rattle.frame.specs.AtPosition.{HasLabelsOnce};
 ghost use Rattle.library.specs.Added.{Adds, IsAddedAfter, count_of};
 ghost use Rattle.library.specs.Good.{Good};
-ghost use Rattle.library.specs.Judging.{Extends, IsChecked, IsJudged, IsKnown};
+ghost use Rattle.library.specs.Judging.{Extends, IsChecked, IsJudged, AreProvedBetween};
 ghost use Rattle.library.specs.ProofJobs.{FindsFirstWrong};
 ghost use Rattle.mm_read.specs.Statements.{AreShaped};
 ghost use Rattle.scope.specs.Active.{bares, stmt_at};
@@ -218,14 +218,15 @@ fn judge<F: Fn(&Proofs<'_>, &mut Checkers) -> Result<Option<usize>, AllocError>>
     requires finds { FindsFirstWrong (F.pre first_wrong.now) (F.post first_wrong.now) }
     requires broken { IfOk added.broken (λ broken. broken ≡ first_broken 1 (take start statements.now) (drop start statements.now)) }
     requires frames { added.broken ≡ Ok None → frames.now.statements ≡ bares statements.now }
-    requires known { IsKnown statements.now start added.known }
+    requires proved_to { AreProvedBetween statements.now start added.proved_to }
     ensures judged { IfOk result (IsJudged (take start statements.now) (drop start statements.now)) }
     ensures added { result ≡ Ok None → added.broken ≡ Ok None }
 {
     if let Some((statement, rule)) = added.broken? {
         return Ok(Some(Cause::Rule { statement, rule }));
     }
-    let Some(at) = least_unproved(first_wrong, frames, statements, added.known, checkers)? else {
+    let Some(at) = least_unproved(first_wrong, frames, statements, added.proved_to, checkers)?
+    else {
         return Ok(None);
     };
     let statement = at - start;

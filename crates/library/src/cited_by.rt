@@ -243,8 +243,8 @@ fn lists_marked(frames: &Frames, tokens: &Words, marks: &[bool]) -> bool
     ensures none { result ≡ false → ListsNone frames.now.statements tokens.now marks.now }
     ensures some { result ≡ true → ListsSome frames.now.statements tokens.now marks.now }
 {
-    let mut left = tokens.iter();
-    while let Some(token) = left.next() {
+    let mut remaining = tokens.iter();
+    while let Some(token) = remaining.next() {
         if token == b")".as_slice() {
             return false;
         }

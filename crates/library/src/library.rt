@@ -26,7 +26,7 @@ use std::alloc::{AllocError, Global};
 use std::collections::BTreeMap;
 use std::marker::Model;
 use std::thread::Threads;
-use verify_pool::{Checkers, Gate, Workers, judge_all, judge_here};
+use verify_pool::{Checkers, Gate, PoolSize, judge_all, judge_here};
 
 /// The statements added, the state of each entry by its author and serial number, and the charter in force. Contracts
 /// see a replica (`ReplicaState` of `specs/LibraryOf`, with the verdicts in the order of the log), and a count of steps: of
@@ -138,7 +138,7 @@ impl Library {
         &mut self,
         rt: &R,
         next: Option<&Entry>,
-        workers: Workers,
+        workers: PoolSize,
         gate: &G,
     ) -> Result<Verdict, AllocError>
         ensures applies { IfOk result (λ verdict. Applies self.old.replica (option_map (λ e. e.now) next.entry) verdict self.new.replica) }

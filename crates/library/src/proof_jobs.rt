@@ -41,14 +41,14 @@ impl<'a> Work for Proofs<'a> {
 
     ghost right = { IsRightProof };
 
-    ghost fits = { λ proofs. IsCacheFor (bares proofs.statements) proofs.names };
+    ghost is_cache_for = { λ proofs. IsCacheFor (bares proofs.statements) proofs.names };
 
     fn count(&self) -> usize {
         self.positions.len()
     }
 
     fn begin(&self, checker: &mut Checker) {
-        checker.begin();
+        checker.clear_cache();
     }
 
     fn judge(&self, index: usize, checker: &mut Checker) -> Result<Answer, AllocError> {

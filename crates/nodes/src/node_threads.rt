@@ -24,7 +24,7 @@ use std::sync::{Arc, Mutex, Wait};
 use std::thread::{JoinHandle, Threads};
 use std::{mem, thread};
 use synod::{Keep, Weights};
-use verify_pool::{Gate, Workers};
+use verify_pool::{Gate, PoolSize};
 use world::Carried;
 
 /// A running cluster: the threads of its nodes. It cannot be sent to another thread. If it is dropped without `stop`, the
@@ -61,7 +61,7 @@ pub fn start<
     rt: &R,
     alloc: Global,
     weights: Weights,
-    workers: Workers,
+    workers: PoolSize,
     gate: Arc<G>,
     weathers: Vec<W>,
     keeps: Vec<K>,
@@ -92,7 +92,7 @@ pub fn start<
 fn share<G: Gate + Drop, K: Keep<Carried>>(
     alloc: Global,
     weights: Weights,
-    workers: Workers,
+    workers: PoolSize,
     gate: Arc<G>,
     keeps: Vec<K>,
 ) -> Result<(Arc<SharedNodes<G, K>>, Vec<Receiver<u64>>), StepFault>

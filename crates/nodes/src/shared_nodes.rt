@@ -14,7 +14,7 @@ use std::alloc::Global;
 use std::sync::{Arc, Mutex, Wait};
 use std::thread::Threads;
 use synod::Keep;
-use verify_pool::{Gate, LightGate, Place, Workers};
+use verify_pool::{Gate, LightGate, Place, PoolSize};
 use world::Carried;
 
 /// The locks of a cluster. A node's lock is taken before the switch's, and that of a lower node number before that of a
@@ -23,7 +23,7 @@ use world::Carried;
 #[derive(Drop)]
 pub(crate) struct SharedNodes<G: Gate, K: Keep<Carried>> {
     pub alloc: Global,
-    pub workers: Workers,
+    pub workers: PoolSize,
     pub gate: Arc<G>,
     pub switch: Mutex<SharedSwitch<K>>,
     pub cells: Vec<Mutex<SharedCell>>,

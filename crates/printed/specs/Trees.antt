@@ -6,7 +6,7 @@ use Rattle.mm_lex.specs.Alphabet.{Name}
 use Rattle.mm_read.specs.Statements.{Database}
 use Rattle.scope.specs.Active.{stmt_at}
 use Rattle.verify.specs.Derivations.{Derivation, Derivations, hyp, apply, none, more}
-use Rattle.verify.specs.Proves.{label_or_none}
+use Rattle.verify.specs.Proves.{label_or_empty}
 
 -- a label, on a line of its own
 abbrev pub label_line : Name → List ℕ
@@ -14,7 +14,7 @@ label_line label = label ++ codes "\n"
 
 -- the line of a node: its depth, a space, and the label of the statement at its position
 abbrev pub tree_node_line : Database → ℕ → ℕ → List ℕ
-tree_node_line S depth at = decimal depth ++ codes " " ++ label_or_none (stmt_at S at) ++ codes "\n"
+tree_node_line S depth at = decimal depth ++ codes " " ++ label_or_empty (stmt_at S at) ++ codes "\n"
 
 -- a line for each node, parents before children, children in order
 abbrev mutual

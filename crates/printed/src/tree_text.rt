@@ -2,7 +2,7 @@
 ghost use Rattle.std.specs.Prelude.{◌≡◌, ◌+◌, ◌++◌, flat_map, option_map, IfOk, OnOk};
 ghost use Rattle.scope.specs.Active.{stmt_at, label_of};
 ghost use Rattle.verify.specs.Derivations.{derivation_of};
-ghost use Rattle.verify.specs.Proves.{label_or_none};
+ghost use Rattle.verify.specs.Proves.{label_or_empty};
 ghost use Rattle.printed.specs.Trees.{label_line, tree_node_line, tree_lines};
 
 use mm_lex::Word;
@@ -64,7 +64,7 @@ fn push_tree_node(
 /// Appends the label of the statement at a position, if it has one.
 fn push_label_at(text: &mut Vec<u8>, statements: &[Stmt], at: usize) -> Result<(), AllocError>
     ensures { OnOk result (text.new.items
-        ≡ text.old.items ++ label_or_none (stmt_at statements.now at)) }
+        ≡ text.old.items ++ label_or_empty (stmt_at statements.now at)) }
 {
     if at > 0
         && let Some(statement) = statements.get(at - 1)

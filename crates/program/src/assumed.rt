@@ -13,7 +13,7 @@ use std::io::Write;
 use std::mem::forget;
 use std::thread::Threads;
 use unproved::LegalDatabase;
-use verify_pool::Workers;
+use verify_pool::PoolSize;
 
 /// The greatest count of labels that are printed.
 const MAX_NAMED: usize = 10;
@@ -51,7 +51,7 @@ pub fn assume_unproved<R: AllocGlobal + Threads + Sync, F: Write>(
     database: LegalDatabase,
     stderr: &mut F,
 ) -> Result<Library, AllocError> {
-    let unproved = database.unproved(rt, Workers::offered(rt))?;
+    let unproved = database.unproved(rt, PoolSize::for_machine(rt))?;
     print_assumed(rt.alloc(), &database, unproved.as_slice(), stderr);
     database.into_assumed_library(unproved.as_slice())
 }

@@ -14,7 +14,7 @@ use std::alloc::{AllocError, Global};
 use std::io::{Read, Write};
 use std::mem::forget;
 use std::thread::Threads;
-use verify_pool::{OpenGate, Workers};
+use verify_pool::{OpenGate, PoolSize};
 
 /// Prints the outline of a database, and returns the exit status. The reason for a refusal goes to
 /// `stderr`, with the name of the file before each line and column.
@@ -44,8 +44,8 @@ pub fn print_outline<I: Read, O: Write, F: Write>(
 
 /// Prints the answer to a question about a database, and returns the exit status.
 ///
-/// `Workers::offered` threads read the text and check its proofs; no answer depends on their
-/// number. The library is leaked: the end of the process frees all of it at once.
+/// As many threads as `PoolSize::for_machine` says read the text and check its proofs; no answer
+/// depends on their number. The library is leaked: the end of the process frees all of it at once.
 pub fn answer_question<R: AllocGlobal + Threads + Sync, I: Read, O: Write, F: Write>(
     rt: &R,
     request: &DatabaseQuestion<'_>,
@@ -95,7 +95,7 @@ pub fn apply_text<R: Threads + Sync>(
         serial: 0,
         text: text.clone()?,
     });
-    library.apply_with(rt, Some(&entry), Workers::offered(rt), &OpenGate)
+    library.apply_with(rt, Some(&entry), PoolSize::for_machine(rt), &OpenGate)
 }
 
 /// Prints the answer about a library, and returns the exit status. `text` has the same statements,

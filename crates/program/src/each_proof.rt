@@ -20,7 +20,7 @@ use std::io::Write;
 use std::mem::forget;
 use std::thread::Threads;
 use unproved::LegalDatabase;
-use verify_pool::Workers;
+use verify_pool::PoolSize;
 
 /// The greatest count of lines that are explained.
 const MAX_EXPLAINED: usize = 100;
@@ -76,7 +76,12 @@ pub fn read_legal_database<R: AllocGlobal + Threads + Sync>(
     if text.bytes.len() > MAX_BYTES {
         return Ok(None);
     }
-    match read_in_parts(rt, rt.alloc(), text.bytes, Workers::offered(rt).count()) {
+    match read_in_parts(
+        rt,
+        rt.alloc(),
+        text.bytes,
+        PoolSize::for_machine(rt).count(),
+    ) {
         Ok(statements) => LegalDatabase::new(rt.alloc(), statements),
         Err(ReadFault::Memory) => Err(AllocError),
         Err(_) => Ok(None),
@@ -108,7 +113,7 @@ fn print_unproved<R: AllocGlobal + Threads + Sync, O: Write, F: Write>(
     stderr: &mut F,
 ) -> Result<u8, Fault> {
     let alloc = rt.alloc();
-    let unproved = database.unproved(rt, Workers::offered(rt))?;
+    let unproved = database.unproved(rt, PoolSize::for_machine(rt))?;
     let lines = unproved_lines(alloc, database, unproved.as_slice())?;
     print(output, lines.as_slice())?;
     if unproved.is_empty() {

@@ -13,7 +13,7 @@ use std::alloc::{AllocError, Global};
 use std::sync::{Arc, Wait};
 use std::thread::Threads;
 use synod::{Keep, Weights};
-use verify_pool::{OpenGate, Workers};
+use verify_pool::{OpenGate, PoolSize};
 use world::Carried;
 
 /// How often at most a cluster is asked again to stop after a failed allocation.
@@ -50,7 +50,7 @@ pub fn start_nodes<R: Threads + Wait + Copy + Send + Sync + Drop + 'static>(
         rt,
         alloc,
         weights,
-        Workers::of(workers.count),
+        PoolSize::new(workers.count),
         gate,
         weathers,
         keeps,

@@ -17,4 +17,4 @@ pub use Rattle.std.specs.Io.KnownBytes.{Appends}
 pub use Rattle.std.specs.Prelude.{Err, List, None, Ok, OnOk, Option, Result, Some, [], codes, decimal, flat_map, get_or, if◌then◌else◌, suc, ℕ, ◌+◌, ◌∷◌, ◌≤◌}
 pub use Rattle.std.specs.Result.{is_ok}
 pub use Rattle.steps.specs.Rows.{no_row}
-pub use Rattle.verify.specs.Proves.{label_or_none}
+pub use Rattle.verify.specs.Proves.{label_or_empty}

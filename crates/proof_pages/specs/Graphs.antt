@@ -2,7 +2,7 @@
 -- Source: the DOT language of Graphviz.
 -- The code adds each part to the end of a buffer.
 use Rattle.std.specs.Prelude.{ℕ, List, [], ◌∷◌, ◌++◌, codes, flat_map}
-use Rattle.proof_pages.specs.Words.{Name, Database, stmt_at, name_at, label_or_none, Row, quoted_text}
+use Rattle.proof_pages.specs.Words.{Name, Database, stmt_at, name_at, label_or_empty, Row, quoted_text}
 use Rattle.proof_pages.specs.StepLines.{number_text, concat_texts}
 
 abbrev pub quoted_symbol : List Name → ℕ → List ℕ
@@ -19,7 +19,7 @@ arrow_line index taken = number_text taken ++ codes " -> " ++ number_text index 
 
 abbrev pub node_line : Database → List Name → ℕ → Row → List ℕ
 node_line S names index row =
-    number_text index ++ codes " [label=\"" ++ quoted_text (label_or_none (stmt_at S row.step.position)) ++ codes "\\n" ++ quoted_expr names row.expr ++ codes "\"];\n"
+    number_text index ++ codes " [label=\"" ++ quoted_text (label_or_empty (stmt_at S row.step.position)) ++ codes "\\n" ++ quoted_expr names row.expr ++ codes "\"];\n"
 
 -- a node, and an arrow from each step that it takes
 abbrev pub node_text : Database → List Name → ℕ → Row → List ℕ

@@ -2,7 +2,7 @@
 -- Source: HTML, links; this project's own form.
 -- The code adds each part to the end of a buffer.
 use Rattle.std.specs.Prelude.{ℕ, ◌==◌, Bool, ◌&&◌, if◌then◌else◌, List, [], ◌++◌, codes, decimal, flat_map, get_or, Option, Some, None}
-use Rattle.proof_pages.specs.Words.{Name, Stmt, Database, is_assertion, stmt_at, name_at, label_or_none, html_text, file_name}
+use Rattle.proof_pages.specs.Words.{Name, Stmt, Database, is_assertion, stmt_at, name_at, label_or_empty, html_text, file_name}
 
 -- a variable of the first CSS class, and a variable of another class
 abbrev pub first_css_class_html : Name → List ℕ
@@ -32,7 +32,7 @@ page_link label position = link_start label position ++ html_text label ++ codes
 -- the label of the statement at a position, as a link if it is an assertion and labels are linked
 abbrev pub label_html : Bool → ℕ → Stmt → List ℕ
 label_html linked position s =
-    if linked && is_assertion s then page_link (label_or_none (Some s)) position else html_text (label_or_none (Some s))
+    if linked && is_assertion s then page_link (label_or_empty (Some s)) position else html_text (label_or_empty (Some s))
 
 abbrev pub option_label_html : Bool → ℕ → Option Stmt → List ℕ
 option_label_html linked position None = []

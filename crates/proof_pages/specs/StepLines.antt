@@ -2,7 +2,7 @@
 -- Source: this project's own form.
 -- The code adds each part to the end of a buffer.
 use Rattle.std.specs.Prelude.{ℕ, suc, ◌+◌, List, [], ◌∷◌, ◌++◌, codes, decimal, flat_map}
-use Rattle.proof_pages.specs.Words.{Name, Database, stmt_at, name_at, label_or_none, Row}
+use Rattle.proof_pages.specs.Words.{Name, Database, stmt_at, name_at, label_or_empty, Row}
 
 -- the number of the step at an index: indexes count from 0, numbers from 1
 abbrev pub number_text : ℕ → List ℕ
@@ -26,7 +26,7 @@ expr_text names expr = flat_map (symbol_text names) expr
 -- its number, the numbers of the steps that it takes, the label of the statement that it cites, its expression
 abbrev pub step_line : Database → List Name → ℕ → Row → List ℕ
 step_line S names index row =
-    number_text index ++ codes " " ++ taken_text row.step.taken ++ codes " " ++ label_or_none (stmt_at S row.step.position) ++ expr_text names row.expr ++ codes "\n"
+    number_text index ++ codes " " ++ taken_text row.step.taken ++ codes " " ++ label_or_empty (stmt_at S row.step.position) ++ expr_text names row.expr ++ codes "\n"
 
 -- `text` of each element with its index, joined; the first element has this index
 abbrev pub concat_texts : {A : Type 0} → (ℕ → A → List ℕ) → ℕ → List A → List ℕ

@@ -9,4 +9,4 @@ pub use Rattle.mm_read.specs.declared.stmt.Stmt.TheVariants.{Axiom, Prove}
 pub use Rattle.names.specs.Codes.{name_at}
 pub use Rattle.scope.specs.Active.{is_assertion, stmt_at}
 pub use Rattle.steps.specs.Rows.{Row}
-pub use Rattle.verify.specs.Proves.{label_or_none}
+pub use Rattle.verify.specs.Proves.{label_or_empty}

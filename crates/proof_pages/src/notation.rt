@@ -1,6 +1,6 @@
 //! Symbols and labels on a page.
 ghost use Rattle.std.specs.Prelude.{◌≡◌, ◌++◌, Some, flat_map, OnOk};
-ghost use Rattle.verify.specs.Proves.{label_or_none};
+ghost use Rattle.verify.specs.Proves.{label_or_empty};
 ghost use Rattle.proof_pages.specs.Notations.{first_css_class_html, variable_html, coloured, symbol_html, expr_html, link_start, page_link, label_html, label_at_html};
 
 use crate::css_classes::CssClasses;
@@ -91,7 +91,7 @@ pub fn push_html_expr(
 
 /// Returns the label of a statement, empty if it has none.
 pub fn label_of(statement: &Stmt) -> &[u8]
-    ensures { result.now ≡ label_or_none (Some statement.now) }
+    ensures { result.now ≡ label_or_empty (Some statement.now) }
 {
     match statement {
         Stmt::Float { label, .. } => label.as_bytes(),

@@ -1,7 +1,7 @@
 //! A step as a line.
 ghost use Rattle.std.specs.Prelude.{◌≡◌, ◌<◌, ◌++◌, codes, length, get_or, flat_map, OnOk};
 ghost use Rattle.scope.specs.Active.{stmt_at};
-ghost use Rattle.verify.specs.Proves.{label_or_none};
+ghost use Rattle.verify.specs.Proves.{label_or_empty};
 ghost use Rattle.steps.specs.Rows.{no_row};
 ghost use Rattle.proof_pages.specs.StepLines.{number_text, comma_and_number, taken_text, symbol_text, expr_text, step_line};
 
@@ -12,7 +12,7 @@ use steps::ProofTable;
 
 /// Returns the label of the statement at a position, empty if it has none.
 pub fn label_at(frames: &Frames, position: usize) -> &[u8]
-    ensures { result.now ≡ label_or_none (stmt_at frames.now.statements position) }
+    ensures { result.now ≡ label_or_empty (stmt_at frames.now.statements position) }
 {
     if position == 0 || position > frames.len() {
         return &[];

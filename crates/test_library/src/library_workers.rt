@@ -9,7 +9,7 @@ use numbers::push_number;
 use std::alloc::{AllocError, Global};
 use std::test::Fail;
 use std::thread::Threads;
-use verify_pool::{Gate, OpenGate, Workers};
+use verify_pool::{Gate, OpenGate, PoolSize};
 
 /// Texts whose proofs are shared among several workers, and the verdict on each.
 const ROWS: [(&[u8], Verdict); 6] = [
@@ -81,7 +81,7 @@ pub fn verdict_by_workers<G: Gate + Sync, R: Threads + Sync>(
     requires { (1 ≤ workers) × (workers ≤ 16) }
 {
     let entry = entry(1, Bytes::copy_from_slice(alloc, text).ok()?);
-    let workers = Workers::of(workers);
+    let workers = PoolSize::new(workers);
     with_new_library(
         alloc,
         |library| verdict_with_retry(rt, library, &entry, workers, gate),
@@ -93,7 +93,7 @@ fn verdict_with_retry<G: Gate + Sync, R: Threads + Sync>(
     rt: &R,
     library: &mut Library,
     entry: &Entry,
-    workers: Workers,
+    workers: PoolSize,
     gate: &G,
 ) -> Option<Verdict> {
     match library.apply_with(rt, Some(entry), workers, gate) {

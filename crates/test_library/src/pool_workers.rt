@@ -13,7 +13,7 @@ use proof_code::{CodeFault, Items, normal};
 use scope::Scope;
 use std::alloc::Global;
 use std::thread::Threads;
-use verify_pool::{Gate, Job, OpenGate, Workers, check_all};
+use verify_pool::{Gate, Job, OpenGate, PoolSize, check_all};
 
 /// Two correct proofs.
 const TWO_PROOFS: &[u8] = b"$c |- o $. a $a |- o $. p $p |- o $= a $. q $p |- o $= p $.";
@@ -108,9 +108,9 @@ fn check_with_retry<G: Gate + Sync, R: Threads + Sync>(
     requires jobs { AreJobs frames.now.statements jobs.now }
     requires workers { (1 ≤ workers) × (workers ≤ 16) }
 {
-    match check_all(rt, alloc, frames, jobs, Workers::of(workers), gate) {
+    match check_all(rt, alloc, frames, jobs, PoolSize::new(workers), gate) {
         Ok(answer) => Some(answer),
-        Err(_) => check_all(rt, alloc, frames, jobs, Workers::of(workers), gate).ok(),
+        Err(_) => check_all(rt, alloc, frames, jobs, PoolSize::new(workers), gate).ok(),
     }
 }
 

@@ -12,7 +12,7 @@ use std::thread;
 use std::thread::Threads;
 use std::time::{Clock, Duration};
 use synod::Weights;
-use verify_pool::{Gate, OpenGate, Workers};
+use verify_pool::{Gate, OpenGate, PoolSize};
 use world::Carried;
 
 /// A keep in memory for values that are entries.
@@ -49,7 +49,7 @@ pub fn start_three<
     ] else {
         return Err(StepFault::Memory);
     };
-    start(rt, alloc, weights, Workers::of(2), gate, weathers, keeps)
+    start(rt, alloc, weights, PoolSize::new(2), gate, weathers, keeps)
 }
 
 /// Starts three nodes with these weathers and an open gate.

@@ -1,5 +1,5 @@
 -- A derivation is also one among statements that differ only in which assertions are `$a` and which are `$p`.
-use Rattle.unproved.proofs.Words.{◌≡◌, ℕ, IsTrue, List, [], ◌∷◌, map, Option, Some, None, option_map, unwrap_or, refl, list_all, ◌∙◌, ap, sym, subst, Name, Expr, before, expr_of, is_active, is_assertion, is_variable, label_of, stmt_at, Carries, IsHypothesis, IsInstance, expr_at, is_hypothesis_kind, option_expr, premises, are_groups_disjoint, hypotheses, mandatory_groups, Item, Concludes, ConcludeAll, Derivation, Derivations, hyp, apply, more, label_or_none, IsRight, Spells, SpellsAll, cites_hypothesis, cites_assertion, recalls, marks, spells_none, spells_more, some-same, as_axiom}
+use Rattle.unproved.proofs.Words.{◌≡◌, ℕ, IsTrue, List, [], ◌∷◌, map, Option, Some, None, option_map, unwrap_or, refl, list_all, ◌∙◌, ap, sym, subst, Name, Expr, before, expr_of, is_active, is_assertion, is_variable, label_of, stmt_at, Carries, IsHypothesis, IsInstance, expr_at, is_hypothesis_kind, option_expr, premises, are_groups_disjoint, hypotheses, mandatory_groups, Item, Concludes, ConcludeAll, Derivation, Derivations, hyp, apply, more, label_or_empty, IsRight, Spells, SpellsAll, cites_hypothesis, cites_assertion, recalls, marks, spells_none, spells_more, some-same, as_axiom}
 use Rattle.mm_read.specs.declared.stmt.Stmt.{Stmt}
 use Rattle.mm_read.specs.Statements.{Database}
 use Rattle.frame.specs.Substitution.{Images, apply as applied}
@@ -28,7 +28,7 @@ option_expr-plain : (o : Option Stmt) → option_expr (option_map as_axiom o) �
 option_expr-plain None = refl
 option_expr-plain (Some s) = expr-plain s
 
-option_label-plain : (o : Option Stmt) → label_or_none (option_map as_axiom o) ≡ label_or_none o
+option_label-plain : (o : Option Stmt) → label_or_empty (option_map as_axiom o) ≡ label_or_empty o
 option_label-plain None = refl
 option_label-plain (Some s) = ap (λ l. unwrap_or l []) (label-plain s)
 
@@ -47,8 +47,8 @@ module _ (S T : Database) (same : plains S ≡ plains T) where
   expr-same : (i : ℕ) → expr_at S i ≡ expr_at T i
   expr-same i = both (λ U. expr_at U i) (λ U. ap option_expr (stmt_at-plains U i) ∙ option_expr-plain (stmt_at U i))
 
-  label-same : (i : ℕ) → label_or_none (stmt_at S i) ≡ label_or_none (stmt_at T i)
-  label-same i = both (λ U. label_or_none (stmt_at U i)) (λ U. ap label_or_none (stmt_at-plains U i) ∙ option_label-plain (stmt_at U i))
+  label-same : (i : ℕ) → label_or_empty (stmt_at S i) ≡ label_or_empty (stmt_at T i)
+  label-same i = both (λ U. label_or_empty (stmt_at U i)) (λ U. ap label_or_empty (stmt_at-plains U i) ∙ option_label-plain (stmt_at U i))
 
   module _ (s t : Stmt) (kind : as_axiom t ≡ as_axiom s) where
     hypotheses-same : hypotheses S s ≡ hypotheses T t

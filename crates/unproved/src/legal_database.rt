@@ -18,7 +18,7 @@ use std::alloc::{AllocError, Global};
 use std::marker::Model;
 use std::mem::replace;
 use std::thread::Threads;
-use verify_pool::Workers;
+use verify_pool::PoolSize;
 
 /// The statements of a legal text, with their frames and the state of the rules after them.
 /// Contracts see the statements.
@@ -92,7 +92,7 @@ impl LegalDatabase {
     pub fn unproved<R: Threads + Sync>(
         &self,
         rt: &R,
-        workers: Workers,
+        workers: PoolSize,
     ) -> Result<Vec<usize>, AllocError>
         ensures positions { IfOk result (λ positions. AreUnproved self.now 0 (length self.now) positions.items) }
         ensures within { IfOk result (λ positions. All (IsPositionOf (length self.now)) positions.items) }

@@ -10,7 +10,7 @@ use mm_read::Stmt;
 use proof_code::is_unfinished;
 use std::alloc::{AllocError, Global};
 use std::thread::Threads;
-use verify_pool::{Checkers, OpenGate, Workers, judge_all, judge_here};
+use verify_pool::{Checkers, OpenGate, PoolSize, judge_all, judge_here};
 
 /// The largest number of statements in a range. Ranges are judged one after another.
 const MAX_RANGE_STATEMENTS: usize = 2_048;
@@ -25,7 +25,7 @@ pub(crate) struct Search<'a, R: Threads + Sync> {
     pub(crate) alloc: Global,
     pub(crate) frames: &'a Frames,
     pub(crate) statements: &'a [Stmt],
-    pub(crate) workers: Workers,
+    pub(crate) workers: PoolSize,
 }
 
 /// Returns the positions of the `$p` that are not proved, in order.
@@ -96,7 +96,7 @@ fn push_unproved_of_range<R: Threads + Sync>(
     while let Some(index) = found {
         start = start + index + 1;
         positions.push(start)?;
-        found = first_unproved_index(search, checkers, start, end, Workers::of(1))?;
+        found = first_unproved_index(search, checkers, start, end, PoolSize::new(1))?;
     }
     Ok(())
 }
@@ -108,7 +108,7 @@ fn first_unproved_index<R: Threads + Sync>(
     checkers: &mut Checkers,
     start: usize,
     end: usize,
-    workers: Workers,
+    workers: PoolSize,
 ) -> Result<Option<usize>, AllocError>
     requires frames_are { search.now.frames.now.statements ≡ bares search.now.statements.now }
     requires order { start ≤ end }

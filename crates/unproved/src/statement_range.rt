@@ -37,14 +37,14 @@ impl<'a> Work for StatementRange<'a> {
 
     ghost right = { IsProvedIn };
 
-    ghost fits = { λ range. IsCacheFor (bares range.statements) range.names };
+    ghost is_cache_for = { λ range. IsCacheFor (bares range.statements) range.names };
 
     fn count(&self) -> usize {
         self.end - self.start
     }
 
     fn begin(&self, checker: &mut Checker) {
-        checker.begin();
+        checker.clear_cache();
     }
 
     fn judge(&self, index: usize, checker: &mut Checker) -> Result<Answer, AllocError> {

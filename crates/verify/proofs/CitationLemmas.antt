@@ -1,5 +1,5 @@
 -- The citation of an assertion when the results are lists of numbers.
-use Rattle.verify.proofs.Words.{◌≡◌, ℕ, ◌-◌, ◌<◌, ◌≤◌, Bool, true, false, List, [], ◌++◌, length, map, get_or, slice_get, Some, sym, ◌∙◌, ap, subst, arith, length-append, length-map, map-append, Name, Stmt, Expr, Database, stmt_at, before, expr_of, is_assertion, is_variable, name_at, decode, HasAssertion, mandatory_groups, Images, applied, CodeImages, code_apply, images_of_names, are_groups_disjoint, Carries, IsInstance, premises, AreLegal, Cite, substitution_over_names, Float, IsBound, IsTyped, AreRead, DoMatch, named, AreNamed, StepsByNumber, Results, Cites, of_hypothesis, of_assertion, below, top, Adds, some-same, true≢false, AreOver, MayCite, HasCited, Assertion, Claim, Numbered, IsCitedBy, AssertionView}
+use Rattle.verify.proofs.Words.{◌≡◌, ℕ, ◌-◌, ◌<◌, ◌≤◌, Bool, true, false, List, [], ◌++◌, length, map, get_or, slice_get, Some, sym, ◌∙◌, ap, subst, arith, length-append, length-map, map-append, Name, Stmt, Expr, Database, stmt_at, before, expr_of, is_assertion, is_variable, name_at, decode, HasAssertion, mandatory_groups, Images, applied, CodeImages, code_apply, images_of_names, are_groups_disjoint, Carries, IsInstance, premises, AreLegal, Cite, substitution_over_names, Float, IsBound, IsTyped, AreRead, HypothesesMatch, named, AreNamed, StepsByNumber, Results, Cites, of_hypothesis, of_assertion, below, top, Adds, some-same, true≢false, AreOver, MayCite, HasCited, Assertion, ProofContext, Numbered, IsCitedBy, AssertionView}
 use Rattle.verify.proofs.LabelTableLemmas.{has_with}
 use Rattle.verify.proofs.RequiredHypotheses.{required-lengths}
 use Rattle.verify.proofs.CitingLemmas.{of_variables, apply-τ, disjoint-τ, premises-read, premise-typed, fits-agree, conclusion-agrees, disjoint-agrees, read-over}
@@ -11,7 +11,7 @@ use Rattle.verify.proofs.Named.{saved-same, named-result, result-named, all-take
 pub record Meets (S : Database) (names : List Name) (at a : ℕ) (c : AssertionView) (stack : List (List ℕ)) (f : Expr) : Type 0 where
   pub many : length c.hypotheses ≤ length stack
   pub typed : (k x : ℕ) → slice_get c.hypotheses k ≡ Some (Float x) → IsTyped (get_or c.typecodes.now k 0) (get_or (top (length c.hypotheses) stack) k [])
-  pub fits : (ρ : CodeImages) → AreRead c.typecodes.now c.hypotheses (top (length c.hypotheses) stack) ρ → DoMatch S (images_of_names names ρ) c.hypotheses (map (decode names) (top (length c.hypotheses) stack))
+  pub fits : (ρ : CodeImages) → AreRead c.typecodes.now c.hypotheses (top (length c.hypotheses) stack) ρ → HypothesesMatch S (images_of_names names ρ) c.hypotheses (map (decode names) (top (length c.hypotheses) stack))
   pub disjoint : (ρ : CodeImages) → AreRead c.typecodes.now c.hypotheses (top (length c.hypotheses) stack) ρ → are_groups_disjoint (before S at) (images_of_names names ρ) (map (decode names) c.groups) ≡ true
   pub gives : (ρ : CodeImages) → AreRead c.typecodes.now c.hypotheses (top (length c.hypotheses) stack) ρ → f ≡ decode names (code_apply ρ c.conclusion.now)
 
@@ -59,7 +59,7 @@ module _ (S : Database) (names : List Name) (at a : ℕ) (s : Stmt) (c : Asserti
       (whole ∙ (ap (λ m. b ++ premises S m t σ) i ∙ ap (λ u. b ++ premises S a u σ) e)) (gives ∙ ap (λ u. applied σ (expr_of u)) e)
 
   goes-assertion : (ok : Bool) (old new : Results ℕ) (label : Name) (ρ : CodeImages) → AreNamed names old → Carries S a s label → HasAssertion S a s → a < at
-      → n ≤ length old.stack → AreRead c.typecodes.now c.hypotheses (top n old.stack) ρ → DoMatch S (images_of_names names ρ) c.hypotheses (map (decode names) (top n old.stack))
+      → n ≤ length old.stack → AreRead c.typecodes.now c.hypotheses (top n old.stack) ρ → HypothesesMatch S (images_of_names names ρ) c.hypotheses (map (decode names) (top n old.stack))
       → are_groups_disjoint (before S at) (images_of_names names ρ) (map (decode names) c.groups) ≡ true
       → Adds ok old new (below n old.stack) (code_apply ρ c.conclusion.now)
       → StepsByNumber ok S at names (Cite label) old new
@@ -96,7 +96,7 @@ module _ (S : Database) (names : List Name) (at a : ℕ) (s : Stmt) (c : Asserti
   goes-not old new label an carries has none = λ next p. absurd (none p.1 (meets-step old label p.0 p.1 an carries has p.2))
 
 -- the lemmas above, from the conditions under which the code cites (`MayCite`)
-module _ (t : Claim) (a : ℕ) (about : Numbered) (old : Results ℕ) (may : MayCite t a about old) (c : AssertionView) (cited : (s : Stmt) → stmt_at t.frames.now.statements a ≡ Some s → IsCitedBy t.frames.now.statements t.frames.now.names a s c) where
+module _ (t : ProofContext) (a : ℕ) (about : Numbered) (old : Results ℕ) (may : MayCite t a about old) (c : AssertionView) (cited : (s : Stmt) → stmt_at t.frames.now.statements a ≡ Some s → IsCitedBy t.frames.now.statements t.frames.now.names a s c) where
   abbrev count : ℕ
   count = length c.hypotheses
 
@@ -106,7 +106,7 @@ module _ (t : Claim) (a : ℕ) (about : Numbered) (old : Results ℕ) (may : May
       (top count old.stack) (length-top count old.stack many) ρ read (all-drop (length t.frames.now.names) (length old.stack - count) old.stack may.named.stack_named)
 
   pub has-cited : (ok : Bool) (new : Results ℕ) (ρ : CodeImages) → count ≤ length old.stack → AreRead c.typecodes.now c.hypotheses (top count old.stack) ρ
-      → DoMatch t.frames.now.statements (images_of_names t.frames.now.names ρ) c.hypotheses (map (decode t.frames.now.names) (top count old.stack))
+      → HypothesesMatch t.frames.now.statements (images_of_names t.frames.now.names ρ) c.hypotheses (map (decode t.frames.now.names) (top count old.stack))
       → are_groups_disjoint (before t.frames.now.statements t.at) (images_of_names t.frames.now.names ρ) (map (decode t.frames.now.names) c.groups) ≡ true
       → Adds ok old new (below count old.stack) (code_apply ρ c.conclusion.now) → HasCited t.frames.now.statements t.at t.frames.now.names (Assertion a) old new ok
   has-cited ok new ρ many read fits disjoint adds = (

@@ -1,6 +1,6 @@
 -- The results are the hypotheses of an assertion under some images if and only if each result for a `$f` begins with its
 -- typecode, and each result for a `$e` is its expression under the images that are read from the results for the `$f`.
-use Rattle.verify.proofs.Words.{◌≡◌, ℕ, zero, suc, ◌<◌, Bool, true, false, cond, List, [], ◌∷◌, ◌++◌, length, map, drop, get_or, slice_get, Option, Some, None, option_map, ◌⊎◌, refl, sym, ◌∙◌, ap, subst, arith, inl, inr, true≢false, append-nil, lt-ltb, length-map, ext_get_or, get_or_from_slice_get, slice_get_within, slice_get-map, Name, Stmt, Expr, Database, stmt_at, before, expr_of, is_variable, name_at, decode, code_of, AreDistinct, code-name, hypotheses, mandatory_groups, Images, image, applied, CodeImages, code_image, images_of_names, OfVariables, premises, expr_at, option_expr, are_groups_disjoint, AreBelow, AllBelow, AreOver, image-named, image-unnamed, image-decode, Hypothesis, Float, Essential, IsBound, HasFloat, IsFirstFixed, typecode_of, IsTypecode, IsNumberedHypothesis, AreNumberedHypotheses, IsTyped, AreRead, HypothesisMatches, DoMatch, some-same, name_at-injective}
+use Rattle.verify.proofs.Words.{◌≡◌, ℕ, zero, suc, ◌<◌, Bool, true, false, cond, List, [], ◌∷◌, ◌++◌, length, map, drop, get_or, slice_get, Option, Some, None, option_map, ◌⊎◌, refl, sym, ◌∙◌, ap, subst, arith, inl, inr, true≢false, append-nil, lt-ltb, length-map, ext_get_or, get_or_from_slice_get, slice_get_within, slice_get-map, Name, Stmt, Expr, Database, stmt_at, before, expr_of, is_variable, name_at, decode, code_of, AreDistinct, code-name, hypotheses, mandatory_groups, Images, image, applied, CodeImages, code_image, images_of_names, OfVariables, premises, expr_at, option_expr, are_groups_disjoint, AreBelow, AllBelow, AreOver, image-named, image-unnamed, image-decode, Hypothesis, Float, Essential, IsBound, HasFloat, IsFirstFixed, typecode_of, IsTypecode, IsNumberedHypothesis, AreNumberedHypotheses, IsTyped, AreRead, HypothesisMatches, HypothesesMatch, some-same, name_at-injective}
 use Rattle.mm_read.specs.declared.stmt.Stmt.TheVariants as stmt
 use Rattle.verify.proofs.Named.{all-at}
 use Rattle.verify.proofs.RequiredHypotheses.{At, required-lengths, required-at, float-at, essential-at, float-number, float-find}
@@ -111,7 +111,7 @@ module _ (S : Database) (names : List Name) (a : ℕ) (s : Stmt) (distinct : Are
     disjoint-τ D gs = groups-members D τ N gs (λ k g x e f. image-τ x)
 
     -- if each `$e` matches its result, the results are the hypotheses under these images
-    module _ (fits : DoMatch S N hs (map (decode names) rs)) where
+    module _ (fits : HypothesesMatch S N hs (map (decode names) rs)) where
       one-premise : (k : ℕ) → k < length rs → (d : At S names ps typecodes hs k) → applied τ (expr_at S d.position) ≡ decode names (get_or rs k [])
       one-premise k less d = by d.hypothesis d.kind d.required
         where
@@ -213,7 +213,7 @@ module _ (S : Database) (names : List Name) (a : ℕ) (s : Stmt) (distinct : Are
           by false e = image-constant ρ read y e ∙ sym (fixed y e)
           by true e = float (has e)
 
-      pub fits-agree : DoMatch S (images_of_names names ρ) hs (map (decode names) rs)
+      pub fits-agree : HypothesesMatch S (images_of_names names ρ) hs (map (decode names) rs)
       fits-agree = record { each = one }
         where
           one : (k : ℕ) (h : Hypothesis) → slice_get hs k ≡ Some h → HypothesisMatches S (images_of_names names ρ) h (get_or (map (decode names) rs) k [])

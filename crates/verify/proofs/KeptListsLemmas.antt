@@ -1,5 +1,5 @@
 -- The lists that a checker keeps are right for citations of their assertions.
-use Rattle.verify.proofs.Words.{◌≡◌, ℕ, zero, suc, ◌+◌, ◌<◌, ◌≤◌, Bool, true, false, ◌&&◌, ◌||◌, ◌==◌, List, [], ◌∷◌, ◌++◌, length, length-append, map, take, take_all, take_more, map-append, Hypothesis, get_or, slice_get, Some, refl, sym, ap, subst, ◌∙◌, arith, and_from, list_all, list_any, same_Some, get_or_from_slice_get, slice_get_within, inl, inr, Name, Stmt, Database, stmt_at, before, expr_of, name_at, decode, name_eq, name_same, mandatory_groups, Images, image, AllBelow, AreBelow, IsViewOf, are_disjoint, is_group_disjoint, are_groups_disjoint, list_all-append, list_all-map, list_all_more, list_any_at, and_parts, eqb-true, or_cases, slice_range, cut-more, cut-push, extends-refl, range-behind, spans-push, decoded_hypothesis, AreSpansIn, cut, BufferPart, AssertionView, has_both, is_paired, are_covered, AreSameCondition, IsCitedBy, CitationLists, AreMadeOf, AreListsOf, AreKeptLists, IsCacheFor, CheckerCache, AreFacts, IsAt}
+use Rattle.verify.proofs.Words.{◌≡◌, ℕ, zero, suc, ◌+◌, ◌<◌, ◌≤◌, Bool, true, false, ◌&&◌, ◌||◌, ◌==◌, List, [], ◌∷◌, ◌++◌, length, length-append, map, take, take_all, take_more, map-append, Hypothesis, get_or, slice_get, Some, refl, sym, ap, subst, ◌∙◌, arith, and_from, list_all, list_any, same_Some, get_or_from_slice_get, slice_get_within, inl, inr, Name, Stmt, Database, stmt_at, before, expr_of, name_at, decode, name_eq, name_same, mandatory_groups, Images, image, AllBelow, AreBelow, IsViewOf, are_disjoint, is_group_disjoint, are_groups_disjoint, list_all-append, list_all-map, list_all_more, list_any_at, and_parts, eqb-true, or_cases, slice_range, cut-more, cut-push, extends-refl, range-behind, spans-push, decoded_hypothesis, AreSpansIn, cut, BufferPart, AssertionView, has_both, is_paired, are_covered, AreSameCondition, IsCitedBy, CitationLists, AreMadeOf, AreListsOf, AreKeptLists, IsCacheFor, CheckerCache, AreFacts, HasListsAt}
 
 -- ---- the pairs of lists
 
@@ -158,10 +158,10 @@ kept-at S names (m ∷ ls) zero l h e = subst (λ (v : CitationLists). (s : Stmt
 kept-at S names (m ∷ ls) (suc i) l h e = kept-at S names ls i l h.1 e
 
 -- the lists at the index of a position are right for the assertion at that position
-pub kept-lists : (S : Database) (names : List Name) (ls : List CitationLists) (i position : ℕ) (l : CitationLists) → AreKeptLists S names ls → IsAt ls i position → slice_get ls i ≡ Some l → (s : Stmt) → stmt_at S position ≡ Some s → AreListsOf S names l s
+pub kept-lists : (S : Database) (names : List Name) (ls : List CitationLists) (i position : ℕ) (l : CitationLists) → AreKeptLists S names ls → HasListsAt ls i position → slice_get ls i ≡ Some l → (s : Stmt) → stmt_at S position ≡ Some s → AreListsOf S names l s
 kept-lists S names ls i position l kept at here s is = kept-at S names ls i l kept here s (ap (stmt_at S) (at.there l here) ∙ is)
 
-pub at-end : (ls : List CitationLists) (l : CitationLists) (position : ℕ) → l.position ≡ position → IsAt (ls ++ l ∷ []) (length ls) position
+pub at-end : (ls : List CitationLists) (l : CitationLists) (position : ℕ) → l.position ≡ position → HasListsAt (ls ++ l ∷ []) (length ls) position
 at-end ls l position same = record {
   within = let n = length-append ls (l ∷ []) in omega (arith, n);
   there = λ m here. ap (λ (v : CitationLists). v.position) (sym (same_Some l m (sym (last ls) ∙ here))) ∙ same;

@@ -1,5 +1,5 @@
 -- The table of the meanings of labels, and the search for a listed label among the mandatory hypotheses, whose positions rise.
-use Rattle.verify.proofs.Words.{◌≡◌, ℕ, suc, ◌+◌, ◌-◌, ◌<◌, Bool, true, false, nat_lt, List, [], ◌∷◌, ◌++◌, length, take, get_or, Option, Some, None, refl, zero, ◌≤◌, cond, ◌==◌, ◌||◌, filter, map, slice_index_or, MatchResult, Result, Ok, Err, drop, sym, ◌∙◌, ap, subst, arith, length-append, true≢false, append_assoc, get_or_default, take_more, length-drop, drop_more, list_any, IsNonDecreasing, nat_tests, bytes_eq-Decides, or_right, Name, name_eq, has_name, Stmt, Database, stmt_at, is_assertion, active_from, before, label_of, stays_open, Carries, IsHypothesis, is_hypothesis_kind, HasAssertion, hypotheses, is_hypothesis, HasLabelsOnce, IsPosition, ArePositions, IsCitable, LabelEntry, Nothing, Assertion, IsEntry, AreEntries, is_hypothesis_among, some-same, get-front, get-last, share_label, label_or_none, mandatory_labels, IsProvable, or-false, get_or-append_right, get_or-map, length-map, get_or_from_slice_get, slice_get_within, slice_get, list_any-append, both_ways}
+use Rattle.verify.proofs.Words.{◌≡◌, ℕ, suc, ◌+◌, ◌-◌, ◌<◌, Bool, true, false, nat_lt, List, [], ◌∷◌, ◌++◌, length, take, get_or, Option, Some, None, refl, zero, ◌≤◌, cond, ◌==◌, ◌||◌, filter, map, slice_index_or, MatchResult, Result, Ok, Err, drop, sym, ◌∙◌, ap, subst, arith, length-append, true≢false, append_assoc, get_or_default, take_more, length-drop, drop_more, list_any, IsNonDecreasing, nat_tests, bytes_eq-Decides, or_right, Name, name_eq, has_name, Stmt, Database, stmt_at, is_assertion, active_from, before, label_of, stays_open, Carries, IsHypothesis, is_hypothesis_kind, HasAssertion, hypotheses, is_hypothesis, HasLabelsOnce, IsPosition, ArePositions, IsCitable, LabelEntry, Nothing, Assertion, IsEntry, AreEntries, is_hypothesis_among, some-same, get-front, get-last, share_label, label_or_empty, mandatory_labels, IsProvable, or-false, get_or-append_right, get_or-map, length-map, get_or_from_slice_get, slice_get_within, slice_get, list_any-append, both_ways}
 use Rattle.verify.specs.declared.label_table.LabelEntry.TheVariants.{Hypothesis}
 use Rattle.verify.proofs.MandatoryEntries.{IsMandatory, AreMandatory, labels_at, mandatory-of}
 use Rattle.verify.proofs.Decide.{not_both}
@@ -95,31 +95,31 @@ is_at p (Hypothesis i) = p == i
 is_at p (Assertion a) = false
 is_at p Nothing = false
 
-one-test : (S : Database) (at : ℕ) (label : Name) (e : LabelEntry) (p : ℕ) → HasLabelsOnce S → IsEntry S at label e → IsMandatory S at p → name_eq label (label_or_none (stmt_at S p)) ≡ is_at p e
+one-test : (S : Database) (at : ℕ) (label : Name) (e : LabelEntry) (p : ℕ) → HasLabelsOnce S → IsEntry S at label e → IsMandatory S at p → name_eq label (label_or_empty (stmt_at S p)) ≡ is_at p e
 one-test S at label (Hypothesis i) p once is m =
-    both_ways (name_eq label (label_or_none (stmt_at S p))) (p == i)
+    both_ways (name_eq label (label_or_empty (stmt_at S p))) (p == i)
     (λ t.
-    let same : label ≡ label_or_none (stmt_at S p) = (bytes_eq-Decides label (label_or_none (stmt_at S p))).0 t in
-    let one : p ≡ i = once p i m.stmt is.0 (label_or_none (stmt_at S p)) m.carries (subst (Carries S i is.0) same is.1) in
+    let same : label ≡ label_or_empty (stmt_at S p) = (bytes_eq-Decides label (label_or_empty (stmt_at S p))).0 t in
+    let one : p ≡ i = once p i m.stmt is.0 (label_or_empty (stmt_at S p)) m.carries (subst (Carries S i is.0) same is.1) in
     grind (arith, nat_tests))
     (λ t.
     let one : p ≡ i = grind (arith, nat_tests) in
     let there : Carries S p is.0 label = subst (λ k. Carries S k is.0 label) (sym one) is.1 in
-    let equal : Some label ≡ Some (label_or_none (stmt_at S p)) = sym there.carried ∙ (ap label_of (some-same there.stands m.carries.stands) ∙ m.carries.carried) in
-    (bytes_eq-Decides label (label_or_none (stmt_at S p))).1 (let q : label ≡ label_or_none (stmt_at S p) = cc in q))
+    let equal : Some label ≡ Some (label_or_empty (stmt_at S p)) = sym there.carried ∙ (ap label_of (some-same there.stands m.carries.stands) ∙ m.carries.carried) in
+    (bytes_eq-Decides label (label_or_empty (stmt_at S p))).1 (let q : label ≡ label_or_empty (stmt_at S p) = cc in q))
 one-test S at label (Assertion a) p once is m =
-    both_ways (name_eq label (label_or_none (stmt_at S p))) false
+    both_ways (name_eq label (label_or_empty (stmt_at S p))) false
     (λ t.
-    let same : label ≡ label_or_none (stmt_at S p) = (bytes_eq-Decides label (label_or_none (stmt_at S p))).0 t in
-    let there : Carries S a is.0 (label_or_none (stmt_at S p)) = subst (Carries S a is.0) same is.1 in
-    let one : p ≡ a = once p a m.stmt is.0 (label_or_none (stmt_at S p)) m.carries there in
+    let same : label ≡ label_or_empty (stmt_at S p) = (bytes_eq-Decides label (label_or_empty (stmt_at S p))).0 t in
+    let there : Carries S a is.0 (label_or_empty (stmt_at S p)) = subst (Carries S a is.0) same is.1 in
+    let one : p ≡ a = once p a m.stmt is.0 (label_or_empty (stmt_at S p)) m.carries there in
     let stmt : m.stmt ≡ is.0 = some-same m.carries.stands (ap (stmt_at S) one ∙ there.stands) in
     absurd (not_both is.0 (ap is_hypothesis_kind (sym stmt) ∙ m.active.kind) is.2.assertion))
     (λ f. absurd (true≢false (sym f)))
 one-test S at label Nothing p once is m =
-    both_ways (name_eq label (label_or_none (stmt_at S p))) false
+    both_ways (name_eq label (label_or_empty (stmt_at S p))) false
     (λ t.
-    let same : label ≡ label_or_none (stmt_at S p) = (bytes_eq-Decides label (label_or_none (stmt_at S p))).0 t in
+    let same : label ≡ label_or_empty (stmt_at S p) = (bytes_eq-Decides label (label_or_empty (stmt_at S p))).0 t in
     absurd ((is p m.stmt (subst (Carries S p m.stmt) (sym same) m.carries)).0 m.active))
     (λ f. absurd (true≢false (sym f)))
 

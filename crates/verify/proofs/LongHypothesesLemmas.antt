@@ -18,7 +18,7 @@ use Rattle.subst.specs.RemainingSymbols.{has_nonempty_image}
 use Rattle.subst.specs.SymbolRanges.{images_at}
 use Rattle.subst.specs.declared.symbol_range.SymbolRange.{SymbolRange}
 use Rattle.entries.specs.PositionSets.{Ascends}
-use Rattle.verify.specs.LongHypotheses.{AreListed, AreThoseOf, IsLeftOf, IsListed}
+use Rattle.verify.specs.LongHypotheses.{AreListed, AreHypothesesOf, AreRemaining, IsListed}
 use Rattle.verify.proofs.RequiredHypotheses.{essential-at, float-at, float-number, required-at, required-lengths}
 
 -- ---- members of lists
@@ -74,7 +74,7 @@ pub record IsEssential (S : Database) (ps : List ℕ) (k position : ℕ) : Type 
   pub here : slice_get ps k ≡ Some position
   pub there : stmt_at S position ≡ Some (Ess label expr)
 
-pub essential : (S : Database) (names : List Name) (a : ℕ) (s : Stmt) (hs : List Hypothesis) → stmt_at S a ≡ Some s → AreThoseOf S names a hs → (k position : ℕ) → slice_get hs k ≡ Some (Essential position) → IsEssential S (hypotheses (before S a) s) k position
+pub essential : (S : Database) (names : List Name) (a : ℕ) (s : Stmt) (hs : List Hypothesis) → stmt_at S a ≡ Some s → AreHypothesesOf S names a hs → (k position : ℕ) → slice_get hs k ≡ Some (Essential position) → IsEssential S (hypotheses (before S a) s) k position
 essential S names a s hs stands those k position h =
     let r = those s stands in
     let ps = hypotheses (before S a) s in
@@ -87,12 +87,12 @@ essential S names a s hs stands those k position h =
 -- ---- what is left
 
 module _ (S : Database) (names : List Name) (a : ℕ) (s : Stmt) (hs : List Hypothesis) (σ : CodeImages) (keys : List ℕ)
-    (bound : IsBound S a s) (distinct : AreDistinct names) (stands : stmt_at S a ≡ Some s) (those : AreThoseOf S names a hs) (listed : AreListed S names a hs σ keys) where
+    (bound : IsBound S a s) (distinct : AreDistinct names) (stands : stmt_at S a ≡ Some s) (those : AreHypothesesOf S names a hs) (listed : AreListed S names a hs σ keys) where
   abbrev ps : List ℕ
   ps = hypotheses (before S a) s
 
   module _ (k position : ℕ) (codes left : List ℕ) (h : slice_get hs k ≡ Some (Essential position)) (below : AreBelow (length names) codes) (same : (r : Stmt) → stmt_at S position ≡ Some r → decode names codes ≡ expr_of r)
-      (l : IsLeftOf S names position codes keys left) where
+      (l : AreRemaining S names position codes keys left) where
     gone : (x : ℕ) → In x codes → l.has_listed.keeps x ≡ false → code_image σ x ≡ []
     gone x m out = by (code_image σ x) refl
       where

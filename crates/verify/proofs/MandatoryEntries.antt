@@ -1,5 +1,5 @@
 -- The mandatory hypotheses of a statement, as entries of a table.
-use Rattle.verify.proofs.Words.{◌≡◌, ℕ, zero, suc, ◌+◌, ◌-◌, ◌<◌, ◌≤◌, Bool, true, ◌&&◌, nat_le, nat_lt, List, [], ◌∷◌, ◌++◌, length, map, take, drop, get_or, slice_get, Some, unwrap_or, refl, sym, ◌∙◌, ap, subst, arith, append_assoc, length-append, nat_tests, take-append-drop, take_at, drop_at, length-take-le, length-map, length_push, Name, Stmt, Ess, Database, before, label_of, stays_open, stmt_at, stands-within, Carries, IsHypothesis, is_hypothesis_kind, hypotheses, LabelEntry, Nothing, label_or_none, mandatory_labels, IsProvable, IsEntry, AreEntries, IsHyp, AreHyps, hyps, hypothesis-kinds}
+use Rattle.verify.proofs.Words.{◌≡◌, ℕ, zero, suc, ◌+◌, ◌-◌, ◌<◌, ◌≤◌, Bool, true, ◌&&◌, nat_le, nat_lt, List, [], ◌∷◌, ◌++◌, length, map, take, drop, get_or, slice_get, Some, unwrap_or, refl, sym, ◌∙◌, ap, subst, arith, append_assoc, length-append, nat_tests, take-append-drop, take_at, drop_at, length-take-le, length-map, length_push, Name, Stmt, Ess, Database, before, label_of, stays_open, stmt_at, stands-within, Carries, IsHypothesis, is_hypothesis_kind, hypotheses, LabelEntry, Nothing, label_or_empty, mandatory_labels, IsProvable, IsEntry, AreEntries, IsHyp, AreHyps, hyps, hypothesis-kinds}
 use Rattle.mm_read.specs.declared.stmt.Stmt.TheVariants.{Float}
 use Rattle.verify.specs.declared.label_table.LabelEntry.TheVariants.{Hypothesis}
 
@@ -22,7 +22,7 @@ between-middle front t rest more n e =
 -- a mandatory hypothesis is active, and carries its label
 pub record IsMandatory (S : Database) (at p : ℕ) : Type 0 where
   pub stmt : Stmt
-  pub carries : Carries S p stmt (label_or_none (stmt_at S p))
+  pub carries : Carries S p stmt (label_or_empty (stmt_at S p))
   pub active : IsHypothesis S at p stmt
 
 and-true : (a b c : Bool) → a ≡ true → b ≡ true → c ≡ true → (a && b && c) ≡ true
@@ -41,7 +41,7 @@ mandatory-is S at s p low high h =
     let test : nat_lt p at ≡ true = grind (arith, nat_tests) in
     record {
       stmt = h.stmt;
-      carries = record { stands = stands; carried = has-label h.stmt kind ∙ ap (λ o. Some (label_or_none o)) (sym stands) };
+      carries = record { stands = stands; carried = has-label h.stmt kind ∙ ap (λ o. Some (label_or_empty o)) (sym stands) };
       active = record { stands = stands; kind = kind; active = and-true (nat_le 1 p) (nat_lt p at) (stays_open 0 (take (at - 1 - p) (drop p S))) first test (ap (stays_open 0) between ∙ h.stays) };
     }
 
@@ -54,7 +54,7 @@ all-mandatory S at s [] low high h = tt
 all-mandatory S at s (p ∷ ps) low high h = (mandatory-is S at s p low high h.0, all-mandatory S at s ps low high h.1)
 
 abbrev pub labels_at : Database → List ℕ → List Name
-labels_at S ps = map (λ i. label_or_none (stmt_at S i)) ps
+labels_at S ps = map (λ i. label_or_empty (stmt_at S i)) ps
 
 pub mandatory-of : (S : Database) (at : ℕ) (s : Stmt) → IsProvable S at s → AreMandatory S at (hypotheses (before S at) s)
 mandatory-of S at s p =
@@ -73,6 +73,6 @@ mandatory-entries S at s ps table p are filled =
     let hs : List ℕ = hypotheses (before S at) s in
     subst (AreEntries S at (labels_at S (hypotheses (before S at) s))) (sym (filled ∙ ap (map Hypothesis) are))
     (record {
-      count = length-map (hypotheses (before S at) s) Hypothesis ∙ sym (length-map (hypotheses (before S at) s) (λ i. label_or_none (stmt_at S i)));
+      count = length-map (hypotheses (before S at) s) Hypothesis ∙ sym (length-map (hypotheses (before S at) s) (λ i. label_or_empty (stmt_at S i)));
       each = entry-each S at (hypotheses (before S at) s) (mandatory-of S at s p);
     })

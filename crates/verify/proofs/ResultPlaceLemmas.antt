@@ -1,5 +1,5 @@
 -- Results as ranges of a buffer that grows.
-use Rattle.verify.proofs.Words.{◌≡◌, ℕ, zero, suc, ◌+◌, ◌-◌, ◌<◌, ◌≤◌, List, [], ◌∷◌, ◌++◌, length, map, take, drop, get_or, replicate, slice_get, slice_set, Some, refl, option_map, sym, ◌∙◌, ap, subst, append_assoc, arith, length-append, length-drop, length-map, map-set, take-map, drop-map, map_push, take_rest, slice_get-map, slice_get-get_or, get_or_from_slice_get, SymbolRange, symbols_in, AreWithin, AreInside, map-seen-more, within-weaken, within-snoc, within-take, within-drop, within-get, within-at, seen-get, length-seen, seen-last, inside-more, inside-none, Results, with_result, IsSaved, seen, AreResultRanges, CachesLast, below, top, weight_limit, get-last}
+use Rattle.verify.proofs.Words.{◌≡◌, ℕ, zero, suc, ◌+◌, ◌-◌, ◌<◌, ◌≤◌, List, [], ◌∷◌, ◌++◌, length, map, take, drop, get_or, replicate, slice_get, slice_set, Some, refl, option_map, sym, ◌∙◌, ap, subst, append_assoc, arith, length-append, length-drop, length-map, map-set, take-map, drop-map, map_push, take_rest, slice_get-map, slice_get-get_or, get_or_from_slice_get, SymbolRange, symbols_in, AreWithin, AreInside, map-seen-more, within-weaken, within-snoc, within-take, within-drop, within-get, within-at, seen-get, length-seen, seen-last, inside-more, inside-none, Results, with_result, IsSaved, results_in, AreResultRanges, CachesLast, below, top, weight_limit, get-last}
 
 pub map-drop : {A B : Type 0} (f : A → B) (k : ℕ) (xs : List A) → map f (drop k xs) ≡ drop k (map f xs)
 map-drop f k xs = sym (drop-map f k xs)
@@ -41,7 +41,7 @@ pushed-kept xs images stack saved stack' w p k b whole =
 
 pub added-seen : (xs ys zs : List ℕ) (stack rest saved stack' : List SymbolRange) (w v : ℕ) (p : SymbolRange) → AreWithin (length xs) saved → AreWithin (length xs) rest
     → zs ≡ xs ++ ys → p.start ≡ length xs → p.end ≡ length zs → stack' ≡ rest ++ p ∷ [] → v ≡ w + length ys
-    → seen zs stack' saved v ≡ with_result (seen xs stack saved w) (map (symbols_in xs) rest) ys
+    → results_in zs stack' saved v ≡ with_result (results_in xs stack saved w) (map (symbols_in xs) rest) ys
 added-seen xs ys zs stack rest saved stack' w v p k r e low high whole weighs =
     results-same (map (symbols_in zs) stack') (map (symbols_in xs) rest ++ ys ∷ []) (map (symbols_in zs) saved) (map (symbols_in xs) saved) v (w + length ys)
     (ap (map (symbols_in zs)) whole ∙ (map_push (symbols_in zs) rest p
@@ -63,7 +63,7 @@ kept-keep xs images stack saved saved' w k label p a h e =
     let b = within-get (length xs) k stack p a.stack_within h in
     record { images_inside = a.images_inside; stack_within = a.stack_within; saved_within = subst (AreWithin (length xs)) (sym e) (within-set (length xs) label saved p a.saved_within b.0 b.1); few = a.few; light = a.light }
 
-pub keep-seen : (xs : List ℕ) (stack saved saved' : List SymbolRange) (w label : ℕ) (p : SymbolRange) → slice_get stack (length stack - 1) ≡ Some p → saved' ≡ slice_set saved label p → CachesLast (seen xs stack saved w) (seen xs stack saved' w) label
+pub keep-seen : (xs : List ℕ) (stack saved saved' : List SymbolRange) (w label : ℕ) (p : SymbolRange) → slice_get stack (length stack - 1) ≡ Some p → saved' ≡ slice_set saved label p → CachesLast (results_in xs stack saved w) (results_in xs stack saved' w) label
 keep-seen xs stack saved saved' w label p last set = λ rest e split.
     let low = length stack - 1 in
     let same : symbols_in xs p ≡ e =
@@ -100,7 +100,7 @@ get-map-some f xs k d h = slice_get-map f xs k ∙ ap (option_map f) (slice_get-
 
 -- pushing the saved range at an index recalls the saved result
 pub recall-seen : (xs : List ℕ) (stack stack' saved : List SymbolRange) (w v k : ℕ) (d p : SymbolRange) → AreWithin (length xs) saved → k < length saved → p ≡ get_or saved k d
-    → stack' ≡ stack ++ p ∷ [] → v ≡ w + (p.end - p.start) → (e : List ℕ) × IsSaved (map (symbols_in xs) saved) (suc k) e × (seen xs stack' saved v ≡ with_result (seen xs stack saved w) (map (symbols_in xs) stack) e)
+    → stack' ≡ stack ++ p ∷ [] → v ≡ w + (p.end - p.start) → (e : List ℕ) × IsSaved (map (symbols_in xs) saved) (suc k) e × (results_in xs stack' saved v ≡ with_result (results_in xs stack saved w) (map (symbols_in xs) stack) e)
 recall-seen xs stack stack' saved w v k d p a less at whole weighs =
     let b = saved-at (length xs) k saved p d a less at in
     let len : length (symbols_in xs p) ≡ p.end - p.start = length-seen xs p b.0 b.1 in (
@@ -155,7 +155,7 @@ resized-none n m old new e f g =
     none (suc k) = refl
 
 pub started-seen : (xs : List ℕ) (n : ℕ) (stack saved : List SymbolRange) → xs ≡ [] → stack ≡ [] → saved ≡ replicate n (let p : SymbolRange = record { start = 0; end = 0 } in p)
-    → seen xs stack saved 0 ≡ (let r : Results ℕ = record { stack = []; saved = replicate n []; weight = 0 } in r)
+    → results_in xs stack saved 0 ≡ (let r : Results ℕ = record { stack = []; saved = replicate n []; weight = 0 } in r)
 started-seen xs n stack saved e f g =
     results-same (map (symbols_in xs) stack) [] (map (symbols_in xs) saved) (replicate n []) 0 0
     (ap (map (symbols_in xs)) f) (ap (λ s. map (symbols_in s) saved) e ∙ (ap (map (symbols_in [])) g ∙ seen-none n)) refl
@@ -201,10 +201,10 @@ apply-kept xs ys zs images stack saved stack' w v k p a e low high whole weighs 
 
 pub apply-seen : (xs ys zs : List ℕ) (images : List (ℕ × SymbolRange)) (stack saved stack' : List SymbolRange) (w v k r : ℕ) (p : SymbolRange) → AreResultRanges xs images stack saved w → k ≡ length stack - r
     → zs ≡ xs ++ ys → p.start ≡ length xs → p.end ≡ length zs → stack' ≡ take k stack ++ p ∷ [] → v ≡ w + length ys
-    → seen zs stack' saved v ≡ with_result (seen xs stack saved w) (below r (map (symbols_in xs) stack)) ys
+    → results_in zs stack' saved v ≡ with_result (results_in xs stack saved w) (below r (map (symbols_in xs) stack)) ys
 apply-seen xs ys zs images stack saved stack' w v k r p a at e low high whole weighs =
     added-seen xs ys zs stack (take k stack) saved stack' w v p a.saved_within (within-take (length xs) k stack a.stack_within) e low high whole weighs
-    ∙ ap (λ b. with_result (seen xs stack saved w) b ys) (sym (take-map (symbols_in xs) k stack) ∙ ap (λ n. take n (map (symbols_in xs) stack)) (at ∙ ap (λ n. n - r) (sym (length-map stack (symbols_in xs)))))
+    ∙ ap (λ b. with_result (results_in xs stack saved w) b ys) (sym (take-map (symbols_in xs) k stack) ∙ ap (λ n. take n (map (symbols_in xs) stack)) (at ∙ ap (λ n. n - r) (sym (length-map stack (symbols_in xs)))))
 
 -- other images within the buffer
 pub kept-read : (xs : List ℕ) (images images' : List (ℕ × SymbolRange)) (stack saved : List SymbolRange) (w : ℕ) → AreResultRanges xs images stack saved w → AreInside (length xs) images' → AreResultRanges xs images' stack saved w

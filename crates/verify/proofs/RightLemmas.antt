@@ -1,5 +1,5 @@
 -- The answers for a right proof, and for a compressed proof that was read.
-use Rattle.verify.proofs.Words.{◌≡◌, ℕ, ◌≤◌, ◌<◌, ◌↔◌, min, List, [], length, map, get_or, Some, Result, Ok, Err, IfOk, refl, option_map, Bool, true, false, not, ◌∷◌, ◌++◌, take, sym, ◌∙◌, ap, subst, arith, inl, inr, true≢false, length-map, take_at, slice_get-get_or, not-false, not-true, Database, Stmt, HasLabelsOnce, Item, Extent, Node, TreePlan, Derivation, node_count, depth, IsRight, Derives, IsSmall, IsProvable, IsAnswerTo, trees, GrowsBy, pick, built, trees_of, IsPlan, extent_of, below-at, bare, bares, stmt_at, is_provable, before, stmt_at-bares, Name, hypotheses, items_of, share_label, IsHeading, label_or_none, mandatory_labels, Proves, some-same, bare-same, is_compressed, finish, Writes, WritesCompressed, compressed_finished, one_list, Answer, Proved, Wrong}
+use Rattle.verify.proofs.Words.{◌≡◌, ℕ, ◌≤◌, ◌<◌, ◌↔◌, min, List, [], length, map, get_or, Some, Result, Ok, Err, IfOk, refl, option_map, Bool, true, false, not, ◌∷◌, ◌++◌, take, sym, ◌∙◌, ap, subst, arith, inl, inr, true≢false, length-map, take_at, slice_get-get_or, not-false, not-true, Database, Stmt, HasLabelsOnce, Item, Extent, Node, TreePlan, Derivation, node_count, depth, IsRight, Derives, IsSmall, IsProvable, IsAnswerTo, trees, GrowsBy, pick, built, trees_of, IsPlan, extent_of, below-at, bare, bares, stmt_at, is_provable, before, stmt_at-bares, Name, hypotheses, items_of, share_label, IsHeading, label_or_empty, mandatory_labels, Proves, some-same, bare-same, is_compressed, finish, Writes, WritesCompressed, compressed_finished, one_list, Answer, Proved, Wrong}
 use Rattle.verify.specs.declared.answer.TreeFault.TheVariants.{Wrong}
 use Rattle.verify.proofs.GrowthLemmas.{spelled_once, leaves, only-number}
 use Rattle.verify.proofs.PlanLemmas.{length-built', child-extent}
@@ -61,7 +61,7 @@ module _ (S : Database) (at : ℕ) (s : Stmt) (tokens : List Name) (provable : I
 
   -- there are as many mandatory labels as mandatory hypotheses
   pub many : (hs : List ℕ) → hs ≡ hypotheses (before S at) s → length (mandatory_labels S at s) ≡ length hs
-  many hs are = length-map (hypotheses (before S at) s) (λ i. label_or_none (stmt_at S i)) ∙ ap length (sym are)
+  many hs are = length-map (hypotheses (before S at) s) (λ i. label_or_empty (stmt_at S i)) ∙ ap length (sym are)
 
   -- tokens that write no items under any list of so many labels do not prove the statement
   pub unwritten : (hs : List ℕ) → hs ≡ hypotheses (before S at) s → ((labels : List Name) → length labels ≡ length hs → (items : List Item) → WritesCompressed tokens labels items → ⊥) → Proves S at tokens → ⊥

@@ -1,5 +1,5 @@
 -- The exits of a step in the code are steps of the machine.
-use Rattle.verify.proofs.Words.{◌≡◌, ℕ, suc, ◌+◌, ◌-◌, ◌<◌, ◌≤◌, Bool, true, false, List, [], ◌∷◌, ◌++◌, length, map, take, drop, get_or, Some, refl, IsTrue, nat_lt, nat_eq, replicate, slice_get, slice_set, sym, ◌∙◌, ap, subst, arith, true≢false, length-append, nat_tests, length-map, map-append, take-append-drop, take_all, take_more, same_from_push, map_push, append-nil, nil_from_length, drop_all, drop_more, map_more, drop-append-le, drop-set-lt, length-set, length-replicate, get_or-set_same, get_or-set_other, get_or-replicate, get_or_from_slice_get, get_or_default, slice_get-get_or, item-cite, item-recall, Name, Stmt, Database, stmt_at, expr_of, name_at, decode, Item, Cite, Recall, Results, State, start, Cites, of_hypothesis, of_assertion, premises, Expr, Runs, with_result, Adds, Marks, Recalls, CachesLast, AreBelow, AllBelow, named, AreNamed, StepsByNumber, without_cached, HasCited, IsCached, AreCached, AreKnown, StepsWithTable, AreLegal, item_of, IsRight, weight_limit, decode-injective, below-group, LabelEntry, Nothing, IsEntry, AreEntries, get-front, length-drop, get_or-append_right, get_or-drop}
+use Rattle.verify.proofs.Words.{◌≡◌, ℕ, suc, ◌+◌, ◌-◌, ◌<◌, ◌≤◌, Bool, true, false, List, [], ◌∷◌, ◌++◌, length, map, take, drop, get_or, Some, refl, IsTrue, nat_lt, nat_eq, replicate, slice_get, slice_set, sym, ◌∙◌, ap, subst, arith, true≢false, length-append, nat_tests, length-map, map-append, take-append-drop, take_all, take_more, same_from_push, map_push, append-nil, nil_from_length, drop_all, drop_more, map_more, drop-append-le, drop-set-lt, length-set, length-replicate, get_or-set_same, get_or-set_other, get_or-replicate, get_or_from_slice_get, get_or_default, slice_get-get_or, item-cite, item-recall, Name, Stmt, Database, stmt_at, expr_of, name_at, decode, Item, Cite, Recall, Results, State, start, Cites, of_hypothesis, of_assertion, premises, Expr, Runs, with_result, Adds, Marks, Recalls, CachesLast, AreBelow, AllBelow, named, AreNamed, StepsByNumber, without_cached, HasCited, IsCached, AreCached, AreNamedAndCached, StepsWithTable, AreLegal, item_of, IsRight, weight_limit, decode-injective, below-group, LabelEntry, Nothing, IsEntry, AreEntries, get-front, length-drop, get_or-append_right, get_or-drop}
 use Rattle.verify.proofs.Named.{goes-recall, goes-mark, named-result, result-named, all-drop, all-set, all-snoc, all-none, all-at, get-drop}
 use Rattle.verify.proofs.Decide.{cites_same, refuted_at_end, refuted_at_step, accepts_right}
 use Rattle.verify.proofs.Complete.{runs_append}
@@ -101,13 +101,13 @@ module _ (S : Database) (names : List Name) (at : ℕ) where
       let w = ap (λ (st : State). st.weight) p.3 in
       omega (arith, heavy, w)
 
-  module _ (legal : AreLegal S names) (table : List LabelEntry) (old new : Results ℕ) (known : AreKnown S at names table old) where
+  module _ (legal : AreLegal S names) (table : List LabelEntry) (old new : Results ℕ) (known : AreNamedAndCached S at names table old) where
     -- the numbers in the results without the cached ones have names
     below_named : AreNamed names (without_cached (length table) old)
     below_named = without_cached-named (length table) old known.are_named
 
     -- the new results are known if the item was done
-    known-if : (P : Bool → Type 0) → (P true → AreKnown S at names table new) → (ok : Bool) → P ok → IsTrue ok → AreKnown S at names table new
+    known-if : (P : Bool → Type 0) → (P true → AreNamedAndCached S at names table new) → (ok : Bool) → P ok → IsTrue ok → AreNamedAndCached S at names table new
     known-if P f true p t = f p
     known-if P f false p t = absurd (true≢false (sym t))
 
@@ -140,8 +140,8 @@ module _ (S : Database) (names : List Name) (at : ℕ) where
             let all = ap length split ∙ length-append _ (e ∷ []) in
             subst (Cites S at label stack stack) same.1 (cites-alone S at label (map (decode names) old.stack) run.0 run.1 run.2 (omega (arith, len, all, more, length-map old.stack (decode names))) stack)
 
-        kept-known : AreKnown S at names table new → AreKnown S at names table last
-        kept-known a = subst (AreKnown S at names table) (sym kept) (record {
+        kept-known : AreNamedAndCached S at names table new → AreNamedAndCached S at names table last
+        kept-known a = subst (AreNamedAndCached S at names table) (sym kept) (record {
           are_named = record { stack_named = a.are_named.stack_named; saved_named = all-set (length names) k new.saved e a.are_named.saved_named (all-at (length names) (length new.stack - 1) new.stack a.are_named.stack_named) };
           cached = record { enough = subst (λ n. length table ≤ n) (sym (length-set new.saved k e)) a.cached.enough; each = λ j less. by j less (nat_eq k j) refl };
         })
@@ -177,8 +177,8 @@ module _ (S : Database) (names : List Name) (at : ℕ) where
 
     -- ---- the recall of a saved result
 
-    recall-known : (k : ℕ) → Recalls true old new (suc k) → AreKnown S at names table new
-    recall-known k r = subst (AreKnown S at names table) (sym r.2) (record {
+    recall-known : (k : ℕ) → Recalls true old new (suc k) → AreNamedAndCached S at names table new
+    recall-known k r = subst (AreNamedAndCached S at names table) (sym r.2) (record {
       are_named = record { stack_named = all-snoc (length names) old.stack r.0 known.are_named.stack_named (below-group (length names) old.saved k r.0 known.are_named.saved_named r.1); saved_named = known.are_named.saved_named };
       cached = known.cached;
     })
@@ -241,10 +241,10 @@ module _ (S : Database) (names : List Name) (at : ℕ) where
         last-named [] e p = p.0
         last-named (x ∷ b) e p = last-named b e p.1
 
-        marked : Marks true old new → AreKnown S at names table new
+        marked : Marks true old new → AreNamedAndCached S at names table new
         marked h =
             let enough = known.cached.enough in
-            subst (AreKnown S at names table) (sym h.3) (record {
+            subst (AreNamedAndCached S at names table) (sym h.3) (record {
               are_named = record {
                 stack_named = known.are_named.stack_named;
                 saved_named = all-snoc (length names) old.saved h.1 known.are_named.saved_named (last-named h.0 h.1 (subst (AllBelow (length names)) h.2 known.are_named.stack_named));
@@ -257,8 +257,8 @@ module _ (S : Database) (names : List Name) (at : ℕ) where
 
   -- ---- the start
 
-  pub start-known : (table : List LabelEntry) (st : Results ℕ) → st ≡ (let r : Results ℕ = record { stack = []; saved = replicate (length table) []; weight = 0 } in r) → AreKnown S at names table st
-  start-known table st is = subst (AreKnown S at names table) (sym is) (record {
+  pub start-known : (table : List LabelEntry) (st : Results ℕ) → st ≡ (let r : Results ℕ = record { stack = []; saved = replicate (length table) []; weight = 0 } in r) → AreNamedAndCached S at names table st
+  start-known table st is = subst (AreNamedAndCached S at names table) (sym is) (record {
     are_named = record { stack_named = tt; saved_named = all-none (length names) (length table) };
     cached = record {
       enough = (let l = length-replicate (length table) (let r : List ℕ = [] in r) in omega (arith, l));

@@ -76,23 +76,23 @@ pub use Rattle.subst.specs.declared.symbol_range.SymbolRange.{SymbolRange}
 pub use Rattle.verify.specs.Concludes.{ConcludeAll, Concludes}
 pub use Rattle.verify.specs.Derivations.{Derivation, Derivations, apply, depth, depth_in, derivation_of, derivation_step, from_list, hyp, more, node_count, nodes_in, none}
 pub use Rattle.verify.specs.Extents.{extent_of}
-pub use Rattle.verify.specs.HypothesisResults.{AreDifferent, AreFloats, AreLeadingFloats, AreRead, ArePresent, DoMatch, HypothesisMatches, IsPresent, IsTyped, Reads}
+pub use Rattle.verify.specs.HypothesisResults.{AreDifferent, AreFloats, AreLeadingFloats, AreRead, ArePresent, HypothesesMatch, HypothesisMatches, IsPresent, IsTyped, Reads}
 pub use Rattle.verify.specs.Growth.{Builds, Grew, Grows, GrowsBy, IsSavedTree, Trees, a_hypothesis, an_assertion, trees, with_tree}
-pub use Rattle.verify.specs.CitationCache.{IsCacheFor, AreKeptLists, AreListsOf, AreMadeOf, IsAt, IsCitedBy, CheckerCache, CitationLists, AreSameCondition, are_covered, is_paired}
+pub use Rattle.verify.specs.CitationCache.{IsCacheFor, AreKeptLists, AreListsOf, AreMadeOf, HasListsAt, IsCitedBy, CheckerCache, CitationLists, AreSameCondition, are_covered, is_paired}
 pub use Rattle.verify.specs.LabelTable.{AreEntries, IsEntry, is_hypothesis_among, viewed_entries}
 pub use Rattle.verify.specs.Laws.{RunsSpell, SpelledOnce, SpellingsRun}
 pub use Rattle.verify.specs.Machine.{Cites, IsSaved, Results, Runs, State, Steps, of_assertion, of_hypothesis, start, with_mark, with_result}
 pub use Rattle.verify.specs.Plan.{AreOrdered, IsAfter, IsPlan, built, built_from, derive, pick, trees_of}
-pub use Rattle.verify.specs.Proves.{Proves, label_or_none, mandatory_labels}
+pub use Rattle.verify.specs.Proves.{Proves, label_or_empty, mandatory_labels}
 pub use Rattle.verify.specs.ReadPlaces.{BeginsWith, IsMistyped, ReadTo, ReadsAll, tail_of}
-pub use Rattle.verify.specs.ResultPlaces.{Adds, AreHeld, AreResultRanges, HeldResults, CachesLast, Marks, Recalls, UnchangedUnlessDone, below, held, seen, top}
+pub use Rattle.verify.specs.ResultPlaces.{Adds, AreHeld, AreResultRanges, HeldResults, CachesLast, Marks, Recalls, UnchangedUnlessDone, below, held, results_in, top}
 pub use Rattle.verify.specs.Right.{Derives, IsProvable, IsRight, IsSmall, IsAnswerTo, weight_limit}
 pub use Rattle.verify.specs.Spells.{IsCitable, Spells, SpellsAll, cites_assertion, cites_hypothesis, marks, recalls, spells_more, spells_none}
-pub use Rattle.verify.specs.StepsByNumber.{AreCached, AreKnown, AreNamed, HasCited, IsCached, MayCite, StepsByNumber, StepsWithTable, without_cached, named}
-pub use Rattle.verify.specs.Stops.{IsOther, StopsAt}
+pub use Rattle.verify.specs.StepsByNumber.{AreCached, AreNamedAndCached, AreNamed, HasCited, IsCached, MayCite, StepsByNumber, StepsWithTable, without_cached, named}
+pub use Rattle.verify.specs.Stops.{IsNotOnly, StopsAt}
 pub use Rattle.verify.specs.declared.answer.Answer.TheVariants.{Proved, Wrong}
 pub use Rattle.verify.specs.declared.answer.Answer.{Answer}
-pub use Rattle.verify.specs.declared.citation.Claim.{Claim}
+pub use Rattle.verify.specs.declared.citation.ProofContext.{ProofContext}
 pub use Rattle.verify.specs.declared.label_table.LabelEntry.TheVariants.{Assertion, Nothing}
 pub use Rattle.verify.specs.declared.label_table.LabelEntry.{LabelEntry}
 pub use Rattle.verify.specs.declared.plan.Extent.{Extent}

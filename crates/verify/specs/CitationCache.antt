@@ -57,7 +57,7 @@ AreKeptLists S names [] = Unit {0}
 AreKeptLists S names (l ∷ ls) = ((s : Stmt) → stmt_at S l.position ≡ Some s → AreListsOf S names l s) × AreKeptLists S names ls
 
 -- the lists of the assertion at a position are at the index i
-pub record IsAt (ls : List CitationLists) (i position : ℕ) : Type 0 where
+pub record HasListsAt (ls : List CitationLists) (i position : ℕ) : Type 0 where
   pub within : i < length ls
   pub there : (l : CitationLists) → slice_get ls i ≡ Some l → l.position ≡ position
 

@@ -56,9 +56,9 @@ HypothesisMatches S σ (Float x) r = Unit {0}
 HypothesisMatches S σ (Essential p) r = r ≡ applied σ (expr_at S p)
 
 -- each result for a `$e` among the first n hypotheses is its expression with the images substituted
-abbrev pub DoMatchBefore : ℕ → Database → Images → List Hypothesis → List Expr → Type 0
-DoMatchBefore n S σ hs rs = (k : ℕ) (h : Hypothesis) → k < n → slice_get hs k ≡ Some h → HypothesisMatches S σ h (get_or rs k [])
+abbrev pub HypothesesMatchBefore : ℕ → Database → Images → List Hypothesis → List Expr → Type 0
+HypothesesMatchBefore n S σ hs rs = (k : ℕ) (h : Hypothesis) → k < n → slice_get hs k ≡ Some h → HypothesisMatches S σ h (get_or rs k [])
 
 -- each result for a `$e` is its expression with the images substituted
-pub record DoMatch (S : Database) (σ : Images) (hs : List Hypothesis) (rs : List Expr) : Type 0 where
+pub record HypothesesMatch (S : Database) (σ : Images) (hs : List Hypothesis) (rs : List Expr) : Type 0 where
   pub each : (k : ℕ) (h : Hypothesis) → slice_get hs k ≡ Some h → HypothesisMatches S σ h (get_or rs k [])

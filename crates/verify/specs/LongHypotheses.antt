@@ -14,8 +14,8 @@ use Rattle.frame.specs.declared.stored_entries.TheConstants.{LONG_EXPRESSION}
 use Rattle.subst.specs.RemainingSymbols.{HasListed}
 
 -- the hypotheses are those of the assertion at a
-abbrev pub AreThoseOf : Database → List Name → ℕ → List Hypothesis → Type 0
-AreThoseOf S names a hs = (s : Stmt) → stmt_at S a ≡ Some s → (typecodes : List ℕ) × AreNumberedHypotheses S names (hypotheses (before S a) s) typecodes hs
+abbrev pub AreHypothesesOf : Database → List Name → ℕ → List Hypothesis → Type 0
+AreHypothesesOf S names a hs = (s : Stmt) → stmt_at S a ≡ Some s → (typecodes : List ℕ) × AreNumberedHypotheses S names (hypotheses (before S a) s) typecodes hs
 
 -- the symbol is listed for each long `$e` of the assertion at a that has it
 abbrev pub IsListed : Database → List Name → ℕ → ℕ → List ℕ → Type 0
@@ -26,10 +26,10 @@ pub record AreListed (S : Database) (names : List Name) (a : ℕ) (hs : List Hyp
   pub each : (k x : ℕ) → slice_get hs k ≡ Some (Float x) → (code_image σ x ≡ [] → ⊥) → IsListed S names a x keys
   pub ordered : Ascends keys
 
--- `left` has the symbols of the long expression of the `$e` at a position that remain; its constants, and the symbols listed for
--- it, are among them
-pub record IsLeftOf (S : Database) (names : List Name) (position : ℕ) (codes keys left : List ℕ) : Type 0 where
+-- `remaining` has some of the symbols of the long expression of the `$e` at a position, among them its constants and the symbols
+-- listed for it
+pub record AreRemaining (S : Database) (names : List Name) (position : ℕ) (codes keys remaining : List ℕ) : Type 0 where
   pub constants : List ℕ
   pub long : LONG_EXPRESSION ≤ length codes
   pub has_constants : HasConstants (before S position) names (decode names codes) constants
-  pub has_listed : HasListed keys position constants codes left
+  pub has_listed : HasListed keys position constants codes remaining

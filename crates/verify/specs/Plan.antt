@@ -38,12 +38,12 @@ AreOrdered k [] = Unit {0}
 AreOrdered k (n ∷ ns) = IsAfter k n × AreOrdered (k + 1) ns
 
 -- the trees of the numbers on the stack and of those saved
-abbrev pub seen_by : List Node → List ℕ → List ℕ → Trees
-seen_by ns stack saved = trees (map (pick (built ns)) stack) (map (pick (built ns)) saved)
+abbrev pub trees_of_numbers : List Node → List ℕ → List ℕ → Trees
+trees_of_numbers ns stack saved = trees (map (pick (built ns)) stack) (map (pick (built ns)) saved)
 
 -- the trees of a plan
 abbrev pub trees_of : TreePlan → Trees
-trees_of p = seen_by p.nodes.items p.stack.items p.saved.items
+trees_of p = trees_of_numbers p.nodes.items p.stack.items p.saved.items
 
 -- each node is after its children, and each number has a node
 pub record IsPlan (p : TreePlan) : Type 0 where

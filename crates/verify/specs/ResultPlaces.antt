@@ -13,12 +13,12 @@ pub record HeldResults : Type 0 where
   pub about : Numbered
 
 -- the results in these ranges
-abbrev pub seen : List ℕ → List SymbolRange → List SymbolRange → ℕ → Results ℕ
-seen symbols stack saved weight = record { stack = map (symbols_in symbols) stack; saved = map (symbols_in symbols) saved; weight = weight }
+abbrev pub results_in : List ℕ → List SymbolRange → List SymbolRange → ℕ → Results ℕ
+results_in symbols stack saved weight = record { stack = map (symbols_in symbols) stack; saved = map (symbols_in symbols) saved; weight = weight }
 
 -- the results and images in these ranges, and what they are about
 abbrev pub held : List ℕ → List (ℕ × SymbolRange) → List SymbolRange → List SymbolRange → ℕ → Numbered → HeldResults
-held symbols images stack saved weight about = record { results = seen symbols stack saved weight; images = images_at symbols images; about = about }
+held symbols images stack saved weight about = record { results = results_in symbols stack saved weight; images = images_at symbols images; about = about }
 
 -- all ranges are in the buffer, which has no more symbols than the weight, and the weight is within the limit
 pub record AreResultRanges (symbols : List ℕ) (images : List (ℕ × SymbolRange)) (stack saved : List SymbolRange) (weight : ℕ) : Type 0 where
@@ -68,5 +68,5 @@ Recalls {A} false old new k = (e : List A) → IsSaved old.saved k e → weight_
 -- the result saved at an index, from 0, is recalled, and has symbols if the index is a label's; or the index is a label's, and
 -- nothing is done
 abbrev pub RecallsAt : {A : Type 0} → Option Bool → ℕ → Results A → Results A → ℕ → Type 0
-RecallsAt None labels old new k = (k < labels) × (new ≡ old)
-RecallsAt (Some ok) labels old new k = (k < labels → 0 < length (get_or old.saved k [])) × Recalls ok old new (suc k)
+RecallsAt None label_count old new k = (k < label_count) × (new ≡ old)
+RecallsAt (Some ok) label_count old new k = (k < label_count → 0 < length (get_or old.saved k [])) × Recalls ok old new (suc k)

@@ -8,7 +8,7 @@ use Rattle.verify.specs.declared.label_table.LabelEntry.TheVariants.{Nothing}
 use Rattle.verify.specs.LabelTable.{IsEntry}
 use Rattle.verify.specs.Machine.{Results, State, Cites, Steps}
 use Rattle.verify.specs.Right.{weight_limit}
-use Rattle.verify.specs.declared.citation.Claim.{Claim}
+use Rattle.verify.specs.declared.citation.ProofContext.{ProofContext}
 
 -- the results that the codes stand for
 abbrev pub named : List Name → Results ℕ → State
@@ -44,26 +44,26 @@ pub record AreCached (S : Database) (at : ℕ) (names : List Name) (table : List
   pub each : (k : ℕ) → k < length table → IsCached S at names (get_or table k Nothing) (get_or saved k [])
 
 -- the codes have names, and the cached results are right
-pub record AreKnown (S : Database) (at : ℕ) (names : List Name) (table : List LabelEntry) (st : Results ℕ) : Type 0 where
+pub record AreNamedAndCached (S : Database) (at : ℕ) (names : List Name) (table : List LabelEntry) (st : Results ℕ) : Type 0 where
   pub are_named : AreNamed names st
   pub cached : AreCached S at names table st.saved
 
 -- the effect of an item if the first saved results are cached for labels
 abbrev pub StepsWithTable : Bool → Database → ℕ → List Name → List LabelEntry → Item → Results ℕ → Results ℕ → Type 0
-StepsWithTable ok S at names table item old new = StepsByNumber ok S at names item (without_cached (length table) old) (without_cached (length table) new) × (IsTrue ok → AreKnown S at names table new)
+StepsWithTable ok S at names table item old new = StepsByNumber ok S at names item (without_cached (length table) old) (without_cached (length table) new) × (IsTrue ok → AreNamedAndCached S at names table new)
 
 -- ---- the requirements for running an item
 
 -- legal statements, the pairs that are active at the statement, and results that are about these
-pub record IsReady (t : Claim) (about : Numbered) : Type 0 where
-  pub legal : AreLegal t.frames.now.statements t.frames.now.names
-  pub active : t.pairs.statements ≡ before t.frames.now.statements t.at
-  pub names : t.pairs.names ≡ t.frames.now.names
-  pub same : about ≡ t.pairs
+pub record IsReady (context : ProofContext) (about : Numbered) : Type 0 where
+  pub legal : AreLegal context.frames.now.statements context.frames.now.names
+  pub active : context.pairs.statements ≡ before context.frames.now.statements context.at
+  pub names : context.pairs.names ≡ context.frames.now.names
+  pub same : about ≡ context.pairs
 
 -- besides, an earlier assertion at a, and results whose codes have names
-pub record MayCite (t : Claim) (a : ℕ) (about : Numbered) (st : Results ℕ) : Type 0 where
-  pub ready : IsReady t about
-  pub named : AreNamed t.frames.now.names st
-  pub assertion : (s : Stmt) × HasAssertion t.frames.now.statements a s
-  pub earlier : a < t.at
+pub record MayCite (context : ProofContext) (a : ℕ) (about : Numbered) (st : Results ℕ) : Type 0 where
+  pub ready : IsReady context about
+  pub named : AreNamed context.frames.now.names st
+  pub assertion : (s : Stmt) × HasAssertion context.frames.now.statements a s
+  pub earlier : a < context.at

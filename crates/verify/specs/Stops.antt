@@ -17,16 +17,16 @@ pub record StopsAt (S : Database) (at : ℕ) (names : List Name) (items : List I
   pub stuck : (item : Item) → slice_get items done ≡ Some item → (next : State) → Steps S at (named names st) item next → weight_limit < next.weight
 
 -- the stack is not the expression alone
-abbrev pub IsOther : List Name → Results ℕ → Stmt → Type 0
-IsOther names st s = map (decode names) st.stack ≡ expr_of s ∷ [] → ⊥
+abbrev pub IsNotOnly : List Name → Results ℕ → Stmt → Type 0
+IsNotOnly names st s = map (decode names) st.stack ≡ expr_of s ∷ [] → ⊥
 
--- the run stops after `done` items with these results, within the limit; the first `labels` saved ones are cached for labels
-pub record IsStopped (S : Database) (at : ℕ) (names : List Name) (items : List Item) (done labels : ℕ) (st : Results ℕ) : Type 0 where
-  pub stops : StopsAt S at names items done (without_cached labels st)
+-- the run stops after `done` items with these results, within the limit; the first `label_count` saved ones are cached for labels
+pub record IsStopped (S : Database) (at : ℕ) (names : List Name) (items : List Item) (done label_count : ℕ) (st : Results ℕ) : Type 0 where
+  pub stops : StopsAt S at names items done (without_cached label_count st)
   pub light : st.weight ≤ weight_limit
 
 -- the first item that cannot be done and the results before it, or the results at the end, which are not the expression alone
 abbrev pub IsFirstFailure : Database → ℕ → List Name → List Item → Failure → Type 0
-IsFirstFailure S at names items (failure.Item item labels results) = (item < length items) × IsStopped S at names items item labels results.results
+IsFirstFailure S at names items (failure.Item item label_count results) = (item < length items) × IsStopped S at names items item label_count results.results
 IsFirstFailure S at names items (failure.End results) =
-    (labels : ℕ) × IsStopped S at names items (length items) labels results.results × ((s : Stmt) → stmt_at S at ≡ Some s → IsOther names results.results s)
+    (label_count : ℕ) × IsStopped S at names items (length items) label_count results.results × ((s : Stmt) → stmt_at S at ≡ Some s → IsNotOnly names results.results s)

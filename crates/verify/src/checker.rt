@@ -13,7 +13,7 @@ ghost use Rattle.verify.specs.Proves.{Proves};
 ghost use Rattle.verify.specs.Right.{IsProvable, IsRight, IsAnswerTo};
 
 use crate::answer::Answer;
-use crate::citation::{Buffers, Claim};
+use crate::citation::{Buffers, ProofContext};
 use crate::citation_cache::CitationCache;
 use crate::failure::run_items;
 use crate::label_table::{LabelEntry, Mandatory, add_listed, fill_mandatory, fill_table};
@@ -80,11 +80,11 @@ impl Checker {
     /// proofs. After this call proofs under any frames may be checked.
     ///
     /// Does not allocate. Cost: the lists and facts.
-    pub fn begin(&mut self)
+    pub fn clear_cache(&mut self)
         ensures lists { self.new.lists ≡ [] }
         ensures facts { self.new.facts ≡ [] }
     {
-        self.buffers.kept.begin();
+        self.buffers.kept.clear();
     }
 
     /// Repeats some of the long searches for pairs of disjoint variables that were made since the last
@@ -102,8 +102,8 @@ impl Checker {
 
     /// Limits the buffer of results to `symbols` symbols; at first the limit is `SYMBOLS_LIMIT`. The check of a proof that
     /// would exceed it returns `AllocError`.
-    pub fn limit(&mut self, symbols: usize) {
-        self.buffers.results.limit(symbols);
+    pub fn set_symbol_limit(&mut self, symbols: usize) {
+        self.buffers.results.set_symbol_limit(symbols);
     }
 
     /// Frees the buffers for tokens, labels and results if a proof was large since they were last
@@ -132,7 +132,7 @@ impl Checker {
 
     /// Returns whether the items are a right proof of the `$p` at that position.
     ///
-    /// Errors: an allocation fails, or the results would exceed the limit set by `limit`.
+    /// Errors: an allocation fails, or the results would exceed the limit set by `set_symbol_limit`.
     /// Cost: each label is looked up once; a recall and a mark are one step; a citation costs the
     /// lengths of its result and of those that it compares with a `$e`, and that of the disjoint
     /// variable condition; as long as the long lists of an assertion are not kept, also that of
@@ -146,12 +146,12 @@ impl Checker {
         let parts = items.parts();
         self.record_size(parts.numbers.len());
         fill_table(frames, at, parts.labels, &mut self.table)?;
-        run_listed(frames, at, &self.table, parts.numbers, &mut self.buffers)
+        check_listed(frames, at, &self.table, parts.numbers, &mut self.buffers)
     }
 
     /// Returns whether the tokens write a right proof of the `$p` at that position.
     ///
-    /// Errors: an allocation fails, or the results would exceed the limit set by `limit`.
+    /// Errors: an allocation fails, or the results would exceed the limit set by `set_symbol_limit`.
     /// Cost: that of reading the tokens and checking their items; in a compressed proof a mandatory hypothesis is known
     /// by its position, so its label is neither copied nor looked up. Source: Metamath, 4.2.6 and appendix B.
     pub fn prove(
@@ -170,7 +170,7 @@ impl Checker {
             return self.prove_normal(frames, at, tokens);
         }
         if let Some(view) = frames.mandatory_view(at)? {
-            return self.prove_many(frames, at, tokens, &view);
+            return self.prove_by_view(frames, at, tokens, &view);
         }
         fill_mandatory(frames, at, &mut self.mandatory, &mut self.table)?;
         let count = self.mandatory.as_slice().len();
@@ -187,12 +187,12 @@ impl Checker {
             return Ok(Answer::Wrong);
         }
         let numbers = self.reader.numbers();
-        run_listed(frames, at, &self.table, numbers, &mut self.buffers)
+        check_listed(frames, at, &self.table, numbers, &mut self.buffers)
     }
 
     /// Returns whether the tokens write a right proof, in normal form, of the `$p` at that position.
     ///
-    /// Errors: an allocation fails, or the results would exceed the limit set by `limit`.
+    /// Errors: an allocation fails, or the results would exceed the limit set by `set_symbol_limit`.
     fn prove_normal(
         &mut self,
         frames: &Frames,
@@ -215,10 +215,10 @@ impl Checker {
     /// Returns whether the tokens write a right proof, in compressed form, of the `$p` at that position, which has many
     /// mandatory hypotheses.
     ///
-    /// Errors: an allocation fails, or the results would exceed the limit set by `limit`.
+    /// Errors: an allocation fails, or the results would exceed the limit set by `set_symbol_limit`.
     #[cold]
     #[inline(never)]
-    fn prove_many(
+    fn prove_by_view(
         &mut self,
         frames: &Frames,
         at: usize,
@@ -242,7 +242,7 @@ impl Checker {
             return Ok(Answer::Wrong);
         }
         let numbers = self.reader.numbers();
-        run(
+        check_numbers(
             frames,
             at,
             Some(view),
@@ -268,7 +268,7 @@ pub fn check(alloc: Global, frames: &Frames, at: usize, items: &Items) -> Result
 ///
 /// Errors: an allocation fails.
 #[inline(never)]
-fn run_listed(
+fn check_listed(
     frames: &Frames,
     at: usize,
     table: &[LabelEntry],
@@ -282,7 +282,7 @@ fn run_listed(
     ensures answer { (labels : List Name) → AreEntries frames.now.statements at labels table.now
         → IfOk result (λ answer. IsAnswerTo answer (IsRight frames.now.statements at (items_of labels numbers.now))) }
 {
-    run(frames, at, None, table, numbers, buffers)
+    check_numbers(frames, at, None, table, numbers, buffers)
 }
 
 /// Returns whether the items with these numbers, over a view of the mandatory hypotheses, if there is one, and a table of the
@@ -290,7 +290,7 @@ fn run_listed(
 ///
 /// Errors: an allocation fails.
 #[inline(always)]
-fn run(
+fn check_numbers(
     frames: &Frames,
     at: usize,
     view: Option<&MandatoryView<'_>>,
@@ -306,8 +306,8 @@ fn run(
         → IfOk result (λ answer. IsAnswerTo answer (IsRight frames.now.statements at (items_of labels numbers.now))) }
 {
     let pairs = frames.active_pairs(at);
-    let claim = Claim { frames, at, pairs };
-    let done = run_items(&claim, view, table, numbers, buffers)?;
+    let context = ProofContext { frames, at, pairs };
+    let done = run_items(&context, view, table, numbers, buffers)?;
     if done == numbers.len() && buffers.results.is_only(frames.expr(at)) {
         Ok(Answer::Proved)
     } else {

@@ -7,8 +7,8 @@ ghost use Rattle.mm_lex.specs.Alphabet.{Name};
 ghost use Rattle.mm_read.specs.declared.stmt.Stmt.{Stmt as Statement};
 ghost use Rattle.proof_code.specs.ItemNumbers.{item_of};
 ghost use Rattle.scope.specs.Active.{stmt_at};
-ghost use Rattle.verify.specs.StepsByNumber.{AreKnown, AreNamed, StepsWithTable, HasCited, IsReady, MayCite};
-ghost use Rattle.verify.specs.CitationCache.{IsCacheFor, IsAt, IsCitedBy};
+ghost use Rattle.verify.specs.StepsByNumber.{AreNamedAndCached, AreNamed, StepsWithTable, HasCited, IsReady, MayCite};
+ghost use Rattle.verify.specs.CitationCache.{IsCacheFor, HasListsAt, IsCitedBy};
 ghost use Rattle.verify.specs.LabelTable.{AreEntries, IsEntry, viewed_entries};
 ghost use Rattle.verify.specs.ResultPlaces.{UnchangedUnlessDone};
 ghost use Rattle.verify.specs.declared.label_table.LabelEntry.TheVariants.{Hypothesis};
@@ -21,14 +21,14 @@ use frame::{FrameBuffers, Frames, MandatoryView, Pairs};
 use std::alloc::AllocError;
 use subst::Remaining;
 
-/// The statement to be proved: the `$p` at a position, and the pairs of disjoint variables that are active there.
+/// The context of a proof: the statements, the position of its `$p`, and the pairs of disjoint variables that are active there.
 #[derive(Drop)]
-pub struct Claim<'a> {
+pub struct ProofContext<'a> {
     /// The statements.
     pub frames: &'a Frames,
     /// The position of the `$p`.
     pub at: usize,
-    /// The pairs of disjoint variables there.
+    /// The pairs of disjoint variables that are active there.
     pub pairs: Pairs<'a>,
 }
 
@@ -50,34 +50,40 @@ pub struct Buffers {
 ///
 /// Errors: an allocation fails.
 #[inline(always)]
-fn cite_parts(
-    claim: &Claim<'_>,
+fn cite_by_view(
+    context: &ProofContext<'_>,
     position: usize,
     cited: &AssertionView<'_>,
     remaining: &mut Remaining,
     results: &mut Results,
 ) -> Result<bool, AllocError>
-    requires may { MayCite claim.now position results.old.about results.old.results }
-    requires cited { (s : Statement) → stmt_at claim.now.frames.now.statements position ≡ Some s → IsCitedBy claim.now.frames.now.statements claim.now.frames.now.names position s cited.now }
-    ensures goes { IfOk result (HasCited claim.now.frames.now.statements claim.now.at claim.now.frames.now.names (LabelEntry.Assertion position) results.old.results results.new.results) }
-    ensures stays { IfOk result (λ ok. UnchangedUnlessDone ok results.old.results results.new.results) }
-    ensures about { results.new.about ≡ claim.now.pairs }
+    requires may { MayCite context.now position results.old.about results.old.results }
+    requires cited { (s : Statement) → stmt_at context.now.frames.now.statements position ≡ Some s → IsCitedBy context.now.frames.now.statements context.now.frames.now.names position s cited.now }
+    ensures effect { IfOk result (HasCited context.now.frames.now.statements context.now.at context.now.frames.now.names (LabelEntry.Assertion position) results.old.results results.new.results) }
+    ensures unchanged { IfOk result (λ ok. UnchangedUnlessDone ok results.old.results results.new.results) }
+    ensures about { results.new.about ≡ context.now.pairs }
 {
     let count = cited.hypotheses.len();
     if count > results.len() {
         return Ok(false);
     }
-    let Some(front) = results.read_images(cited.typecodes, &cited.hypotheses)? else {
+    let Some(leading_count) = results.read_images(cited.typecodes, &cited.hypotheses)? else {
         return Ok(false);
     };
-    if !results.hypotheses_match(claim.frames, position, &cited.hypotheses, front, remaining) {
+    if !results.hypotheses_match(
+        context.frames,
+        position,
+        &cited.hypotheses,
+        leading_count,
+        remaining,
+    ) {
         return Ok(false);
     }
-    if !results.are_disjoint(&claim.pairs, &cited.groups)? {
+    if !results.are_disjoint(&context.pairs, &cited.groups)? {
         return Ok(false);
     }
-    let conclusion = results.shortened(claim.frames, position, cited.conclusion, remaining);
-    results.apply(&claim.pairs, count, conclusion)
+    let conclusion = results.shortened(context.frames, position, cited.conclusion, remaining);
+    results.apply(&context.pairs, count, conclusion)
 }
 
 /// Cites an assertion whose lists are long. Makes them for this citation.
@@ -85,20 +91,24 @@ fn cite_parts(
 /// Errors: an allocation fails. Cost: that of the citation and of `Frames::fill_for_citing`.
 #[cold]
 #[inline(never)]
-fn cite_anew(claim: &Claim<'_>, position: usize, buffers: &mut Buffers) -> Result<bool, AllocError>
-    requires may { MayCite claim.now position buffers.old.results.about buffers.old.results.results }
-    requires kept { IsCacheFor claim.now.frames.now.statements claim.now.frames.now.names buffers.old.kept }
-    ensures goes { IfOk result (HasCited claim.now.frames.now.statements claim.now.at claim.now.frames.now.names (LabelEntry.Assertion position) buffers.old.results.results buffers.new.results.results) }
-    ensures stays { IfOk result (λ ok. UnchangedUnlessDone ok buffers.old.results.results buffers.new.results.results) }
-    ensures about { buffers.new.results.about ≡ claim.now.pairs }
-    ensures kept { IsCacheFor claim.now.frames.now.statements claim.now.frames.now.names buffers.new.kept }
+fn cite_anew(
+    context: &ProofContext<'_>,
+    position: usize,
+    buffers: &mut Buffers,
+) -> Result<bool, AllocError>
+    requires may { MayCite context.now position buffers.old.results.about buffers.old.results.results }
+    requires kept { IsCacheFor context.now.frames.now.statements context.now.frames.now.names buffers.old.kept }
+    ensures effect { IfOk result (HasCited context.now.frames.now.statements context.now.at context.now.frames.now.names (LabelEntry.Assertion position) buffers.old.results.results buffers.new.results.results) }
+    ensures unchanged { IfOk result (λ ok. UnchangedUnlessDone ok buffers.old.results.results buffers.new.results.results) }
+    ensures about { buffers.new.results.about ≡ context.now.pairs }
+    ensures kept { IsCacheFor context.now.frames.now.statements context.now.frames.now.names buffers.new.kept }
 {
     let frame_buffers = &mut buffers.frame_buffers;
-    buffers.kept.fill(claim.frames, position, frame_buffers)?;
-    let cited = claim.frames.citing_view(position, &buffers.frame_buffers);
+    buffers.kept.fill(context.frames, position, frame_buffers)?;
+    let cited = context.frames.citing_view(position, &buffers.frame_buffers);
     let remaining = &mut buffers.remaining;
     let results = &mut buffers.results;
-    cite_parts(claim, position, &cited, remaining, results)
+    cite_by_view(context, position, &cited, remaining, results)
 }
 
 /// Cites an assertion whose lists are long. Keeps them for later citations.
@@ -107,25 +117,29 @@ fn cite_anew(claim: &Claim<'_>, position: usize, buffers: &mut Buffers) -> Resul
 /// and `CitationCache::keep`.
 #[cold]
 #[inline(never)]
-fn cite_kept(claim: &Claim<'_>, position: usize, buffers: &mut Buffers) -> Result<bool, AllocError>
-    requires may { MayCite claim.now position buffers.old.results.about buffers.old.results.results }
-    requires kept { IsCacheFor claim.now.frames.now.statements claim.now.frames.now.names buffers.old.kept }
-    ensures goes { IfOk result (HasCited claim.now.frames.now.statements claim.now.at claim.now.frames.now.names (LabelEntry.Assertion position) buffers.old.results.results buffers.new.results.results) }
-    ensures stays { IfOk result (λ ok. UnchangedUnlessDone ok buffers.old.results.results buffers.new.results.results) }
-    ensures about { buffers.new.results.about ≡ claim.now.pairs }
-    ensures kept { IsCacheFor claim.now.frames.now.statements claim.now.frames.now.names buffers.new.kept }
+fn cite_kept(
+    context: &ProofContext<'_>,
+    position: usize,
+    buffers: &mut Buffers,
+) -> Result<bool, AllocError>
+    requires may { MayCite context.now position buffers.old.results.about buffers.old.results.results }
+    requires kept { IsCacheFor context.now.frames.now.statements context.now.frames.now.names buffers.old.kept }
+    ensures effect { IfOk result (HasCited context.now.frames.now.statements context.now.at context.now.frames.now.names (LabelEntry.Assertion position) buffers.old.results.results buffers.new.results.results) }
+    ensures unchanged { IfOk result (λ ok. UnchangedUnlessDone ok buffers.old.results.results buffers.new.results.results) }
+    ensures about { buffers.new.results.about ≡ context.now.pairs }
+    ensures kept { IsCacheFor context.now.frames.now.statements context.now.frames.now.names buffers.new.kept }
 {
     let index = kept_index(
-        claim,
+        context,
         position,
         &mut buffers.frame_buffers,
         &mut buffers.kept,
     )?;
-    let conclusion = claim.frames.expr(position);
-    let cited = buffers.kept.at(index).cited(conclusion);
+    let conclusion = context.frames.expr(position);
+    let cited = buffers.kept.lists_at(index).as_view(conclusion);
     let remaining = &mut buffers.remaining;
     let results = &mut buffers.results;
-    cite_parts(claim, position, &cited, remaining, results)
+    cite_by_view(context, position, &cited, remaining, results)
 }
 
 /// Returns the index of the kept lists of an assertion. Makes them if they are not kept yet.
@@ -133,22 +147,22 @@ fn cite_kept(claim: &Claim<'_>, position: usize, buffers: &mut Buffers) -> Resul
 /// Errors: an allocation fails. Cost: that of `CitationCache::find`; if the lists are not kept yet, of `Frames::fill_for_citing` and
 /// `CitationCache::keep`.
 fn kept_index(
-    claim: &Claim<'_>,
+    context: &ProofContext<'_>,
     position: usize,
     frame_buffers: &mut FrameBuffers,
     kept: &mut CitationCache,
 ) -> Result<usize, AllocError>
-    requires assertion { (s : Statement) × HasAssertion claim.now.frames.now.statements position s }
-    requires legal { AreLegal claim.now.frames.now.statements claim.now.frames.now.names }
-    requires kept { IsCacheFor claim.now.frames.now.statements claim.now.frames.now.names kept.old }
-    ensures kept { IsCacheFor claim.now.frames.now.statements claim.now.frames.now.names kept.new }
-    ensures index { IfOk result (λ i. IsAt kept.new.lists i position) }
+    requires assertion { (s : Statement) × HasAssertion context.now.frames.now.statements position s }
+    requires legal { AreLegal context.now.frames.now.statements context.now.frames.now.names }
+    requires kept { IsCacheFor context.now.frames.now.statements context.now.frames.now.names kept.old }
+    ensures kept { IsCacheFor context.now.frames.now.statements context.now.frames.now.names kept.new }
+    ensures index { IfOk result (λ i. HasListsAt kept.new.lists i position) }
 {
     if let Some(index) = kept.find(position) {
         return Ok(index);
     }
-    kept.fill(claim.frames, position, frame_buffers)?;
-    let cited = claim.frames.citing_view(position, frame_buffers);
+    kept.fill(context.frames, position, frame_buffers)?;
+    let cited = context.frames.citing_view(position, frame_buffers);
     kept.keep(position, &cited)
 }
 
@@ -157,18 +171,22 @@ fn kept_index(
 /// Errors: an allocation fails. Cost: that of `cite_anew`, or of `cite_kept`.
 #[cold]
 #[inline(never)]
-fn cite_long(claim: &Claim<'_>, position: usize, buffers: &mut Buffers) -> Result<bool, AllocError>
-    requires may { MayCite claim.now position buffers.old.results.about buffers.old.results.results }
-    requires kept { IsCacheFor claim.now.frames.now.statements claim.now.frames.now.names buffers.old.kept }
-    ensures goes { IfOk result (HasCited claim.now.frames.now.statements claim.now.at claim.now.frames.now.names (LabelEntry.Assertion position) buffers.old.results.results buffers.new.results.results) }
-    ensures stays { IfOk result (λ ok. UnchangedUnlessDone ok buffers.old.results.results buffers.new.results.results) }
-    ensures about { buffers.new.results.about ≡ claim.now.pairs }
-    ensures kept { IsCacheFor claim.now.frames.now.statements claim.now.frames.now.names buffers.new.kept }
+fn cite_long(
+    context: &ProofContext<'_>,
+    position: usize,
+    buffers: &mut Buffers,
+) -> Result<bool, AllocError>
+    requires may { MayCite context.now position buffers.old.results.about buffers.old.results.results }
+    requires kept { IsCacheFor context.now.frames.now.statements context.now.frames.now.names buffers.old.kept }
+    ensures effect { IfOk result (HasCited context.now.frames.now.statements context.now.at context.now.frames.now.names (LabelEntry.Assertion position) buffers.old.results.results buffers.new.results.results) }
+    ensures unchanged { IfOk result (λ ok. UnchangedUnlessDone ok buffers.old.results.results buffers.new.results.results) }
+    ensures about { buffers.new.results.about ≡ context.now.pairs }
+    ensures kept { IsCacheFor context.now.frames.now.statements context.now.frames.now.names buffers.new.kept }
 {
     if buffers.kept.count_citation(position) {
-        cite_kept(claim, position, buffers)
+        cite_kept(context, position, buffers)
     } else {
-        cite_anew(claim, position, buffers)
+        cite_anew(context, position, buffers)
     }
 }
 
@@ -177,20 +195,24 @@ fn cite_long(claim: &Claim<'_>, position: usize, buffers: &mut Buffers) -> Resul
 ///
 /// Errors: an allocation fails.
 #[inline(never)]
-fn cite(claim: &Claim<'_>, position: usize, buffers: &mut Buffers) -> Result<bool, AllocError>
-    requires may { MayCite claim.now position buffers.old.results.about buffers.old.results.results }
-    requires kept { IsCacheFor claim.now.frames.now.statements claim.now.frames.now.names buffers.old.kept }
-    ensures goes { IfOk result (HasCited claim.now.frames.now.statements claim.now.at claim.now.frames.now.names (LabelEntry.Assertion position) buffers.old.results.results buffers.new.results.results) }
-    ensures stays { IfOk result (λ ok. UnchangedUnlessDone ok buffers.old.results.results buffers.new.results.results) }
-    ensures about { buffers.new.results.about ≡ claim.now.pairs }
-    ensures kept { IsCacheFor claim.now.frames.now.statements claim.now.frames.now.names buffers.new.kept }
+fn cite(
+    context: &ProofContext<'_>,
+    position: usize,
+    buffers: &mut Buffers,
+) -> Result<bool, AllocError>
+    requires may { MayCite context.now position buffers.old.results.about buffers.old.results.results }
+    requires kept { IsCacheFor context.now.frames.now.statements context.now.frames.now.names buffers.old.kept }
+    ensures effect { IfOk result (HasCited context.now.frames.now.statements context.now.at context.now.frames.now.names (LabelEntry.Assertion position) buffers.old.results.results buffers.new.results.results) }
+    ensures unchanged { IfOk result (λ ok. UnchangedUnlessDone ok buffers.old.results.results buffers.new.results.results) }
+    ensures about { buffers.new.results.about ≡ context.now.pairs }
+    ensures kept { IsCacheFor context.now.frames.now.statements context.now.frames.now.names buffers.new.kept }
 {
-    let Some(cited) = claim.frames.kept_view(position) else {
-        return cite_long(claim, position, buffers);
+    let Some(cited) = context.frames.kept_view(position) else {
+        return cite_long(context, position, buffers);
     };
     let remaining = &mut buffers.remaining;
     let results = &mut buffers.results;
-    cite_parts(claim, position, &cited, remaining, results)
+    cite_by_view(context, position, &cited, remaining, results)
 }
 
 /// Cites a label by its meaning. Returns `false` if it cannot be cited.
@@ -198,22 +220,22 @@ fn cite(claim: &Claim<'_>, position: usize, buffers: &mut Buffers) -> Result<boo
 /// Errors: an allocation fails.
 #[inline(always)]
 fn cite_entry(
-    claim: &Claim<'_>,
+    context: &ProofContext<'_>,
     entry: LabelEntry,
     buffers: &mut Buffers,
 ) -> Result<bool, AllocError>
-    requires ready { IsReady claim.now buffers.old.results.about }
-    requires named { AreNamed claim.now.frames.now.names buffers.old.results.results }
-    requires entry { (label : Name) × IsEntry claim.now.frames.now.statements claim.now.at label entry }
-    requires kept { IsCacheFor claim.now.frames.now.statements claim.now.frames.now.names buffers.old.kept }
-    ensures about { buffers.new.results.about ≡ claim.now.pairs }
-    ensures goes { IfOk result (HasCited claim.now.frames.now.statements claim.now.at claim.now.frames.now.names entry buffers.old.results.results buffers.new.results.results) }
-    ensures stays { IfOk result (λ ok. UnchangedUnlessDone ok buffers.old.results.results buffers.new.results.results) }
-    ensures kept { IsCacheFor claim.now.frames.now.statements claim.now.frames.now.names buffers.new.kept }
+    requires ready { IsReady context.now buffers.old.results.about }
+    requires named { AreNamed context.now.frames.now.names buffers.old.results.results }
+    requires entry { (label : Name) × IsEntry context.now.frames.now.statements context.now.at label entry }
+    requires kept { IsCacheFor context.now.frames.now.statements context.now.frames.now.names buffers.old.kept }
+    ensures about { buffers.new.results.about ≡ context.now.pairs }
+    ensures effect { IfOk result (HasCited context.now.frames.now.statements context.now.at context.now.frames.now.names entry buffers.old.results.results buffers.new.results.results) }
+    ensures unchanged { IfOk result (λ ok. UnchangedUnlessDone ok buffers.old.results.results buffers.new.results.results) }
+    ensures kept { IsCacheFor context.now.frames.now.statements context.now.frames.now.names buffers.new.kept }
 {
     match entry {
-        LabelEntry::Hypothesis(i) => buffers.results.add(&claim.pairs, claim.frames.expr(i)),
-        LabelEntry::Assertion(position) => cite(claim, position, buffers),
+        LabelEntry::Hypothesis(i) => buffers.results.add(&context.pairs, context.frames.expr(i)),
+        LabelEntry::Assertion(position) => cite(context, position, buffers),
         LabelEntry::Nothing => Ok(false),
     }
 }
@@ -225,20 +247,20 @@ fn cite_entry(
 /// Errors: an allocation fails.
 #[inline(always)]
 pub fn step(
-    claim: &Claim<'_>,
+    context: &ProofContext<'_>,
     table: &[LabelEntry],
     number: u32,
     buffers: &mut Buffers,
 ) -> Result<bool, AllocError>
-    requires ready { IsReady claim.now buffers.old.results.about }
-    requires known { AreKnown claim.now.frames.now.statements claim.now.at claim.now.frames.now.names table.now buffers.old.results.results }
-    requires entries { (labels : List Name) × AreEntries claim.now.frames.now.statements claim.now.at labels table.now }
-    requires kept { IsCacheFor claim.now.frames.now.statements claim.now.frames.now.names buffers.old.kept }
-    ensures about { buffers.new.results.about ≡ claim.now.pairs }
-    ensures goes { (labels : List Name) → AreEntries claim.now.frames.now.statements claim.now.at labels table.now
-        → IfOk result (λ ok. StepsWithTable ok claim.now.frames.now.statements claim.now.at claim.now.frames.now.names table.now (item_of labels number) buffers.old.results.results buffers.new.results.results) }
-    ensures stays { IfOk result (λ ok. UnchangedUnlessDone ok buffers.old.results.results buffers.new.results.results) }
-    ensures kept { IsCacheFor claim.now.frames.now.statements claim.now.frames.now.names buffers.new.kept }
+    requires ready { IsReady context.now buffers.old.results.about }
+    requires named_and_cached { AreNamedAndCached context.now.frames.now.statements context.now.at context.now.frames.now.names table.now buffers.old.results.results }
+    requires entries { (labels : List Name) × AreEntries context.now.frames.now.statements context.now.at labels table.now }
+    requires kept { IsCacheFor context.now.frames.now.statements context.now.frames.now.names buffers.old.kept }
+    ensures about { buffers.new.results.about ≡ context.now.pairs }
+    ensures effect { (labels : List Name) → AreEntries context.now.frames.now.statements context.now.at labels table.now
+        → IfOk result (λ ok. StepsWithTable ok context.now.frames.now.statements context.now.at context.now.frames.now.names table.now (item_of labels number) buffers.old.results.results buffers.new.results.results) }
+    ensures unchanged { IfOk result (λ ok. UnchangedUnlessDone ok buffers.old.results.results buffers.new.results.results) }
+    ensures kept { IsCacheFor context.now.frames.now.statements context.now.frames.now.names buffers.new.kept }
 {
     if number == 0 {
         return buffers.results.mark();
@@ -248,7 +270,7 @@ pub fn step(
         return Ok(done);
     }
     let stack_len = buffers.results.len();
-    let done = cite_entry(claim, table[index], buffers)?;
+    let done = cite_entry(context, table[index], buffers)?;
     if done && stack_len < buffers.results.len() {
         buffers.results.cache_last(index);
     }
@@ -260,50 +282,50 @@ pub fn step(
 ///
 /// Errors: an allocation fails.
 #[inline(always)]
-pub fn step_at(
-    claim: &Claim<'_>,
+pub fn run_item(
+    context: &ProofContext<'_>,
     view: Option<&MandatoryView<'_>>,
     table: &[LabelEntry],
     number: u32,
     buffers: &mut Buffers,
 ) -> Result<bool, AllocError>
-    requires ready { IsReady claim.now buffers.old.results.about }
-    requires known { AreKnown claim.now.frames.now.statements claim.now.at claim.now.frames.now.names table.now buffers.old.results.results }
-    requires entries { (labels : List Name) × AreEntries claim.now.frames.now.statements claim.now.at labels (viewed_entries (option_map (λ v. v.now) view) ++ table.now) }
-    requires kept { IsCacheFor claim.now.frames.now.statements claim.now.frames.now.names buffers.old.kept }
-    ensures about { buffers.new.results.about ≡ claim.now.pairs }
-    ensures goes { (labels : List Name) → AreEntries claim.now.frames.now.statements claim.now.at labels (viewed_entries (option_map (λ v. v.now) view.entry) ++ table.now)
-        → IfOk result (λ ok. StepsWithTable ok claim.now.frames.now.statements claim.now.at claim.now.frames.now.names table.now (item_of labels number) buffers.old.results.results buffers.new.results.results) }
-    ensures stays { IfOk result (λ ok. UnchangedUnlessDone ok buffers.old.results.results buffers.new.results.results) }
-    ensures kept { IsCacheFor claim.now.frames.now.statements claim.now.frames.now.names buffers.new.kept }
+    requires ready { IsReady context.now buffers.old.results.about }
+    requires named_and_cached { AreNamedAndCached context.now.frames.now.statements context.now.at context.now.frames.now.names table.now buffers.old.results.results }
+    requires entries { (labels : List Name) × AreEntries context.now.frames.now.statements context.now.at labels (viewed_entries (option_map (λ v. v.now) view) ++ table.now) }
+    requires kept { IsCacheFor context.now.frames.now.statements context.now.frames.now.names buffers.old.kept }
+    ensures about { buffers.new.results.about ≡ context.now.pairs }
+    ensures effect { (labels : List Name) → AreEntries context.now.frames.now.statements context.now.at labels (viewed_entries (option_map (λ v. v.now) view.entry) ++ table.now)
+        → IfOk result (λ ok. StepsWithTable ok context.now.frames.now.statements context.now.at context.now.frames.now.names table.now (item_of labels number) buffers.old.results.results buffers.new.results.results) }
+    ensures unchanged { IfOk result (λ ok. UnchangedUnlessDone ok buffers.old.results.results buffers.new.results.results) }
+    ensures kept { IsCacheFor context.now.frames.now.statements context.now.frames.now.names buffers.new.kept }
 {
     match view {
-        Some(view) => step_many(claim, view, table, number, buffers),
-        None => step(claim, table, number, buffers),
+        Some(view) => step_by_view(context, view, table, number, buffers),
+        None => step(context, table, number, buffers),
     }
 }
 
-/// Runs one item, by its number, if the first numbers are those of many mandatory hypotheses.
+/// Runs one item, by its number, where the first numbers are those of the mandatory hypotheses, which a view finds by index.
 ///
 /// Errors: an allocation fails. Cost: that of `step`, and of finding the hypothesis by its index.
 #[cold]
 #[inline(never)]
-fn step_many(
-    claim: &Claim<'_>,
+fn step_by_view(
+    context: &ProofContext<'_>,
     view: &MandatoryView<'_>,
     table: &[LabelEntry],
     number: u32,
     buffers: &mut Buffers,
 ) -> Result<bool, AllocError>
-    requires ready { IsReady claim.now buffers.old.results.about }
-    requires known { AreKnown claim.now.frames.now.statements claim.now.at claim.now.frames.now.names table.now buffers.old.results.results }
-    requires entries { (labels : List Name) × AreEntries claim.now.frames.now.statements claim.now.at labels (map Hypothesis view.now ++ table.now) }
-    requires kept { IsCacheFor claim.now.frames.now.statements claim.now.frames.now.names buffers.old.kept }
-    ensures about { buffers.new.results.about ≡ claim.now.pairs }
-    ensures goes { (labels : List Name) → AreEntries claim.now.frames.now.statements claim.now.at labels (map Hypothesis view.now ++ table.now)
-        → IfOk result (λ ok. StepsWithTable ok claim.now.frames.now.statements claim.now.at claim.now.frames.now.names table.now (item_of labels number) buffers.old.results.results buffers.new.results.results) }
-    ensures stays { IfOk result (λ ok. UnchangedUnlessDone ok buffers.old.results.results buffers.new.results.results) }
-    ensures kept { IsCacheFor claim.now.frames.now.statements claim.now.frames.now.names buffers.new.kept }
+    requires ready { IsReady context.now buffers.old.results.about }
+    requires named_and_cached { AreNamedAndCached context.now.frames.now.statements context.now.at context.now.frames.now.names table.now buffers.old.results.results }
+    requires entries { (labels : List Name) × AreEntries context.now.frames.now.statements context.now.at labels (map Hypothesis view.now ++ table.now) }
+    requires kept { IsCacheFor context.now.frames.now.statements context.now.frames.now.names buffers.old.kept }
+    ensures about { buffers.new.results.about ≡ context.now.pairs }
+    ensures effect { (labels : List Name) → AreEntries context.now.frames.now.statements context.now.at labels (map Hypothesis view.now ++ table.now)
+        → IfOk result (λ ok. StepsWithTable ok context.now.frames.now.statements context.now.at context.now.frames.now.names table.now (item_of labels number) buffers.old.results.results buffers.new.results.results) }
+    ensures unchanged { IfOk result (λ ok. UnchangedUnlessDone ok buffers.old.results.results buffers.new.results.results) }
+    ensures kept { IsCacheFor context.now.frames.now.statements context.now.frames.now.names buffers.new.kept }
 {
     let many = view.len();
     let number = number as usize;
@@ -312,7 +334,7 @@ fn step_many(
     }
     if number <= many {
         let position = view.get(number - 1) as usize;
-        return cite_entry(claim, LabelEntry::Hypothesis(position), buffers);
+        return cite_entry(context, LabelEntry::Hypothesis(position), buffers);
     }
-    step(claim, table, (number - many) as u32, buffers)
+    step(context, table, (number - many) as u32, buffers)
 }

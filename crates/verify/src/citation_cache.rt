@@ -1,5 +1,5 @@
-//! Keeps, for assertions that the proofs of a text cite again and again, the long lists by which they are cited, and the facts
-//! on pairs of variables that were found when such lists were made.
+//! A cache for the proofs of a text: the long lists of assertions that are cited often, and facts on pairs of variables that
+//! were found when such lists were made.
 
 ghost use Rattle.std.specs.Prelude.{◌≡◌, ◌<◌, ◌==◌, ◌++◌, ◌∷◌, [], ℕ, List, length, map, true, get_or, slice_get, Some, IfOk, IfSome, OnOk};
 ghost use Rattle.std.specs.List.{list_all, list_any};
@@ -12,7 +12,7 @@ ghost use Rattle.mm_lex.specs.Alphabet.{Name};
 ghost use Rattle.mm_read.specs.Statements.{Database};
 ghost use Rattle.mm_read.specs.declared.stmt.Stmt.{Stmt as Statement};
 ghost use Rattle.scope.specs.Active.{stmt_at};
-ghost use Rattle.verify.specs.CitationCache.{IsCacheFor, AreListsOf, AreMadeOf, IsAt, CitationLists, AreSameCondition, are_covered, is_paired};
+ghost use Rattle.verify.specs.CitationCache.{IsCacheFor, AreListsOf, AreMadeOf, HasListsAt, CitationLists, AreSameCondition, are_covered, is_paired};
 
 use crate::pair_places::{PairPlace, PairPlaces};
 use entries::buffer_part::between;
@@ -68,7 +68,7 @@ impl AssertionLists {
     ///
     /// Errors: an allocation fails. Cost: the hypotheses, times a logarithm; the square of the number of their variables; and
     /// for each group the square of the number of its variables.
-    fn of(
+    fn from_view(
         alloc: Global,
         position: usize,
         cited: &AssertionView<'_>,
@@ -93,8 +93,8 @@ impl AssertionLists {
         })
     }
 
-    /// Returns the parts of the assertion for a citation, given its expression.
-    pub fn cited<'a>(&'a self, conclusion: &'a [u32]) -> AssertionView<'a>
+    /// Returns a view of the assertion, given its expression, for a citation.
+    pub fn as_view<'a>(&'a self, conclusion: &'a [u32]) -> AssertionView<'a>
         ensures typecodes { result.typecodes.now ≡ self.now.typecodes }
         ensures required { result.hypotheses ≡ self.now.required }
         ensures conclusion { result.conclusion.now ≡ conclusion.now }
@@ -268,7 +268,7 @@ impl CitationCache {
     /// Removes all lists and facts, and resets the counts of citations.
     ///
     /// Cost: the lists and facts that were kept, and the assertions whose citations were counted.
-    pub fn begin(&mut self)
+    pub fn clear(&mut self)
         ensures lists { self.new.lists ≡ [] }
         ensures facts { self.new.facts ≡ [] }
     {
@@ -279,7 +279,7 @@ impl CitationCache {
         self.facts.clear();
     }
 
-    /// Repeats some of the long searches for pairs that were made since `begin`, so that the frames
+    /// Repeats some of the long searches for pairs that were made since `clear`, so that the frames
     /// keep the answers.
     ///
     /// Cost: that of `PairFacts::repeat_searches`.
@@ -298,7 +298,8 @@ impl CitationCache {
         }
     }
 
-    /// Counts one more citation of the assertion at a position, whose lists are long, and returns whether these are to be kept.
+    /// Returns whether the lists of the assertion at a position, which are long, are to be kept; if not, counts one more citation
+    /// of it.
     ///
     /// Cost: log n for n assertions whose citations are counted.
     pub fn count_citation(&mut self, position: usize) -> bool
@@ -318,7 +319,7 @@ impl CitationCache {
     ///
     /// Cost: log n for n lists.
     pub fn find(&self, position: usize) -> Option<usize>
-        ensures { IfSome result (λ i. IsAt self.now.lists i position) }
+        ensures { IfSome result (λ i. HasListsAt self.now.lists i position) }
     {
         let index = *self.indexes.get(&position)?;
         if index < self.lists.len() && self.lists[index].position == position {
@@ -329,7 +330,7 @@ impl CitationCache {
     }
 
     /// Returns the lists at an index.
-    pub fn at(&self, index: usize) -> &AssertionLists
+    pub fn lists_at(&self, index: usize) -> &AssertionLists
         requires { index < length self.now.lists }
         ensures { slice_get self.now.lists index ≡ Some result.now }
     {
@@ -356,13 +357,13 @@ impl CitationCache {
     /// Makes and keeps the lists of an assertion, and returns their index. Removes all others first if too many numbers would
     /// be kept.
     ///
-    /// Errors: an allocation fails. Cost: that of `AssertionLists::of`.
+    /// Errors: an allocation fails. Cost: that of `AssertionLists::from_view`.
     pub fn keep(&mut self, position: usize, cited: &AssertionView<'_>) -> Result<usize, AllocError>
         ensures kept { (S : Database) (names : List Name) → IsCacheFor S names self.old
             → ((lists : CitationLists) → AreMadeOf position cited.now lists → (s : Statement) → stmt_at S position ≡ Some s → AreListsOf S names lists s) → IsCacheFor S names self.new }
-        ensures index { IfOk result (λ i. IsAt self.new.lists i position) }
+        ensures index { IfOk result (λ i. HasListsAt self.new.lists i position) }
     {
-        let lists = AssertionLists::of(self.alloc, position, cited, &mut self.pairs)?;
+        let lists = AssertionLists::from_view(self.alloc, position, cited, &mut self.pairs)?;
         self.make_room(lists.size());
         let index = self.lists.len();
         self.lists.push(lists)?;
@@ -375,7 +376,7 @@ impl CitationCache {
         ensures { (S : Database) (names : List Name) → IsCacheFor S names self.old → IsCacheFor S names self.new }
     {
         if self.size.saturating_add(size) > MAX_NUMBERS {
-            self.begin();
+            self.clear();
         }
         self.size = self.size.saturating_add(size);
     }

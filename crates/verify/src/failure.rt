@@ -10,7 +10,7 @@ ghost use Rattle.verify.specs.LabelTable.{AreEntries, viewed_entries};
 ghost use Rattle.verify.specs.Right.{IsProvable, IsRight};
 ghost use Rattle.verify.specs.Stops.{IsFirstFailure, StopsAt};
 
-use crate::citation::{Buffers, Claim, step_at};
+use crate::citation::{Buffers, ProofContext, run_item};
 use crate::citation_cache::CitationCache;
 use crate::label_table::{LabelEntry, fill_table};
 use crate::results::Results;
@@ -22,11 +22,11 @@ use subst::Remaining;
 /// Where the run over the items of a proof fails, and the results before it.
 #[derive(Drop)]
 pub enum Failure {
-    /// The item at this index, from 0, cannot be done, or it would make the proof too heavy. The first `labels` saved results
-    /// are those cached for labels; those that were marked follow.
+    /// The item at this index, from 0, cannot be done, or it would make the proof too heavy. The first `label_count` saved
+    /// results are those cached for labels; those that were marked follow.
     Item {
         item: usize,
-        labels: usize,
+        label_count: usize,
         results: Results,
     },
     /// All items were done, and the results are not the statement's expression alone.
@@ -38,25 +38,25 @@ pub enum Failure {
 /// Runs the items with these numbers, over a view of the mandatory hypotheses, if there is one, and a table of the meanings of
 /// the other labels, up to the first that cannot be done, and returns how many were done.
 ///
-/// Errors: an allocation fails, or the results would exceed the limit set by `Results::limit`.
+/// Errors: an allocation fails, or the results would exceed the limit set by `Results::set_symbol_limit`.
 #[inline(always)]
 pub(crate) fn run_items(
-    claim: &Claim<'_>,
+    context: &ProofContext<'_>,
     view: Option<&MandatoryView<'_>>,
     table: &[LabelEntry],
     numbers: &[u32],
     buffers: &mut Buffers,
 ) -> Result<usize, AllocError>
-    requires ready { IsReady claim.now claim.now.pairs }
-    requires entries { (labels : List Name) × AreEntries claim.now.frames.now.statements claim.now.at labels (viewed_entries (option_map (λ v. v.now) view) ++ table.now) }
-    requires kept { IsCacheFor claim.now.frames.now.statements claim.now.frames.now.names buffers.old.kept }
-    ensures kept { IsCacheFor claim.now.frames.now.statements claim.now.frames.now.names buffers.new.kept }
-    ensures stops { (labels : List Name) → AreEntries claim.now.frames.now.statements claim.now.at labels (viewed_entries (option_map (λ v. v.now) view.entry) ++ table.now)
-        → IfOk result (λ done. StopsAt claim.now.frames.now.statements claim.now.at claim.now.frames.now.names (items_of labels numbers.now) done (without_cached (length table.now) buffers.new.results.results)) }
+    requires ready { IsReady context.now context.now.pairs }
+    requires entries { (labels : List Name) × AreEntries context.now.frames.now.statements context.now.at labels (viewed_entries (option_map (λ v. v.now) view) ++ table.now) }
+    requires kept { IsCacheFor context.now.frames.now.statements context.now.frames.now.names buffers.old.kept }
+    ensures kept { IsCacheFor context.now.frames.now.statements context.now.frames.now.names buffers.new.kept }
+    ensures stops { (labels : List Name) → AreEntries context.now.frames.now.statements context.now.at labels (viewed_entries (option_map (λ v. v.now) view.entry) ++ table.now)
+        → IfOk result (λ done. StopsAt context.now.frames.now.statements context.now.at context.now.frames.now.names (items_of labels numbers.now) done (without_cached (length table.now) buffers.new.results.results)) }
 {
-    buffers.results.start(&claim.pairs, table.len())?;
+    buffers.results.start(&context.pairs, table.len())?;
     for (done, number) in numbers.iter().enumerate() {
-        if !step_at(claim, view, table, *number, buffers)? {
+        if !run_item(context, view, table, *number, buffers)? {
             return Ok(done);
         }
     }
@@ -86,14 +86,14 @@ pub fn first_failure(
         results: Results::new(alloc),
     };
     let pairs = frames.active_pairs(at);
-    let claim = Claim { frames, at, pairs };
-    let done = run_items(&claim, None, &table, parts.numbers, &mut buffers)?;
+    let context = ProofContext { frames, at, pairs };
+    let done = run_items(&context, None, &table, parts.numbers, &mut buffers)?;
     let results = buffers.results;
     let is_only = results.is_only(frames.expr(at));
     if done < parts.numbers.len() {
         return Ok(Some(Failure::Item {
             item: done,
-            labels: table.len(),
+            label_count: table.len(),
             results,
         }));
     }

@@ -149,7 +149,7 @@ fn extent_with_number(extents: &[Extent], number: usize) -> Extent
 }
 
 /// Returns the extent of a node, from those of earlier nodes.
-fn extent_at(node: &Node, extents: &[Extent]) -> Extent
+fn node_extent(node: &Node, extents: &[Extent]) -> Extent
     requires after { IsAfter (length extents.now) node.now }
     requires measured { (ts : List Derivation) × (extents.now ≡ map extent_of ts) }
     ensures { (ts : List Derivation) → extents.now ≡ map extent_of ts → result ≡ extent_of (derive ts node.now) }
@@ -176,7 +176,7 @@ pub fn measure(alloc: Global, nodes: &[Node]) -> Result<Vec<Extent>, AllocError>
 {
     let mut extents = Vec::new(alloc);
     for node in nodes {
-        let one = extent_at(node, &extents);
+        let one = node_extent(node, &extents);
         extents.push(one)?;
     }
     Ok(extents)
@@ -191,8 +191,8 @@ pub fn is_small(extent: Extent) -> bool
 
 /// Returns the derivation that the items of a right proof of the `$p` at that position spell.
 ///
-/// Errors: `Wrong` if they are no right proof; `TooLarge` if the derivation has more than 65,536
-/// nodes or a depth above 1,024, for which it is measured before it is made; `Memory` if an
+/// Errors: `Wrong` if the items are not a right proof; `TooLarge` if the derivation has more than
+/// 65,536 nodes or a depth above 1,024 (it is measured before it is made); `Memory` if an
 /// allocation fails, even if one of the others applies.
 /// Cost: a check, the mandatory hypotheses of the assertion of each citation, and the tree. Source:
 /// Metamath, 4.2.6 and appendix B.

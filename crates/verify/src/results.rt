@@ -18,8 +18,8 @@ ghost use Rattle.subst.specs.Images.{AreOver};
 ghost use Rattle.entries.specs.declared.assertion_view.Hypothesis.TheVariants.{Float};
 ghost use Rattle.subst.specs.SymbolRanges.{AreInside, AreWithin, images_at, symbols_in};
 ghost use Rattle.subst.specs.RemainingSymbols.{has_nonempty_image};
-ghost use Rattle.verify.specs.HypothesisResults.{AreDifferent, AreLeadingFloats, ArePresent, DoMatch, DoMatchBefore, IsExprAt, Reads};
-ghost use Rattle.verify.specs.LongHypotheses.{AreListed, AreThoseOf, IsLeftOf, IsListed};
+ghost use Rattle.verify.specs.HypothesisResults.{AreDifferent, AreLeadingFloats, ArePresent, HypothesesMatch, HypothesesMatchBefore, IsExprAt, Reads};
+ghost use Rattle.verify.specs.LongHypotheses.{AreListed, AreHypothesesOf, AreRemaining, IsListed};
 ghost use Rattle.verify.specs.Machine.{IsSaved, with_mark, with_result};
 ghost use Rattle.verify.specs.ReadPlaces.{BeginsWith, IsMistyped, ReadTo, ReadsAll, tail_of};
 ghost use Rattle.verify.specs.ResultPlaces.{Adds, RecallsAt, CachesLast, Marks, UnchangedUnlessDone, below, top};
@@ -83,7 +83,7 @@ impl Results {
     }
 
     /// Limits the buffer to `symbols_limit` symbols. A call whose result would exceed them returns `AllocError`.
-    pub fn limit(&mut self, symbols_limit: usize)
+    pub fn set_symbol_limit(&mut self, symbols_limit: usize)
         ensures { self.new ≡ self.old }
     {
         self.symbols_limit = symbols_limit;
@@ -101,12 +101,12 @@ impl Results {
     }
 
     /// Begins a proof under the pairs that are active at its statement: removes all results and
-    /// images, and adds an empty saved result for each of `labels` labels. Keeps the memory.
+    /// images, and adds an empty saved result for each of `label_count` labels. Keeps the memory.
     ///
     /// Errors: an allocation fails. Cost: the number of labels, and that of `DisjointCache::begin`.
-    pub fn start(&mut self, pairs: &Pairs<'_>, labels: usize) -> Result<(), AllocError>
+    pub fn start(&mut self, pairs: &Pairs<'_>, label_count: usize) -> Result<(), AllocError>
         ensures about { self.new.about ≡ pairs.now }
-        ensures results { OnOk result (self.new.results ≡ record { stack = []; saved = replicate labels []; weight = 0 }) }
+        ensures results { OnOk result (self.new.results ≡ record { stack = []; saved = replicate label_count []; weight = 0 }) }
     {
         self.cache.begin(pairs);
         self.images.clear();
@@ -114,13 +114,14 @@ impl Results {
         self.stack.clear();
         self.saved.clear();
         self.weight = 0;
-        self.saved.resize(labels, SymbolRange { start: 0, end: 0 })?;
+        self.saved
+            .resize(label_count, SymbolRange { start: 0, end: 0 })?;
         Ok(())
     }
 
     /// Pushes an expression as a result, or returns `false` if the proof would be too heavy.
     ///
-    /// Errors: an allocation fails, or the buffer would exceed the limit set by `limit`. Cost: its
+    /// Errors: an allocation fails, or the buffer would exceed the limit set by `set_symbol_limit`. Cost: its
     /// symbols.
     #[inline(never)]
     pub fn add(&mut self, pairs: &Pairs<'_>, expr: &[u32]) -> Result<bool, AllocError>
@@ -128,7 +129,7 @@ impl Results {
         requires below { AreBelow (length pairs.now.names) expr.now }
         ensures about { self.new.about ≡ self.old.about }
         ensures adds { IfOk result (λ ok. Adds ok self.old.results self.new.results self.old.results.stack expr.now) }
-        ensures stays { IfOk result (λ ok. UnchangedUnlessDone ok self.old.results self.new.results) }
+        ensures unchanged { IfOk result (λ ok. UnchangedUnlessDone ok self.old.results self.new.results) }
     {
         if expr.len() > SYMBOLS_LIMIT - self.weight {
             return Ok(false);
@@ -163,7 +164,7 @@ impl Results {
     pub fn mark(&mut self) -> Result<bool, AllocError>
         ensures about { self.new.about ≡ self.old.about }
         ensures marks { IfOk result (λ ok. Marks ok self.old.results self.new.results) }
-        ensures stays { IfOk result (λ ok. UnchangedUnlessDone ok self.old.results self.new.results) }
+        ensures unchanged { IfOk result (λ ok. UnchangedUnlessDone ok self.old.results self.new.results) }
     {
         let Some(&place) = self.stack.last() else {
             return Ok(false);
@@ -173,15 +174,15 @@ impl Results {
     }
 
     /// Pushes the result that is saved at that index, or returns `false` if there is none or the proof would be too heavy.
-    /// Returns `None` if the index is one of the first `labels`, and no result with symbols is saved there.
+    /// Returns `None` if the index is one of the first `label_count`, and no result with symbols is saved there.
     ///
     /// Errors: an allocation fails. Cost: a constant.
     #[inline(always)]
-    pub fn recall(&mut self, index: usize, labels: usize) -> Result<Option<bool>, AllocError>
-        requires { labels ≤ length self.old.results.saved }
+    pub fn recall(&mut self, index: usize, label_count: usize) -> Result<Option<bool>, AllocError>
+        requires { label_count ≤ length self.old.results.saved }
         ensures about { self.new.about ≡ self.old.about }
-        ensures finds { IfOk result (λ done. RecallsAt done labels self.old.results self.new.results index) }
-        ensures stays { IfOk result (λ done. IfSome done (λ ok. UnchangedUnlessDone ok self.old.results self.new.results)) }
+        ensures finds { IfOk result (λ done. RecallsAt done label_count self.old.results self.new.results index) }
+        ensures unchanged { IfOk result (λ done. IfSome done (λ ok. UnchangedUnlessDone ok self.old.results self.new.results)) }
     {
         if index >= self.saved.len() {
             return Ok(Some(false));
@@ -189,7 +190,7 @@ impl Results {
         let place = self.saved[index];
         let len = (place.end - place.start) as usize;
         if len == 0 {
-            if index < labels {
+            if index < label_count {
                 return Ok(None);
             }
             self.stack.push(place)?;
@@ -227,7 +228,7 @@ impl Results {
     }
 
     /// Returns whether the last results for the `$e` of the assertion at a position are their expressions with the images
-    /// substituted. `front` is the number of `$f` that precede all `$e`. Results for `$f` are not read.
+    /// substituted. `leading_count` is the number of `$f` that precede all `$e`. Results for `$f` are not read.
     ///
     /// Cost: the symbols that agree; if there are long `$e`, that of `long_hypotheses_match`.
     #[inline(always)]
@@ -236,21 +237,21 @@ impl Results {
         frames: &Frames,
         cited: usize,
         hypotheses: &Hypotheses<'_>,
-        front: usize,
+        leading_count: usize,
         remaining: &mut Remaining,
     ) -> bool
-        requires front { AreLeadingFloats hypotheses.now front }
+        requires leading { AreLeadingFloats hypotheses.now leading_count }
         requires legal { AreLegal frames.now.statements frames.now.names }
         requires assertion { (s : Statement) × HasAssertion frames.now.statements cited s }
-        requires required { AreThoseOf frames.now.statements frames.now.names cited hypotheses.now }
+        requires required { AreHypothesesOf frames.now.statements frames.now.names cited hypotheses.now }
         requires present { ArePresent frames.now.statements hypotheses.now }
         requires count { length hypotheses.now ≤ length self.now.results.stack }
         requires over { AreOver frames.now.names self.now.images }
         requires named { AllBelow (length frames.now.names) self.now.results.stack }
-        ensures { IsTrue result ↔ DoMatch frames.now.statements (images_of_names frames.now.names self.now.images) hypotheses.now (map (decode frames.now.names) (top (length hypotheses.now) self.now.results.stack)) }
+        ensures { IsTrue result ↔ HypothesesMatch frames.now.statements (images_of_names frames.now.names self.now.images) hypotheses.now (map (decode frames.now.names) (top (length hypotheses.now) self.now.results.stack)) }
     {
         let places = &self.stack[self.stack.len() - hypotheses.len()..];
-        for k in front..hypotheses.len() {
+        for k in leading_count..hypotheses.len() {
             if let Hypothesis::Essential(position) = hypotheses.get(k) {
                 let expr = frames.expr(position as usize);
                 if expr.len() >= LONG_EXPRESSION {
@@ -282,13 +283,13 @@ impl Results {
     ) -> bool
         requires legal { AreLegal frames.now.statements frames.now.names }
         requires assertion { (s : Statement) × HasAssertion frames.now.statements cited s }
-        requires required { AreThoseOf frames.now.statements frames.now.names cited hypotheses.now }
+        requires required { AreHypothesesOf frames.now.statements frames.now.names cited hypotheses.now }
         requires present { ArePresent frames.now.statements hypotheses.now }
         requires count { length hypotheses.now ≤ length self.now.results.stack }
         requires over { AreOver frames.now.names self.now.images }
         requires named { AllBelow (length frames.now.names) self.now.results.stack }
-        requires before { DoMatchBefore from frames.now.statements (images_of_names frames.now.names self.now.images) hypotheses.now (map (decode frames.now.names) (top (length hypotheses.now) self.now.results.stack)) }
-        ensures { IsTrue result ↔ DoMatch frames.now.statements (images_of_names frames.now.names self.now.images) hypotheses.now (map (decode frames.now.names) (top (length hypotheses.now) self.now.results.stack)) }
+        requires before { HypothesesMatchBefore from frames.now.statements (images_of_names frames.now.names self.now.images) hypotheses.now (map (decode frames.now.names) (top (length hypotheses.now) self.now.results.stack)) }
+        ensures { IsTrue result ↔ HypothesesMatch frames.now.statements (images_of_names frames.now.names self.now.images) hypotheses.now (map (decode frames.now.names) (top (length hypotheses.now) self.now.results.stack)) }
     {
         let places = &self.stack[self.stack.len() - hypotheses.len()..];
         let listed = list_symbols(frames, cited, &self.images, hypotheses, remaining).is_ok();
@@ -361,7 +362,7 @@ impl Results {
             return expr;
         };
         match found {
-            Some(left) => left,
+            Some(symbols) => symbols,
             None => expr,
         }
     }
@@ -386,22 +387,27 @@ impl Results {
             .are_groups_disjoint(pairs, groups, &self.symbols, &self.images)
     }
 
-    /// Pops the last `r` results and pushes the expression with the images substituted, or returns
+    /// Pops the last `count` results and pushes the expression with the images substituted, or returns
     /// `false` if the proof would be too heavy.
     ///
-    /// Errors: an allocation fails, or the buffer would exceed the limit set by `limit`. Cost: the
+    /// Errors: an allocation fails, or the buffer would exceed the limit set by `set_symbol_limit`. Cost: the
     /// symbols read and written, and that of `DisjointCache::record_result`.
     #[inline(always)]
-    pub fn apply(&mut self, pairs: &Pairs<'_>, r: usize, expr: &[u32]) -> Result<bool, AllocError>
+    pub fn apply(
+        &mut self,
+        pairs: &Pairs<'_>,
+        count: usize,
+        expr: &[u32],
+    ) -> Result<bool, AllocError>
         requires about { self.old.about ≡ pairs.now }
         requires over { AreOver pairs.now.names self.old.images }
         requires below { AreBelow (length pairs.now.names) expr.now }
-        requires count { r ≤ length self.old.results.stack }
+        requires count { count ≤ length self.old.results.stack }
         ensures about { self.new.about ≡ self.old.about }
-        ensures adds { IfOk result (λ ok. Adds ok self.old.results self.new.results (below r self.old.results.stack) (code_apply self.old.images expr.now)) }
-        ensures stays { IfOk result (λ ok. UnchangedUnlessDone ok self.old.results self.new.results) }
+        ensures adds { IfOk result (λ ok. Adds ok self.old.results self.new.results (below count self.old.results.stack) (code_apply self.old.images expr.now)) }
+        ensures unchanged { IfOk result (λ ok. UnchangedUnlessDone ok self.old.results self.new.results) }
     {
-        let keep = self.stack.len() - r;
+        let keep = self.stack.len() - count;
         let start = self.symbols.len();
         let room = (SYMBOLS_LIMIT - self.weight).min(self.symbols_limit.saturating_sub(start));
         if !self.symbols.add_applied(&self.images, expr, room)? {
@@ -489,7 +495,7 @@ fn list_symbols(
     remaining: &mut Remaining,
 ) -> Result<(), AllocError>
     requires assertion { (s : Statement) × HasAssertion frames.now.statements cited s }
-    requires required { AreThoseOf frames.now.statements frames.now.names cited hypotheses.now }
+    requires required { AreHypothesesOf frames.now.statements frames.now.names cited hypotheses.now }
     ensures { OnOk result ((symbols : List ℕ) → AreListed frames.now.statements frames.now.names cited hypotheses.now (images_at symbols images.now) remaining.new.keys) }
 {
     remaining.clear_listed();
@@ -547,13 +553,13 @@ fn list_symbol(
 
 /// Finds those symbols of the expression of the `$e` at a position that are constants or are listed for it, and returns whether
 /// the expression is long and these are few. Returns `false` if an allocation fails.
-fn find_left(frames: &Frames, position: u32, expr: &[u32], remaining: &mut Remaining) -> bool
+fn find_remaining(frames: &Frames, position: u32, expr: &[u32], remaining: &mut Remaining) -> bool
     requires distinct { AreDistinct frames.now.names }
     requires below { AreBelow (length frames.now.names) expr.now }
     requires stands { (label : Name) × (e : Expr) × IsExprAt frames.now.statements frames.now.names position expr.now (Ess label e) }
     requires ordered { Ascends remaining.old.keys }
     ensures keys { remaining.new.keys ≡ remaining.old.keys }
-    ensures left { IsTrue result → IsLeftOf frames.now.statements frames.now.names position expr.now remaining.old.keys remaining.new.left }
+    ensures remaining { IsTrue result → AreRemaining frames.now.statements frames.now.names position expr.now remaining.old.keys remaining.new.left }
 {
     if expr.len() < LONG_EXPRESSION {
         return false;
@@ -585,14 +591,14 @@ fn essential_matches(
     requires below { AreBelow (length frames.now.names) expr.now }
     requires stands { (label : Name) × (e : Expr) × IsExprAt frames.now.statements frames.now.names position expr.now (Ess label e) }
     requires ordered { IsTrue listed → Ascends remaining.old.keys }
-    requires same { IsTrue listed → (left : List ℕ) → IsLeftOf frames.now.statements frames.now.names position expr.now remaining.old.keys left → code_apply (images_at symbols.now images.now) left ≡ code_apply (images_at symbols.now images.now) expr.now }
+    requires same { IsTrue listed → (rest : List ℕ) → AreRemaining frames.now.statements frames.now.names position expr.now remaining.old.keys rest → code_apply (images_at symbols.now images.now) rest ≡ code_apply (images_at symbols.now images.now) expr.now }
     ensures keys { remaining.new.keys ≡ remaining.old.keys }
     ensures matches { IsTrue result ↔ (symbols_in symbols.now place ≡ code_apply (images_at symbols.now images.now) expr.now) }
 {
     if !listed {
         return symbols.matches(images, expr, place);
     }
-    if !find_left(frames, position, expr, remaining) {
+    if !find_remaining(frames, position, expr, remaining) {
         return symbols.matches(images, expr, place);
     }
     symbols.matches(images, remaining.left(), place)
@@ -713,15 +719,16 @@ pub fn read_off(
     ensures inside { (n : ℕ) → AreWithin n places.now → AreInside n images.new }
 {
     images.clear();
-    let Some(front) = read_leading_floats(images, symbols, typecodes, hypotheses, places)? else {
+    let Some(leading_count) = read_leading_floats(images, symbols, typecodes, hypotheses, places)?
+    else {
         return Ok(None);
     };
-    for k in front.saturating_add(1)..hypotheses.len() {
+    for k in leading_count.saturating_add(1)..hypotheses.len() {
         if let Hypothesis::Float(variable) = hypotheses.get(k) {
             if !read_later_float(images, symbols, typecodes[k], variable, places[k])? {
                 return Ok(None);
             }
         }
     }
-    Ok(Some(front))
+    Ok(Some(leading_count))
 }

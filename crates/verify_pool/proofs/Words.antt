@@ -4,7 +4,7 @@ pub use Rattle.std.proofs.Common.{Err, IfOk, IfSome, IsTrue, List, None, Ok, Opt
 pub use Rattle.std.proofs.lemmas.Bool.{cases_lt, cases_order}
 pub use Rattle.std.proofs.lemmas.Option.{none-some, same_Some, slice_get_read, slice_get_within}
 pub use Rattle.verify.specs.Right.{IsAnswerTo}
-pub use Rattle.verify_pool.specs.Jobs.{AreJobs, IsBadAt, IsJob, IsRightAt, IsRightJob, LeastBad}
+pub use Rattle.verify_pool.specs.Jobs.{AreJobs, IsWrongJobAt, IsJob, IsRightAt, IsRightJob, IsFirstWrongJob}
 pub use Rattle.verify_pool.specs.Least.{IsBefore, IsLeast, IsWrongAt}
 pub use Rattle.verify_pool.specs.Stripes.{IsFoundInStripe, IsIn, IsLeastInStripe, IsNoLater, IsSettled, IsStripeRightBefore}
 pub use Rattle.verify_pool.specs.declared.job.Job.{Job}

@@ -1,6 +1,5 @@
 -- The least job that is not right, for proofs that are given as their items.
--- The notion of a right proof is `verify`'s, from Metamath, 4.2.6 and appendix B; that the least bad proof decides
--- is this project's.
+-- Source: Metamath, 4.2.6 and appendix B, for a right proof (`verify`); this project, for the first one that is not right.
 -- The code deals the jobs out to workers; here they are one list, judged in order.
 use Rattle.std.specs.Prelude.{◌≡◌, ℕ, List, slice_get, Option, Some, IfSome, MatchOption}
 use Rattle.mm_lex.specs.Alphabet.{Name}
@@ -37,12 +36,12 @@ abbrev pub AreRightBefore : Database → List Job → Option ℕ → Type 0
 AreRightBefore S jobs answer = (k : ℕ) (job : Job) → IsBefore k answer → slice_get jobs k ≡ Some job → IsRightJob S job
 
 -- there is a job of index i, and it is not right
-pub record IsBadAt (S : Database) (jobs : List Job) (i : ℕ) : Type 0 where
+pub record IsWrongJobAt (S : Database) (jobs : List Job) (i : ℕ) : Type 0 where
   pub job : Job
   pub stands : slice_get jobs i ≡ Some job
-  pub bad : ¬ IsRightJob S job
+  pub not_right : ¬ IsRightJob S job
 
 -- the answer is the least index of a job that is not right, or none if each is right
-pub record LeastBad (S : Database) (jobs : List Job) (answer : Option ℕ) : Type 0 where
+pub record IsFirstWrongJob (S : Database) (jobs : List Job) (answer : Option ℕ) : Type 0 where
   pub before : AreRightBefore S jobs answer
-  pub bad : IfSome answer (IsBadAt S jobs)
+  pub wrong : IfSome answer (IsWrongJobAt S jobs)

@@ -17,7 +17,7 @@ pub struct Worker {
     /// The least index of a job that was judged and is not right, `None` if there is none; an error
     /// if a job could neither be judged nor be put off.
     pub least: Result<Option<usize>, AllocError>,
-    /// The indexes of the jobs that need more memory than the worker has.
+    /// The indexes of the jobs that were put off, for want of memory.
     pub deferred: Vec<usize>,
 }
 
@@ -53,7 +53,7 @@ impl Checkers {
 
     /// Sets whether the checker of the calling thread takes heavy proofs.
     pub(crate) fn admit_heavy(&mut self, are_admitted: bool) {
-        self.calling.limit(if are_admitted {
+        self.calling.set_symbol_limit(if are_admitted {
             usize::MAX
         } else {
             MAX_WORKER_SYMBOLS
@@ -98,7 +98,7 @@ impl Checkers {
     {
         while self.workers.len() < count {
             let mut checker = Checker::new(self.alloc);
-            checker.limit(MAX_WORKER_SYMBOLS);
+            checker.set_symbol_limit(MAX_WORKER_SYMBOLS);
             self.workers.push(Worker {
                 checker,
                 least: Ok(None),

@@ -1,21 +1,21 @@
 //! Gates, which threads pass before a job or an entry.
 
-/// The action that a thread takes next, once a gate lets it pass.
+/// Where a thread stands at a gate: before the action that it takes next.
 #[derive(Clone, Copy, Debug, PartialEq, Eq)]
 pub enum Place {
-    /// It judges the job of this index, from 0.
+    /// Before it judges the job of this index, from 0.
     Job(usize),
-    /// It applies the next entry of the log at the node of this number.
+    /// Before it applies the next entry of the log at the node of this number.
     Apply(u8),
 }
 
-/// A gate that a thread passes before each job that it judges, and before each entry of the log
+/// A gate that a thread passes before each job that is dealt to it, and before each entry of the log
 /// that it applies.
 ///
 /// It may watch the threads or hold them back, and it may keep heavy proofs out. No answer depends
 /// on it, except whether it is an `AllocError`.
 pub trait Gate {
-    /// Returns when the thread may take the action `place`.
+    /// Returns when the thread may go on from `place`.
     fn pass(&self, place: Place);
 
     /// Returns whether the calling thread may judge heavy proofs, which need more memory than a

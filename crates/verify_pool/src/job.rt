@@ -3,13 +3,13 @@
 ghost use Rattle.std.specs.Prelude.{◌≡◌, IfOk};
 ghost use Rattle.verify.specs.CitationCache.{IsCacheFor};
 ghost use Rattle.verify.specs.Right.{IsAnswerTo};
-ghost use Rattle.verify_pool.specs.Jobs.{AreJobs, IsJob, IsRightAt, IsRightJob, LeastBad};
+ghost use Rattle.verify_pool.specs.Jobs.{AreJobs, IsJob, IsRightAt, IsRightJob, IsFirstWrongJob};
 
 use crate::checkers::Checkers;
 use crate::gate::Gate;
 use crate::pool::judge_all;
+use crate::pool_size::PoolSize;
 use crate::work::Work;
-use crate::workers::Workers;
 use frame::Frames;
 use proof_code::Items;
 use std::alloc::{AllocError, Global};
@@ -33,17 +33,17 @@ pub struct Job {
 /// index. A worker stops at its first job that is not right.
 ///
 /// Errors and cost: those of `judge_all`.
-#[tactic(auto, using(crate::proofs::LeastLemmas::least_bad))]
+#[tactic(auto, using(crate::proofs::LeastLemmas::first_wrong_job))]
 pub fn check_all<G: Gate + Sync, R: Threads + Sync>(
     rt: &R,
     alloc: Global,
     frames: &Frames,
     jobs: &[Job],
-    workers: Workers,
+    workers: PoolSize,
     gate: &G,
 ) -> Result<Option<usize>, AllocError>
     requires jobs { AreJobs frames.now.statements jobs.now }
-    ensures { IfOk result (λ least. LeastBad frames.now.statements jobs.now least) }
+    ensures { IfOk result (λ least. IsFirstWrongJob frames.now.statements jobs.now least) }
 {
     let mut checkers = Checkers::new(alloc);
     judge_all(rt, &mut checkers, &Jobs { frames, jobs }, workers, gate)
@@ -77,14 +77,14 @@ impl<'a> Work for Jobs<'a> {
 
     ghost right = { λ work. IsRightAt work.statements work.jobs };
 
-    ghost fits = { λ work. IsCacheFor work.statements work.names };
+    ghost is_cache_for = { λ work. IsCacheFor work.statements work.names };
 
     fn count(&self) -> usize {
         self.jobs.len()
     }
 
     fn begin(&self, checker: &mut Checker) {
-        checker.begin();
+        checker.clear_cache();
     }
 
     fn judge(&self, index: usize, checker: &mut Checker) -> Result<Answer, AllocError> {

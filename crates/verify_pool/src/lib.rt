@@ -4,7 +4,7 @@
 //! each is right, whatever the number of workers; `judge_here` returns it on the calling thread. `check_all` returns it
 //! for proofs that are given as their items.
 //!
-//! Reading order: `work` (jobs by index), `workers`, `gate` (what a thread passes before each job), `checkers` (reused from
+//! Reading order: `work` (jobs by index), `pool_size`, `gate` (what a thread passes before each job), `checkers` (reused from
 //! text to text), `pool` (the jobs of one worker, and all of them), `job` (proofs with their items), `laws`.
 #![tactic(auto)]
 
@@ -13,12 +13,12 @@ mod gate;
 mod job;
 pub mod laws;
 mod pool;
+mod pool_size;
 mod work;
-mod workers;
 
 pub use checkers::Checkers;
 pub use gate::{Gate, LightGate, OpenGate, Place};
 pub use job::{Job, check_all};
 pub use pool::{judge_all, judge_here};
+pub use pool_size::{MAX_WORKERS, PoolSize};
 pub use work::Work;
-pub use workers::{MAX_WORKERS, Workers};

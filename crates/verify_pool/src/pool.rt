@@ -6,8 +6,8 @@ ghost use Rattle.verify_pool.specs.Stripes.{AreFound, IsFoundInStripe, IsIn, IsL
 
 use crate::checkers::{Checkers, Worker};
 use crate::gate::{Gate, OpenGate, Place};
+use crate::pool_size::PoolSize;
 use crate::work::Work;
-use crate::workers::Workers;
 use std::alloc::AllocError;
 use std::thread;
 use std::thread::Threads;
@@ -32,7 +32,7 @@ pub fn judge_all<W: Work + Sync, G: Gate + Sync, R: Threads + Sync>(
     rt: &R,
     checkers: &mut Checkers,
     work: &W,
-    workers: Workers,
+    workers: PoolSize,
     gate: &G,
 ) -> Result<Option<usize>, AllocError>
     ensures { IfOk result (IsLeast (W.right work.now) (W.count work.now)) }
@@ -184,7 +184,7 @@ fn least_in_stripe<W: Work, G: Gate>(
     requires step { (1 ≤ step) × (step ≤ 16) }
     requires first { first < step }
     requires none { worker.old.deferred.items ≡ [] }
-    requires kept { W.fits work.now worker.old.checker }
+    requires kept { W.is_cache_for work.now worker.old.checker }
     ensures { IfOk result (λ least. IsFoundInStripe (W.right work.now) (W.count work.now) first step least worker.new.deferred.items) }
 {
     let count = work.count();
@@ -210,8 +210,8 @@ fn is_wrong<W: Work>(
     deferred: &mut Vec<usize>,
 ) -> Result<bool, AllocError>
     requires index { index < W.count work.now }
-    requires checker { W.fits work.now checker.old }
-    ensures checker { W.fits work.now checker.new }
+    requires checker { W.is_cache_for work.now checker.old }
+    ensures checker { W.is_cache_for work.now checker.new }
     ensures wrong { IfOk result (λ wrong. wrong ≡ true → ¬ W.right work.now index) }
     ensures right { IfOk result (λ wrong. wrong ≡ false → W.right work.now index ⊎ IsIn index deferred.new.items) }
     ensures kept { (k : ℕ) → IsIn k deferred.old.items → IsIn k deferred.new.items }
@@ -258,8 +258,8 @@ fn settle_one<W: Work>(
     checker: &mut Checker,
 ) -> Result<Option<usize>, AllocError>
     requires index { index < W.count work.now }
-    requires kept { W.fits work.now checker.old }
-    ensures kept { W.fits work.now checker.new }
+    requires kept { W.is_cache_for work.now checker.old }
+    ensures kept { W.is_cache_for work.now checker.new }
     ensures settled { IfOk result (IsSettled (W.right work.now) index least) }
 {
     if is_before(index, least) && work.judge(index, checker)? == Answer::Wrong {

@@ -15,9 +15,9 @@ pub trait Work {
     /// The job of this index is right.
     ghost right: { Self → ℕ → Type 0 };
 
-    /// What a checker keeps from proof to proof (lists of assertions, and facts on pairs of
-    /// variables) is right for these jobs.
-    ghost fits: { Self → CheckerCache → Type 0 };
+    /// The cache of a checker is right for these jobs: the lists of assertions and the facts on pairs
+    /// of variables that it keeps from proof to proof.
+    ghost is_cache_for: { Self → CheckerCache → Type 0 };
 
     /// Returns the number of jobs.
     fn count(&self) -> usize
@@ -26,14 +26,14 @@ pub trait Work {
 
     /// Prepares a checker for these jobs, whatever jobs it judged before.
     fn begin(&self, checker: &mut Checker)
-        ensures { fits self.now checker.new };
+        ensures { is_cache_for self.now checker.new };
 
     /// Returns whether the job of that index, from 0, is right.
     ///
     /// Errors: an allocation fails.
     fn judge(&self, index: usize, checker: &mut Checker) -> Result<Answer, AllocError>
         requires index { index < count self.now }
-        requires kept { fits self.now checker.old }
-        ensures kept { fits self.now checker.new }
+        requires kept { is_cache_for self.now checker.old }
+        ensures kept { is_cache_for self.now checker.new }
         ensures answer { IfOk result (λ answer. IsAnswerTo answer (right self.now index)) };
 }

@@ -11,7 +11,7 @@ use std::alloc::{AllocError, Global};
 use std::marker::Model;
 use std::mem;
 use std::thread::Threads;
-use verify_pool::{Gate, Workers};
+use verify_pool::{Gate, PoolSize};
 
 /// A library, and the number of log entries applied to it, in order from the first.
 #[derive(Drop)]
@@ -88,7 +88,7 @@ impl NodeLibrary {
         &mut self,
         rt: &R,
         next: Option<&Option<Carried>>,
-        workers: Workers,
+        workers: PoolSize,
         gate: &G,
     ) -> Result<Option<Verdict>, StepFault>
         requires { IsSome next → self.old.applied < SLOTS }

@@ -1,4 +1,4 @@
-use Rattle.explain.proofs.Words.{◌∙◌, ap, arith, refl, map, stmt_at, label_or_none}
+use Rattle.explain.proofs.Words.{◌∙◌, ap, arith, refl, map, stmt_at, label_or_empty}
 use Rattle.std.proofs.lemmas.List.{take_all}
 use Rattle.explain.proofs.MandatoryLabelLemmas.{stands-at, labels-more}
 use Rattle.explain.proofs.proof_fault.labels_of.Goals as goal
@@ -21,6 +21,6 @@ loop-position-preserved c =
 
 pub returns : goal.returns
 returns c s provable =
-    c.loop-position.invariant ∙ ap (map (λ i. label_or_none (stmt_at c.args.frames.now.statements i)))
+    c.loop-position.invariant ∙ ap (map (λ i. label_or_empty (stmt_at c.args.frames.now.statements i)))
     (take_all c.loop-position.position-index c.as_slice-position-items.result.now (let over = c.loop-position-test.false in omega (arith, over))
     ∙ (c.as_slice-position-items.ensures.value ∙ c.in_ok-mandatory.ensures.listed s provable.stands))

@@ -30,7 +30,7 @@ returns-then-eq-clause-added c =
       closed = λ f. absurd (let e = f in cc);
       begins = (bares (take c.loop-index.index S), ap (λ k. k.statements) e.same ∙ (i.frames_are ∙ ap (λ k. k.statements ++ bares (take c.loop-index.index S)) c.reserve.ensures));
       marked = e.marked ∙ i.mark;
-      known = known-none S c.len-known.result _ c.len-known.ensures;
+      proved_to = known-none S c.len-proved_to.result _ c.len-proved_to.ensures;
     }
 
 pub returns-else-eq-clause-added : goal.returns-else-eq-clause-added
@@ -52,7 +52,7 @@ returns-else-eq-clause-added c =
       closed = λ f. absurd (let e = f in cc);
       begins = (bares (take index S), ap (λ k. k.statements) e.same ∙ (i.frames_are ∙ ap (λ k. k.statements ++ bares (take index S)) c.reserve.ensures));
       marked = e.marked ∙ i.mark;
-      known = known-none S c.len-known.result _ c.len-known.ensures;
+      proved_to = known-none S c.len-proved_to.result _ c.len-proved_to.ensures;
     }
 
 pub returns-in-Ok-clause-added : goal.returns-in-Ok-clause-added
@@ -69,7 +69,7 @@ returns-in-Ok-clause-added c =
       closed = λ f. subst (λ r. OnOk r (IsTrue (is_closed c.loop-index.tables.rules.statements))) c.in-Ok.is c.close_at_end.ensures.ok;
       begins = (bares (take c.loop-index.index S), i.frames_are ∙ ap (λ k. k.statements ++ bares (take c.loop-index.index S)) c.reserve.ensures);
       marked = i.mark;
-      known = known-none S c.len-known.result _ c.len-known.ensures;
+      proved_to = known-none S c.len-proved_to.result _ c.len-proved_to.ensures;
     }
 
 pub returns-in-Err-close_at_end-clause-added : goal.returns-in-Err-close_at_end-clause-added
@@ -86,5 +86,5 @@ returns-in-Err-close_at_end-clause-added c =
       closed = λ f. absurd (let e = f in cc);
       begins = (bares (take c.loop-index.index S), i.frames_are ∙ ap (λ k. k.statements ++ bares (take c.loop-index.index S)) c.reserve.ensures);
       marked = i.mark;
-      known = known-none S c.len-known.result _ c.len-known.ensures;
+      proved_to = known-none S c.len-proved_to.result _ c.len-proved_to.ensures;
     }

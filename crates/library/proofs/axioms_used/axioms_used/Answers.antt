@@ -1,4 +1,4 @@
-use Rattle.library.proofs.Words.{ap, refl, subst, Cites, ◌-◌, true, slice_set, arith, length, ◌∙◌, AreLabelsOf, IsMarkedAxiom, stands-within, lent-whole, sym, ◌+◌, ◌<◌, slice_get_read, ◌++◌, ◌∷◌, [], cond, Some, is_axiom, label_or_none}
+use Rattle.library.proofs.Words.{ap, refl, subst, Cites, ◌-◌, true, slice_set, arith, length, ◌∙◌, AreLabelsOf, IsMarkedAxiom, stands-within, lent-whole, sym, ◌+◌, ◌<◌, slice_get_read, ◌++◌, ◌∷◌, [], cond, Some, is_axiom, label_or_empty}
 use Rattle.library.proofs.CitationWalkLemmas.{walk-start, step-pass, step-proof, walk-end, marks-proof, marks-nothing}
 use Rattle.library.proofs.CitedByLemmas.{AreListed, no-axiom, listed-none, listed-more, listed-skip, listed-all, are-used}
 use Rattle.library.proofs.axioms_used.axioms_used.Goals as goal
@@ -45,7 +45,7 @@ loop-index-preserved c =
       | then-marked+in-Axiom+in_ok-copy+in_ok-push w ↦ listed-more S ms index c.loop-index.labels.items c.if-marked.labels.items w.index-statements-index.result
           (slice_get_read S _ index w.index-statements-index.result refl few w.index-statements-index.is) w.if-marked.true
           (ap (λ v. v.items) w.labels-is ∙ (w.in_ok-push.ensures.items ∙ (ap (λ l. c.loop-index.labels.items ++ l ∷ []) w.in_ok-copy.ensures
-          ∙ sym (ap (λ s. c.loop-index.labels.items ++ cond (is_axiom s) (label_or_none (Some s) ∷ []) []) w.in-Axiom.is)))) c.loop-index.invariant
+          ∙ sym (ap (λ s. c.loop-index.labels.items ++ cond (is_axiom s) (label_or_empty (Some s) ∷ []) []) w.in-Axiom.is)))) c.loop-index.invariant
       | then-marked+in_default w ↦ listed-more S ms index c.loop-index.labels.items c.if-marked.labels.items w.index-statements-index.result
           (slice_get_read S _ index w.index-statements-index.result refl few w.index-statements-index.is) w.if-marked.true
           (ap (λ v. v.items) w.labels-is ∙ sym (no-axiom w.index-statements-index.result c.loop-index.labels.items w.in_default.not-Axiom)) c.loop-index.invariant

@@ -1,4 +1,4 @@
-use Rattle.library.proofs.Words.{◌∙◌, Some, ap, arith, bares, inl, inr, is_provable, label_or_none, on_ok, proof_of, refl, stands-within, subst, sym, take_all}
+use Rattle.library.proofs.Words.{◌∙◌, Some, ap, arith, bares, inl, inr, is_provable, label_or_empty, on_ok, proof_of, refl, stands-within, subst, sym, take_all}
 use Rattle.library.proofs.QueriesLemmas.{found-good}
 use Rattle.library.proofs.ProvingLemmas.{Found, packed-found, normal-found, not-there, has-assertion, hypothesis-of, kind-of, other-kind, labels-more, labels-all}
 use Rattle.library.proofs.CitedByLemmas.{not-provable}
@@ -30,7 +30,7 @@ unreachable-requires c =
 pub loop-position-preserved : goal.loop-position-preserved
 loop-position-preserved c =
     labels-more c.args.database.now c.as_slice-position-items.result.now c.loop-position.position-index _ 0 _ _ _ c.loop-position-test.true refl
-    (c.as_bytes.ensures.bytes ∙ elim c.in-Float.is [ inl e ↦ sym (ap label_or_none (c.statement-in-loop-position.ensures.stands ∙ ap Some e.2)) | inr e ↦ sym (ap label_or_none (c.statement-in-loop-position.ensures.stands ∙ ap Some e.1)) ])
+    (c.as_bytes.ensures.bytes ∙ elim c.in-Float.is [ inl e ↦ sym (ap label_or_empty (c.statement-in-loop-position.ensures.stands ∙ ap Some e.2)) | inr e ↦ sym (ap label_or_empty (c.statement-in-loop-position.ensures.stands ∙ ap Some e.1)) ])
     c.loop-position.invariant c.in_ok-push-in-Float.ensures.ok
 
 pub returns : goal.returns

@@ -1,4 +1,4 @@
-use Rattle.library.proofs.Words.{◌<◌, sym, ap, subst, ◌-◌, ◌∙◌, Some, true, false, replicate, length, slice_set, arith, proof_of, is_provable, label_or_none}
+use Rattle.library.proofs.Words.{◌<◌, sym, ap, subst, ◌-◌, ◌∙◌, Some, true, false, replicate, length, slice_set, arith, proof_of, is_provable, label_or_empty}
 use Rattle.library.proofs.CitedByLemmas.{IsSearched, search-start, search-past, search-miss, search-user, search-end}
 use Rattle.library.proofs.cited_by.citing_labels.Goals as goal
 use Rattle.library.proofs.cited_by.citing_labels.Goals.{in-Prove+in_ok-cites_marked+then-branch+in_ok-copy+in_ok-push, in-Prove+in_ok-cites_marked+else-branch, in_default}
@@ -29,7 +29,7 @@ loop-index-preserved c =
     elim c.match-statement.branch [
       | in-Prove+in_ok-cites_marked+then-branch+in_ok-copy+in_ok-push w ↦ rw (w.sought-is, w.labels-is, w.in_ok-push.ensures.items)
           (search-user S c.args.all c.args.at p ms labels good within c.loop-index.invariant w.in_ok-cites_marked.field-0 w.deref.result.now w.deref.ensures.value w.in_ok-cites_marked.ensures s _ c.statement.ensures.stands
-          (ap (λ r. label_or_none (Some r)) w.in-Prove.is ∙ sym w.in_ok-copy.ensures) c.loop-index.auto.index w.if-branch.true)
+          (ap (λ r. label_or_empty (Some r)) w.in-Prove.is ∙ sym w.in_ok-copy.ensures) c.loop-index.auto.index w.if-branch.true)
       | in-Prove+in_ok-cites_marked+else-branch w ↦ rw (w.sought-is, w.labels-is)
           (search-miss S c.args.all c.args.at p ms labels good within c.loop-index.invariant w.in_ok-cites_marked.field-0 w.deref.result.now w.deref.ensures.value w.in_ok-cites_marked.ensures w.if-branch.false)
       | in_default w ↦ rw (w.sought-is, w.labels-is) (search-past S c.args.all c.args.at p ms labels good within c.loop-index.invariant s c.statement.ensures.stands w.in_default.not-Prove)

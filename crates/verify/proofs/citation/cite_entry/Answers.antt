@@ -3,8 +3,8 @@ use Rattle.verify.proofs.Named.{saved-same}
 use Rattle.verify.proofs.StepLemmas.{given-result}
 use Rattle.verify.proofs.citation.cite_entry.Goals as goal
 
-pub returns-in-Hypothesis-clause-goes : goal.returns-in-Hypothesis-clause-goes
-returns-in-Hypothesis-clause-goes c =
+pub returns-in-Hypothesis-clause-effect : goal.returns-in-Hypothesis-clause-effect
+returns-in-Hypothesis-clause-effect c =
     IfOk-weaker c.add.result _ _ (λ ok adds. (
       λ label is.
           let s = rw c.in-Hypothesis.is at is in

@@ -5,8 +5,8 @@ use Rattle.verify.proofs.results.read_off.Goals as goal
 
 pub loop-k-init : goal.loop-k-init
 loop-k-init c =
-    let read = subst (λ r. MatchOption r (IsMistyped c.args.symbols.now c.args.typecodes.now c.args.hypotheses.now c.args.places.now) (λ n. ReadTo n c.args.symbols.now c.args.typecodes.now c.args.hypotheses.now c.args.places.now c.read_leading_floats.new.images)) c.in-Some.is c.in_ok-front.ensures.read in
-    let front = subst (λ r. IfSome r (AreLeadingFloats c.args.hypotheses.now)) c.in-Some.is c.in_ok-front.ensures.floats in
+    let read = subst (λ r. MatchOption r (IsMistyped c.args.symbols.now c.args.typecodes.now c.args.hypotheses.now c.args.places.now) (λ n. ReadTo n c.args.symbols.now c.args.typecodes.now c.args.hypotheses.now c.args.places.now c.read_leading_floats.new.images)) c.in-Some.is c.in_ok-leading_count.ensures.read in
+    let front = subst (λ r. IfSome r (AreLeadingFloats c.args.hypotheses.now)) c.in-Some.is c.in_ok-leading_count.ensures.floats in
     (front-next _ _ _ _ _ _ (omega (arith, front.within, c.len-k-end.type_inv, c.len-k-end.ensures)) front c.saturating_add-k.ensures _ read, c.read_leading_floats.ensures.inside)
 
 pub read_later_float-requires : goal.read_later_float-requires

@@ -6,5 +6,5 @@ abbrev pub invariant-loop-index : goal.invariant-loop-index
 invariant-loop-index g l = record {
   rest : (first step : ℕ) → IsFoundInStripe (g.W.Work.right l.work) (g.W.Work.count l.work) first step l.fn.least l.deferred
       → IsFoundInStripe (g.W.Work.right l.work) (g.W.Work.count l.work) first step l.least (drop l.index-index l.deferred);
-  kept : g.W.Work.fits l.work l.checker;
+  kept : g.W.Work.is_cache_for l.work l.checker;
 }

@@ -1,4 +1,4 @@
-use Rattle.library.proofs.Words.{◌≡◌, ℕ, ◌+◌, ◌*◌, ◌≤◌, List, length, Option, Some, None, refl, subst, ap, sym, ◌∙◌, arith, Database, Submission, Text, Cause, TooLong, BadText, Shape, NotChartered, IsAllowed, IsFault, IsCause, IsReading, Extends, Decides, ReplicaState, status, decided_with, count_of, author_of, serial_of, HasFewStepsText, HasFewStepsEntry, verdict_of}
+use Rattle.library.proofs.Words.{◌≡◌, ℕ, ◌+◌, ◌*◌, ◌≤◌, List, length, Option, Some, None, refl, subst, ap, sym, ◌∙◌, arith, Database, Submission, Text, Cause, TooLong, BadText, Shape, NotChartered, IsAllowed, IsFault, IsCause, IsReading, Extends, Decides, ReplicaState, status, decided_with, count_of, author_of, serial_of, HasFewStepsForText, HasFewStepsForEntry, verdict_of}
 use Rattle.library.proofs.CausesLemmas.{one-reading}
 use Rattle.library.proofs.DecidedLemmas.{opened, settled as settled-table}
 use Rattle.library.proofs.library.Library.apply_by.Goals as goal
@@ -19,7 +19,7 @@ text-decided old L T submission None allowed e = (T, allowed, e.0, ap (λ S. rec
 text-decided old L T submission (Some cause) allowed e =
     (fault-cause old.statements T old.charter submission cause allowed e.0, ap (λ S. record old { statements = S; decided = decided_with old (Text submission) (verdict_of (Some cause)) }) e.1)
 
-within-read : (charter : Option (List ℕ)) (submission : Submission) (T : Database) (before after : ℕ) → IsAllowed charter submission T → after ≤ before + 2 * length T → HasFewStepsText submission before after
+within-read : (charter : Option (List ℕ)) (submission : Submission) (T : Database) (before after : ℕ) → IsAllowed charter submission T → after ≤ before + 2 * length T → HasFewStepsForText submission before after
 within-read charter submission T before after allowed h =
     record { read = λ U reads. subst (λ V. after ≤ before + 3 * length V) (one-reading submission.text T U allowed.readable.read reads) (omega (arith, h)); unread = λ none. absurd (none T allowed.readable.read) }
 
@@ -50,7 +50,7 @@ settled : (g : Rattle.library.proofs.library.Library.apply_by.Given.Over) (c : g
     let old : ReplicaState = record { statements = V.database; decided = V.decided.entries; charter = V.charter } in let entry = c.in-Some.entry.now in let verdict = verdict_of c.match-entry.cause in
     Decides old entry verdict (record { statements = c.match-entry.self-inside.database; decided = decided_with old entry verdict; charter = c.match-entry.self-inside.charter })
     × (c.match-entry.self-inside.decided.entries ≡ V.decided.entries) × (c.match-entry.self-inside.entry_states ≡ c.insert.new.self)
-    × HasFewStepsEntry c.in-Some.entry.now (count_of V.steps) (count_of c.match-entry.self-inside.steps) × (count_of V.steps ≤ count_of c.match-entry.self-inside.steps)
+    × HasFewStepsForEntry c.in-Some.entry.now (count_of V.steps) (count_of c.match-entry.self-inside.steps) × (count_of V.steps ≤ count_of c.match-entry.self-inside.steps)
 settled g c =
     let V = c.self.inside in
     elim c.match-entry.branch [

@@ -1,4 +1,4 @@
-use Rattle.verify.proofs.Words.{◌≡◌, ◌++◌, ◌∷◌, [], ◌∙◌, refl, ap, sym, subst, arith, length, stmt_at, IsCacheFor, AreKeptLists, IsAt}
+use Rattle.verify.proofs.Words.{◌≡◌, ◌++◌, ◌∷◌, [], ◌∙◌, refl, ap, sym, subst, arith, length, stmt_at, IsCacheFor, AreKeptLists, HasListsAt}
 use Rattle.verify.proofs.KeptListsLemmas.{at-end, kept-more}
 use Rattle.verify.proofs.citation_cache.CitationCache.keep.Goals as goal
 
@@ -14,8 +14,8 @@ returns-clause-index c =
     let is = c.in_ok-lists.ensures in
     let old = c.self-2.inside.lists.items in
     let last : c.len-index.result ≡ length old = omega (arith, c.len-index.ensures) in
-    subst (λ ls. IsAt ls c.len-index.result c.args.position) (sym c.in_ok-push.ensures.items)
-    (subst (λ n. IsAt (old ++ c.in_ok-lists.lists ∷ []) n c.args.position) (sym last) (at-end old c.in_ok-lists.lists c.args.position is.at))
+    subst (λ ls. HasListsAt ls c.len-index.result c.args.position) (sym c.in_ok-push.ensures.items)
+    (subst (λ n. HasListsAt (old ++ c.in_ok-lists.lists ∷ []) n c.args.position) (sym last) (at-end old c.in_ok-lists.lists c.args.position is.at))
 
 pub returns-in_err-push-clause-kept : goal.returns-in_err-push-clause-kept
 returns-in_err-push-clause-kept c = λ S names old made.

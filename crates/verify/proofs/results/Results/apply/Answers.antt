@@ -70,7 +70,7 @@ invariant_of-self-in_err-truncate_and_push c =
     let more = grown c.self.inside.symbols _ _ c.len-start.result c.len-3.result g.0 c.len-start.ensures.len c.len-3.ensures.len in
     record {
       kept =
-          apply-cut c.self.inside.symbols _ _ c.self.inside.images c.self.inside.stack.items c.self.inside.saved.items _ c.self.inside.weight _ (c.len.result - c.args.r) c.self.invariant.kept g.0
+          apply-cut c.self.inside.symbols _ _ c.self.inside.images c.self.inside.stack.items c.self.inside.saved.items _ c.self.inside.weight _ (c.len.result - c.args.count) c.self.invariant.kept g.0
           c.in_err-truncate_and_push.ensures.err
           (ap (λ n. c.self.inside.weight + n) more) (end_light c.self.inside.weight _ c.len-start.result c.len-3.result _ (omega (arith, c.min-room.ensures)) c.self.invariant.kept.light more g.1);
       recorded = c.record_result.ensures.over;
@@ -82,7 +82,7 @@ invariant_of-self-2 c =
     let more = grown c.self.inside.symbols _ _ c.len-start.result c.len-3.result g.0 c.len-start.ensures.len c.len-3.ensures.len in
     record {
       kept =
-          apply-kept c.self.inside.symbols _ _ c.self.inside.images c.self.inside.stack.items c.self.inside.saved.items _ c.self.inside.weight _ (c.len.result - c.args.r) c.range_between-place.result c.self.invariant.kept g.0
+          apply-kept c.self.inside.symbols _ _ c.self.inside.images c.self.inside.stack.items c.self.inside.saved.items _ c.self.inside.weight _ (c.len.result - c.args.count) c.range_between-place.result c.self.invariant.kept g.0
           (c.range_between-place.ensures.0 ∙ c.len-start.ensures.len) (c.range_between-place.ensures.1 ∙ c.len-2.ensures.len) c.in_ok-truncate_and_push.ensures.ok
           (ap (λ n. c.self.inside.weight + n) more) (end_light c.self.inside.weight _ c.len-start.result c.len-3.result _ (omega (arith, c.min-room.ensures)) c.self.invariant.kept.light more g.1);
       recorded = c.record_result.ensures.over;
@@ -92,6 +92,6 @@ pub returns-clause-adds : goal.returns-clause-adds
 returns-clause-adds c =
     let g = appended _ _ _ _ _ c.if-not-branch.false c.in_ok-add_applied.ensures.ok in
     let more = grown c.self.inside.symbols _ _ c.len-start.result c.len-3.result g.0 c.len-start.ensures.len c.len-3.ensures.len in
-    rw (← c.self.view_is) (apply-seen c.self.inside.symbols _ _ c.self.inside.images c.self.inside.stack.items c.self.inside.saved.items _ c.self.inside.weight _ (c.len.result - c.args.r) c.args.r c.range_between-place.result c.self.invariant.kept
+    rw (← c.self.view_is) (apply-seen c.self.inside.symbols _ _ c.self.inside.images c.self.inside.stack.items c.self.inside.saved.items _ c.self.inside.weight _ (c.len.result - c.args.count) c.args.count c.range_between-place.result c.self.invariant.kept
     (omega (arith, c.len.ensures)) g.0 (c.range_between-place.ensures.0 ∙ c.len-start.ensures.len) (c.range_between-place.ensures.1 ∙ c.len-2.ensures.len)
     c.in_ok-truncate_and_push.ensures.ok (ap (λ n. c.self.inside.weight + n) more))

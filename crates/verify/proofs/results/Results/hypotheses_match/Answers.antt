@@ -7,7 +7,7 @@ use Rattle.verify.proofs.results.Results.hypotheses_match.Goals.{in-Essential+el
 use Rattle.verify.proofs.results.Results.hypotheses_match.Goals as goal
 
 pub loop-k-init : goal.loop-k-init
-loop-k-init c j h less at = let x = c.requires.front.floats j less in subst (λ g. HypothesisMatches c.args.frames.now.statements (images_of_names c.args.frames.now.names c.args.self.now.images) g (get_or (map (decode c.args.frames.now.names) (top (length c.args.hypotheses.now) c.args.self.now.results.stack)) j [])) (same_Some (Float x.0) h (sym x.1 ∙ at)) tt
+loop-k-init c j h less at = let x = c.requires.leading.floats j less in subst (λ g. HypothesisMatches c.args.frames.now.statements (images_of_names c.args.frames.now.names c.args.self.now.images) g (get_or (map (decode c.args.frames.now.names) (top (length c.args.hypotheses.now) c.args.self.now.results.stack)) j [])) (same_Some (Float x.0) h (sym x.1 ∙ at)) tt
 
 pub expr-expr-requires : goal.expr-expr-requires
 expr-expr-requires c =

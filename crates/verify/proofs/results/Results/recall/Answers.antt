@@ -19,7 +19,7 @@ invariant_of-self-then-len-eq0 c = record {
 
 pub returns-then-len-eq0-clause-finds : goal.returns-then-len-eq0-clause-finds
 returns-then-len-eq0-clause-finds c = rw (← c.self.view_is) (
-  λ within. absurd (let h = c.if-index-labels.false in omega (arith, h, within)),
+  λ within. absurd (let h = c.if-index-label_count.false in omega (arith, h, within)),
   recall-seen _ _ _ _ _ _ _ _ _ c.self.invariant.kept.saved_within (omega (arith, c.if-index-len.false, c.len.ensures)) c.index-place.ensures c.in_ok-push.ensures.items (let h = c.if-len-eq0.true in omega (arith, h)),
 )
 

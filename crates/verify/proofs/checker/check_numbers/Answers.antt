@@ -1,7 +1,7 @@
 use Rattle.verify.proofs.Words.{length, arith, length-map, item_of, items_of, without_cached, stands-within}
 use Rattle.verify.proofs.StopLemmas.{stops-wrong, stops-right, stops-other}
-use Rattle.verify.proofs.checker.run.Goals as goal
-use Rattle.verify.proofs.checker.run.Goals.{else-done-numbers-via-then-done-numbers+else-is_only, else-done-numbers-via-else-done-numbers}
+use Rattle.verify.proofs.checker.check_numbers.Goals as goal
+use Rattle.verify.proofs.checker.check_numbers.Goals.{else-done-numbers-via-then-done-numbers+else-is_only, else-done-numbers-via-else-done-numbers}
 
 pub returns-then-is_only-clause-answer : goal.returns-then-is_only-clause-answer
 returns-then-is_only-clause-answer c = λ labels are.

@@ -1,6 +1,6 @@
 use Rattle.verify.proofs.Words.{◌≡◌, ℕ, length, get_or, arith, ◌∙◌, max, nat_tests, below-at, nat_cmp, ord_max}
 use Rattle.verify.proofs.PlanLemmas.{so-far-step, so-far-end, extent-low}
-use Rattle.verify.proofs.plan.extent_at.Goals as goal
+use Rattle.verify.proofs.plan.node_extent.Goals as goal
 
 larger : (a b : ℕ) → ord_max nat_cmp a b ≡ max a b
 larger a b = grind (arith, nat_tests)

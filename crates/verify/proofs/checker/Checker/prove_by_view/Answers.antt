@@ -3,7 +3,7 @@ use Rattle.verify.specs.declared.label_table.LabelEntry.TheVariants.{Hypothesis}
 use Rattle.verify.proofs.LabelTableLemmas.{entries-join}
 use Rattle.verify.proofs.MandatoryEntries.{mandatory-entries}
 use Rattle.verify.proofs.RightLemmas.{unwritten, one-listed, many, read-proves}
-use Rattle.verify.proofs.checker.Checker.prove_many.Goals as goal
+use Rattle.verify.proofs.checker.Checker.prove_by_view.Goals as goal
 
 pub returns-in_default-clause-answer : goal.returns-in_default-clause-answer
 returns-in_default-clause-answer c =
@@ -28,8 +28,8 @@ entries S at s view listed old table copy provable is empty same more =
     subst (λ t. AreEntries S at (mandatory_labels S at s ++ listed) (map Hypothesis view ++ t)) (sym same)
     (entries-join S at (mandatory_labels S at s) listed (map Hypothesis view) table (mandatory-entries S at s view (map Hypothesis view) provable is refl) (more [] none))
 
-pub run-requires-clause-entries : goal.run-requires-clause-entries
-run-requires-clause-entries c =
+pub check_numbers-requires-clause-entries : goal.check_numbers-requires-clause-entries
+check_numbers-requires-clause-entries c =
     let S = c.args.frames.now.statements in let s = c.requires.provable.0 in
     let listed = take c.in-Some.heading.count c.in-Some.heading.words in (
       mandatory_labels S c.args.at s ++ listed,
@@ -45,7 +45,7 @@ returns-clause-answer c =
     read-proves S c.args.at s c.args.tokens.now c.requires.provable.1 c.requires.compressed _ _ _ _ (rw c.in-Some.is at c.in_ok-heading.ensures.read)
     c.in_ok-add_listed.field-0 c.if-not-branch.false (c.in_ok-add_listed.ensures.apart s c.requires.provable.1)
     (many S c.args.at s c.args.tokens.now c.requires.provable.1 c.requires.compressed c.args.view.now (c.requires.view s c.requires.provable.1) ∙ sym c.len.ensures)
-    c.run.result
-    (subst (λ ns. IfOk c.run.result (λ answer. IsAnswerTo answer (IsRight S c.args.at (items_of labels ns)))) c.numbers-numbers.ensures
-    (c.run.ensures.answer labels (entries S c.args.at s c.args.view.now listed c.clear.new.self.items c.add_listed.new.table.items c.deref.result.now c.requires.provable.1 (c.requires.view s c.requires.provable.1) c.clear.ensures.items c.deref.ensures.value
+    c.check_numbers.result
+    (subst (λ ns. IfOk c.check_numbers.result (λ answer. IsAnswerTo answer (IsRight S c.args.at (items_of labels ns)))) c.numbers-numbers.ensures
+    (c.check_numbers.ensures.answer labels (entries S c.args.at s c.args.view.now listed c.clear.new.self.items c.add_listed.new.table.items c.deref.result.now c.requires.provable.1 (c.requires.view s c.requires.provable.1) c.clear.ensures.items c.deref.ensures.value
     (c.in_ok-add_listed.ensures.entries c.if-not-branch.false))))

@@ -1,7 +1,7 @@
-//! The number of threads that judge in parallel.
+//! The number of workers.
 
 ghost use Rattle.std.specs.Prelude.{◌≡◌, ℕ, ◌≤◌};
-ghost use Rattle.verify_pool.specs.declared.workers.TheConstants.{MAX_WORKERS};
+ghost use Rattle.verify_pool.specs.declared.pool_size.TheConstants.{MAX_WORKERS};
 
 use std::marker::Model;
 use std::thread;
@@ -10,15 +10,15 @@ use std::thread::Threads;
 /// The largest number of workers.
 pub const MAX_WORKERS: usize = 16;
 
-/// A number of workers, 1 to 16: how many threads judge jobs, for example the proofs of one text.
-/// It holds no threads. Contracts see that number.
+/// The number of workers that judge jobs, for example the proofs of one text: 1 to 16. It holds no
+/// threads. Contracts see the number.
 #[derive(Clone, Copy, Debug)]
-pub struct Workers {
-    /// Their number.
+pub struct PoolSize {
+    /// The number of workers.
     count: usize,
 }
 
-impl Model for Workers {
+impl Model for PoolSize {
     ghost Value = { ℕ };
 
     ghost view = { λ w. w.count };
@@ -28,24 +28,24 @@ impl Model for Workers {
     ghost inverse = { λ n. record { count = n } };
 }
 
-impl Workers {
-    /// Returns the value for `count` workers, where `count` is 1 to 16.
-    pub fn of(count: usize) -> Workers
+impl PoolSize {
+    /// Returns the size of a pool of `count` workers, 1 to 16.
+    pub fn new(count: usize) -> PoolSize
         requires { (1 ≤ count) × (count ≤ MAX_WORKERS) }
         ensures { result ≡ count }
     {
-        Workers { count }
+        PoolSize { count }
     }
 
-    /// Returns twice as many workers as the machine offers threads, 16 at most, so that faster processors take over the
-    /// jobs that a slower one leaves; one worker if the machine offers one thread or does not report the number.
-    pub fn offered<R: Threads>(rt: &R) -> Workers {
+    /// Returns a size for this machine: twice the number of threads that it offers, 16 at most, so that faster
+    /// processors take over the jobs that a slower one leaves; 1 if it offers one thread or does not report the number.
+    pub fn for_machine<R: Threads>(rt: &R) -> PoolSize {
         let threads = thread::available_parallelism(rt).map_or(1, |threads| threads.get());
         if threads < 2 {
-            return Workers { count: 1 };
+            return PoolSize { count: 1 };
         }
         let count = 2 * threads.min(MAX_WORKERS / 2);
-        Workers { count }
+        PoolSize { count }
     }
 
     /// Returns the number of workers.

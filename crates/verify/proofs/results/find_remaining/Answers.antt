@@ -3,7 +3,7 @@ use Rattle.frame.specs.LongEssentials.{HasConstants}
 use Rattle.mm_read.specs.declared.stmt.Stmt.TheVariants.{Ess}
 use Rattle.scope.specs.Active.{before}
 use Rattle.verify.proofs.LongHypothesesLemmas.{places-of}
-use Rattle.verify.proofs.results.find_left.Goals as goal
+use Rattle.verify.proofs.results.find_remaining.Goals as goal
 
 pub places-requires : goal.places-requires
 places-requires c = stands-within c.args.frames.now.statements c.args.position (Ess c.requires.stands.0 c.requires.stands.1) c.requires.stands.2.stands
@@ -14,8 +14,8 @@ find_listed-requires-clause-places c =
     let is = c.requires.stands.2 in
     places-of c.args.frames.now.names c.args.expr.now (expr_of s) _ c.requires.distinct c.requires.below is.same (rw c.in-Some.is at (c.places.ensures.places s is.stands))
 
-pub returns-in-Ok-clause-left : goal.returns-in-Ok-clause-left
-returns-in-Ok-clause-left c = λ few.
+pub returns-in-Ok-clause-remaining : goal.returns-in-Ok-clause-remaining
+returns-in-Ok-clause-remaining c = λ few.
     let s = Ess c.requires.stands.0 c.requires.stands.1 in
     let is = c.requires.stands.2 in
     record {

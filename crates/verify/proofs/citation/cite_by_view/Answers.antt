@@ -1,7 +1,7 @@
-use Rattle.verify.proofs.Words.{◌≡◌, ℕ, ◌<◌, ◌↔◌, Bool, true, false, is_some, IsTrue, List, length, map, arith, sym, ap, ◌∙◌, subst, IfOk-weaker, Name, Database, AreDistinct, decode, AllBelow, AreBelow, are_groups_disjoint, CodeImages, images_of_names, AreOver, Hypothesis, Reads, DoMatch, Results, below, top, Adds}
+use Rattle.verify.proofs.Words.{◌≡◌, ℕ, ◌<◌, ◌↔◌, Bool, true, false, is_some, IsTrue, List, length, map, arith, sym, ap, ◌∙◌, subst, IfOk-weaker, Name, Database, AreDistinct, decode, AllBelow, AreBelow, are_groups_disjoint, CodeImages, images_of_names, AreOver, Hypothesis, Reads, HypothesesMatch, Results, below, top, Adds}
 use Rattle.verify.proofs.RequiredHypotheses.{required-lengths, required-different, required-standing}
 use Rattle.verify.proofs.CitationLemmas.{over-read, has-cited, not-cited}
-use Rattle.verify.proofs.citation.cite_parts.Goals as goal
+use Rattle.verify.proofs.citation.cite_by_view.Goals as goal
 
 -- a fact about one flag holds of a flag that is equal to it
 reads-as : (ok b : Bool) (typecodes : List ℕ) (hs : List Hypothesis) (rs : List (List ℕ)) (σ : CodeImages) → ok ≡ b → Reads ok typecodes hs rs σ → Reads b typecodes hs rs σ
@@ -13,8 +13,8 @@ disjoint-by result D E m n σ gs b p q e f =
     ap (λ v. are_groups_disjoint v (images_of_names n σ) (map (decode n) gs)) (sym p) ∙ (ap (λ v. are_groups_disjoint D (images_of_names v σ) (map (decode v) gs)) (sym q) ∙ (sym e ∙ f))
 
 fit-as : (b : Bool) (S : Database) (names : List Name) (σ : CodeImages) (hs : List Hypothesis) (stack stack' : List (List ℕ)) → stack ≡ stack'
-    → IsTrue b ↔ DoMatch S (images_of_names names σ) hs (map (decode names) (top (length hs) stack)) → IsTrue b ↔ DoMatch S (images_of_names names σ) hs (map (decode names) (top (length hs) stack'))
-fit-as b S names σ hs stack stack' e h = subst (λ v. IsTrue b ↔ DoMatch S (images_of_names names σ) hs (map (decode names) (top (length hs) v))) e h
+    → IsTrue b ↔ HypothesesMatch S (images_of_names names σ) hs (map (decode names) (top (length hs) stack)) → IsTrue b ↔ HypothesesMatch S (images_of_names names σ) hs (map (decode names) (top (length hs) stack'))
+fit-as b S names σ hs stack stack' e h = subst (λ v. IsTrue b ↔ HypothesesMatch S (images_of_names names σ) hs (map (decode names) (top (length hs) v))) e h
 
 adds-as : (ok : Bool) (old old' new : Results ℕ) (m n : ℕ) (e : List ℕ) → old ≡ old' → m ≡ n → Adds ok old new (below m old.stack) e → Adds ok old' new (below n old'.stack) e
 adds-as ok old old' new m n e same count h = subst (λ (v : Results ℕ). Adds ok v new (below n v.stack) e) same (subst (λ k. Adds ok old new (below k old.stack) e) count h)
@@ -32,37 +32,37 @@ pub hypotheses_match-requires-clause-present : goal.hypotheses_match-requires-cl
 hypotheses_match-requires-clause-present c = required-standing _ _ _ _ _ (c.requires.cited c.requires.may.assertion.0 c.requires.may.assertion.1.0).required
 
 pub hypotheses_match-requires-clause-over : goal.hypotheses_match-requires-clause-over
-hypotheses_match-requires-clause-over c = over-read _ _ _ _ c.requires.may c.args.cited.now c.requires.cited c.read_images.new.self.images (let h = c.if-count-len.false in omega (arith, h, c.len.ensures)) (reads-as _ true _ _ _ _ (ap is_some c.in-Some.is) c.in_ok-front.ensures.read)
+hypotheses_match-requires-clause-over c = over-read _ _ _ _ c.requires.may c.args.cited.now c.requires.cited c.read_images.new.self.images (let h = c.if-count-len.false in omega (arith, h, c.len.ensures)) (reads-as _ true _ _ _ _ (ap is_some c.in-Some.is) c.in_ok-leading_count.ensures.read)
 
 pub are_disjoint-requires-clause-over : goal.are_disjoint-requires-clause-over
-are_disjoint-requires-clause-over c = subst (λ v. AreOver v c.read_images.new.self.images) (sym c.requires.may.ready.names) (over-read _ _ _ _ c.requires.may c.args.cited.now c.requires.cited c.read_images.new.self.images (let h = c.if-count-len.false in omega (arith, h, c.len.ensures)) (reads-as _ true _ _ _ _ (ap is_some c.in-Some.is) c.in_ok-front.ensures.read))
+are_disjoint-requires-clause-over c = subst (λ v. AreOver v c.read_images.new.self.images) (sym c.requires.may.ready.names) (over-read _ _ _ _ c.requires.may c.args.cited.now c.requires.cited c.read_images.new.self.images (let h = c.if-count-len.false in omega (arith, h, c.len.ensures)) (reads-as _ true _ _ _ _ (ap is_some c.in-Some.is) c.in_ok-leading_count.ensures.read))
 
-pub returns-then-count-len-clause-goes : goal.returns-then-count-len-clause-goes
-returns-then-count-len-clause-goes c =
+pub returns-then-count-len-clause-effect : goal.returns-then-count-len-clause-effect
+returns-then-count-len-clause-effect c =
     let few : length c.args.results.now.results.stack < length c.args.cited.now.hypotheses = omega (arith, c.if-count-len.true, c.len.ensures) in
     not-cited _ _ _ _ c.requires.may c.args.cited.now c.requires.cited c.args.results.now.results (λ f m. (let many = m.many in omega (arith, few, many)))
 
-pub returns-in_default-clause-goes : goal.returns-in_default-clause-goes
-returns-in_default-clause-goes c =
-    let r = reads-as _ false _ _ _ _ (ap is_some c.in_default.is) c.in_ok-front.ensures.read in
+pub returns-in_default-clause-effect : goal.returns-in_default-clause-effect
+returns-in_default-clause-effect c =
+    let r = reads-as _ false _ _ _ _ (ap is_some c.in_default.is) c.in_ok-leading_count.ensures.read in
     not-cited _ _ _ _ c.requires.may c.args.cited.now c.requires.cited c.read_images.new.self.results (λ f m. r.3 (m.typed r.0 r.1 r.2))
 
-pub returns-then-not-hypotheses_match-clause-goes : goal.returns-then-not-hypotheses_match-clause-goes
-returns-then-not-hypotheses_match-clause-goes c =
+pub returns-then-not-hypotheses_match-clause-effect : goal.returns-then-not-hypotheses_match-clause-effect
+returns-then-not-hypotheses_match-clause-effect c =
     not-cited _ _ _ _ c.requires.may c.args.cited.now c.requires.cited c.read_images.new.self.results
-    (λ f m. (let e = (fit-as _ _ _ _ _ _ _ (ap (λ (v : Results ℕ). v.stack) c.in_ok-front.ensures.same) c.hypotheses_match.ensures).1 (m.fits c.read_images.new.self.images (reads-as _ true _ _ _ _ (ap is_some c.in-Some.is) c.in_ok-front.ensures.read)) in let t = c.if-not-hypotheses_match.true in cc))
+    (λ f m. (let e = (fit-as _ _ _ _ _ _ _ (ap (λ (v : Results ℕ). v.stack) c.in_ok-leading_count.ensures.same) c.hypotheses_match.ensures).1 (m.fits c.read_images.new.self.images (reads-as _ true _ _ _ _ (ap is_some c.in-Some.is) c.in_ok-leading_count.ensures.read)) in let t = c.if-not-hypotheses_match.true in cc))
 
-pub returns-then-not-branch-clause-goes : goal.returns-then-not-branch-clause-goes
-returns-then-not-branch-clause-goes c =
+pub returns-then-not-branch-clause-effect : goal.returns-then-not-branch-clause-effect
+returns-then-not-branch-clause-effect c =
     not-cited _ _ _ _ c.requires.may c.args.cited.now c.requires.cited c.are_disjoint.new.self.results
-    (λ f m. (let e : true ≡ false = sym (m.disjoint c.read_images.new.self.images (reads-as _ true _ _ _ _ (ap is_some c.in-Some.is) c.in_ok-front.ensures.read)) ∙ disjoint-by _ _ _ _ _ c.read_images.new.self.images c.args.cited.now.groups _ c.requires.may.ready.active c.requires.may.ready.names c.in_ok-are_disjoint.ensures.disjoint c.if-not-branch.true in cc))
+    (λ f m. (let e : true ≡ false = sym (m.disjoint c.read_images.new.self.images (reads-as _ true _ _ _ _ (ap is_some c.in-Some.is) c.in_ok-leading_count.ensures.read)) ∙ disjoint-by _ _ _ _ _ c.read_images.new.self.images c.args.cited.now.groups _ c.requires.may.ready.active c.requires.may.ready.names c.in_ok-are_disjoint.ensures.disjoint c.if-not-branch.true in cc))
 
-pub returns-clause-goes : goal.returns-clause-goes
-returns-clause-goes c =
+pub returns-clause-effect : goal.returns-clause-effect
+returns-clause-effect c =
     IfOk-weaker c.apply.result _ _
-    (λ ok adds. has-cited _ _ _ _ c.requires.may c.args.cited.now c.requires.cited ok _ c.read_images.new.self.images (let h = c.if-count-len.false in omega (arith, h, c.len.ensures)) (reads-as _ true _ _ _ _ (ap is_some c.in-Some.is) c.in_ok-front.ensures.read) ((fit-as _ _ _ _ _ _ _ (ap (λ (v : Results ℕ). v.stack) c.in_ok-front.ensures.same) c.hypotheses_match.ensures).0 c.if-not-hypotheses_match.false)
+    (λ ok adds. has-cited _ _ _ _ c.requires.may c.args.cited.now c.requires.cited ok _ c.read_images.new.self.images (let h = c.if-count-len.false in omega (arith, h, c.len.ensures)) (reads-as _ true _ _ _ _ (ap is_some c.in-Some.is) c.in_ok-leading_count.ensures.read) ((fit-as _ _ _ _ _ _ _ (ap (λ (v : Results ℕ). v.stack) c.in_ok-leading_count.ensures.same) c.hypotheses_match.ensures).0 c.if-not-hypotheses_match.false)
     (disjoint-by _ _ _ _ _ c.read_images.new.self.images c.args.cited.now.groups _ c.requires.may.ready.active c.requires.may.ready.names c.in_ok-are_disjoint.ensures.disjoint c.if-not-branch.false)
-    (adds-as ok c.read_images.new.self.results _ _ _ _ _ c.in_ok-front.ensures.same c.len-count.ensures adds)) (rw (c.shortened-conclusion.ensures.same, c.are_disjoint.ensures.same) at c.apply.ensures.adds)
+    (adds-as ok c.read_images.new.self.results _ _ _ _ _ c.in_ok-leading_count.ensures.same c.len-count.ensures adds)) (rw (c.shortened-conclusion.ensures.same, c.are_disjoint.ensures.same) at c.apply.ensures.adds)
 
 pub are_disjoint-requires-clause-below : goal.are_disjoint-requires-clause-below
 are_disjoint-requires-clause-below c = subst (λ ns. AllBelow (length ns) c.args.cited.now.groups) (sym c.requires.may.ready.names) (c.requires.cited c.requires.may.assertion.0 c.requires.may.assertion.1.0).groups_below
@@ -77,7 +77,7 @@ pub apply-requires-clause-about : goal.apply-requires-clause-about
 apply-requires-clause-about c = rw c.are_disjoint.ensures.same (c.read_images.ensures.about ∙ c.requires.may.ready.same)
 
 pub apply-requires-clause-over : goal.apply-requires-clause-over
-apply-requires-clause-over c = rw c.are_disjoint.ensures.same (subst (λ v. AreOver v c.read_images.new.self.images) (sym c.requires.may.ready.names) (over-read _ _ _ _ c.requires.may c.args.cited.now c.requires.cited c.read_images.new.self.images (let h = c.if-count-len.false in omega (arith, h, c.len.ensures)) (reads-as _ true _ _ _ _ (ap is_some c.in-Some.is) c.in_ok-front.ensures.read)))
+apply-requires-clause-over c = rw c.are_disjoint.ensures.same (subst (λ v. AreOver v c.read_images.new.self.images) (sym c.requires.may.ready.names) (over-read _ _ _ _ c.requires.may c.args.cited.now c.requires.cited c.read_images.new.self.images (let h = c.if-count-len.false in omega (arith, h, c.len.ensures)) (reads-as _ true _ _ _ _ (ap is_some c.in-Some.is) c.in_ok-leading_count.ensures.read)))
 
 pub apply-requires-clause-below : goal.apply-requires-clause-below
 apply-requires-clause-below c = subst (λ ns. AreBelow (length ns) c.shortened-conclusion.result.now) (sym c.requires.may.ready.names) c.shortened-conclusion.ensures.below
