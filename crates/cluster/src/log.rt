@@ -27,7 +27,7 @@ pub(crate) fn is_log_prefix<K: Keep<Carried>>(
         return false;
     }
     for slot in 0..entries.len() {
-        if !is_entry(switch, k, slot as u32, &entries[slot]) {
+        if !has_entry(switch, k, slot as u32, &entries[slot]) {
             return false;
         }
     }
@@ -35,7 +35,7 @@ pub(crate) fn is_log_prefix<K: Keep<Carried>>(
 }
 
 /// Returns whether the log of node `k` has this entry at a slot.
-fn is_entry<K: Keep<Carried>>(
+fn has_entry<K: Keep<Carried>>(
     switch: &Switch<Carried, K>,
     k: u8,
     slot: u32,

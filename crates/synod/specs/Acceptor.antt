@@ -12,11 +12,11 @@ use Rattle.synod.specs.Node.{Node, StepResult, volatile_step}
 -- the reports of the slots from first on, where the list begins at slot s
 abbrev pub reports_from : {V : Type 0} → ℕ → ℕ → List (Option (AcceptedEntry V)) → List (SlotReport V)
 reports_from first s [] = []
-reports_from first s (None ∷ hs) = reports_from first (suc s) hs
-reports_from first s (Some h ∷ hs) =
+reports_from first s (None ∷ entries) = reports_from first (suc s) entries
+reports_from first s (Some entry ∷ entries) =
     if nat_lt s first
-    then reports_from first (suc s) hs
-    else (record { slot = s; ballot = h.ballot; value = h.value } ∷ reports_from first (suc s) hs)
+    then reports_from first (suc s) entries
+    else (record { slot = s; ballot = entry.ballot; value = entry.value } ∷ reports_from first (suc s) entries)
 
 -- the packets of a promise to p, one for each page, numbered from i
 abbrev pub promise_pages : {V : Type 0} → ℕ → ℕ → Ballot → ℕ → ℕ → List (List (SlotReport V)) → List (Packet V)

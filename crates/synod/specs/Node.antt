@@ -6,7 +6,7 @@ use Rattle.synod.specs.Words.{entry_at, put_at, Ballot, SlotReport, Packet, Acce
 use Rattle.synod.specs.Record.{KeptPart, new_kept}
 
 pub record Node (V : Type 0) : Type 0 where
-  pub me : ℕ
+  pub me : ℕ  -- the number of this node, from 0
   pub weights : List ℕ
   pub promise : Ballot
   pub round : ℕ
@@ -52,7 +52,7 @@ pub record StepResult (V : Type 0) : Type 0 where
 abbrev pub unchanged : {V : Type 0} → Node V → StepResult V
 unchanged n = record { node = n; change = None; posts = [] }
 
--- a step that leaves the kept part unchanged: the node is n after it, and these are its posts
+-- a step without a change of the kept part: the node is n after it, and these are its posts
 abbrev pub volatile_step : {V : Type 0} → Node V → List (Packet V) → StepResult V
 volatile_step n posts = record { node = n; change = None; posts = posts }
 

@@ -60,7 +60,7 @@ impl OtherTallies {
     }
 
     /// Counts a vote. It does not allocate.
-    pub(crate) fn count(&mut self, slot: u32, ballot: Ballot, node: u8)
+    pub(crate) fn count_vote(&mut self, slot: u32, ballot: Ballot, node: u8)
         requires node { node < MAX_NODES }
         requires capacity { 0 < self.old.capacity }
         ensures here { other_tallies_at self.new.votes slot ≡ counted_in (other_tallies_at self.old.votes slot) ballot node }

@@ -66,7 +66,7 @@ impl World {
         // A fault of the event is returned even if every allocation fails.
         ensures refused { IfErr (world_of carried_size (with_event self.old.history (value_event event))) (λ fault. result ≡ Err fault) }
         ensures only_memory { OnOk (world_of carried_size (with_event self.old.history (value_event event))) (IsOkUnless result Memory) }
-        ensures err { OnErr result (self.new ≡ self.old) }
+        ensures same { OnErr result (self.new ≡ self.old) }
     {
         let event = to_value_event(event);
         let restarted_node = restarted_node(&event);
@@ -85,7 +85,7 @@ impl World {
         ensures no_node { length self.old.history.weights ≤ k → result ≡ Err NoNode }
         ensures only_memory { k < length self.old.history.weights → IsOkUnless result Memory }
         ensures same_if_none { next_entry self.old k ≡ None → self.new ≡ self.old }
-        ensures err { OnErr result (self.new ≡ self.old) }
+        ensures same { OnErr result (self.new ≡ self.old) }
     {
         let Some(node_library) = self.libraries.get_mut(k as usize) else {
             return Err(StepFault::NoNode);
