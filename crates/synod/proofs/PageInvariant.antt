@@ -1,5 +1,5 @@
 -- The pages of a promise and all proposals stay below the limit.
-use Rattle.synod.proofs.Words.{◌≡◌, ℕ, zero, suc, ◌+◌, ◌*◌, ◌<◌, ◌≤◌, max, Bool, true, false, nat_lt, is_some, List, [], ◌∷◌, length, Option, Some, None, refl, ap, arith, set, if◌then◌else◌, AllByRecursion, SLOTS, put_at, MAX_PAGES, Ballot, SlotReport, Promise, AcceptedEntry, Heard, IsReport, IsPost, onto_first, cut_after, joined_pages, pages_from, page_of, with_page, reports_from, promise_pages, top_or_zero, top_or_first, proposed_values, all_reports, IsReceivedPage}
+use Rattle.synod.proofs.Words.{◌≡◌, ℕ, zero, suc, ◌+◌, ◌*◌, ◌<◌, ◌≤◌, max, Bool, true, false, nat_lt, is_some, List, [], ◌∷◌, length, Option, Some, None, refl, ap, arith, set, if◌then◌else◌, AllByRecursion, SLOTS, put_at, MAX_PAGES, Ballot, SlotReport, Promise, AcceptedEntry, Heard, IsReport, IsPost, onto_first, cut_after, joined_pages, pages_from, page_of, with_page, reports_from, promise_posts_from, top_or_zero, top_or_first, proposed_values, all_reports, IsReceivedPage}
 use Rattle.synod.proofs.NodeInvariant.{all_append, all_set, all_index, post, nodes}
 
 -- The pages of a promise.
@@ -55,7 +55,7 @@ pages_few zero (x ∷ xs) = let h = pages_few 255 xs in let e = length-onto_firs
 
 -- the packets of a promise are posts, if its pages are no more than may be sent
 pub posts_pages : {V : Type 0} (nodes me to : ℕ) (b : Ballot) (count i : ℕ) (pages : List (List (SlotReport V))) → me < nodes → to < nodes → 1 ≤ i → i + length pages ≤ suc count → count ≤ MAX_PAGES
-    → AllByRecursion (AllByRecursion IsReport) pages → AllByRecursion (IsPost nodes) (promise_pages me to b count i pages)
+    → AllByRecursion (AllByRecursion IsReport) pages → AllByRecursion (IsPost nodes) (promise_posts_from me to b count i pages)
 posts_pages nodes me to b count i [] from for one all few each = tt
 posts_pages nodes me to b count i (page ∷ pages) from for one all few each = (
   post nodes me to (Promise b i count page) from for record { first = one; last = omega arith; few = few; each = each.0 },

@@ -17,7 +17,7 @@ pub use Rattle.std.specs.Map.{lookup}
 pub use Rattle.std.specs.Option.{option_copied, option_map}
 pub use Rattle.std.specs.Result.{IfOk, IsOk, OnOk}
 pub use Rattle.std.specs.declared.alloc.AllocError.{AllocError}
-pub use Rattle.synod.specs.Acceptor.{accepted_entry, on_accept, on_prepare, promise_pages, promises, sends_nack, reports_from, accepts_value}
+pub use Rattle.synod.specs.Acceptor.{accepted_entry, on_accept, on_prepare, promise_posts_from, promises, sends_nack, reports_from, accepts_value}
 pub use Rattle.synod.specs.Ballots.{is_same, is_below, zero_ballot}
 pub use Rattle.synod.specs.Broadcast.{body_of, broadcast_posts, is_ask, to_node, to_nodes_from}
 pub use Rattle.synod.specs.Core.{Core, OtherTalliesView, LearnerState, LearnerView, ProposerState, ProposerView, assembled, core_of, learner_state, proposer_state}

@@ -5,8 +5,9 @@ use Rattle.std.specs.Prelude.{ℕ, Bool, false, ◌==◌, ◌||◌, List, [], �
 use Rattle.synod.specs.Words.{entry_at, put_at, Ballot, SlotReport, Packet, AcceptedEntry, Change, Role, Idle, Heard, Tally}
 use Rattle.synod.specs.Record.{KeptPart, new_kept}
 
+-- a node; `me` is its number, from 0
 pub record Node (V : Type 0) : Type 0 where
-  pub me : ℕ  -- the number of this node, from 0
+  pub me : ℕ
   pub weights : List ℕ
   pub promise : Ballot
   pub round : ℕ

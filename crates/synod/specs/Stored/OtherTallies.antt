@@ -28,4 +28,4 @@ tallies_from s (Some t ∷ firsts) other_tallies = Some (t ∷ other_tallies s) 
 -- a slot without a first tally has none in the table, and no value is learned at a slot from SLOTS on
 pub record IsLearner {T : Type 0} (firsts : List (Option Tally)) (other_tallies : ℕ → List Tally) (learned : List (Option T)) : Type 0 where
   pub first : (s : ℕ) → entry_at firsts s ≡ None → other_tallies s ≡ []
-  pub low : length learned ≤ SLOTS
+  pub within : length learned ≤ SLOTS
