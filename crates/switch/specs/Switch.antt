@@ -149,7 +149,7 @@ abbrev pub pending_events : {V : Type 0} → Option (Event V) → List (Event V)
 pending_events None = []
 pending_events (Some e) = e ∷ []
 
--- node k is up again with the record that its keep loaded: the event whose store failed, if there is one, and then the restart are taken
+-- node k is up again with the record that its keep loaded: the pending event, if there is one, and then the restart are taken
 pub record IsRecovered {V : Type 0} (size : V → ℕ) (old new : SwitchView V) (k : ℕ) (view : StoreView V) (e : Option (Event V)) (count : ℕ) : Type 0 where
   pub world : World V
   pub is_after : IsAfter size old.weights (old.history ++ pending_events e ++ Restart k ∷ []) world

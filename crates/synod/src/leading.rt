@@ -144,7 +144,7 @@ fn post_reported_values<V: Value>(
     Ok(())
 }
 
-/// Appends the first `count` pages of a node, in order.
+/// Appends those of the first `count` pages of a node that were received, in order.
 fn add_pages<'a, V: Drop>(
     all: &mut Vec<&'a [SlotReport<V>]>,
     pages: &'a PagesWithDelivered<'a, V>,

@@ -195,8 +195,8 @@ impl<V: Value> NodeCore<V> {
 
     /// Commits a staged step, and returns its posts. It does not allocate.
     ///
-    /// The node has to be as it was when it staged the step, with no less capacity than it had then. It still is if it only
-    /// staged steps since then and committed none.
+    /// The node has to be as it was when it staged the step, with no less capacity than it had then. That is so if it has
+    /// only staged steps since then, and committed none.
     pub fn commit(&mut self, ready: Ready<V>) -> Vec<Packet<V>>
         requires node { self.old.node ≡ ready.before.node }
         requires capacity { KeepsCapacity ready.before self.old }

@@ -1,4 +1,4 @@
-//! The votes at a slot under other ballots than the one first counted there, by slot and ballot.
+//! The votes at a slot under ballots other than the one first counted there, by slot and ballot.
 ghost use Rattle.std.specs.Prelude.{◌≡◌, ◌<◌, ◌≤◌, ◌≢◌, ℕ, [], OnOk};
 ghost use Rattle.synod.specs.Learner.{counted_in, with_voter};
 ghost use Rattle.synod.specs.Stored.OtherTallies.{other_tallies_at, voters_among};

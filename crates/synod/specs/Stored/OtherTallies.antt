@@ -1,4 +1,4 @@
--- The votes under other ballots than the one first counted at a slot, in the order in which their ballots were first counted.
+-- The votes under ballots other than the one first counted at a slot, in the order in which their ballots were first counted.
 -- Source: this project's representation.
 -- The code has the tally of the first ballot at each slot in a map, and all others in one table by slot and ballot.
 use Rattle.std.specs.Prelude.{◌≡◌, ◌≤◌, ℕ, suc, length, ◌==◌, ◌&&◌, Bool, List, [], ◌∷◌, Option, Some, None, if◌then◌else◌}
