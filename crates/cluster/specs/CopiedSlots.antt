@@ -1,5 +1,5 @@
 -- The accepted entries of a record with one more slot copied.
--- Source: this project's profile.
+-- Source: this project's choice.
 -- The code copies a record slot by slot. A slot without an entry adds nothing.
 use Rattle.std.specs.Prelude.{ℕ, List, Option, Some, None}
 use Rattle.cluster.specs.Words.{put_at}

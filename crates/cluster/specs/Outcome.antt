@@ -1,5 +1,5 @@
 -- The outcome of an entry at a node.
--- Source: this project's profile: the first entry under an author and serial number is decided, later ones are repeats.
+-- Source: this project's choice: the first entry under an author and serial number is decided, later ones are repeats.
 use Rattle.std.specs.Prelude.{◌≡◌, ◌⊎◌, Bool, false, ◌&&◌, ◌==◌, List, [], ◌∷◌, Option, Some, None, if◌then◌else◌}
 use Rattle.library.specs.LibraryOf.{author_of, serial_of, status}
 use Rattle.library.specs.declared.entry.Entry.{Entry}

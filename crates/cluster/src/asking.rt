@@ -5,7 +5,7 @@ ghost use Rattle.net.specs.declared.fault.StepFault.TheVariants.{Apart};
 ghost use Rattle.cluster.specs.Outcome.{IsOutcomeOf, first_with_key, has_key_of};
 
 use crate::cell::NodeCell;
-use crate::log::is_same;
+use crate::log::is_same_entry;
 use library::{Entry, Verdict};
 use net::StepFault;
 use world::Carried;
@@ -74,7 +74,7 @@ fn is_equal_entry(found: &Option<Carried>, entry: &Entry) -> bool
     ensures { IsTrue result ↔ (found.now ≡ Some (record { 0 = entry.now })) }
 {
     match found {
-        Some(Carried(found)) => is_same(found, entry),
+        Some(Carried(found)) => is_same_entry(found, entry),
         None => false,
     }
 }

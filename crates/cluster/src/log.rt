@@ -27,7 +27,7 @@ pub(crate) fn is_log_prefix<K: Keep<Carried>>(
         return false;
     }
     for slot in 0..entries.len() {
-        if !is_entry(switch, k, slot as u32, &entries[slot]) {
+        if !has_entry(switch, k, slot as u32, &entries[slot]) {
             return false;
         }
     }
@@ -35,7 +35,7 @@ pub(crate) fn is_log_prefix<K: Keep<Carried>>(
 }
 
 /// Returns whether the log of node `k` has this entry at a slot.
-fn is_entry<K: Keep<Carried>>(
+fn has_entry<K: Keep<Carried>>(
     switch: &Switch<Carried, K>,
     k: u8,
     slot: u32,
@@ -55,7 +55,7 @@ fn is_equal_value(found: Option<&Option<Carried>>, entry: &Option<Carried>) -> b
     ensures { IsTrue result ↔ (option_map (λ e. e.now) found.entry ≡ Some entry.now) }
 {
     match (found, entry) {
-        (Some(Some(Carried(one))), Some(Carried(other))) => is_same(one, other),
+        (Some(Some(Carried(one))), Some(Carried(other))) => is_same_entry(one, other),
         (Some(None), None) => true,
         _ => false,
     }
@@ -63,7 +63,7 @@ fn is_equal_value(found: Option<&Option<Carried>>, entry: &Option<Carried>) -> b
 
 /// Returns whether two entries are the same: two texts, or two charters, of the same author and serial
 /// number, with the same bytes or names. It does not allocate.
-pub(crate) fn is_same(one: &Entry, other: &Entry) -> bool
+pub(crate) fn is_same_entry(one: &Entry, other: &Entry) -> bool
     ensures { IsTrue result ↔ (one.now ≡ other.now) }
 {
     match (one, other) {

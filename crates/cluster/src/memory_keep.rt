@@ -60,7 +60,7 @@ impl<V: Value> Keep<V> for MemoryKeep<V> {
     }
 }
 
-/// Returns a copy of a change, and reserves room for it in the record.
+/// Returns a copy of a change, and reserves capacity for it in the record.
 ///
 /// Errors: an allocation fails, or the slot is not below `SLOTS`.
 fn ready_change<V: Value>(
@@ -68,7 +68,7 @@ fn ready_change<V: Value>(
     change: &Change<V>,
 ) -> Result<Change<V>, AllocError>
     ensures change { IfOk result (λ copy. copy ≡ change.now) }
-    ensures room { OnOk result (HasCapacityFor stored.new.capacity (Some change.now)) }
+    ensures capacity { OnOk result (HasCapacityFor stored.new.capacity (Some change.now)) }
     ensures kept { stored.new.kept ≡ stored.old.kept }
 {
     match change {

@@ -1,5 +1,5 @@
 -- A Prepare and an Accept preserve the invariant: a promise reports the acceptor's votes truthfully, and a vote respects the acceptor's promises.
-use Rattle.net.proofs.Words.{◌≡◌, ℕ, suc, ◌+◌, ◌≤◌, Bool, true, false, List, [], ◌∷◌, length, Option, Some, inl, inr, refl, ap, sym, ◌∙◌, subst, arith, if◌then◌else◌, slice_get, AllByRecursion, entry_at, put_at, In, put_either, put_same, Ballot, SlotReport, Accepted, AcceptedEntry, is_below, pages_of, Node, reports_from, promise_pages, promises, sends_nack, on_prepare, accepted_entry, accepts_value, on_accept, Under, Upto, upto_self, upto_upto, upto_under, under_is_upto, not_both, under_true, under_false, reports-held, held-reported, Vote, vote}
+use Rattle.net.proofs.Words.{◌≡◌, ℕ, suc, ◌+◌, ◌≤◌, Bool, true, false, List, [], ◌∷◌, length, Option, Some, inl, inr, refl, ap, sym, ◌∙◌, subst, arith, if◌then◌else◌, slice_get, AllByRecursion, entry_at, put_at, In, put_either, put_same, Ballot, SlotReport, Accepted, AcceptedEntry, is_below, pages_of, Node, reports_from, promise_posts_from, promises, sends_nack, on_prepare, accepted_entry, accepts_value, on_accept, Under, Upto, upto_self, upto_upto, upto_under, under_is_upto, not_both, under_true, under_false, reports-held, held-reported, Vote, vote}
 use Rattle.net.proofs.Ledger.{begun_as, Promised, proposal, Ledger, HasHigher, IsBacked, OnePromise, IsSound}
 use Rattle.net.proofs.LedgerGrows.{AllPromisedUpto, Grows, with_promise, with_vote, grows-with_promise, grows-with_vote}
 use Rattle.net.proofs.LedgerSteps.{promised_sound, voted_sound}
@@ -9,7 +9,7 @@ use Rattle.net.proofs.StepsContinue.{Continues, same_ledger, true_to_all}
 -- the packets that carry the pages of a promise are true
 true_pages : {V : Type 0} (ws : List ℕ) (l : Ledger V) (p : Promised V) (to : ℕ) → In p l.promises → (i : ℕ) (pages : List (List (SlotReport V)))
     → ((d : ℕ) (page : List (SlotReport V)) → slice_get pages d ≡ Some page → slice_get (pages_of p.reports) (i + d) ≡ Some page)
-    → AllByRecursion (IsTrue ws l) (promise_pages p.node to p.ballot (length (pages_of p.reports)) (suc i) pages)
+    → AllByRecursion (IsTrue ws l) (promise_posts_from p.node to p.ballot (length (pages_of p.reports)) (suc i) pages)
 true_pages ws l p to is_in i [] each = tt
 true_pages {V} ws l p to is_in i (page ∷ pages) each = (
   record {

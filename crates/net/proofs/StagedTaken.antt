@@ -71,7 +71,7 @@ module _ {V : Type 0} (size : V → ℕ) (view now : NetView V) (seen : view ≡
     commit_taken packet_capacity event_capacity p e =
         let next : NetView V = record { history = record { weights = view.history.weights; events = events }; cores = set view.cores k new; packets = packets; packet_capacity = packet_capacity; event_capacity = event_capacity } in
         subst (λ (n : NetView V). IsTaken n next staged) seen record {
-          was = staged_view.core;
+          old_core = staged_view.core;
           at = staged_view.at;
           core = new;
           node = new_node;

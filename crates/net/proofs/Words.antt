@@ -39,7 +39,7 @@ pub use Rattle.synod.proofs.PromisePages.{are_received-front, joined-all, pages-
 pub use Rattle.synod.proofs.QuorumLemmas.{quorums_meet}
 pub use Rattle.synod.proofs.ReportsLemmas.{HighestHolds, IsHighest, below_top, first_to_top, held-reported, highest_holds, reports-held}
 pub use Rattle.synod.proofs.RoomLemmas.{same_room}
-pub use Rattle.synod.specs.Acceptor.{accepted_entry, on_accept, on_prepare, promise_pages, promises, sends_nack, reports_from, accepts_value}
+pub use Rattle.synod.specs.Acceptor.{accepted_entry, on_accept, on_prepare, promise_posts_from, promises, sends_nack, reports_from, accepts_value}
 pub use Rattle.synod.specs.Ballots.{is_same, is_below}
 pub use Rattle.synod.specs.Core.{Core}
 pub use Rattle.synod.specs.Learner.{learns_chosen, counted, has_voter, learns, on_accepted, on_accepted_at, on_ask, on_ask_at, on_told, on_told_at}

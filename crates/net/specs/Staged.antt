@@ -41,7 +41,7 @@ with_loaded (steps ready) kept = steps ready
 with_loaded (restarts posts loaded) kept = restarts posts (Some kept)
 
 abbrev pub with_record : {V : Type 0} → StagedEvent V → KeptPart V → StagedEvent V
-with_record d kept = record { at = d.at; event = d.event; work = with_loaded d.work kept }
+with_record staged kept = record { at = staged.at; event = staged.event; work = with_loaded staged.work kept }
 
 -- the step that the work makes at a node in state n
 abbrev pub step_of : {V : Type 0} → StagedWork V → Node V → StepResult V
@@ -150,12 +150,12 @@ pub record HasSpareCapacity {V : Type 0} (net : NetView V) (packets events : ℕ
   pub for_packets : length net.packets + packets ≤ net.packet_capacity
   pub for_events : length net.history.events + events ≤ net.event_capacity
 
--- the staged event was taken
+-- the staged event was taken; `old_core` is its node before, and `core` after
 pub record IsTaken {V : Type 0} (old new : NetView V) (staged : StagedEvent V) : Type 0 where
-  pub was : Core V
-  pub at : slice_get old.cores staged.at ≡ Some was
+  pub old_core : Core V
+  pub at : slice_get old.cores staged.at ≡ Some old_core
   pub core : Core V
-  pub node : core.node ≡ (step_of staged.work was.node).node
+  pub node : core.node ≡ (step_of staged.work old_core.node).node
   pub cores : new.cores ≡ slice_set old.cores staged.at core
   pub history : new.history ≡ with_event old.history staged.event
   pub packets : new.packets ≡ old.packets ++ posts_of staged.work

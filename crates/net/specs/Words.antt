@@ -1,5 +1,4 @@
--- Names that the specifications of this crate use, re-exported from one module. The specifications import all others
--- directly.
+-- Re-exports names that the specifications of this crate use; they import other names directly.
 pub use Rattle.net.specs.declared.event.Event.{Event}
 pub use Rattle.net.specs.declared.event.Event.TheVariants.{Begin, Deliver, Offer, Restart}
 pub use Rattle.net.specs.declared.event.TheConstants.{MAX_EVENTS}

@@ -35,7 +35,7 @@ abbrev pub votes_after : {V : Type 0} → ℕ → Option (Change V) → List (Vo
 votes_after k None votes = votes
 votes_after k (Some (Round r)) votes = votes
 votes_after k (Some (Promise b)) votes = votes
-votes_after k (Some (Entry s h)) votes = vote k h.ballot s h.value ∷ votes
+votes_after k (Some (Entry s entry)) votes = vote k entry.ballot s entry.value ∷ votes
 
 -- the world once node k has made the step, whose posts are appended to the packets
 abbrev pub after_step : {V : Type 0} → World V → ℕ → StepResult V → World V

@@ -32,7 +32,7 @@ impl<V> Model for StagedEvent<V> {
 
     ghost Value = { StagedEvent V };
 
-    ghost view = { λ d. record { at = d.at; event = d.event; work = work_of d.work } };
+    ghost view = { λ s. record { at = s.at; event = s.event; work = work_of s.work } };
 }
 
 impl<V: Value> StagedEvent<V> {

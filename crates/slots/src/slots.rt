@@ -45,7 +45,7 @@ impl<T: Drop> Slots<T> {
         }
     }
 
-    /// Reserves capacity for a slot and for all slots below it. The entries do not change.
+    /// Makes room: reserves capacity for a slot and for all slots below it. The entries do not change.
     ///
     /// Errors: an allocation fails; the capacity is then unchanged too. Cost: the pages that it adds.
     pub fn room(&mut self, slot: u32) -> Result<(), AllocError>
@@ -56,16 +56,16 @@ impl<T: Drop> Slots<T> {
         ensures capacity { self.old.capacity ≤ self.new.capacity }
         ensures same { OnErr result (self.new ≡ self.old) }
     {
-        let pages = slot as usize / PAGE_SLOTS + 1;
+        let page_count = slot as usize / PAGE_SLOTS + 1;
         let old_count = self.pages.count();
-        if old_count >= pages {
+        if old_count >= page_count {
             return Ok(());
         }
-        self.pages.add(pages - old_count)?;
+        self.pages.add(page_count - old_count)?;
         Ok(())
     }
 
-    /// Returns whether there is capacity for a slot, so that `put` can be called with it.
+    /// Returns whether there is room (capacity) for a slot, so that `put` can be called with it.
     pub fn has_room(&self, slot: u32) -> bool
         ensures { IsTrue result ↔ (slot < self.now.capacity) }
     {
@@ -99,7 +99,7 @@ impl<T: Drop> Slots<T> {
         }
     }
 
-    /// Returns the least empty slot, or `SLOTS` if there is none.
+    /// Returns the front of the map: the least empty slot, or `SLOTS` if there is none.
     pub fn front(&self) -> u32
         ensures front { result ≡ front_of self.now.entries }
         ensures within { result ≤ SLOTS }
@@ -107,7 +107,7 @@ impl<T: Drop> Slots<T> {
         self.front
     }
 
-    /// Returns the least slot that would be empty if there were an entry at `slot`.
+    /// Returns the front that the map would have with an entry at `slot`.
     ///
     /// Cost: constant, unless `slot` is the front: then the number of entries from there to the next gap.
     pub fn front_with(&self, slot: u32) -> u32
@@ -125,7 +125,7 @@ impl<T: Drop> Slots<T> {
         }
     }
 
-    /// Returns one above the greatest slot with an entry, or 0 if there are no entries.
+    /// Returns the top of the map: one above the greatest slot with an entry, or 0 if there are no entries.
     pub fn top(&self) -> u32
         ensures top { result ≡ top_of self.now.entries }
         ensures within { result ≤ SLOTS }

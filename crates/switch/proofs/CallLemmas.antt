@@ -1,5 +1,5 @@
 -- The answer of a call on one node, in the world after the history; contracts see only the fields.
-use Rattle.switch.proofs.Words.{◌≡◌, ℕ, ◌+◌, ◌<◌, false, List, [], ◌∷◌, ◌++◌, length, set, slice_get, inl, inr, Option, Some, None, Result, Ok, Err, refl, ap, sym, ◌∙◌, subst, arith, IfErr, OnOk, IsOkUnless, ForOk, slice_get_within, Packet, Change, KeptPart, changed_by, Node, StepResult, kept_of, MAX_EVENTS, Event, StepFault, Memory, Device, World, after_step, event_result, packets_after, History, world_of_taken, node_of_event, node_of, change_of, StagedEvent, NetView, IsStaged, IsEventAt, ChangesOnlyCapacity, IsTaken, change_in, step_of, after-push, length-nodes_of, Status, up, down, StoreState, IsRecordOf, IsWithOrWithout, Fails, pending_change, StoreView, SwitchView, pending_event, status_seen, view_of, views_of, IsPendingStaged, IsSwitch, world_of, IsRecordIn, ViewFitsNode, AreStores, is_down_at, with_store, pending_on_failure, IsOutcomeAt, IsEffectUnlessDown, with_event}
+use Rattle.switch.proofs.Words.{◌≡◌, ℕ, ◌+◌, ◌<◌, false, List, [], ◌∷◌, ◌++◌, length, set, slice_get, inl, inr, Option, Some, None, Result, Ok, Err, refl, ap, sym, ◌∙◌, subst, arith, IfErr, OnOk, IsOkUnless, ForOk, slice_get_within, Packet, Change, KeptPart, changed_by, Node, StepResult, kept_of, MAX_EVENTS, Event, StepFault, Memory, Device, World, after_step, event_result, packets_after, History, world_of_taken, node_of_event, node_of, change_of, StagedEvent, NetView, IsStaged, IsEventAt, ChangesOnlyCapacity, IsTaken, change_in, step_of, after-push, length-nodes_of, Status, up, down, StoreState, IsRecordOf, IsWithOrWithout, Fails, pending_change, StoreView, SwitchView, pending_event, status_view, view_of, views_of, IsPendingStaged, IsSwitch, world_of, IsRecordIn, ViewFitsNode, AreStores, is_down_at, with_store, pending_on_failure, IsOutcomeAt, IsEffectUnlessDown, with_event}
 use Rattle.switch.proofs.StoresLemmas.{views_of-set, view_at, view_past, item_at, up_at}
 use Rattle.switch.proofs.SwitchLemmas.{switch_view, other_store, committed, node_is, at, happens_is, change_is, change_told, changes}
 
@@ -59,7 +59,7 @@ module _ {V : Type 0} (size : V → ℕ) (net : NetView V) (stores : List (Store
       omega (arith, low, count, nodes, cores))
 
   -- if the record of a keep fits its node, it also fits by the change that the world gives for the pending event
-  record_in : (n : Node V) (k : ℕ) (s : Status (StagedEvent V)) (kept : KeptPart V) → IsRecordOf n s kept → IsPendingStaged size net k s → IsRecordIn size w n (status_seen s) kept
+  record_in : (n : Node V) (k : ℕ) (s : Status (StagedEvent V)) (kept : KeptPart V) → IsRecordOf n s kept → IsPendingStaged size net k s → IsRecordIn size w n (status_view s) kept
   record_in n k up kept fits pending_staged = fits
   record_in n k (down None) kept fits pending_staged = fits
   record_in n k (down (Some o)) kept fits pending_staged = subst (λ (c : Option (Change V)). IsWithOrWithout (kept_of n) c kept) (change_told size net stores h o pending_staged.1) fits

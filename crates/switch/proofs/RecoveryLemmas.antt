@@ -1,5 +1,5 @@
 -- The restart of a node that is down: the event that it owes is taken first.
-use Rattle.switch.proofs.Words.{◌≡◌, ℕ, ◌+◌, ◌<◌, ◌≤◌, true, List, [], ◌∷◌, ◌++◌, length, get_or, set, slice_get, inl, inr, Option, Some, None, Result, Ok, Err, refl, ap, sym, ◌∙◌, subst, arith, length-append, AllByRecursion, option_map, ForOk, length-set, slice_get_read, Packet, Ask, Change, IsPost, to_others, KeptPart, changed_by, Node, StepResult, kept_of, Core, reloaded, restarted, MAX_EVENTS, Event, Restart, StepFault, Memory, Device, World, packets_after, IsAfter, History, world_of_taken, kept_part, StagedWork, steps, restarts, StagedEvent, NetView, HasSpareCapacity, IsStaged, IsReadyAt, IsOfEvent, IsEventAt, HasResult, IsTaken, posts_of, step_of, with_loaded, with_record, at_set, set_twice, comes_restart, set_same, Status, up, down, StoreState, pending_of, pending_change, pending_posts, IsRecordOf, IsWithOrWithout, Fails, StoreView, SwitchView, pending_event, status_seen, view_of, views_of, IsPendingStaged, StoreFitsNode, IsSwitch, CanCommitPending, CommitsPending, world_of, is_down_at, pending_events, with_store, IsRecoveryOutcome, IsEffectOfRecovery}
+use Rattle.switch.proofs.Words.{◌≡◌, ℕ, ◌+◌, ◌<◌, ◌≤◌, true, List, [], ◌∷◌, ◌++◌, length, get_or, set, slice_get, inl, inr, Option, Some, None, Result, Ok, Err, refl, ap, sym, ◌∙◌, subst, arith, length-append, AllByRecursion, option_map, ForOk, length-set, slice_get_read, Packet, Ask, Change, IsPost, to_others, KeptPart, changed_by, Node, StepResult, kept_of, Core, reloaded, restarted, MAX_EVENTS, Event, Restart, StepFault, Memory, Device, World, packets_after, IsAfter, History, world_of_taken, kept_part, StagedWork, steps, restarts, StagedEvent, NetView, HasSpareCapacity, IsStaged, IsReadyAt, IsOfEvent, IsEventAt, HasResult, IsTaken, posts_of, step_of, with_loaded, with_record, at_set, set_twice, comes_restart, set_same, Status, up, down, StoreState, pending_of, pending_change, pending_posts, IsRecordOf, IsWithOrWithout, Fails, StoreView, SwitchView, pending_event, status_view, view_of, views_of, IsPendingStaged, StoreFitsNode, IsSwitch, CanCommitPending, CommitsPending, world_of, is_down_at, pending_events, with_store, IsRecoveryOutcome, IsEffectOfRecovery}
 use Rattle.switch.proofs.KeepLemmas.{either_twice}
 use Rattle.switch.proofs.StoresLemmas.{views_of-set, view_at, item_at, down_at, few_staged}
 use Rattle.switch.proofs.SwitchLemmas.{switch_view, core_node, own_number, own_weights, other_store, at, node_is, committed}
@@ -63,7 +63,7 @@ module _ {V : Type 0} (size : V → ℕ) (net : NetView V) (stores : List (Store
       (λ view at_j e stands.
       let views : Some (view_of store) ≡ Some view = sym (view_at stores k store found) ∙ ap (λ (i : ℕ). slice_get (views_of stores) i) (sym is_j) ∙ at_j in
       let is_view : view_of store ≡ view = cc in
-      let stand : down (pending_event o) ≡ down e = sym (ap (λ (s : Status (StagedEvent V)). status_seen s) is_down.1) ∙ ap (λ (p : StoreView V). p.status) is_view ∙ stands in
+      let stand : down (pending_event o) ≡ down e = sym (ap (λ (s : Status (StagedEvent V)). status_view s) is_down.1) ∙ ap (λ (p : StoreView V). p.status) is_view ∙ stands in
       let is_f : pending_event o ≡ e = cc in
       record {
         spent = λ spent. absurd (omega (arith, spent, room));
@@ -108,7 +108,7 @@ module _ {V : Type 0} (size : V → ℕ) (net : NetView V) (stores : List (Store
         either = subst (λ (c : Option (Change V)). IsWithOrWithout store.kept c new.kept) (owed_change size net stores h k o pending_staged) either;
         rest = ap (λ (ps : List (StoreView V)). let s : SwitchView V = record { weights = net.history.weights; history = net.history.events; stores = ps } in s) (views_of-set stores k new)
             ∙ ap (λ (s : StoreState V). with_store old k (view_of s)) fails.rest
-            ∙ ap (λ (i : ℕ). with_store old i record { kept = new.kept; failures = store.failures + 1; status = status_seen store.status }) (sym is_j);
+            ∙ ap (λ (i : ℕ). with_store old i record { kept = new.kept; failures = store.failures + 1; status = status_view store.status }) (sym is_j);
       },
     ))
 
@@ -257,6 +257,6 @@ module _ {V : Type 0} (size : V → ℕ) (net : NetView V) (stores : List (Store
               is_kept = ap (λ (i : ℕ). kept_part x i) is_j ∙ ap (λ (n : Option (Node V)). option_map kept_of n) node_z ∙ ap (λ (y : KeptPart V). let p : Option (KeptPart V) = Some y in p) (sym fits_z);
               rest = view_is_same _ _ _ _ _ _ weights history
                   (views_of-set stores k new ∙ ap (λ (i : ℕ). set (views_of stores) i (view_of new)) (sym is_j)
-                  ∙ ap (λ (i : ℕ). set (views_of stores) j (let p : StoreView V = record { kept = new.kept; failures = i; status = status_seen new.status } in p)) (ap (λ (s : StoreState V). s.failures) repaired)
-                  ∙ ap (λ (s : Status (StagedEvent V)). set (views_of stores) j (let p : StoreView V = record { kept = new.kept; failures = store.failures; status = status_seen s } in p)) new_up);
+                  ∙ ap (λ (i : ℕ). set (views_of stores) j (let p : StoreView V = record { kept = new.kept; failures = i; status = status_view new.status } in p)) (ap (λ (s : StoreState V). s.failures) repaired)
+                  ∙ ap (λ (s : Status (StagedEvent V)). set (views_of stores) j (let p : StoreView V = record { kept = new.kept; failures = store.failures; status = status_view s } in p)) new_up);
             }

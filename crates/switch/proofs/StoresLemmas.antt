@@ -1,5 +1,5 @@
 -- Stores and their views, as lists and one by one.
-use Rattle.switch.proofs.Words.{◌≡◌, ◌≢◌, ℕ, zero, suc, ◌+◌, ◌<◌, ◌≤◌, ◌==◌, Bool, true, false, List, [], ◌∷◌, ◌++◌, length, get_or, set, slice_get, Option, Some, None, refl, ap, sym, ◌∙◌, subst, arith, le_of_suc-le-suc, AllByRecursion, nat_tests, KeptPart, new_kept, Node, Event, StagedEvent, at_set, at_set_other, Status, up, down, StoreState, StoreView, status_seen, view_of, views_of, new_views, new_stores, is_down, is_down_view, is_down_at, pending_events}
+use Rattle.switch.proofs.Words.{◌≡◌, ◌≢◌, ℕ, zero, suc, ◌+◌, ◌<◌, ◌≤◌, ◌==◌, Bool, true, false, List, [], ◌∷◌, ◌++◌, length, get_or, set, slice_get, Option, Some, None, refl, ap, sym, ◌∙◌, subst, arith, le_of_suc-le-suc, AllByRecursion, nat_tests, KeptPart, new_kept, Node, Event, StagedEvent, at_set, at_set_other, Status, up, down, StoreState, StoreView, status_view, view_of, views_of, new_views, new_stores, is_down, is_down_view, is_down_at, pending_events}
 
 pub views_of-set : {V : Type 0} (stores : List (StoreState V)) (k : ℕ) (store : StoreState V) → views_of (set stores k store) ≡ set (views_of stores) k (view_of store)
 views_of-set [] k store = refl
@@ -54,7 +54,7 @@ each_after {V} nodes stores P k store new is own others j m s at is_s = by_test 
 -- A node that is not down is up.
 
 -- a status that is not seen as down is up
-up_of : {V : Type 0} (s : Status (StagedEvent V)) → is_down (status_seen s) ≡ false → s ≡ up
+up_of : {V : Type 0} (s : Status (StagedEvent V)) → is_down (status_view s) ≡ false → s ≡ up
 up_of up e = refl
 up_of (down o) e = cc
 
@@ -65,7 +65,7 @@ up_at stores k store is e = up_of store.status (sym (ap (λ o. is_down_view o) (
 -- a store whose view is down is down, and may owe an event
 pub down_at : {V : Type 0} (stores : List (StoreState V)) (k : ℕ) (store : StoreState V) → slice_get stores k ≡ Some store → is_down_at (views_of stores) (Some k) ≡ true → (o : Option (StagedEvent V)) × (store.status ≡ down o)
 down_at stores k store is e = down_owing store.status (sym (ap (λ o. is_down_view o) (view_at stores k store is)) ∙ e) where
-  down_owing : {V : Type 0} (s : Status (StagedEvent V)) → is_down (status_seen s) ≡ true → (o : Option (StagedEvent V)) × (s ≡ down o)
+  down_owing : {V : Type 0} (s : Status (StagedEvent V)) → is_down (status_view s) ≡ true → (o : Option (StagedEvent V)) × (s ≡ down o)
   down_owing up d = cc
   down_owing (down o) d = (o, refl)
 

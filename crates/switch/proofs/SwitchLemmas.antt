@@ -155,8 +155,8 @@ module _ {V : Type 0} (size : V → ℕ) (net : NetView V) (stores : List (Store
 
       module _ (b : NetView V) (t : IsTaken net b staged) where
         -- the core that took the event is the one at which it was staged
-        was_core : t.was ≡ d.core
-        was_core = let both : Some t.was ≡ Some d.core = sym t.at ∙ d.at in cc
+        was_core : t.old_core ≡ d.core
+        was_core = let both : Some t.old_core ≡ Some d.core = sym t.at ∙ d.at in cc
 
         -- its node is now the one after the step
         node_then : t.core.node ≡ step.node

@@ -1,5 +1,5 @@
 -- A call as a whole: its answer in the world after the history, and the logs after it.
-use Rattle.switch.proofs.Words.{◌≡◌, ℕ, true, false, List, Option, Some, None, Result, Ok, Err, refl, ap, sym, ◌∙◌, subst, slice_get, IsErrAnd, ForOk, Event, StepFault, Memory, World, node_of_event, node_of, StagedEvent, NetView, Status, up, down, StoreState, StoreView, SwitchView, status_seen, view_of, views_of, IsPendingStaged, IsSwitch, is_down_at, world_of, IsEffectUnlessDown, IsEffectAtDownNode, IsEffectOfRecovery, IsEffect, Plays, EventKeepsPrefixes}
+use Rattle.switch.proofs.Words.{◌≡◌, ℕ, true, false, List, Option, Some, None, Result, Ok, Err, refl, ap, sym, ◌∙◌, subst, slice_get, IsErrAnd, ForOk, Event, StepFault, Memory, World, node_of_event, node_of, StagedEvent, NetView, Status, up, down, StoreState, StoreView, SwitchView, status_view, view_of, views_of, IsPendingStaged, IsSwitch, is_down_at, world_of, IsEffectUnlessDown, IsEffectAtDownNode, IsEffectOfRecovery, IsEffect, Plays, EventKeepsPrefixes}
 use Rattle.switch.proofs.StoresLemmas.{view_at, view_past}
 use Rattle.switch.proofs.SwitchLemmas.{switch_view, at}
 use Rattle.switch.proofs.CallLemmas.{stores_are, after_is, node_there, node_seen}
@@ -29,7 +29,7 @@ module _ {V : Type 0} (size : V → ℕ) (now new : SwitchView V) (fault : StepF
 
 module _ {V : Type 0} (size : V → ℕ) (net : NetView V) (stores : List (StoreState V)) (h : IsSwitch size net stores) (now : SwitchView V) (seen : switch_view net stores ≡ now) where
   -- an event that a node owes is an event of that node
-  owed_own : (k : ℕ) (s : Status (StagedEvent V)) → IsPendingStaged size net k s → (e : Event V) → status_seen s ≡ down (Some e) → node_of h.world.world e ≡ Some k
+  owed_own : (k : ℕ) (s : Status (StagedEvent V)) → IsPendingStaged size net k s → (e : Event V) → status_view s ≡ down (Some e) → node_of h.world.world e ≡ Some k
   owed_own k up pending_staged e is = cc
   owed_own k (down None) pending_staged e is = cc
   owed_own k (down (Some o)) pending_staged e is =

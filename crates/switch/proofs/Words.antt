@@ -32,7 +32,7 @@ pub use Rattle.std.specs.Result.{ForOk}
 pub use Rattle.std.specs.Vec.Iter.{into_iter_items}
 pub use Rattle.switch.specs.LogPrefixes.{IsLogPrefix, EventKeepsPrefixes, KeepsPrefixes}
 pub use Rattle.switch.specs.NodeStore.{Fails, IsRecordOf, IsWithOrWithout, Status, StoreState, pending_change, down, pending_of, pending_posts, up}
-pub use Rattle.switch.specs.Switch.{IsEffect, IsEffectAtDownNode, IsEffectUnlessDown, AreStores, CanCommitPending, FailsAt, IsPendingStaged, IsRecordIn, StoreFitsNode, IsSwitch, ViewFitsNode, Plays, IsEffectOfRecovery, IsRecoveryOutcome, StoreView, SwitchView, IsOutcomeAt, CommitsPending, change_of_pending, pending_on_failure, pending_event, pending_events, is_down, is_down_at, is_down_view, new_stores, new_views, status_seen, view_of, views_of, with_store, world_of}
+pub use Rattle.switch.specs.Switch.{IsEffect, IsEffectAtDownNode, IsEffectUnlessDown, AreStores, CanCommitPending, FailsAt, IsPendingStaged, IsRecordIn, StoreFitsNode, IsSwitch, ViewFitsNode, Plays, IsEffectOfRecovery, IsRecoveryOutcome, StoreView, SwitchView, IsOutcomeAt, CommitsPending, change_of_pending, pending_on_failure, pending_event, pending_events, is_down, is_down_at, is_down_view, new_stores, new_views, status_view, view_of, views_of, with_store, world_of}
 pub use Rattle.synod.proofs.NodeInvariant.{all_append}
 pub use Rattle.synod.specs.Core.{Core}
 pub use Rattle.synod.specs.Node.{Node, StepResult, kept_of, new_node}

@@ -10,11 +10,11 @@ pub record IsLogPrefix {V : Type 0} (size : V → ℕ) (switch : SwitchView V) (
   pub node : k < length switch.stores
   pub begins : IsPrefixOf entries (log_after (world_of size switch) k)
 
--- at each node, a prefix of its log remains one
+-- at each node, a prefix of its log remains a prefix
 abbrev pub KeepsPrefixes : {V : Type 0} → (V → ℕ) → SwitchView V → SwitchView V → Type 0
 KeepsPrefixes {V} size old new = (k : ℕ) (entries : List (Option V)) → IsLogPrefix size old k entries → IsLogPrefix size new k entries
 
--- a prefix of a node's log remains one, except at a restart of that node; after any error each one remains
+-- a prefix of a node's log remains a prefix, except at a restart of that node; after any error, at every node
 pub record EventKeepsPrefixes {V : Type 0} (size : V → ℕ) (e : Event V) (old new : SwitchView V) (result : Result ℕ StepFault) : Type 0 where
   pub others : (k : ℕ) (entries : List (Option V)) → e ≢ Restart k → IsLogPrefix size old k entries → IsLogPrefix size new k entries
   pub after_error : OnErr result (KeepsPrefixes size old new)

@@ -14,7 +14,7 @@ pub data Status (A : Type 0) : Type 0 where
 
 abbrev pub status_of : {V : Type 0} → RustStatus V → Status (StagedEvent V)
 status_of Up = up
-status_of (Down staged) = down staged
+status_of (Down pending) = down pending
 
 -- the view of a `NodeStore`, with the pending event as it was staged; `StoreView` of `Switch` has the event alone
 pub record StoreState (V : Type 0) : Type 0 where
@@ -26,7 +26,7 @@ pub record StoreState (V : Type 0) : Type 0 where
 
 abbrev pub pending_of : {V : Type 0} → Status (StagedEvent V) → Option (StagedEvent V)
 pending_of up = None
-pending_of (down o) = o
+pending_of (down pending) = pending
 
 abbrev pub pending_change : {V : Type 0} → Option (StagedEvent V) → Option (Change V)
 pending_change None = None
@@ -45,7 +45,7 @@ IsWithOrWithout old change new = (new ≡ old) ⊎ (new ≡ changed_by old chang
 
 abbrev pub IsRecordOf : {V : Type 0} → Node V → Status (StagedEvent V) → KeptPart V → Type 0
 IsRecordOf n up kept = kept ≡ kept_of n
-IsRecordOf n (down o) kept = IsWithOrWithout (kept_of n) (pending_change o) kept
+IsRecordOf n (down pending) kept = IsWithOrWithout (kept_of n) (pending_change pending) kept
 
 -- the effect of a failed call of the keep
 pub record Fails {V : Type 0} (old : StoreState V) (change : Option (Change V)) (status_after : Status (StagedEvent V)) (new : StoreState V) : Type 0 where

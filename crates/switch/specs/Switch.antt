@@ -23,12 +23,12 @@ abbrev pub pending_event : {V : Type 0} → Option (StagedEvent V) → Option (E
 pending_event None = None
 pending_event (Some staged) = Some staged.event
 
-abbrev pub status_seen : {V : Type 0} → Status (StagedEvent V) → Status (Event V)
-status_seen up = up
-status_seen (down o) = down (pending_event o)
+abbrev pub status_view : {V : Type 0} → Status (StagedEvent V) → Status (Event V)
+status_view up = up
+status_view (down pending) = down (pending_event pending)
 
 abbrev pub view_of : {V : Type 0} → StoreState V → StoreView V
-view_of store = record { kept = store.kept; failures = store.failures; status = status_seen store.status }
+view_of store = record { kept = store.kept; failures = store.failures; status = status_view store.status }
 
 abbrev pub views_of : {V : Type 0} → List (StoreState V) → List (StoreView V)
 views_of [] = []
@@ -39,7 +39,7 @@ abbrev pub new_views : {V K : Type 0} → (K → ℕ) → List K → List (Store
 new_views failures [] = []
 new_views failures (keep ∷ keeps) = record { kept = new_kept; failures = failures keep; status = up } ∷ new_views failures keeps
 
--- the stores of new nodes
+-- the stores of nodes that are up, with these keeps
 abbrev pub new_stores : {V K : Type 0} → (K → KeptPart V) → (K → ℕ) → List K → List (StoreState V)
 new_stores kept failures [] = []
 new_stores kept failures (keep ∷ keeps) = record { kept = kept keep; failures = failures keep; status = up } ∷ new_stores kept failures keeps
@@ -126,7 +126,8 @@ pending_on_failure (Begin k) = Some (Begin k)
 pending_on_failure (Deliver number) = Some (Deliver number)
 pending_on_failure (Restart k) = None
 
--- a call of the keep of node k failed: it counts one failure more, its record is the old or the new one, and the rest is as before
+-- a call of the keep of node k failed: the count of its failures grows by one, the record is the old one or has the change, the
+-- node has this status, and nothing else changes
 pub record FailsAt {V : Type 0} (old new : SwitchView V) (k : ℕ) (view : StoreView V) (change : Option (Change V)) (status_after : Status (Event V)) : Type 0 where
   pub kept : KeptPart V
   pub either : IsWithOrWithout view.kept change kept
@@ -148,7 +149,7 @@ abbrev pub pending_events : {V : Type 0} → Option (Event V) → List (Event V)
 pending_events None = []
 pending_events (Some e) = e ∷ []
 
--- node k is up again with the record that its keep loaded: the event whose store failed, if there is one, and then the restart are taken
+-- node k is up again with the record that its keep loaded: the pending event, if there is one, and then the restart are taken
 pub record IsRecovered {V : Type 0} (size : V → ℕ) (old new : SwitchView V) (k : ℕ) (view : StoreView V) (e : Option (Event V)) (count : ℕ) : Type 0 where
   pub world : World V
   pub is_after : IsAfter size old.weights (old.history ++ pending_events e ++ Restart k ∷ []) world

@@ -11,8 +11,8 @@ use synod::{Keep, Value};
 
 impl<V: Value, K: Keep<V>> Switch<V, K> {
     /// Plays an event: its node stages it, stores its change and commits it. A restart starts from the record that the keep
-    /// loads; at a node that is down it first stores and commits the event whose store failed. Returns the number of packets
-    /// posted so far.
+    /// loads; at a node that is down it first stores the change of the pending event and commits that event. Returns the number
+    /// of packets posted so far.
     ///
     /// Errors: `Down` if the node is down and the event is not a restart; else the first fault that the event meets, in the
     /// order that the comment of `StepFault` lists; else `Memory`, with nothing changed, or `Device` if the node's keep

@@ -3,7 +3,7 @@ ghost use Rattle.std.specs.Prelude.{◌≡◌, ◌+◌, Ok, Some, None, length, 
 ghost use Rattle.synod.specs.Record.{changed_by};
 ghost use Rattle.net.specs.Staged.{change_in, posts_of};
 ghost use Rattle.switch.specs.NodeStore.{Fails, IsWithOrWithout, pending_change, pending_of, pending_posts, status_of, up, down};
-ghost use Rattle.switch.specs.Switch.{is_down, status_seen};
+ghost use Rattle.switch.specs.Switch.{is_down, status_view};
 
 use net::StagedEvent;
 use std::marker::Model;
@@ -46,7 +46,7 @@ impl<V: Value, K: Keep<V>> NodeStore<V, K> {
 
     /// Returns whether the node is down.
     pub fn is_down(&self) -> bool
-        ensures { result ≡ is_down (status_seen self.now.status) }
+        ensures { result ≡ is_down (status_view self.now.status) }
     {
         match &self.status {
             Status::Up => false,

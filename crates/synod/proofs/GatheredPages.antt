@@ -1,5 +1,5 @@
 -- A new page is kept, and completes the promise of its sender if no page is missing.
-use Rattle.synod.proofs.Words.{◌≡◌, ◌∙◌, ◌<◌, ◌≤◌, ◌-◌, ◌&&◌, not, ℕ, Bool, true, false, List, [], ◌∷◌, ◌++◌, Option, None, length, ap, sym, arith, if◌then◌else◌, nat_tests, get_or_past, set_past, entry_at, put_at, front_of, Ballot, Role, Preparing, is_same, is_quorum, are_received, SlotReport, Packet, Heard, Page, CompletePromise, Node, StepResult, unchanged, volatile_step, kept_of, pages_from, page_of, with_page, is_heard, ProposerState, assembled, proposer_state, learner_state, adds_page, completes_promise, on_complete_promise, leads_with, on_promise_page, on_promise_as, on_promise, with_proposer_update}
+use Rattle.synod.proofs.Words.{◌≡◌, ◌∙◌, ◌<◌, ◌≤◌, ◌-◌, ◌&&◌, not, ℕ, Bool, true, false, List, [], ◌∷◌, ◌++◌, Option, None, length, ap, sym, arith, if◌then◌else◌, nat_tests, get_or_past, set_past, entry_at, put_at, front_of, Ballot, Role, Preparing, is_same, is_quorum, are_received, SlotReport, Packet, Heard, AddPage, CompletePromise, Node, StepResult, unchanged, volatile_step, kept_of, pages_from, page_of, with_page, is_heard, ProposerState, assembled, proposer_state, learner_state, adds_page, completes_promise, on_complete_promise, leads_with, on_promise_page, on_promise_as, on_promise, with_proposer_update}
 use Rattle.synod.proofs.PagesWithDeliveredLemmas.{with_new}
 
 abbrev pub with_proposing : {V : Type 0} → Node V → ProposerState V → Node V
@@ -8,11 +8,11 @@ with_proposing n p = assembled n.me n.weights (kept_of n) p (learner_state n)
 module _ {V : Type 0} (m n : Node V) (same : m ≡ n) (p : ProposerState V) (room : p ≡ proposer_state m) (i : ℕ) (reports copy : List (SlotReport V)) (copied : copy ≡ reports)
     (posts : List (Packet V)) (no_posts : posts ≡ []) where
   -- a new page that completes no promise updates the proposer with the page
-  pub keep_step : (k : ℕ) → page_of m.pages k i ≡ None → adds_page n (with_page n.pages k i reports) ≡ volatile_step (with_proposer_update (with_proposing m p) (Page k i copy)) posts
+  pub keep_step : (k : ℕ) → page_of m.pages k i ≡ None → adds_page n (with_page n.pages k i reports) ≡ volatile_step (with_proposer_update (with_proposing m p) (AddPage k i copy)) posts
   keep_step k none =
       ap (λ (x : Node V). adds_page x (with_page x.pages k i reports)) (sym same)
       ∙ ap (λ (ps : List (List (Option (List (SlotReport V))))). adds_page m ps) (with_new m.pages k i reports none)
-      ∙ (λ j. volatile_step (with_proposer_update (with_proposing m (sym room j)) (Page k i (sym copied j))) (sym no_posts j))
+      ∙ (λ j. volatile_step (with_proposer_update (with_proposing m (sym room j)) (AddPage k i (sym copied j))) (sym no_posts j))
 
   -- a new page that completes the promise of its sender updates the proposer with the page and the sender, if there is no quorum yet
   pub hear_step : (h : Heard) → page_of m.pages h.node i ≡ None

@@ -1,5 +1,5 @@
 -- The invariant of a node and of its posts, for all steps except those on promises.
-use Rattle.synod.proofs.Words.{◌≡◌, ℕ, zero, suc, ◌+◌, ◌^◌, ◌<◌, ◌≤◌, Bool, true, false, ◌&&◌, ◌==◌, nat_lt, List, [], ◌∷◌, ◌++◌, length, Option, Some, None, Result, Ok, Err, refl, arith, set, if◌then◌else◌, nat_tests, AllByRecursion, SLOTS, entry_at, put_at, top_of-put_at, front_of-le, MAX_VALUE_BYTES, MAX_WAITING, Ballot, SlotReport, Packet, Body, Prepare, Accept, Accepted, Nack, Ask, Told, AcceptedEntry, Heard, Role, Idle, Preparing, Leading, Refusal, Busy, LogFull, RoundsSpent, TooLong, is_below, packet, to_all_from, to_all, to_others_from, to_others, accept_posts, IsBody, IsPost, KeptPart, Node, StepResult, unchanged, no_pages, log_length, sends_nack, accepted_entry, accepts_value, on_accept, waits, proposes_value, offer_waits, offer_as, offer_result, next_round, next_ballot, begins, begin_result, is_at, idles, on_nack, learns, learns_chosen, on_ask_at, on_ask, on_told_at, on_told, PreservesInvariant, reloaded, IsRole, ArePages, IsNode}
+use Rattle.synod.proofs.Words.{◌≡◌, ℕ, zero, suc, ◌+◌, ◌^◌, ◌<◌, ◌≤◌, Bool, true, false, ◌&&◌, ◌==◌, nat_lt, List, [], ◌∷◌, ◌++◌, length, Option, Some, None, Result, Ok, Err, refl, arith, set, if◌then◌else◌, nat_tests, AllByRecursion, SLOTS, entry_at, put_at, top_of-put_at, front_of-le, MAX_VALUE_BYTES, MAX_WAITING, Ballot, SlotReport, Packet, Body, Prepare, Accept, Accepted, Nack, Ask, Told, AcceptedEntry, Heard, Role, Idle, Preparing, Leading, Refusal, Busy, LogFull, RoundsSpent, TooLong, is_below, packet, to_all_from, to_all, to_others_from, to_others, accept_posts, IsBody, IsPost, KeptPart, Node, StepResult, unchanged, no_pages, log_length, sends_nack, accepted_entry, accepts_value, on_accept, waits, proposes_value, offer_waits, offer_as, offer_result, next_round, next_ballot, begins, begin_result, is_at, idles, on_nack, learns, learns_chosen, on_ask_at, on_ask, on_told_at, on_told, PreservesInvariant, reloaded, IsRole, IsReceivedPage, IsNode}
 use Rattle.std.specs.List.{slice_index_or}
 
 -- the step preserves the invariant, unless it is refused
@@ -79,7 +79,7 @@ module _ {V : Type 0} (n : Node V) (is : IsNode n) where
 
   -- a node with other slots, role and pages, all within the limits, is a node
   pub with_parts : (promise : Ballot) (round : ℕ) (accepted : List (Option (AcceptedEntry V))) (role : Role) (pages : List (List (Option (List (SlotReport V))))) (heard : List Heard) (learned : List (Option (Option V))) (waiting : List V)
-      → length accepted ≤ SLOTS → length learned ≤ SLOTS → IsRole role → AllByRecursion (AllByRecursion ArePages) pages
+      → length accepted ≤ SLOTS → length learned ≤ SLOTS → IsRole role → AllByRecursion (AllByRecursion IsReceivedPage) pages
       → IsNode (record n { promise = promise; round = round; accepted = accepted; role = role; pages = pages; heard = heard; learned = learned; waiting = waiting })
   with_parts promise round accepted role pages heard learned waiting low low_learned as_role each =
       record { weights = is.weights; me = is.me; accepted = low; learned = low_learned; role = as_role; pages = each }
@@ -157,7 +157,7 @@ module _ {V : Type 0} (n : Node V) (is : IsNode n) where
       (λ e. record { node = with_parts n.promise n.round n.accepted Idle n.pages n.heard n.learned n.waiting is.accepted is.learned tt is.pages; posts = tt }) (λ e. same)
 
   -- without pages there is no report of a slot past the limit
-  none_had : (ws : List ℕ) → AllByRecursion (AllByRecursion (ArePages {V = V})) (no_pages ws)
+  none_had : (ws : List ℕ) → AllByRecursion (AllByRecursion (IsReceivedPage {V = V})) (no_pages ws)
   none_had [] = tt
   none_had (w ∷ ws) = (tt, none_had ws)
 

@@ -151,14 +151,14 @@ module _ {T : Type 0} (firsts : List (Option Tally)) (other_tallies : ℕ → Li
   pub learner_put : (t : Tally) → IsLearner (put_at firsts s t) other_tallies learned
   learner_put t = record {
     first = λ r none. is.first r (elim (put_either firsts s r t) [ inl here ↦ cc | inr same ↦ sym same ∙ none ]);
-    low = is.low;
+    within = is.within;
   }
 
   -- a learner with other later tallies at a slot that has a first one
   pub learner_other : (t : Tally) (more : ℕ → List Tally) → entry_at firsts s ≡ Some t → ((r : ℕ) → r ≢ s → more r ≡ other_tallies r) → IsLearner firsts more learned
   learner_other t more here same = record {
     first = λ r none. same r (λ e. none_some (sym none ∙ ap (entry_at firsts) e ∙ here)) ∙ is.first r none;
-    low = is.low;
+    within = is.within;
   } where
     none_some : None ≡ Some t → ⊥
     none_some e = cc

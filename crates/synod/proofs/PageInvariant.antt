@@ -1,5 +1,5 @@
 -- The pages of a promise and all proposals stay below the limit.
-use Rattle.synod.proofs.Words.{◌≡◌, ℕ, zero, suc, ◌+◌, ◌*◌, ◌<◌, ◌≤◌, max, Bool, true, false, nat_lt, is_some, List, [], ◌∷◌, length, Option, Some, None, refl, ap, arith, set, if◌then◌else◌, AllByRecursion, SLOTS, put_at, MAX_PAGES, Ballot, SlotReport, Promise, AcceptedEntry, Heard, IsReport, IsPost, onto_first, cut_after, joined_pages, pages_from, page_of, with_page, reports_from, promise_pages, top_or_zero, top_or_first, proposed_values, all_reports, ArePages}
+use Rattle.synod.proofs.Words.{◌≡◌, ℕ, zero, suc, ◌+◌, ◌*◌, ◌<◌, ◌≤◌, max, Bool, true, false, nat_lt, is_some, List, [], ◌∷◌, length, Option, Some, None, refl, ap, arith, set, if◌then◌else◌, AllByRecursion, SLOTS, put_at, MAX_PAGES, Ballot, SlotReport, Promise, AcceptedEntry, Heard, IsReport, IsPost, onto_first, cut_after, joined_pages, pages_from, page_of, with_page, reports_from, promise_posts_from, top_or_zero, top_or_first, proposed_values, all_reports, IsReceivedPage}
 use Rattle.synod.proofs.NodeInvariant.{all_append, all_set, all_index, post, nodes}
 
 -- The pages of a promise.
@@ -55,7 +55,7 @@ pages_few zero (x ∷ xs) = let h = pages_few 255 xs in let e = length-onto_firs
 
 -- the packets of a promise are posts, if its pages are no more than may be sent
 pub posts_pages : {V : Type 0} (nodes me to : ℕ) (b : Ballot) (count i : ℕ) (pages : List (List (SlotReport V))) → me < nodes → to < nodes → 1 ≤ i → i + length pages ≤ suc count → count ≤ MAX_PAGES
-    → AllByRecursion (AllByRecursion IsReport) pages → AllByRecursion (IsPost nodes) (promise_pages me to b count i pages)
+    → AllByRecursion (AllByRecursion IsReport) pages → AllByRecursion (IsPost nodes) (promise_posts_from me to b count i pages)
 posts_pages nodes me to b count i [] from for one all few each = tt
 posts_pages nodes me to b count i (page ∷ pages) from for one all few each = (
   post nodes me to (Promise b i count page) from for record { first = one; last = omega arith; few = few; each = each.0 },
@@ -75,33 +75,33 @@ top_low first [] low h = low
 top_low first (r ∷ rs) low h = all_low (r ∷ rs) h
 
 -- the reports on the pages of one node are below the limit
-all_joined : {V : Type 0} (pages : List (Option (List (SlotReport V)))) (count : ℕ) → AllByRecursion ArePages pages → AllByRecursion IsReport (joined_pages pages count)
+all_joined : {V : Type 0} (pages : List (Option (List (SlotReport V)))) (count : ℕ) → AllByRecursion IsReceivedPage pages → AllByRecursion IsReport (joined_pages pages count)
 all_joined pages zero h = tt
 all_joined [] (suc count) h = tt
 all_joined (None ∷ pages) (suc count) h = all_joined pages count h.1
 all_joined (Some page ∷ pages) (suc count) h = all_append IsReport page (joined_pages pages count) h.0 (all_joined pages count h.1)
 
 -- the reports of all nodes heard are below the limit
-pub reports_heard : {V : Type 0} (pages : List (List (Option (List (SlotReport V))))) (heard : List Heard) → AllByRecursion (AllByRecursion ArePages) pages → AllByRecursion IsReport (all_reports pages heard)
+pub reports_heard : {V : Type 0} (pages : List (List (Option (List (SlotReport V))))) (heard : List Heard) → AllByRecursion (AllByRecursion IsReceivedPage) pages → AllByRecursion IsReport (all_reports pages heard)
 reports_heard pages [] h = tt
 reports_heard pages (x ∷ heard) h =
-    all_append IsReport (joined_pages (pages_from pages x.node) x.count) (all_reports pages heard) (all_joined (pages_from pages x.node) x.count (all_index (AllByRecursion ArePages) pages x.node [] h tt)) (reports_heard pages heard h)
+    all_append IsReport (joined_pages (pages_from pages x.node) x.count) (all_reports pages heard) (all_joined (pages_from pages x.node) x.count (all_index (AllByRecursion IsReceivedPage) pages x.node [] h tt)) (reports_heard pages heard h)
 
 -- with a page of such reports put into the map of one node, all its pages are below the limit
-all_put : {V : Type 0} (pages : List (Option (List (SlotReport V)))) (i : ℕ) (reports : List (SlotReport V)) → AllByRecursion ArePages pages → AllByRecursion IsReport reports → AllByRecursion ArePages (put_at pages i reports)
+all_put : {V : Type 0} (pages : List (Option (List (SlotReport V)))) (i : ℕ) (reports : List (SlotReport V)) → AllByRecursion IsReceivedPage pages → AllByRecursion IsReport reports → AllByRecursion IsReceivedPage (put_at pages i reports)
 all_put [] zero reports h r = (r, tt)
 all_put [] (suc i) reports h r = (tt, all_put [] i reports tt r)
 all_put (x ∷ pages) zero reports h r = (r, h.1)
 all_put (x ∷ pages) (suc i) reports h r = (h.0, all_put pages i reports h.1 r)
 
 -- with a page of such reports put into the map of its node, if it is new, the pages of all nodes are below the limit
-pub all_with_page : {V : Type 0} (pages : List (List (Option (List (SlotReport V))))) (p i : ℕ) (reports : List (SlotReport V)) (t : Bool) → AllByRecursion (AllByRecursion ArePages) pages → AllByRecursion IsReport reports
-    → AllByRecursion (AllByRecursion ArePages) (if t then pages else set pages p (put_at (pages_from pages p) i reports))
+pub all_with_page : {V : Type 0} (pages : List (List (Option (List (SlotReport V))))) (p i : ℕ) (reports : List (SlotReport V)) (t : Bool) → AllByRecursion (AllByRecursion IsReceivedPage) pages → AllByRecursion IsReport reports
+    → AllByRecursion (AllByRecursion IsReceivedPage) (if t then pages else set pages p (put_at (pages_from pages p) i reports))
 all_with_page pages p i reports true h r = h
-all_with_page pages p i reports false h r = all_set (AllByRecursion ArePages) pages p (put_at (pages_from pages p) i reports) h (all_put (pages_from pages p) i reports (all_index (AllByRecursion ArePages) pages p [] h tt) r)
+all_with_page pages p i reports false h r = all_set (AllByRecursion IsReceivedPage) pages p (put_at (pages_from pages p) i reports) h (all_put (pages_from pages p) i reports (all_index (AllByRecursion IsReceivedPage) pages p [] h tt) r)
 
 -- the reports of all nodes heard are below the limit, with the page just delivered
-pub reports_with_page : {V : Type 0} (pages : List (List (Option (List (SlotReport V))))) (p i : ℕ) (reports : List (SlotReport V)) (heard : List Heard) → AllByRecursion (AllByRecursion ArePages) pages → AllByRecursion IsReport reports
+pub reports_with_page : {V : Type 0} (pages : List (List (Option (List (SlotReport V))))) (p i : ℕ) (reports : List (SlotReport V)) (heard : List Heard) → AllByRecursion (AllByRecursion IsReceivedPage) pages → AllByRecursion IsReport reports
     → AllByRecursion IsReport (all_reports (with_page pages p i reports) heard)
 reports_with_page pages p i reports heard each r = reports_heard (with_page pages p i reports) heard (all_with_page pages p i reports (is_some (page_of pages p i)) each r)
 

@@ -1,5 +1,5 @@
 -- The reports of a promise, gathered slot by slot and cut into pages on the way.
-use Rattle.synod.proofs.Words.{◌≡◌, ℕ, zero, suc, ◌+◌, ◌-◌, ◌<◌, ◌≤◌, ◌≢◌, Bool, true, false, nat_lt, List, [], ◌∷◌, ◌++◌, length, drop, Option, Some, None, refl, ap, sym, ◌∙◌, subst, arith, if◌then◌else◌, append_assoc, append-nil, add-one, le_of_suc-le-suc, length-append, drop_of_length-le, nat_tests, SLOTS, entry_at, MAX_PAGES, Ballot, SlotReport, Packet, Promise, AcceptedEntry, packet, onto_first, cut_after, pages_of, reports_from, promise_pages}
+use Rattle.synod.proofs.Words.{◌≡◌, ℕ, zero, suc, ◌+◌, ◌-◌, ◌<◌, ◌≤◌, ◌≢◌, Bool, true, false, nat_lt, List, [], ◌∷◌, ◌++◌, length, drop, Option, Some, None, refl, ap, sym, ◌∙◌, subst, arith, if◌then◌else◌, append_assoc, append-nil, add-one, le_of_suc-le-suc, length-append, drop_of_length-le, nat_tests, SLOTS, entry_at, MAX_PAGES, Ballot, SlotReport, Packet, Promise, AcceptedEntry, packet, onto_first, cut_after, pages_of, reports_from, promise_posts_from}
 use Rattle.synod.proofs.PageInvariant.{reports_few, pages_few}
 
 -- the pages after the first one was begun with `page`
@@ -96,13 +96,13 @@ reports-end {V} first s i hs le = ap (λ (rest : List (Option (AcceptedEntry V))
 
 -- The packets, page by page.
 
-pub promise_pages-push : {V : Type 0} (me to : ℕ) (b : Ballot) (count i : ℕ) (pages : List (List (SlotReport V))) (page : List (SlotReport V))
-    → promise_pages me to b count i (pages ++ page ∷ []) ≡ promise_pages me to b count i pages ++ packet me to (Promise b (i + length pages) count page) ∷ []
-promise_pages-push {V} me to b count i [] page = let e : i ≡ i + 0 = omega arith in ap (λ (j : ℕ). let ps : List (Packet V) = packet me to (Promise b j count page) ∷ [] in ps) e
-promise_pages-push {V} me to b count i (next ∷ pages) page =
+pub promise_posts_from-push : {V : Type 0} (me to : ℕ) (b : Ballot) (count i : ℕ) (pages : List (List (SlotReport V))) (page : List (SlotReport V))
+    → promise_posts_from me to b count i (pages ++ page ∷ []) ≡ promise_posts_from me to b count i pages ++ packet me to (Promise b (i + length pages) count page) ∷ []
+promise_posts_from-push {V} me to b count i [] page = let e : i ≡ i + 0 = omega arith in ap (λ (j : ℕ). let ps : List (Packet V) = packet me to (Promise b j count page) ∷ [] in ps) e
+promise_posts_from-push {V} me to b count i (next ∷ pages) page =
     let e : suc i + length pages ≡ i + suc (length pages) = omega arith in
     ap (λ (ps : List (Packet V)). packet me to (Promise b i count next) ∷ ps)
-    (promise_pages-push me to b count (suc i) pages page ∙ ap (λ (j : ℕ). promise_pages me to b count (suc i) pages ++ packet me to (Promise b j count page) ∷ []) e)
+    (promise_posts_from-push me to b count (suc i) pages page ∙ ap (λ (j : ℕ). promise_posts_from me to b count (suc i) pages ++ packet me to (Promise b j count page) ∷ []) e)
 
 -- there are no more pages than may be sent
 pub pages-within : {V : Type 0} (first : ℕ) (accepted : List (Option (AcceptedEntry V))) → length accepted ≤ SLOTS → length (pages_of (reports_from first 0 accepted)) ≤ MAX_PAGES

@@ -1,5 +1,5 @@
 -- The room of a node after one of its parts has grown, and why a step that was ready stays so.
-use Rattle.synod.proofs.Words.{◌≡◌, ℕ, zero, suc, ◌≤◌, List, [], ◌∷◌, length, get_or, set, Option, Some, None, Result, Ok, Err, ap, sym, subst, arith, SlotsView, Change, Round, Entry, ProposerUpdate, AddWaiting, Propose, Begin, Page, AddHeard, CompletePromise, Lead, LearnerUpdate, Count, CountAndLearn, Learn, StagedStep, RecordView, HasCapacityFor, Node, StepResult, Refusal, Core, ProposerView, LearnerView, core_of, capacities_of, CanUpdateProposer, CanCount, CanUpdateLearner, KeepsCapacities, KeepsCapacity, IsNode, ReadyView, IsStagingResult, staged_node, proposer_of, learner_of, CanCommit}
+use Rattle.synod.proofs.Words.{◌≡◌, ℕ, zero, suc, ◌≤◌, List, [], ◌∷◌, length, get_or, set, Option, Some, None, Result, Ok, Err, ap, sym, subst, arith, SlotsView, Change, Round, Entry, ProposerUpdate, AddWaiting, Propose, Begin, AddPage, AddHeard, CompletePromise, Lead, LearnerUpdate, Count, CountAndLearn, Learn, StagedUpdates, RecordView, HasCapacityFor, Node, StepResult, Refusal, Core, ProposerView, LearnerView, core_of, capacities_of, CanUpdateProposer, CanCount, CanUpdateLearner, KeepsCapacities, KeepsCapacity, IsNode, ReadyView, IsStagingResult, staged_node, proposer_of, learner_of, CanCommit}
 use Rattle.synod.specs.declared.change.Change.TheVariants.{Promise}
 use Rattle.synod.specs.declared.proposer.ProposerUpdate.TheVariants.{Idle}
 
@@ -102,7 +102,7 @@ module _ {V : Type 0} (c d : Core V) (same : d.node ≡ c.node) (h : KeepsCapaci
   proposer_has_room (Some (AddWaiting v)) room = let count = ap (λ (n : Node V). length n.waiting) same in let more = h.waiting in omega (arith, count, more, room)
   proposer_has_room (Some (Propose b next)) room = tt
   proposer_has_room (Some (Begin b first pages)) room = tt
-  proposer_has_room (Some (Page k i reports)) room = let more = h.pages k in omega (arith, more, room)
+  proposer_has_room (Some (AddPage k i reports)) room = let more = h.pages k in omega (arith, more, room)
   proposer_has_room (Some (AddHeard heard)) room = let count = ap (λ (n : Node V). length n.heard) same in let more = h.heard in omega (arith, count, more, room)
   proposer_has_room (Some (CompletePromise heard i reports)) room =
       let count = ap (λ (n : Node V). length n.heard) same in
@@ -124,7 +124,7 @@ module _ {V : Type 0} (c d : Core V) (same : d.node ≡ c.node) (h : KeepsCapaci
   learner_has_room (Some (Learn s v)) room = let more = h.learned in omega (arith, more, room)
 
   -- all parts of the step
-  pub can_commit : (staged : StagedStep V) → CanCommit c staged → CanCommit d staged
+  pub can_commit : (staged : StagedUpdates V) → CanCommit c staged → CanCommit d staged
   can_commit staged can = record {
     change = record_has_room c.accepted_capacity d.accepted_capacity staged.change h.accepted can.change;
     proposer = proposer_has_room staged.proposer can.proposer;

@@ -1,5 +1,5 @@
 -- Each step preserves the invariant of a node, and posts only packets that every node may rely on.
-use Rattle.synod.proofs.Words.{◌≡◌, ℕ, ◌+◌, ◌-◌, ◌<◌, ◌≤◌, not, ◌&&◌, is_some, List, [], ◌∷◌, ◌++◌, map, take, drop, length, Option, Some, None, refl, arith, length-take, length-map, AllByRecursion, SLOTS, entry_at, Ballot, SlotReport, Packet, Body, Prepare, Promise, Accept, Accepted, Nack, Ask, Told, Heard, Role, Idle, Preparing, Leading, is_quorum, is_below, is_same, accept_posts, IsReport, IsPage, IsBody, IsPacket, IsPost, pages_of, are_received, Node, unchanged, pages_from, page_of, with_page, is_heard, reports_from, promises, sends_nack, on_prepare, top_or_first, proposed_values, all_reports, leads, adds_page, completes_promise, on_complete_promise, on_promise_page, on_promise_as, on_promise, has_voter, counted, learns_chosen, on_accepted_at, on_accepted, PreservesInvariant, on_packet, on_body, IsRole, ArePages, IsNode}
+use Rattle.synod.proofs.Words.{◌≡◌, ℕ, ◌+◌, ◌-◌, ◌<◌, ◌≤◌, not, ◌&&◌, is_some, List, [], ◌∷◌, ◌++◌, map, take, drop, length, Option, Some, None, refl, arith, length-take, length-map, AllByRecursion, SLOTS, entry_at, Ballot, SlotReport, Packet, Body, Prepare, Promise, Accept, Accepted, Nack, Ask, Told, Heard, Role, Idle, Preparing, Leading, is_quorum, is_below, is_same, accept_posts, IsReport, IsPage, IsBody, IsPacket, IsPost, pages_of, are_received, Node, unchanged, pages_from, page_of, with_page, is_heard, reports_from, promises, sends_nack, on_prepare, top_or_first, proposed_values, all_reports, leads, adds_page, completes_promise, on_complete_promise, on_promise_page, on_promise_as, on_promise, has_voter, counted, learns_chosen, on_accepted_at, on_accepted, PreservesInvariant, on_packet, on_body, IsRole, IsReceivedPage, IsNode}
 use Rattle.synod.proofs.NodeInvariant.{either, all_append, posts_accepts, same, with_parts, refuses_keeps, keeps_accept, chooses_keeps, keeps_ask, keeps_told, keeps_nack}
 use Rattle.synod.proofs.PageInvariant.{reports_low, reports_few, all_cut, pages_few, posts_pages, top_low, reports_heard, all_with_page, length-proposed_values}
 
@@ -31,7 +31,7 @@ module _ {V : Type 0} (n : Node V) (is : IsNode n) where
 
   -- A page of a promise.
 
-  module _ (b : Ballot) (first : ℕ) (low : first ≤ SLOTS) (role : n.role ≡ Preparing b first) (pages : List (List (Option (List (SlotReport V))))) (each : AllByRecursion (AllByRecursion ArePages) pages) where
+  module _ (b : Ballot) (first : ℕ) (low : first ≤ SLOTS) (role : n.role ≡ Preparing b first) (pages : List (List (Option (List (SlotReport V))))) (each : AllByRecursion (AllByRecursion IsReceivedPage) pages) where
     -- leading preserves the invariant, since nothing is proposed at a slot past the limit
     leads_keep : (heard : List Heard) → PreservesInvariant (length n.weights) (leads n b first (all_reports pages heard) (top_or_first first (all_reports pages heard)))
     leads_keep heard =

@@ -17,7 +17,7 @@ pub use Rattle.std.specs.Map.{lookup}
 pub use Rattle.std.specs.Option.{option_copied, option_map}
 pub use Rattle.std.specs.Result.{IfOk, IsOk, OnOk}
 pub use Rattle.std.specs.declared.alloc.AllocError.{AllocError}
-pub use Rattle.synod.specs.Acceptor.{accepted_entry, on_accept, on_prepare, promise_pages, promises, sends_nack, reports_from, accepts_value}
+pub use Rattle.synod.specs.Acceptor.{accepted_entry, on_accept, on_prepare, promise_posts_from, promises, sends_nack, reports_from, accepts_value}
 pub use Rattle.synod.specs.Ballots.{is_same, is_below, zero_ballot}
 pub use Rattle.synod.specs.Broadcast.{body_of, broadcast_posts, is_ask, to_node, to_nodes_from}
 pub use Rattle.synod.specs.Core.{Core, OtherTalliesView, LearnerState, LearnerView, ProposerState, ProposerView, assembled, core_of, learner_state, proposer_state}
@@ -31,7 +31,7 @@ pub use Rattle.synod.specs.Proposer.{top_or_zero, all_reports, begins, begin_res
 pub use Rattle.synod.specs.Ready.{CanCommit, IsReadyFor, ReadyView, IsStagingResult, learner_of, proposer_of, staged_node, with_learner_update, with_proposer_update}
 pub use Rattle.synod.specs.Record.{HasCapacityFor, KeptPart, RecordView, changed_by}
 pub use Rattle.synod.specs.Capacity.{KeepsCapacity, KeepsCapacities}
-pub use Rattle.synod.specs.Step.{ArePages, IsNode, IsRole, PreservesInvariant, on_body, on_packet, reloaded, restarted}
+pub use Rattle.synod.specs.Step.{IsReceivedPage, IsNode, IsRole, PreservesInvariant, on_body, on_packet, reloaded, restarted}
 pub use Rattle.synod.specs.Stored.OtherTallies.{IsLearner, other_tallies_at, tallies_from, tally, voters_among}
 pub use Rattle.synod.specs.Stored.ReceivedPages.{entries_of, pages_after_delivery, put_page, capacities_of}
 pub use Rattle.synod.specs.Updates.{CanCount, CanUpdateLearner, CanUpdateProposer}
@@ -49,11 +49,11 @@ pub use Rattle.synod.specs.declared.packet.SlotReport.{SlotReport}
 pub use Rattle.synod.specs.declared.packet.TheConstants.{MAX_PAGES}
 pub use Rattle.synod.specs.declared.proposer.Heard.{Heard}
 pub use Rattle.synod.specs.declared.proposer.ProposerUpdate.{ProposerUpdate}
-pub use Rattle.synod.specs.declared.proposer.ProposerUpdate.TheVariants.{Begin, CompletePromise, AddHeard, Lead, Page, Propose, AddWaiting}
+pub use Rattle.synod.specs.declared.proposer.ProposerUpdate.TheVariants.{Begin, CompletePromise, AddHeard, Lead, AddPage, Propose, AddWaiting}
 pub use Rattle.synod.specs.declared.proposer.Role.{Role}
 pub use Rattle.synod.specs.declared.proposer.Role.TheVariants.{Idle, Leading, Preparing}
 pub use Rattle.synod.specs.declared.proposer.TheConstants.{MAX_WAITING}
-pub use Rattle.synod.specs.declared.ready.StagedStep.{StagedStep}
+pub use Rattle.synod.specs.declared.ready.StagedUpdates.{StagedUpdates}
 pub use Rattle.synod.specs.declared.refusal.Refusal.{Refusal}
 pub use Rattle.synod.specs.declared.refusal.Refusal.TheVariants.{Busy, LogFull, Memory, RoundsSpent, TooLong}
 pub use Rattle.synod.specs.declared.tally.Tally.{Tally}

@@ -12,19 +12,19 @@ use Rattle.synod.specs.Node.{Node, StepResult, volatile_step}
 -- the reports of the slots from first on, where the list begins at slot s
 abbrev pub reports_from : {V : Type 0} → ℕ → ℕ → List (Option (AcceptedEntry V)) → List (SlotReport V)
 reports_from first s [] = []
-reports_from first s (None ∷ hs) = reports_from first (suc s) hs
-reports_from first s (Some h ∷ hs) =
+reports_from first s (None ∷ entries) = reports_from first (suc s) entries
+reports_from first s (Some entry ∷ entries) =
     if nat_lt s first
-    then reports_from first (suc s) hs
-    else (record { slot = s; ballot = h.ballot; value = h.value } ∷ reports_from first (suc s) hs)
+    then reports_from first (suc s) entries
+    else (record { slot = s; ballot = entry.ballot; value = entry.value } ∷ reports_from first (suc s) entries)
 
 -- the packets of a promise to p, one for each page, numbered from i
-abbrev pub promise_pages : {V : Type 0} → ℕ → ℕ → Ballot → ℕ → ℕ → List (List (SlotReport V)) → List (Packet V)
-promise_pages me p b count i [] = []
-promise_pages me p b count i (page ∷ pages) = packet me p (Promise b i count page) ∷ promise_pages me p b count (suc i) pages
+abbrev pub promise_posts_from : {V : Type 0} → ℕ → ℕ → Ballot → ℕ → ℕ → List (List (SlotReport V)) → List (Packet V)
+promise_posts_from me p b count i [] = []
+promise_posts_from me p b count i (page ∷ pages) = packet me p (Promise b i count page) ∷ promise_posts_from me p b count (suc i) pages
 
 abbrev pub promise_posts : {V : Type 0} → ℕ → ℕ → Ballot → List (List (SlotReport V)) → List (Packet V)
-promise_posts me p b pages = promise_pages me p b (length pages) 1 pages
+promise_posts me p b pages = promise_posts_from me p b (length pages) 1 pages
 
 -- the ballot is promised to p, with the entries accepted from first on
 abbrev pub promises : {V : Type 0} → Node V → ℕ → Ballot → ℕ → StepResult V

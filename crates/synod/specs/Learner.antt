@@ -10,7 +10,7 @@ use Rattle.synod.specs.Packets.{packet, to_others}
 use Rattle.synod.specs.Node.{Node, StepResult, unchanged, volatile_step}
 use Rattle.synod.specs.Log.{log_length}
 
--- voters are a mark for each node
+-- voters are a list with a mark for each node
 abbrev pub is_voter : List Bool → ℕ → Bool
 is_voter voters k = slice_index_or voters k false
 
@@ -53,11 +53,12 @@ asks_below n s gap = if nat_lt gap s then to_others n.me n.weights (Ask gap) els
 abbrev pub asks_others_for_first_gap : {V : Type 0} → Node V → ℕ → List (Packet V)
 asks_others_for_first_gap n s = asks_below n s (log_length n)
 
--- the value is chosen, since a quorum accepted it under one ballot, and the node learns it
+-- a chosen value is learned, and all other nodes are asked for the first gap if it is below the slot
 abbrev pub learns_chosen : {V : Type 0} → Node V → ℕ → Option V → StepResult V
 learns_chosen n s v = volatile_step (learns n s v) (asks_others_for_first_gap (learns n s v) s)
 
--- the step of a node n that has counted the vote: if those counted at slot s under ballot b are a quorum, v is learned
+-- the step of a node n that has counted the vote: if the nodes counted at slot s under ballot b are a quorum, v is chosen
+-- and learned
 abbrev pub counts : {V : Type 0} → Node V → Ballot → ℕ → Option V → StepResult V
 counts n b s v = if is_quorum n.weights (has_voter n.tallies s b) then learns_chosen n s v else unchanged n
 

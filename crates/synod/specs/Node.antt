@@ -5,6 +5,7 @@ use Rattle.std.specs.Prelude.{ℕ, Bool, false, ◌==◌, ◌||◌, List, [], �
 use Rattle.synod.specs.Words.{entry_at, put_at, Ballot, SlotReport, Packet, AcceptedEntry, Change, Role, Idle, Heard, Tally}
 use Rattle.synod.specs.Record.{KeptPart, new_kept}
 
+-- a node; `me` is its number, from 0
 pub record Node (V : Type 0) : Type 0 where
   pub me : ℕ
   pub weights : List ℕ
@@ -52,7 +53,7 @@ pub record StepResult (V : Type 0) : Type 0 where
 abbrev pub unchanged : {V : Type 0} → Node V → StepResult V
 unchanged n = record { node = n; change = None; posts = [] }
 
--- a step that leaves the kept part unchanged: the node is n after it, and these are its posts
+-- a step without a change of the kept part: the node is n after it, and these are its posts
 abbrev pub volatile_step : {V : Type 0} → Node V → List (Packet V) → StepResult V
 volatile_step n posts = record { node = n; change = None; posts = posts }
 

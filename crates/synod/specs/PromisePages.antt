@@ -1,6 +1,6 @@
 -- The pages of a promise: its reports are sent in pages of 256.
 -- Source: this project's choice, for Lamport, Paxos Made Simple, section 3, where one promise serves all instances.
--- The code stores the received pages by sender and number. Here a list is cut into pages, and received pages are joined.
+-- The code stores the received pages by sender and index. Here a list is cut into pages, and received pages are joined.
 use Rattle.std.specs.Prelude.{ℕ, zero, suc, Bool, not, nat_lt, List, [], ◌∷◌, ◌++◌, Option, Some, None}
 use Rattle.synod.specs.Words.{front_of}
 

@@ -3,7 +3,7 @@
 -- The code stores the updates to apply. The step is their result.
 use Rattle.std.specs.Prelude.{◌≡◌, Some, Result, Ok, Err}
 use Rattle.synod.specs.Words.{Refusal, Memory}
-use Rattle.synod.specs.declared.ready.StagedStep.{StagedStep}
+use Rattle.synod.specs.declared.ready.StagedUpdates.{StagedUpdates}
 use Rattle.synod.specs.declared.proposer.ProposerUpdate.{ProposerUpdate}
 use Rattle.synod.specs.declared.learner.LearnerUpdate.{LearnerUpdate}
 use Rattle.synod.specs.Record.{changed_by, HasCapacityFor}
@@ -18,7 +18,7 @@ pub record ReadyView (V : Type 0) : Type 0 where
   pub step : StepResult V
 
 -- the node once the updates are applied
-abbrev pub staged_node : {V : Type 0} → Node V → StagedStep V → Node V
+abbrev pub staged_node : {V : Type 0} → Node V → StagedUpdates V → Node V
 staged_node n staged =
     assembled n.me n.weights (changed_by (kept_of n) staged.change) (proposer_after (proposer_state n) staged.proposer) (learner_after (learner_state n) staged.learner)
 
@@ -29,7 +29,7 @@ abbrev pub learner_of : {V : Type 0} → Core V → LearnerView V
 learner_of c = record { state = learner_state c.node; tallies_capacity = c.tallies_capacity; other_tallies_capacity = c.other_tallies_capacity; learned_capacity = c.learned_capacity }
 
 -- there is capacity for all updates, and the node after them meets the invariant
-pub record CanCommit {V : Type 0} (c : Core V) (staged : StagedStep V) : Type 0 where
+pub record CanCommit {V : Type 0} (c : Core V) (staged : StagedUpdates V) : Type 0 where
   pub change : HasCapacityFor c.accepted_capacity staged.change
   pub proposer : CanUpdateProposer (proposer_of c) staged.proposer
   pub learner : CanUpdateLearner (learner_of c) staged.learner

@@ -20,7 +20,7 @@ new_kept = record { promise = zero_ballot; round = 0; accepted = [] }
 abbrev pub changed : {V : Type 0} → KeptPart V → Change V → KeptPart V
 changed kept (Round r) = record kept { round = r }
 changed kept (Promise b) = record kept { promise = b }
-changed kept (Entry s h) = record kept { promise = h.ballot; accepted = put_at kept.accepted s h }
+changed kept (Entry s entry) = record kept { promise = entry.ballot; accepted = put_at kept.accepted s entry }
 
 -- an event makes one change or none
 abbrev pub changed_by : {V : Type 0} → KeptPart V → Option (Change V) → KeptPart V
@@ -37,4 +37,4 @@ abbrev pub HasCapacityFor : {V : Type 0} → ℕ → Option (Change V) → Type 
 HasCapacityFor capacity None = Unit {0}
 HasCapacityFor capacity (Some (Round r)) = Unit {0}
 HasCapacityFor capacity (Some (Promise b)) = Unit {0}
-HasCapacityFor capacity (Some (Entry s h)) = s < capacity
+HasCapacityFor capacity (Some (Entry s entry)) = s < capacity

@@ -41,9 +41,9 @@ IsRole Idle = Unit {0}
 IsRole (Preparing b first) = first ≤ SLOTS
 IsRole (Leading b next) = next ≤ SLOTS
 
-abbrev pub ArePages : {V : Type 0} → Option (List (SlotReport V)) → Type 0
-ArePages None = Unit {0}
-ArePages (Some reports) = AllByRecursion IsReport reports
+abbrev pub IsReceivedPage : {V : Type 0} → Option (List (SlotReport V)) → Type 0
+IsReceivedPage None = Unit {0}
+IsReceivedPage (Some reports) = AllByRecursion IsReport reports
 
 pub record IsNode {V : Type 0} (n : Node V) : Type 0 where
   pub weights : IsWeights n.weights
@@ -51,7 +51,7 @@ pub record IsNode {V : Type 0} (n : Node V) : Type 0 where
   pub accepted : length n.accepted ≤ SLOTS
   pub learned : length n.learned ≤ SLOTS
   pub role : IsRole n.role
-  pub pages : AllByRecursion (AllByRecursion ArePages) n.pages
+  pub pages : AllByRecursion (AllByRecursion IsReceivedPage) n.pages
 
 -- the node after the step meets the invariant, and each post is a packet to one of the nodes
 pub record PreservesInvariant {V : Type 0} (nodes : ℕ) (step : StepResult V) : Type 0 where

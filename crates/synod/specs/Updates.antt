@@ -5,7 +5,7 @@ use Rattle.std.specs.Prelude.{◌<◌, ◌≤◌, ◌++◌, ℕ, [], ◌∷◌, 
 use Rattle.synod.specs.Words.{put_at, Preparing, Leading, MAX_NODES}
 use Rattle.synod.specs.declared.proposer.Role.TheVariants.{Idle as RoleIdle}
 use Rattle.synod.specs.declared.proposer.ProposerUpdate.{ProposerUpdate}
-use Rattle.synod.specs.declared.proposer.ProposerUpdate.TheVariants.{AddWaiting, Propose, Begin, Page, AddHeard, CompletePromise, Lead, Idle}
+use Rattle.synod.specs.declared.proposer.ProposerUpdate.TheVariants.{AddWaiting, Propose, Begin, AddPage, AddHeard, CompletePromise, Lead, Idle}
 use Rattle.synod.specs.declared.learner.LearnerUpdate.{LearnerUpdate}
 use Rattle.synod.specs.declared.learner.LearnerUpdate.TheVariants.{Count, CountAndLearn, Learn}
 use Rattle.synod.specs.Learner.{counted}
@@ -17,7 +17,7 @@ proposer_after p None = p
 proposer_after p (Some (AddWaiting v)) = record p { waiting = p.waiting ++ v ∷ [] }
 proposer_after p (Some (Propose b next)) = record p { role = Leading b next }
 proposer_after p (Some (Begin b first pages)) = record p { role = Preparing b first; pages = entries_of pages; heard = [] }
-proposer_after p (Some (Page k i reports)) = record p { pages = put_page p.pages k i reports }
+proposer_after p (Some (AddPage k i reports)) = record p { pages = put_page p.pages k i reports }
 proposer_after p (Some (AddHeard h)) = record p { heard = p.heard ++ h ∷ [] }
 proposer_after p (Some (CompletePromise h i reports)) = record p { pages = put_page p.pages h.node i reports; heard = p.heard ++ h ∷ [] }
 proposer_after p (Some (Lead b next proposed)) = record p { role = Leading b next; pages = []; heard = []; waiting = drop proposed p.waiting }
@@ -28,7 +28,7 @@ CanUpdateProposer p None = Unit {0}
 CanUpdateProposer p (Some (AddWaiting v)) = length p.state.waiting < p.waiting_capacity
 CanUpdateProposer p (Some (Propose b next)) = Unit {0}
 CanUpdateProposer p (Some (Begin b first pages)) = Unit {0}
-CanUpdateProposer p (Some (Page k i reports)) = i < slice_index_or p.page_capacities k 0
+CanUpdateProposer p (Some (AddPage k i reports)) = i < slice_index_or p.page_capacities k 0
 CanUpdateProposer p (Some (AddHeard h)) = length p.state.heard < p.heard_capacity
 CanUpdateProposer p (Some (CompletePromise h i reports)) = (i < slice_index_or p.page_capacities h.node 0) × (length p.state.heard < p.heard_capacity)
 CanUpdateProposer p (Some (Lead b next proposed)) = proposed ≤ length p.state.waiting

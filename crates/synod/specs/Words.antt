@@ -1,5 +1,4 @@
--- Names that the specifications of this crate use, re-exported from one module. The specifications import all others
--- directly.
+-- Re-exports names that the specifications of this crate use; they import other names directly.
 pub use Rattle.slots.specs.FiniteMap.{SlotsView, entries_to_gap, entry_at, front_of, put_at}
 pub use Rattle.slots.specs.declared.slots.TheConstants.{SLOTS}
 pub use Rattle.std.specs.Borrow.{Bor}

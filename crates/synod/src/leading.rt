@@ -106,7 +106,7 @@ fn highest_reports<'a, V>(
 }
 
 /// Returns the value to propose at a slot: that of its highest report, or the no-operation.
-fn value_of<V: Value>(highest: Option<&SlotReport<V>>) -> Result<Option<V>, AllocError>
+fn value_to_propose<V: Value>(highest: Option<&SlotReport<V>>) -> Result<Option<V>, AllocError>
     ensures { IfOk result (λ value. value ≡ reported_value (option_copied highest.entry)) }
 {
     match highest {
@@ -132,7 +132,7 @@ fn post_reported_values<V: Value>(
     let table = highest_reports(alloc, first, top, pages)?;
     let mut slot = first;
     for highest in &table {
-        let value = value_of(*highest)?;
+        let value = value_to_propose(*highest)?;
         let message = Broadcast::Accept {
             ballot,
             slot,
@@ -144,7 +144,7 @@ fn post_reported_values<V: Value>(
     Ok(())
 }
 
-/// Appends the first `count` pages of a node, in order.
+/// Appends those of the first `count` pages of a node that were received, in order.
 fn add_pages<'a, V: Drop>(
     all: &mut Vec<&'a [SlotReport<V>]>,
     pages: &'a PagesWithDelivered<'a, V>,

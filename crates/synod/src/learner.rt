@@ -83,16 +83,16 @@ impl<V: Drop> Learner<V> {
         self.learned.get(slot)
     }
 
-    /// Returns the length of the log.
-    pub(crate) fn front(&self) -> u32
+    /// Returns the first gap: the least slot without a learned value, which is the length of the log.
+    pub(crate) fn first_gap(&self) -> u32
         ensures front { result ≡ front_of self.now.state.learned }
         ensures within { result ≤ SLOTS }
     {
         self.learned.front()
     }
 
-    /// Returns the length of the log once a value is learned at `slot`.
-    pub(crate) fn front_with(&self, slot: u32) -> u32
+    /// Returns the first gap once a value is learned at `slot`.
+    pub(crate) fn first_gap_with(&self, slot: u32) -> u32
         requires { slot < SLOTS }
         ensures front { (value : Option V) → front_of (put_at self.now.state.learned slot value) ≡ result }
         ensures within { result ≤ SLOTS }
@@ -108,12 +108,12 @@ impl<V: Drop> Learner<V> {
         match self.first_tallies.get(slot) {
             Some(first) => {
                 if first.ballot.is_same(ballot) {
-                    first.with(node).voters
+                    first.with_vote(node).voters
                 } else {
                     self.other_tallies.voters_with(slot, ballot, node)
                 }
             }
-            None => Tally::one(ballot, node).voters,
+            None => Tally::of_vote(ballot, node).voters,
         }
     }
 
@@ -137,21 +137,21 @@ impl<V: Drop> Learner<V> {
     ///
     /// Cost: a constant number of look-ups, however many ballots have votes at the slot. The first vote at the first
     /// slot without votes scans on to the next such slot.
-    fn count(&mut self, slot: u32, ballot: Ballot, node: u8)
+    fn count_vote(&mut self, slot: u32, ballot: Ballot, node: u8)
         requires { CanCount self.old slot node }
         ensures tallies { self.new.state.tallies ≡ counted self.old.state.tallies slot ballot node }
         ensures learned { self.new.state.learned ≡ self.old.state.learned }
         ensures capacity { self.new.learned_capacity ≡ self.old.learned_capacity }
     {
         let Some(first) = self.first_tallies.get(slot) else {
-            self.first_tallies.put(slot, Tally::one(ballot, node));
+            self.first_tallies.put(slot, Tally::of_vote(ballot, node));
             return;
         };
         if first.ballot.is_same(ballot) {
-            let first = first.with(node);
+            let first = first.with_vote(node);
             self.first_tallies.put(slot, first);
         } else {
-            self.other_tallies.count(slot, ballot, node);
+            self.other_tallies.count_vote(slot, ballot, node);
         }
     }
 
@@ -161,7 +161,9 @@ impl<V: Drop> Learner<V> {
         ensures { self.new.state ≡ learner_after self.old.state update }
     {
         match update {
-            Some(LearnerUpdate::Count { slot, ballot, node }) => self.count(slot, ballot, node),
+            Some(LearnerUpdate::Count { slot, ballot, node }) => self.count_vote(
+                slot, ballot, node,
+            ),
             Some(
                 LearnerUpdate::CountAndLearn {
                     slot,
@@ -170,7 +172,7 @@ impl<V: Drop> Learner<V> {
                     value,
                 },
             ) => {
-                self.count(slot, ballot, node);
+                self.count_vote(slot, ballot, node);
                 self.learned.put(slot, value);
             }
             Some(LearnerUpdate::Learn { slot, value }) => {

@@ -13,7 +13,7 @@ use crate::learner::Learner;
 use crate::packet::{Body, Packet};
 use crate::posts::{Broadcast, broadcast_posts};
 use crate::proposer::{MAX_WAITING, Proposer, Role};
-use crate::ready::{Ready, StagedStep};
+use crate::ready::{Ready, StagedUpdates};
 use crate::record::Record;
 use crate::refusal::Refusal;
 use crate::value::{MAX_VALUE_BYTES, Value, copy_value};
@@ -30,6 +30,7 @@ use std::marker::Model;
 #[derive(Drop)]
 pub struct NodeCore<V> {
     alloc: Global,
+    /// The number of this node, from 0.
     me: u8,
     weights: Weights,
     kept_part: Record<V>,
@@ -78,7 +79,7 @@ impl<V: Value> NodeCore<V> {
     }
 
     /// Returns the number of nodes, of which this is one.
-    pub fn nodes(&self) -> u8
+    pub fn node_count(&self) -> u8
         ensures count { result ≡ length self.now.node.weights }
         ensures node { IsNode self.now.node }
     {
@@ -136,7 +137,7 @@ impl<V: Value> NodeCore<V> {
         ensures capacity { KeepsCapacity self.old self.new }
         ensures posts { IfOk result (λ ready. AllByRecursion (IsPost (length self.old.node.weights)) ready.step.posts) }
     {
-        if self.learner.front() == SLOTS {
+        if self.learner.first_gap() == SLOTS {
             return Err(Refusal::LogFull);
         }
         if self.proposer.waiting().len() >= MAX_WAITING {
@@ -155,7 +156,7 @@ impl<V: Value> NodeCore<V> {
         ensures capacity { KeepsCapacity self.old self.new }
         ensures posts { IfOk result (λ ready. AllByRecursion (IsPost (length self.old.node.weights)) ready.step.posts) }
     {
-        prove!(packet.from < self.nodes());
+        prove!(packet.from < self.node_count());
         or_memory(self.stage_body(packet.from, &packet.body))
     }
 
@@ -194,8 +195,8 @@ impl<V: Value> NodeCore<V> {
 
     /// Commits a staged step, and returns its posts. It does not allocate.
     ///
-    /// The node has to be as it was when it staged the step, with no less capacity than it had then. It still is if it only
-    /// staged steps since then and committed none.
+    /// The node has to be as it was when it staged the step, with no less capacity than it had then. That is so if it has
+    /// only staged steps since then, and committed none.
     pub fn commit(&mut self, ready: Ready<V>) -> Vec<Packet<V>>
         requires node { self.old.node ≡ ready.before.node }
         requires capacity { KeepsCapacity ready.before self.old }
@@ -207,8 +208,8 @@ impl<V: Value> NodeCore<V> {
         posts
     }
 
-    /// Applies the changes of a staged step. It does not allocate.
-    fn apply(&mut self, staged: StagedStep<V>)
+    /// Applies the updates of a staged step. It does not allocate.
+    fn apply(&mut self, staged: StagedUpdates<V>)
         requires { CanCommit self.old staged }
         ensures { self.new.node ≡ staged_node self.old.node staged }
     {
@@ -236,8 +237,8 @@ impl<V: Value> NodeCore<V> {
     pub(crate) fn stage_posts(&self, posts: Vec<Packet<V>>) -> Ready<V>
         ensures { IsReadyFor self.now (volatile_step self.now.node posts.items) result }
     {
-        prove!(self.me < self.nodes());
-        let staged = StagedStep {
+        prove!(self.me < self.node_count());
+        let staged = StagedUpdates {
             change: None,
             proposer: None,
             learner: None,
@@ -289,7 +290,7 @@ impl<V: Value> NodeCore<V> {
         ensures entry { MatchOption result (slice_get (log_of self.now.node) slot ≡ None) (λ entry. slice_get (log_of self.now.node) slot ≡ Some entry.now) }
         ensures below { IsSome result → slot < SLOTS }
     {
-        if slot < self.learner.front() {
+        if slot < self.learner.first_gap() {
             self.learner.learned(slot)
         } else {
             None
@@ -303,7 +304,7 @@ impl<V: Value> NodeCore<V> {
         ensures { IfOk result (λ log. log.items ≡ log_of self.now.node) }
     {
         let mut log = Vec::new(self.alloc);
-        for slot in 0..self.learner.front() {
+        for slot in 0..self.learner.first_gap() {
             let Some(entry) = self.learner.learned(slot) else {
                 break;
             };

@@ -1,4 +1,4 @@
-//! The votes at a slot under other ballots than the one first counted there, by slot and ballot.
+//! The votes at a slot under ballots other than the one first counted there, by slot and ballot.
 ghost use Rattle.std.specs.Prelude.{◌≡◌, ◌<◌, ◌≤◌, ◌≢◌, ℕ, [], OnOk};
 ghost use Rattle.synod.specs.Learner.{counted_in, with_voter};
 ghost use Rattle.synod.specs.Stored.OtherTallies.{other_tallies_at, voters_among};
@@ -60,7 +60,7 @@ impl OtherTallies {
     }
 
     /// Counts a vote. It does not allocate.
-    pub(crate) fn count(&mut self, slot: u32, ballot: Ballot, node: u8)
+    pub(crate) fn count_vote(&mut self, slot: u32, ballot: Ballot, node: u8)
         requires node { node < MAX_NODES }
         requires capacity { 0 < self.old.capacity }
         ensures here { other_tallies_at self.new.votes slot ≡ counted_in (other_tallies_at self.old.votes slot) ballot node }

@@ -34,7 +34,7 @@ impl<V: Drop> ReceivedPages<V> {
     ghost use Rattle.std.specs.Prelude.{[]};
 
     /// Creates an empty list of maps. It does not allocate.
-    pub(crate) fn none(alloc: Global) -> Self
+    pub(crate) fn empty(alloc: Global) -> Self
         ensures { result ≡ [] }
     {
         ReceivedPages {
@@ -43,7 +43,7 @@ impl<V: Drop> ReceivedPages<V> {
     }
 
     /// Creates an empty map for each node.
-    pub(crate) fn of_nodes(alloc: Global, weights: &Weights) -> Result<Self, AllocError>
+    pub(crate) fn for_nodes(alloc: Global, weights: &Weights) -> Result<Self, AllocError>
         ensures { IfOk result (λ pages. entries_of pages ≡ no_pages weights.now) }
     {
         let mut by_node = Vec::new(alloc);
@@ -85,7 +85,7 @@ impl<V: Drop> ReceivedPages<V> {
     }
 
     /// Returns the index of the first missing page of a node.
-    pub(crate) fn front(&self, node: u8) -> u32
+    pub(crate) fn first_missing(&self, node: u8) -> u32
         ensures { result ≡ front_of (pages_from (entries_of self.now) node) }
     {
         match self.by_node.get(node as usize) {
@@ -94,15 +94,15 @@ impl<V: Drop> ReceivedPages<V> {
         }
     }
 
-    /// Returns the number of maps.
-    pub(crate) fn nodes(&self) -> usize
+    /// Returns the number of nodes that have a map.
+    pub(crate) fn node_count(&self) -> usize
         ensures { result ≡ length self.now }
     {
         self.by_node.len()
     }
 
     /// Returns the index of the first missing page of a node once `page` is put.
-    pub(crate) fn front_with(&self, node: u8, page: u32) -> u32
+    pub(crate) fn first_missing_with(&self, node: u8, page: u32) -> u32
         requires node { node < length self.now }
         requires page { page < SLOTS }
         ensures { (reports : List (SlotReport V)) → front_of (put_at (pages_from (entries_of self.now) node) page reports) ≡ result }
@@ -114,15 +114,15 @@ impl<V: Drop> ReceivedPages<V> {
 
 /// Returns the index of the first missing page of a node once `page` is received. If it was received before, nothing
 /// changes.
-pub(crate) fn front_after<V: Drop>(pages: &ReceivedPages<V>, node: u8, page: u32) -> u32
+pub(crate) fn first_missing_after<V: Drop>(pages: &ReceivedPages<V>, node: u8, page: u32) -> u32
     requires node { node < length pages.now }
     requires page { page < SLOTS }
     ensures { (reports : List (SlotReport V)) → front_of (pages_from (with_page (entries_of pages.now) node page reports) node) ≡ result }
 {
     if pages.get(node, page).is_some() {
-        pages.front(node)
+        pages.first_missing(node)
     } else {
-        pages.front_with(node, page)
+        pages.first_missing_with(node, page)
     }
 }
 

@@ -64,7 +64,7 @@ pub enum ProposerUpdate<V> {
         pages: ReceivedPages<V>,
     },
     /// A page of a promise arrived.
-    Page {
+    AddPage {
         node: u8,
         page: u32,
         reports: Reports<V>,
@@ -130,7 +130,7 @@ impl<V: Drop> Proposer<V> {
         Proposer {
             alloc,
             role: Role::Idle,
-            pages: ReceivedPages::none(alloc),
+            pages: ReceivedPages::empty(alloc),
             heard: Vec::new(alloc),
             waiting: Vec::new(alloc),
         }
@@ -223,7 +223,7 @@ impl<V: Drop> Proposer<V> {
                 first,
                 pages,
             } => self.begin(ballot, first, pages),
-            ProposerUpdate::Page {
+            ProposerUpdate::AddPage {
                 node,
                 page,
                 reports,
@@ -267,7 +267,7 @@ impl<V: Drop> Proposer<V> {
         ensures { self.new.state ≡ proposer_after self.old.state (Some (ProposerUpdate.Lead ballot next proposed)) }
     {
         self.role = Role::Leading { ballot, next };
-        self.pages = ReceivedPages::none(self.alloc);
+        self.pages = ReceivedPages::empty(self.alloc);
         self.heard.clear();
         self.waiting.drain(..proposed);
     }

@@ -9,9 +9,9 @@ use crate::packet::Packet;
 use crate::proposer::ProposerUpdate;
 use std::marker::{Model, PhantomData};
 
-/// The changes that a step makes to the three parts of a node.
+/// The updates that a step makes to the three parts of a node.
 #[derive(Drop)]
-pub struct StagedStep<V> {
+pub struct StagedUpdates<V> {
     pub change: Option<Change<V>>,
     pub proposer: Option<ProposerUpdate<V>>,
     pub learner: Option<LearnerUpdate<V>>,
@@ -46,7 +46,7 @@ impl<T> GhostValue<T> {
 #[derive(Drop)]
 pub struct Ready<V> {
     before: GhostValue<NodeCore<V>>,
-    staged: StagedStep<V>,
+    staged: StagedUpdates<V>,
     posts: Vec<Packet<V>>,
 }
 
@@ -67,7 +67,7 @@ impl<V: Drop> Ready<V> {
     ghost use Rattle.synod.specs.Ready.{staged_node, CanCommit};
 
     /// Creates a staged step of a node. It does not allocate.
-    pub(crate) fn new(node: &NodeCore<V>, staged: StagedStep<V>, posts: Vec<Packet<V>>) -> Self
+    pub(crate) fn new(node: &NodeCore<V>, staged: StagedUpdates<V>, posts: Vec<Packet<V>>) -> Self
         requires { CanCommit node.now staged }
         ensures before { result.before ≡ node.now }
         ensures step { result.step ≡ record { node = staged_node node.now.node staged; change = staged.change; posts = posts.items } }
@@ -79,9 +79,9 @@ impl<V: Drop> Ready<V> {
         }
     }
 
-    /// Returns the changes and the posts. It does not allocate. The changes can be committed to the node as it was when
+    /// Returns the updates and the posts. It does not allocate. The updates can be committed to the node as it was when
     /// it staged the step (`committable`).
-    pub(crate) fn into_staged(self) -> (StagedStep<V>, Vec<Packet<V>>)
+    pub(crate) fn into_staged(self) -> (StagedUpdates<V>, Vec<Packet<V>>)
         ensures committable { CanCommit self.before result.0 }
         ensures node { self.step.node ≡ staged_node self.before.node result.0 }
         ensures posts { result.1.items ≡ self.step.posts }

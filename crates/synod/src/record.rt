@@ -69,7 +69,7 @@ impl<V: Drop> Record<V> {
         self.accepted.get(slot)
     }
 
-    /// Returns one above the greatest slot with an accepted entry, or 0.
+    /// Returns one above the greatest slot with an accepted entry, or 0 if there are none.
     pub fn top(&self) -> u32
         ensures top { result ≡ top_of self.now.kept.accepted }
         ensures within { result ≤ SLOTS }

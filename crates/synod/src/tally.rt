@@ -14,7 +14,7 @@ pub struct Tally {
 
 impl Tally {
     /// Creates the tally of one vote.
-    pub(crate) fn one(ballot: Ballot, node: u8) -> Self
+    pub(crate) fn of_vote(ballot: Ballot, node: u8) -> Self
         requires { node < MAX_NODES }
         ensures ballot { result.ballot ≡ ballot }
         ensures voters { result.voters ≡ with_voter no_voters node }
@@ -26,7 +26,7 @@ impl Tally {
     }
 
     /// Returns the tally with one more vote.
-    pub(crate) fn with(self, node: u8) -> Self
+    pub(crate) fn with_vote(self, node: u8) -> Self
         requires { node < MAX_NODES }
         ensures ballot { result.ballot ≡ self.ballot }
         ensures voters { result.voters ≡ with_voter self.voters node }

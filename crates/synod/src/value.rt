@@ -24,7 +24,7 @@ pub trait Value: Sized + Drop {
         ensures { result ≡ bytes self.now };
 }
 
-/// Returns a copy of an entry; `None` is the no-operation.
+/// Returns a copy of a value; `None` is the no-operation.
 ///
 /// Errors and cost: those of copying the value.
 pub fn copy_value<V: Value>(value: &Option<V>) -> Result<Option<V>, AllocError>

@@ -96,18 +96,18 @@ impl Weights {
         ensures { result ≡ is_quorum self.now (λ k. slice_index_or marks.now k false) }
     {
         let weights = self.as_slice();
-        let mut all = 0u32;
-        let mut picked = 0u32;
+        let mut total = 0u32;
+        let mut marked = 0u32;
         for (i, weight) in weights.iter().enumerate() {
-            all += u32::from(*weight);
-            picked += weight_of(*weight, marks[i]);
+            total += u32::from(*weight);
+            marked += weight_if_marked(*weight, marks[i]);
         }
-        all < 2 * picked
+        total < 2 * marked
     }
 }
 
 /// Returns the weight if the node is marked, else 0.
-fn weight_of(weight: u8, mark: bool) -> u32
+fn weight_if_marked(weight: u8, mark: bool) -> u32
     ensures { result ≡ (if mark then weight else 0) }
 {
     if mark { u32::from(weight) } else { 0 }

@@ -49,7 +49,7 @@ fn is_filled(alloc: Global, node: &mut NodeCore<Number>) -> Option<bool> {
 
 /// Returns how many packets the node posts when it receives a promise that reports a value at the last slot.
 fn proposals_after_report(alloc: Global, node: &mut NodeCore<Number>) -> Option<usize> {
-    if node.nodes() == 0 {
+    if node.node_count() == 0 {
         return None;
     }
     let promise = Packet {
@@ -98,7 +98,7 @@ fn has_no_greater_round(alloc: Global) -> Option<bool> {
 
 /// Returns the same for this new node.
 fn begins_no_ballot(node: &mut NodeCore<Number>) -> Option<bool> {
-    if node.nodes() == 0 {
+    if node.node_count() == 0 {
         return None;
     }
     let ballot = Ballot {

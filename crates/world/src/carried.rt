@@ -27,7 +27,7 @@ impl Value for Carried {
 }
 
 /// Returns the entries of a log of values, each taken out of its `Carried`.
-pub(crate) fn entries(
+pub(crate) fn entries_of(
     alloc: Global,
     values: Vec<Option<Carried>>,
 ) -> Result<Vec<Option<Entry>>, AllocError>
@@ -35,13 +35,13 @@ pub(crate) fn entries(
 {
     let mut entries = Vec::with_capacity(alloc, values.len())?;
     for value in values {
-        entries.push(entry(value))?;
+        entries.push(entry_of(value))?;
     }
     Ok(entries)
 }
 
 /// Returns the entry of a value.
-fn entry(value: Option<Carried>) -> Option<Entry>
+fn entry_of(value: Option<Carried>) -> Option<Entry>
     ensures { result ≡ entry_of value }
 {
     match value {

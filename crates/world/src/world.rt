@@ -7,7 +7,7 @@ ghost use Rattle.world.specs.Carried.{value_event, carried_size};
 ghost use Rattle.world.specs.WorldView.{log_entries, AppliesNext};
 ghost use Rattle.net.specs.declared.fault.StepFault.TheVariants.{NoNode, NoPacket, Memory};
 
-use crate::carried::{Carried, entries, restarted_node, to_value_event};
+use crate::carried::{Carried, entries_of, restarted_node, to_value_event};
 use crate::node_library::{NodeLibrary, new_libraries, reset_library};
 use library::{Entry, Library, Verdict};
 use net::{Event, MAX_EVENTS, Net, StepFault};
@@ -66,7 +66,7 @@ impl World {
         // A fault of the event is returned even if every allocation fails.
         ensures refused { IfErr (world_of carried_size (with_event self.old.history (value_event event))) (λ fault. result ≡ Err fault) }
         ensures only_memory { OnOk (world_of carried_size (with_event self.old.history (value_event event))) (IsOkUnless result Memory) }
-        ensures err { OnErr result (self.new ≡ self.old) }
+        ensures same { OnErr result (self.new ≡ self.old) }
     {
         let event = to_value_event(event);
         let restarted_node = restarted_node(&event);
@@ -85,7 +85,7 @@ impl World {
         ensures no_node { length self.old.history.weights ≤ k → result ≡ Err NoNode }
         ensures only_memory { k < length self.old.history.weights → IsOkUnless result Memory }
         ensures same_if_none { next_entry self.old k ≡ None → self.new ≡ self.old }
-        ensures err { OnErr result (self.new ≡ self.old) }
+        ensures same { OnErr result (self.new ≡ self.old) }
     {
         let Some(node_library) = self.libraries.get_mut(k as usize) else {
             return Err(StepFault::NoNode);
@@ -117,7 +117,7 @@ impl World {
         self.net.history()
     }
 
-    /// Returns the log of node `k`: what it learned, up to its first gap.
+    /// Returns the log of node `k`: the entries that it learned, up to its first gap.
     ///
     /// Errors: `NoNode`; else `Memory`. Cost: the size of the log; each entry is copied.
     pub fn log(&self, k: u8) -> Result<Vec<Option<Entry>>, StepFault>
@@ -125,7 +125,7 @@ impl World {
         ensures no_node { length self.now.history.weights ≤ k → result ≡ Err NoNode }
         ensures only_memory { k < length self.now.history.weights → IsOkUnless result Memory }
     {
-        Ok(entries(self.alloc, self.net.log(k)?)?)
+        Ok(entries_of(self.alloc, self.net.log(k)?)?)
     }
 
     /// Returns the state that node `k` reports. Does not allocate.

@@ -1,4 +1,4 @@
--- The votes under other ballots than the one first counted at a slot, in the order in which their ballots were first counted.
+-- The votes under ballots other than the one first counted at a slot, in the order in which their ballots were first counted.
 -- Source: this project's representation.
 -- The code has the tally of the first ballot at each slot in a map, and all others in one table by slot and ballot.
 use Rattle.std.specs.Prelude.{◌≡◌, ◌≤◌, ℕ, suc, length, ◌==◌, ◌&&◌, Bool, List, [], ◌∷◌, Option, Some, None, if◌then◌else◌}
@@ -28,4 +28,4 @@ tallies_from s (Some t ∷ firsts) other_tallies = Some (t ∷ other_tallies s) 
 -- a slot without a first tally has none in the table, and no value is learned at a slot from SLOTS on
 pub record IsLearner {T : Type 0} (firsts : List (Option Tally)) (other_tallies : ℕ → List Tally) (learned : List (Option T)) : Type 0 where
   pub first : (s : ℕ) → entry_at firsts s ≡ None → other_tallies s ≡ []
-  pub low : length learned ≤ SLOTS
+  pub within : length learned ≤ SLOTS

@@ -8,7 +8,7 @@ use crate::node::NodeCore;
 use crate::packet::{Body, Packet};
 use crate::posts::{Broadcast, broadcast_posts};
 use crate::promise::promise_posts;
-use crate::ready::{Ready, StagedStep};
+use crate::ready::{Ready, StagedUpdates};
 use crate::value::{Value, copy_value};
 use std::alloc::AllocError;
 
@@ -51,7 +51,7 @@ impl<V: Value> NodeCore<V> {
             return self.stage_nack_to(from, ballot);
         }
         let posts = promise_posts(self.alloc, &self.kept_part, self.me, from, ballot, first)?;
-        let staged = StagedStep {
+        let staged = StagedUpdates {
             change: Some(Change::Promise(ballot)),
             proposer: None,
             learner: None,
@@ -93,7 +93,7 @@ impl<V: Value> NodeCore<V> {
             value: &entry.value,
         };
         let posts = broadcast_posts(self.alloc, self.me, &self.weights, &message)?;
-        let staged = StagedStep {
+        let staged = StagedUpdates {
             change: Some(Change::Entry { slot, entry }),
             proposer: None,
             learner: None,

@@ -7,7 +7,7 @@ use crate::ballot::Ballot;
 use crate::leading::lead_posts;
 use crate::node::NodeCore;
 use crate::packet::{Reports, copy_reports};
-use crate::promise_pages::{PagesWithDelivered, front_after};
+use crate::promise_pages::{PagesWithDelivered, first_missing_after};
 use crate::proposer::{Heard, ProposerUpdate, Role, is_heard, marks_of};
 use crate::ready::Ready;
 use crate::value::Value;
@@ -41,7 +41,7 @@ impl<V: Value> NodeCore<V> {
         }
         self.proposer.reserve_page(node, page)?;
         let reports = copy_reports(self.alloc, reports)?;
-        let update = ProposerUpdate::Page {
+        let update = ProposerUpdate::AddPage {
             node,
             page,
             reports,
@@ -105,8 +105,8 @@ impl<V: Value> NodeCore<V> {
         ensures node { self.new.node ≡ self.old.node }
         ensures capacity { KeepsCapacity self.old self.new }
     {
-        let front = front_after(self.proposer.pages(), heard.node, page);
-        if front < heard.count {
+        let first_missing = first_missing_after(self.proposer.pages(), heard.node, page);
+        if first_missing < heard.count {
             return self.stage_added_page(heard.node, page, reports);
         }
         let nodes = self.heard_with(heard)?;
@@ -192,7 +192,7 @@ impl<V: Value> NodeCore<V> {
             return Ok(self.stage_nothing());
         }
         // While it prepares, a proposer has a map of pages for each node, but no invariant says so.
-        if from as usize >= self.proposer.pages().nodes() {
+        if from as usize >= self.proposer.pages().node_count() {
             return Ok(self.stage_nothing());
         }
         let heard = Heard { node: from, count };

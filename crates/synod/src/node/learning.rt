@@ -7,7 +7,7 @@ use crate::learner::LearnerUpdate;
 use crate::node::NodeCore;
 use crate::packet::{Body, Packet};
 use crate::posts::{Broadcast, broadcast_posts};
-use crate::ready::{Ready, StagedStep};
+use crate::ready::{Ready, StagedUpdates};
 use crate::value::{Value, copy_value};
 use slots::SLOTS;
 use std::alloc::AllocError;
@@ -58,7 +58,7 @@ impl<V: Value> NodeCore<V> {
             return Ok(self.stage_nothing());
         }
         self.learner.reserve(slot)?;
-        let gap = self.learner.front_with(slot);
+        let gap = self.learner.first_gap_with(slot);
         let value = copy_value(value)?;
         self.stage_told_value(LearnerUpdate::Learn { slot, value }, from, gap)
     }
@@ -83,7 +83,7 @@ impl<V: Value> NodeCore<V> {
         }
         self.learner.reserve(slot)?;
         if self.completes_quorum(slot, ballot, from) {
-            let gap = self.learner.front_with(slot);
+            let gap = self.learner.first_gap_with(slot);
             let update = LearnerUpdate::CountAndLearn {
                 slot,
                 ballot,
@@ -161,7 +161,7 @@ impl<V: Value> NodeCore<V> {
         requires node { IsNode (with_learner_update self.now.node update) }
         ensures { IsReadyFor self.now (volatile_step (with_learner_update self.now.node update) posts.items) result }
     {
-        let staged = StagedStep {
+        let staged = StagedUpdates {
             change: None,
             proposer: None,
             learner: Some(update),

@@ -9,7 +9,7 @@ use crate::packet::Packet;
 use crate::posts::{Broadcast, broadcast_posts};
 use crate::promise_pages::ReceivedPages;
 use crate::proposer::ProposerUpdate;
-use crate::ready::{Ready, StagedStep};
+use crate::ready::{Ready, StagedUpdates};
 use crate::value::Value;
 use std::alloc::AllocError;
 
@@ -31,7 +31,7 @@ impl<V: Value> NodeCore<V> {
         requires node { IsNode (with_proposer_update self.now.node update) }
         ensures { IsReadyFor self.now (volatile_step (with_proposer_update self.now.node update) posts.items) result }
     {
-        let staged = StagedStep {
+        let staged = StagedUpdates {
             change: None,
             proposer: Some(update),
             learner: None,
@@ -82,11 +82,11 @@ impl<V: Value> NodeCore<V> {
         ensures node { self.new.node ≡ self.old.node }
         ensures capacity { KeepsCapacity self.old self.new }
     {
-        let first = self.learner.front();
-        let pages = ReceivedPages::of_nodes(self.alloc, &self.weights)?;
+        let first = self.learner.first_gap();
+        let pages = ReceivedPages::for_nodes(self.alloc, &self.weights)?;
         let message = Broadcast::Prepare { ballot, first };
         let posts = broadcast_posts(self.alloc, self.me, &self.weights, &message)?;
-        let staged = StagedStep {
+        let staged = StagedUpdates {
             change: Some(Change::Round(ballot.round)),
             proposer: Some(ProposerUpdate::Begin {
                 ballot,

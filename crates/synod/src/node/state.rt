@@ -29,7 +29,7 @@ impl<V: Value> NodeCore<V> {
         NodeState {
             role: self.proposer.role(),
             promise: self.kept_part.promise(),
-            log_len: self.learner.front(),
+            log_len: self.learner.first_gap(),
             waiting: self.proposer.waiting().len(),
         }
     }

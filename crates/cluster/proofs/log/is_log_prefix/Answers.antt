@@ -17,5 +17,5 @@ returns-clause-begins g c = (
   λ b. refl,
 )
 
-pub is_entry-requires : goal.is_entry-requires
-is_entry-requires g c = in_switch c.args.k (length c.args.switch.now.stores) c.entry.result (no_err c.entry.result (sym c.is_err.ensures.value ∙ c.if-is_err.false)) c.entry.ensures.no_node
+pub has_entry-requires : goal.has_entry-requires
+has_entry-requires g c = in_switch c.args.k (length c.args.switch.now.stores) c.entry.result (no_err c.entry.result (sym c.is_err.ensures.value ∙ c.if-is_err.false)) c.entry.ensures.no_node

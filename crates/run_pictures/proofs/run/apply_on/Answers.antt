@@ -5,4 +5,4 @@ use Rattle.run_pictures.proofs.run.apply_on.Goals as goal
 pub returns-clause-taken : goal.returns-clause-taken
 returns-clause-taken c =
     taken_stays c.args.world.now c.apply_next.new.self c.args.k (next_entry c.args.world.now c.args.k) c.apply_next.result refl
-    c.apply_next.ensures.applied c.apply_next.ensures.same_if_none c.apply_next.ensures.err
+    c.apply_next.ensures.applied c.apply_next.ensures.same_if_none c.apply_next.ensures.same

@@ -1,5 +1,5 @@
 use Rattle.std.proofs.Common.{[], ◌∷◌, refl, arith, length-append}
-use Rattle.synod.proofs.ReportPages.{promise_pages-push}
+use Rattle.synod.proofs.ReportPages.{promise_posts_from-push}
 use Rattle.synod.proofs.promise.post_pages.Goals as goal
 
 pub loop-reports-preserved : goal.loop-reports-preserved
@@ -10,5 +10,5 @@ loop-reports-preserved g c =
       can_next = tt;
       is_finite = tt;
       number = omega (arith, so_far, one_more);
-      posted = rw (c.in_ok-push.ensures.items, c.loop-reports.invariant.posted, so_far, promise_pages-push) refl;
+      posted = rw (c.in_ok-push.ensures.items, c.loop-reports.invariant.posted, so_far, promise_posts_from-push) refl;
     }

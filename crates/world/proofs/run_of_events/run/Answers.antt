@@ -14,7 +14,7 @@ returns-in-Err-step-clause-stops c =
     let split : c.args.events.items ≡ done ++ e ∷ rest = sym c.into_iter-event-iterator.ensures.into_iter_gives.0 ∙ (taken_front it (done ++ e ∷ []) c.next.new.self more ∙ append_assoc done (e ∷ []) rest) in
     let cut : value_events c.args.events.items ≡ value_events done ++ value_event e ∷ value_events rest = ap (λ (es : List (Event Entry)). value_events es) split ∙ value_events-append done (e ∷ rest) in
     stops_there carried_size c.args.weights (value_events c.args.events.items) (value_events done) (value_events rest) (value_event e) c.loop-event.world.history c.step.new.self.history c.history.result.now c.in-Err-step.fault
-    cut (ap (λ (r : WorldView). r.history) c.loop-event.invariant.world) (ap (λ (r : WorldView). r.history) c.in-Err-step.ensures.err) c.history.ensures.events c.history.ensures.headline.agreement.is_taken c.in-Err-step.ensures.refused c.in-Err-step.ensures.only_memory
+    cut (ap (λ (r : WorldView). r.history) c.loop-event.invariant.world) (ap (λ (r : WorldView). r.history) c.in-Err-step.ensures.same) c.history.ensures.events c.history.ensures.headline.agreement.is_taken c.in-Err-step.ensures.refused c.in-Err-step.ensures.only_memory
 
 pub loop-event-preserved : goal.loop-event-preserved
 loop-event-preserved c = record {

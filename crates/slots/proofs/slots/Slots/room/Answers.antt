@@ -12,7 +12,7 @@ invariant_of-self-2 g c =
     let page = length-replicate {A = Option g.row.T.Denot} gaps None in
     let same : trimmed c.add.new.self ≡ trimmed before = ap (λ (slots : Slots). trimmed slots) added ∙ trimmed-append-gaps before gaps in
     record {
-      within = omega (arith, more, page, c.count-old_count.ensures, c.if-old_count-pages.false, c.requires);
+      within = omega (arith, more, page, c.count-old_count.ensures, c.if-old_count-page_count.false, c.requires);
       front_is = c.self.invariant.front_is ∙ sym (front_of-trimmed before) ∙ ap (λ (slots : Slots). front_of slots) (sym same) ∙ front_of-trimmed c.add.new.self;
       top_is = c.self.invariant.top_is ∙ ap (λ (slots : Slots). top_of slots) (sym same);
     }

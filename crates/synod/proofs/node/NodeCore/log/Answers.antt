@@ -7,9 +7,9 @@ pub returns : goal.returns
 returns g c = elim c.loop-slot-test.branch [
   | else-loop-slot-test w ↦
       let front = ap (λ (core : Core g.row.V.Denot). log_length core.node) c.self.view_is in
-      let all : log_length c.args.self.now.node ≤ c.loop-slot.slot = omega (arith, front, c.front-slot-end.ensures.front, w.loop-slot-test.false) in
+      let all : log_length c.args.self.now.node ≤ c.loop-slot.slot = omega (arith, front, c.first_gap-slot-end.ensures.front, w.loop-slot-test.false) in
       c.loop-slot.invariant ∙ take_all c.loop-slot.slot (log_of c.args.self.now.node) all
-  | then-loop-slot-test+in_default w ↦ absurd (no_gap c.self.inside.learner.state.learned c.loop-slot.slot (omega (arith, c.front-slot-end.ensures.front, w.loop-slot-test.true)) w.in_default.ensures)
+  | then-loop-slot-test+in_default w ↦ absurd (no_gap c.self.inside.learner.state.learned c.loop-slot.slot (omega (arith, c.first_gap-slot-end.ensures.front, w.loop-slot-test.true)) w.in_default.ensures)
 ]
 
 pub loop-slot-preserved : goal.loop-slot-preserved
@@ -18,5 +18,5 @@ loop-slot-preserved g c =
     let here : entry_at c.args.self.now.node.learned c.loop-slot.slot ≡ Some c.in-Some.entry.now =
     ap (λ (xs : List (Option (Option g.row.V.Denot))). entry_at xs c.loop-slot.slot) (sym learned) ∙ c.in-Some.ensures in
     let low = ap (λ (xs : List (Option (Option g.row.V.Denot))). front_of xs) learned in
-    log_next c.args.self.now.node.learned c.loop-slot.slot c.in-Some.entry.now c.loop-slot.log.items c.push.new.self.items (omega (arith, low, c.front-slot-end.ensures.front, c.loop-slot-test.true)) here c.loop-slot.invariant
+    log_next c.args.self.now.node.learned c.loop-slot.slot c.in-Some.entry.now c.loop-slot.log.items c.push.new.self.items (omega (arith, low, c.first_gap-slot-end.ensures.front, c.loop-slot-test.true)) here c.loop-slot.invariant
     (c.in_ok-push.ensures.items ∙ ap (λ (x : Option g.row.V.Denot). c.loop-slot.log.items ++ x ∷ []) c.in_ok-copy.ensures)

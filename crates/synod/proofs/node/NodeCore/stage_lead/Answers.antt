@@ -1,4 +1,4 @@
-use Rattle.synod.proofs.Words.{◌∙◌, ap, sym, subst, arith, length, List, Option, AllByRecursion, SlotReport, StepResult, Core, assembled, entries_of, IsNode, ArePages}
+use Rattle.synod.proofs.Words.{◌∙◌, ap, sym, subst, arith, length, List, Option, AllByRecursion, SlotReport, StepResult, Core, assembled, entries_of, IsNode, IsReceivedPage}
 use Rattle.synod.proofs.PageInvariant.{reports_with_page}
 use Rattle.synod.proofs.LeadLemmas.{lead_step}
 use Rattle.synod.proofs.node.NodeCore.stage_lead.Goals as goal
@@ -6,7 +6,7 @@ use Rattle.synod.proofs.node.NodeCore.stage_lead.Goals as goal
 pub lead_posts-requires-clause-reports : goal.lead_posts-requires-clause-reports
 lead_posts-requires-clause-reports g c =
     reports_with_page (entries_of c.pages.result.now) c.args.node c.args.page c.args.reports.now c.args.heard.now
-    (subst (λ (ps : List (List (Option (List (SlotReport g.row.V.Denot))))). AllByRecursion (AllByRecursion ArePages) ps) (sym c.pages.ensures.pages) c.self.invariant.pages) c.requires.each
+    (subst (λ (ps : List (List (Option (List (SlotReport g.row.V.Denot))))). AllByRecursion (AllByRecursion IsReceivedPage) ps) (sym c.pages.ensures.pages) c.self.invariant.pages) c.requires.each
 
 pub stage_proposer_update-requires-clause-node : goal.stage_proposer_update-requires-clause-node
 stage_proposer_update-requires-clause-node g c =

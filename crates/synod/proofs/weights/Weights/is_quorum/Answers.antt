@@ -16,8 +16,8 @@ at_most false w more one picked all counted is below = omega (arith, counted, is
 
 pub loop-i-init : goal.loop-i-init
 loop-i-init c = record {
-  all = zero-add _ ∙ weigh_from-zero (λ k. true) c.as_slice-weights.result.now;
-  picked = zero-add _ ∙ weigh_from-zero (λ k. get_or c.args.marks.now k false) c.as_slice-weights.result.now;
+  total = zero-add _ ∙ weigh_from-zero (λ k. true) c.as_slice-weights.result.now;
+  marked = zero-add _ ∙ weigh_from-zero (λ k. get_or c.args.marks.now k false) c.as_slice-weights.result.now;
   few = omega arith;
   fewer = omega arith;
 }
@@ -26,8 +26,8 @@ pub loop-i-preserved : goal.loop-i-preserved
 loop-i-preserved c =
     let byte = c.type_inv.weights c.loop-i.i in
     record {
-      all = next (λ k. true) c.as_slice-weights.result.now c.loop-i.i (get_or c.as_slice-weights.result.now c.loop-i.i 0) c.from-all.result _ c.loop-i.all c.loop-i-test.true refl c.from-all.ensures c.loop-i.invariant.all;
-      picked = next (λ k. get_or c.args.marks.now k false) c.as_slice-weights.result.now c.loop-i.i (get_or c.as_slice-weights.result.now c.loop-i.i 0) c.weight_of-picked.result _ c.loop-i.picked c.loop-i-test.true refl c.weight_of-picked.ensures c.loop-i.invariant.picked;
-      few = omega (arith, byte, c.from-all.ensures, c.loop-i.invariant.few);
-      fewer = at_most (get_or c.args.marks.now c.loop-i.i false) (get_or c.as_slice-weights.result.now c.loop-i.i 0) c.weight_of-picked.result c.from-all.result c.loop-i.picked c.loop-i.all c.weight_of-picked.ensures c.from-all.ensures c.loop-i.invariant.fewer;
+      total = next (λ k. true) c.as_slice-weights.result.now c.loop-i.i (get_or c.as_slice-weights.result.now c.loop-i.i 0) c.from-total.result _ c.loop-i.total c.loop-i-test.true refl c.from-total.ensures c.loop-i.invariant.total;
+      marked = next (λ k. get_or c.args.marks.now k false) c.as_slice-weights.result.now c.loop-i.i (get_or c.as_slice-weights.result.now c.loop-i.i 0) c.weight_if_marked-marked.result _ c.loop-i.marked c.loop-i-test.true refl c.weight_if_marked-marked.ensures c.loop-i.invariant.marked;
+      few = omega (arith, byte, c.from-total.ensures, c.loop-i.invariant.few);
+      fewer = at_most (get_or c.args.marks.now c.loop-i.i false) (get_or c.as_slice-weights.result.now c.loop-i.i 0) c.weight_if_marked-marked.result c.from-total.result c.loop-i.marked c.loop-i.total c.weight_if_marked-marked.ensures c.from-total.ensures c.loop-i.invariant.fewer;
     }

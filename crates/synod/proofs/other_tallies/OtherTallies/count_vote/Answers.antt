@@ -1,6 +1,6 @@
 use Rattle.synod.proofs.Words.{◌≡◌, ◌∙◌, refl, ap, arith, OtherTalliesView}
 use Rattle.synod.proofs.OtherTalliesLemmas.{on_ok, vote_put, other_tallies-here, other_tallies-others}
-use Rattle.synod.proofs.other_tallies.OtherTallies.count.Goals as goal
+use Rattle.synod.proofs.other_tallies.OtherTallies.count_vote.Goals as goal
 
 put : (c : goal.After-insert) → c.insert.new.self.entries ≡ vote_put c.args.self.now.votes c.args.slot c.args.ballot c.args.node
 put c =

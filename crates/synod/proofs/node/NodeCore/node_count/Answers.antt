@@ -1,5 +1,5 @@
 use Rattle.synod.proofs.NodeLemmas.{node_of_parts}
-use Rattle.synod.proofs.node.NodeCore.nodes.Goals as goal
+use Rattle.synod.proofs.node.NodeCore.node_count.Goals as goal
 
 pub returns-clause-node : goal.returns-clause-node
 returns-clause-node g c =

@@ -1,6 +1,6 @@
 use Rattle.cluster.proofs.Words.{◌∙◌, sym, log_after, world_of, carried_size}
 use Rattle.cluster.proofs.CellTieLemmas.{err_ok, shown_is}
-use Rattle.cluster.proofs.log.is_entry.Goals as goal
+use Rattle.cluster.proofs.log.has_entry.Goals as goal
 
 pub returns-in-Ok : goal.returns-in-Ok
 returns-in-Ok g c =

@@ -1,5 +1,5 @@
 use Rattle.synod.proofs.Words.{◌∙◌, ◌++◌, ◌∷◌, [], ℕ, List, Option, ap, sym, get_or, take, map-append, take_more, SlotsView, SlotReport, no_pages, entries_of}
-use Rattle.synod.proofs.promise_pages.ReceivedPages.of_nodes.Goals as goal
+use Rattle.synod.proofs.promise_pages.ReceivedPages.for_nodes.Goals as goal
 
 pub loop-weight-preserved : goal.loop-weight-preserved
 loop-weight-preserved g c =
