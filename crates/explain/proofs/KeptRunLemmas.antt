@@ -1,5 +1,5 @@
 -- The result of a citation, and the fault of wrong results.
-use Rattle.explain.proofs.Words.{◌≡◌, ℕ, zero, suc, ◌+◌, ◌-◌, ◌<◌, Bool, true, List, [], ◌∷◌, ◌++◌, length, refl, sym, ◌∙◌, ap, subst, Some, None, Option, slice_get, ◌&&◌, IsTrue, list_all, same_Some, Name, Stmt, Database, Expr, stmt_at, before, expr_of, is_variable, is_assertion, decode, hypotheses, HasAssertion, IsHypothesis, Fault, UnknownLabel, Inactive, NotEarlier, TooFewResults, OtherTypecode, OtherExpression, NotDisjoint, TooManySymbols, NoMarkedResult, image_at, images_read, AreCorrect, images_of, IsResultsFault, CitationGives, of_assertion, State, IsCitationFault}
+use Rattle.explain.proofs.Words.{◌≡◌, ℕ, zero, suc, ◌+◌, ◌-◌, ◌<◌, Bool, true, List, [], ◌∷◌, ◌++◌, length, refl, sym, ◌∙◌, ap, subst, Some, None, Option, slice_get, ◌&&◌, IsTrue, list_all, same_Some, Name, Stmt, Database, Expr, stmt_at, before, expr_of, is_variable, is_assertion, decode, hypotheses, HasAssertion, IsHypothesis, ItemFault, UnknownLabel, Inactive, NotEarlier, TooFewResults, OtherTypecode, OtherExpression, NotDisjoint, TooManySymbols, NoMarkedResult, image_at, images_read, AreCorrect, images_of, IsResultsFault, CitationGives, of_assertion, State, IsCitationFault}
 use Rattle.mm_read.specs.declared.stmt.Stmt.TheVariants as stmt
 use Rattle.frame.specs.Substitution.{apply as applied}
 
@@ -39,7 +39,7 @@ gives_is S at a s rs stack below e earlier stands variable taken whole is =
     (whole ∙ ap (λ r. below ++ r) (sym taken.fit)) is
 
 -- if the results are wrong, the citation has their fault
-pub wrong_fails : (S : Database) (names : List Name) (at a : ℕ) (s : Stmt) (h : State) (below rs : List Expr) (fault : Fault) → h.stack ≡ below ++ rs
+pub wrong_fails : (S : Database) (names : List Name) (at a : ℕ) (s : Stmt) (h : State) (below rs : List Expr) (fault : ItemFault) → h.stack ≡ below ++ rs
     → length rs ≡ length (hypotheses (before S a) s) → a < at → HasAssertion S a s → IsResultsFault S names at a s rs fault → IsCitationFault S names at h a s fault
 wrong_fails S names at a s h below rs UnknownLabel whole count earlier stands wrong = absurd wrong
 wrong_fails S names at a s h below rs (Inactive i) whole count earlier stands wrong = absurd wrong
