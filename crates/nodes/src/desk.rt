@@ -145,8 +145,8 @@ impl<G: Gate, K: Keep<Carried>> Desk<G, K> {
         ensures same { j ≡ k → k < self.now → result ≡ Ok Same }
         ensures only_apart { j < self.now → k < self.now → IsOkUnless result Apart }
     {
-        let nodes = self.shared.cells.len();
-        if usize::from(j) >= nodes || usize::from(k) >= nodes {
+        let node_count = self.shared.cells.len();
+        if usize::from(j) >= node_count || usize::from(k) >= node_count {
             return Err(StepFault::NoNode);
         }
         if j == k {

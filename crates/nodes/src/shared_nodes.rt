@@ -29,8 +29,9 @@ pub(crate) struct SharedNodes<G: Gate, K: Keep<Carried>> {
     pub cells: Vec<Mutex<SharedCell>>,
     /// The sending ends of the nodes' channels; none once the cluster is stopped.
     pub senders: Mutex<Vec<Sender<u64>>>,
-    /// Held by the node that applies an entry with a heavy proof, so that one node at a time has the memory for it.
-    pub heavy: Mutex<()>,
+    /// Held by the node that applies an entry with a heavy proof, which needs more memory than a worker has: one node at a time
+    /// has that memory.
+    pub heavy_proofs: Mutex<()>,
 }
 
 impl<G: Gate, K: Keep<Carried>> SharedNodes<G, K> {
@@ -113,7 +114,7 @@ impl<G: Gate, K: Keep<Carried>> SharedNodes<G, K> {
         if apply_on_with(rt, &mut shared_cell.cell, self.workers, &LightGate { gate }).is_ok() {
             return true;
         }
-        let _heavy = self.heavy.lock(rt);
+        let _heavy = self.heavy_proofs.lock(rt);
         apply_on_with(rt, &mut shared_cell.cell, self.workers, gate).is_ok()
     }
 
