@@ -202,13 +202,13 @@ impl DisjointLists {
         Ok(())
     }
 
-    /// Counts one more variable of the assertion at a position in a `$d`, if `counts`, and appends the position of the `$d` if
-    /// the count is 2 or more. The first call for an assertion starts from the covered variables, plus one if `has_most`.
+    /// Counts one more variable of the assertion at a position in a `$d`, if `is_counted`, and appends the position of the `$d`
+    /// if the count is 2 or more. The first call for an assertion starts from the covered variables, plus one if `has_most`.
     fn count_in(
         &mut self,
         at: usize,
         index: usize,
-        counts: bool,
+        is_counted: bool,
         has_most: bool,
         found: &mut Vec<usize>,
     ) -> Result<(), AllocError> {
@@ -219,7 +219,7 @@ impl DisjointLists {
             list.counted_for = at;
             list.count = list.covered.saturating_add(one_if(has_most));
         }
-        list.count = list.count.saturating_add(one_if(counts));
+        list.count = list.count.saturating_add(one_if(is_counted));
         if list.count >= 2 {
             found.push(list.position)?;
         }
