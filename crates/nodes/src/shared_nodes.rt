@@ -17,9 +17,9 @@ use synod::Keep;
 use verify_pool::{Gate, LightGate, Place, Workers};
 use world::Carried;
 
-/// The locks of a cluster. A node's lock is taken before the switch's, and that of a lower node number before that of a
-/// higher one; the senders' lock is never taken while the switch's is held. The lock of heavy proofs is taken under one node's
-/// lock, and none under it.
+/// The state that the node threads and desks of a cluster share, under locks. A node's lock is taken before the switch's, and
+/// that of a lower node number before that of a higher one; the senders' lock is never taken while the switch's is held. The
+/// lock of heavy proofs is taken under one node's lock, and none under it.
 #[derive(Drop)]
 pub(crate) struct SharedNodes<G: Gate, K: Keep<Carried>> {
     pub alloc: Global,
