@@ -1,5 +1,5 @@
 -- Letters that are read up to an index, and the effect of the next letter.
-use Rattle.explain.proofs.Words.{◌≡◌, ◌≢◌, ℕ, ◌+◌, ◌-◌, ◌*◌, ◌<◌, ◌≤◌, Bool, true, false, ◌&&◌, nat_le, List, [], ◌∷◌, ◌++◌, length, Option, Some, None, slice_get, refl, option_map, sym, ◌∙◌, ap, subst, arith, append_assoc, append-nil, length-append, inl, inr, list_all-append, or_left, or_right, le-leb, Name, Item, IsNumber, is_first, is_last, number_from, items_of, before_rest, numbers_from, starts_with_mark, WritesRow, is_first-true, number_of-placed, placed-number_of, first_bounds, last_bounds, is_first-false, is_last-true, WritesRow-read, LetterBreak, LetterFault, marks_in, IsEndOrMark, fault_index, IsAllowed, IsTooGreat, BeginsWith, Breaks, IsLetterBreak, zeros, IsReadTo}
+use Rattle.explain.proofs.Words.{◌≡◌, ◌≢◌, ℕ, ◌+◌, ◌-◌, ◌*◌, ◌<◌, ◌≤◌, Bool, true, false, ◌&&◌, nat_le, List, [], ◌∷◌, ◌++◌, length, Option, Some, None, slice_get, refl, option_map, sym, ◌∙◌, ap, subst, arith, append_assoc, append-nil, length-append, inl, inr, list_all-append, or_left, or_right, le-leb, Name, Item, IsNumber, is_first, is_last, number_from, items_of, before_rest, numbers_from, starts_with_mark, WritesRow, is_first-true, number_of-placed, placed-number_of, first_bounds, last_bounds, is_first-false, is_last-true, WritesRow-read, LetterBreak, LetterFault, marks_in, IsEndOrMark, fault_index, IsAllowedBeginning, IsTooGreat, BeginsWith, Breaks, IsLetterBreak, zeros, IsReadTo}
 use Rattle.explain.specs.Breaks.{IsNotLetter}
 use Rattle.explain.proofs.LetterNumberLemmas.{at-append, not-empty, marks-zeros, zeros-number, zeros-mark, before-push, over, last-over, zero-or}
 
@@ -50,7 +50,7 @@ module _ (labels : ℕ) (letters : List ℕ) (index limit digits begin : ℕ) (r
     greatest = r.limit_is ∙ (ap (λ n. n + zeros r.numbers) (sym count) ∙ ap (λ z. length names + z) (sym (marks-zeros names r.numbers)))
 
     -- the letters that are begun are the beginning of a word with an allowed number, or there are none
-    allowed : IsAllowed limit r.begun
+    allowed : IsAllowedBeginning limit r.begun
     allowed = elim (zero-or digits) [ inl e ↦ inl (r.zero_digits e) | inr e ↦ inr (65 ∷ [], 20 * digits + 1, placed-number_of (r.begun ++ 65 ∷ []) (20 * digits + 1) (r.counts_begun (65 ∷ [])), let q = r.room e in omega (arith, q)) ]
 
     -- a rule that the begun word breaks at the next letter is the rule that the letters break
@@ -64,7 +64,7 @@ module _ (labels : ℕ) (letters : List ℕ) (index limit digits begin : ℕ) (r
       whole = r.whole;
       reads = writes;
       firsts = r.firsts;
-      allowed = subst (λ n. IsAllowed n r.begun) greatest allowed;
+      allowed = subst (λ n. IsAllowedBeginning n r.begun) greatest allowed;
       breaks = subst (λ f. Breaks f (length names + marks_in (items_of names r.numbers)) (items_of names r.numbers) r.begun r.rest) (sym is)
           (subst (λ n. Breaks fault n (items_of names r.numbers) r.begun r.rest) greatest breaks);
       letter_is = at ∙ (place ∙ ap (λ f. fault_index f (length r.front) (length r.begun)) (sym is));

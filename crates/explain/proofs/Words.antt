@@ -1,7 +1,7 @@
 -- Re-exports of the definitions and lemmas with which this crate is proved.
 pub use Rattle.entries.specs.declared.assertion_view.Hypothesis.{Hypothesis}
 pub use Rattle.entries.specs.declared.assertion_view.Hypothesis.TheVariants.{Essential, Float}
-pub use Rattle.explain.specs.Breaks.{AreLettersBroken, BeginsWith, Breaks, IsAllowed, IsEndOrMark, IsFirst, IsLetterBreak, EndsListedLabels, IsNotLabel, IsTooGreat, has_fault, joined, marks_in, fault_index}
+pub use Rattle.explain.specs.Breaks.{AreLettersBroken, BeginsWith, Breaks, IsAllowedBeginning, IsEndOrMark, IsFirst, IsLetterBreak, EndsListedLabels, IsNotLabel, IsTooGreat, has_fault, joined, marks_in, fault_index}
 pub use Rattle.explain.specs.CitationFaults.{AllMatch, HasOtherTypecode, IsFloat, IsMismatchFault, IsFirstMismatch, HasOtherTypecodeThan, IsFaultOfResult, HasOtherTypecodeNumber, required_result}
 pub use Rattle.explain.specs.DisjointViolations.{AreUnpairedIn, IsViolation, IsViolationIn, IsViolationWith, is_permitted_pair, is_other_disjoint}
 pub use Rattle.explain.specs.CitationResults.{CitationGives, named_without_cached, of_assertion, of_hypothesis}
@@ -12,7 +12,7 @@ pub use Rattle.explain.specs.ReadImages.{AreVariables, code_image_at, code_image
 pub use Rattle.explain.specs.Stored.DisjointPairs.{AreDisjointPairs, IsDisjointPair, IsPairAt, IsPairOf}
 pub use Rattle.explain.specs.Stored.CodeSlices.{AreImages, AreSymbols, code_images, codes, named_expressions}
 pub use Rattle.explain.specs.VariableLists.{AreListsOf, AreSeen, AreVariablesOf}
-pub use Rattle.explain.specs.WrongResults.{AreCorrect, IsResultsFault, images_of}
+pub use Rattle.explain.specs.WrongResults.{AreCorrectResults, IsResultsFault, images_of}
 pub use Rattle.explain.specs.declared.disjoint_pairs.VariablePair.{VariablePair}
 pub use Rattle.explain.specs.declared.images.Image.{Image}
 pub use Rattle.explain.specs.declared.reason.ItemFault.{ItemFault}

@@ -53,8 +53,8 @@ abbrev pub IsNotLetter : ℕ → Type 0
 IsNotLetter letter = IsFalse (is_first letter) × IsFalse (is_last letter) × (letter ≢ 90)
 
 -- the letter group has no letter yet, or some group with this beginning has a number up to the limit
-abbrev pub IsAllowed : ℕ → List ℕ → Type 0
-IsAllowed limit begun = (begun ≡ []) ⊎ ((word : Name) × (n : ℕ) × IsNumber (begun ++ word) n × (n ≤ limit))
+abbrev pub IsAllowedBeginning : ℕ → List ℕ → Type 0
+IsAllowedBeginning limit begun = (begun ≡ []) ⊎ ((word : Name) × (n : ℕ) × IsNumber (begun ++ word) n × (n ≤ limit))
 
 -- a letter A to Y such that every letter group beginning with `begun` and this letter has a number greater than the limit
 abbrev pub IsTooGreat : ℕ → List ℕ → ℕ → Type 0
@@ -83,7 +83,7 @@ pub record IsLetterBreak (labels : List Name) (letters : List ℕ) (broken : Let
   pub whole : letters ≡ front ++ (begun ++ rest)
   pub reads : WritesRow labels front items
   pub firsts : IsTrue (list_all is_first begun)
-  pub allowed : IsAllowed (length labels + marks_in items) begun
+  pub allowed : IsAllowedBeginning (length labels + marks_in items) begun
   pub breaks : Breaks broken.fault (length labels + marks_in items) items begun rest
   pub letter_is : broken.letter ≡ fault_index broken.fault (length front) (length begun)
 

@@ -11,7 +11,7 @@ use Rattle.explain.specs.CitationResults.{CitationGives}
 use Rattle.explain.specs.WrongResults.{IsResultsFault}
 
 -- the last results on the stack, one for each mandatory hypothesis of the earlier assertion s at a, are wrong
-pub record AreWrong (S : Database) (names : List Name) (at : ℕ) (h : State) (a : ℕ) (s : Stmt) (fault : ItemFault) : Type 0 where
+pub record HasWrongResults (S : Database) (names : List Name) (at : ℕ) (h : State) (a : ℕ) (s : Stmt) (fault : ItemFault) : Type 0 where
   pub earlier : a < at
   pub assertion : IsTrue (is_assertion s)
   pub below : List Expr
@@ -32,9 +32,9 @@ abbrev pub IsCitationFault : Database → List Name → ℕ → State → ℕ �
 IsCitationFault S names at h i s (Inactive j) = (j ≡ i) × (i < at) × (IsHypothesis S at i s → ⊥) × (is_assertion s ≡ true → ⊥)
 IsCitationFault S names at h i s (NotEarlier j) = (j ≡ i) × (at ≤ i)
 IsCitationFault S names at h i s (TooFewResults b required present) = (b ≡ i) × (i < at) × IsTrue (is_assertion s) × (required ≡ length (hypotheses (before S i) s)) × (present ≡ length h.stack) × (present < required)
-IsCitationFault S names at h i s (OtherTypecode b p r) = AreWrong S names at h i s (OtherTypecode b p r)
-IsCitationFault S names at h i s (OtherExpression b p q r) = AreWrong S names at h i s (OtherExpression b p q r)
-IsCitationFault S names at h i s (NotDisjoint b x y u v) = AreWrong S names at h i s (NotDisjoint b x y u v)
+IsCitationFault S names at h i s (OtherTypecode b p r) = HasWrongResults S names at h i s (OtherTypecode b p r)
+IsCitationFault S names at h i s (OtherExpression b p q r) = HasWrongResults S names at h i s (OtherExpression b p q r)
+IsCitationFault S names at h i s (NotDisjoint b x y u v) = HasWrongResults S names at h i s (NotDisjoint b x y u v)
 IsCitationFault S names at h i s TooManySymbols = ExceedsLimit S at h i s
 IsCitationFault S names at h i s fault = ⊥
 

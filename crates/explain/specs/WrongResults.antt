@@ -19,7 +19,7 @@ abbrev pub ResultsMatch : Database → ℕ → Stmt → List Expr → Type 0
 ResultsMatch S a s rs = AllMatch S (images_of S a s rs) (hypotheses (before S a) s) rs
 
 -- each hypothesis requires the result that it has, and the images are disjoint
-pub record AreCorrect (S : Database) (at a : ℕ) (s : Stmt) (rs : List Expr) : Type 0 where
+pub record AreCorrectResults (S : Database) (at a : ℕ) (s : Stmt) (rs : List Expr) : Type 0 where
   pub fit : ResultsMatch S a s rs
   pub disjoint : IsTrue (are_groups_disjoint (before S at) (images_of S a s rs) (mandatory_groups (before S a) s))
 

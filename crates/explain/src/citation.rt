@@ -10,7 +10,7 @@ ghost use Rattle.explain.specs.CitationFaults.{IsFaultOfResult, IsMismatchFault,
 ghost use Rattle.scope.specs.Active.{before, stmt_at};
 ghost use Rattle.explain.specs.CitationResults.{CannotCite, named_without_cached};
 ghost use Rattle.explain.specs.FirstFault.{IsCitationFault};
-ghost use Rattle.explain.specs.WrongResults.{AreCorrect, IsResultsFault};
+ghost use Rattle.explain.specs.WrongResults.{AreCorrectResults, IsResultsFault};
 ghost use Rattle.subst.specs.declared.buffer.TheConstants.{SYMBOLS_LIMIT};
 
 use crate::images::{Images, agrees, apply, read_images};
@@ -163,7 +163,7 @@ fn results_fault(
     requires symbols { AreSymbols (length frames.now.names) results.now }
     requires count { HasHypothesisCount frames.now.statements cited_at (length results.now) }
     ensures { (s : Statement) → stmt_at frames.now.statements cited_at ≡ Some s
-        → IfOk result (λ r. MatchOption r (AreCorrect frames.now.statements at cited_at s (named_expressions frames.now.names results.now))
+        → IfOk result (λ r. MatchOption r (AreCorrectResults frames.now.statements at cited_at s (named_expressions frames.now.names results.now))
         (IsResultsFault frames.now.statements frames.now.names at cited_at s (named_expressions frames.now.names results.now))) }
 {
     let images = read_images(alloc, &cited.hypotheses, results)?;
