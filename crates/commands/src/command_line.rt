@@ -13,7 +13,7 @@ use clap::error::ErrorKind;
 use clap::{ArgMatches, Error};
 use finding::SearchQuery;
 use numbers::parse_number;
-use patterns::{BadPattern, Pattern, SearchWords};
+use patterns::{Pattern, PatternFault, SearchWords};
 use std::alloc::{AllocError, Global};
 use synod::{MAX_NODES, Weights};
 
@@ -146,12 +146,12 @@ fn search_query<'a>(
     match Pattern::parse(alloc, text) {
         Ok(pattern) if options.get_flag("hypotheses") => Ok(SearchQuery::WithHypotheses(pattern)),
         Ok(pattern) => Ok(SearchQuery::Pattern(pattern)),
-        Err(BadPattern::UnknownWord(_)) => Err(invalid_value(
+        Err(PatternFault::UnknownWord(_)) => Err(invalid_value(
             alloc,
             "a word of a pattern is $?, $* or a symbol, which has no $",
         )),
-        Err(BadPattern::NoSymbol) => Err(invalid_value(alloc, "a pattern has a symbol")),
-        Err(BadPattern::Memory) => Err(CommandLineFault::Memory),
+        Err(PatternFault::NoSymbol) => Err(invalid_value(alloc, "a pattern has a symbol")),
+        Err(PatternFault::Memory) => Err(CommandLineFault::Memory),
     }
 }
 

@@ -1,5 +1,5 @@
 -- Hypotheses that require other results than they have.
-use Rattle.explain.proofs.Words.{◌≡◌, ℕ, ◌+◌, ◌<◌, List, [], ◌∷◌, ◌++◌, length, take, get_or, map, refl, sym, ◌∙◌, ap, subst, add-one, Some, slice_get, Bor, Vec, take-suc, slice_get-get_or, slice_get_read, take-map, map_push, Name, Stmt, Database, Expr, stmt_at, expr_of, name_at, decode, AreDistinct, Hypothesis, AreBelow, IsNumberedHypothesis, IsStatementOf, IsTypecode, expr_at, option_expr, Fault, UnknownLabel, Inactive, NotEarlier, TooFewResults, OtherTypecode, OtherExpression, NotDisjoint, TooManySymbols, NoMarkedResult, named_expressions, before, hypotheses, images_read, named_images, AreVariables, required_result, AllMatch, IsFirstMismatch, HasOtherTypecode, HasOtherTypecodeThan, HasOtherTypecodeNumber, IsFloat, IsFaultOfResult, IsMismatchFault, map-at, name_at-injective, decode-injective}
+use Rattle.explain.proofs.Words.{◌≡◌, ℕ, ◌+◌, ◌<◌, List, [], ◌∷◌, ◌++◌, length, take, get_or, map, refl, sym, ◌∙◌, ap, subst, add-one, Some, slice_get, Bor, Vec, take-suc, slice_get-get_or, slice_get_read, take-map, map_push, Name, Stmt, Database, Expr, stmt_at, expr_of, name_at, decode, AreDistinct, Hypothesis, AreBelow, IsNumberedHypothesis, IsStatementOf, IsTypecode, expr_at, option_expr, ItemFault, UnknownLabel, Inactive, NotEarlier, TooFewResults, OtherTypecode, OtherExpression, NotDisjoint, TooManySymbols, NoMarkedResult, named_expressions, before, hypotheses, images_read, named_images, AreVariables, required_result, AllMatch, IsFirstMismatch, HasOtherTypecode, HasOtherTypecodeThan, HasOtherTypecodeNumber, IsFloat, IsFaultOfResult, IsMismatchFault, map-at, name_at-injective, decode-injective}
 use Rattle.mm_read.specs.declared.stmt.Stmt.TheVariants as stmt
 use Rattle.entries.specs.declared.assertion_view.Hypothesis.TheVariants as hypothesis
 use Rattle.frame.specs.Substitution.{Images, CodeImages, code_apply, apply as applied}
@@ -82,7 +82,7 @@ required_is S names distinct σ variables p s stands e is below required same =
     ap (decode names) same ∙ (apply_same names distinct σ e variables below ∙ ap (λ x. applied (named_images names σ) x) (is ∙ sym (expr_is S p s stands)))
 
 -- the fault is that of the first mismatch
-pub mismatch_is : (S : Database) (names : List Name) (a : ℕ) (s : Stmt) (rs : List Expr) (kind : Hypothesis) (typecode p k : ℕ) (required actual : Vec ℕ) (fault : Fault)
+pub mismatch_is : (S : Database) (names : List Name) (a : ℕ) (s : Stmt) (rs : List Expr) (kind : Hypothesis) (typecode p k : ℕ) (required actual : Vec ℕ) (fault : ItemFault)
     → IsFaultOfResult kind typecode a p required actual fault
     → IsFirstMismatch S (images_read S (hypotheses (before S a) s) rs) (hypotheses (before S a) s) rs k p (decode names required.items) (decode names actual.items)
     → (IsFloat kind → HasOtherTypecodeNumber typecode actual.items → HasOtherTypecodeThan (stmt_at S p) (decode names actual.items))

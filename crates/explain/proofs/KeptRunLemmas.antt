@@ -1,5 +1,5 @@
 -- The result of a citation, and the fault of wrong results.
-use Rattle.explain.proofs.Words.{◌≡◌, ℕ, zero, suc, ◌+◌, ◌-◌, ◌<◌, Bool, true, List, [], ◌∷◌, ◌++◌, length, refl, sym, ◌∙◌, ap, subst, Some, None, Option, slice_get, ◌&&◌, IsTrue, list_all, same_Some, Name, Stmt, Database, Expr, stmt_at, before, expr_of, is_variable, is_assertion, decode, hypotheses, HasAssertion, IsHypothesis, Fault, UnknownLabel, Inactive, NotEarlier, TooFewResults, OtherTypecode, OtherExpression, NotDisjoint, TooManySymbols, NoMarkedResult, image_at, images_read, AreCorrect, images_of, IsResultsFault, CitationGives, of_assertion, State, IsCitationFault}
+use Rattle.explain.proofs.Words.{◌≡◌, ℕ, zero, suc, ◌+◌, ◌-◌, ◌<◌, Bool, true, List, [], ◌∷◌, ◌++◌, length, refl, sym, ◌∙◌, ap, subst, Some, None, Option, slice_get, ◌&&◌, IsTrue, list_all, same_Some, Name, Stmt, Database, Expr, stmt_at, before, expr_of, is_variable, is_assertion, decode, hypotheses, HasAssertion, IsHypothesis, ItemFault, UnknownLabel, Inactive, NotEarlier, TooFewResults, OtherTypecode, OtherExpression, NotDisjoint, TooManySymbols, NoMarkedResult, image_at, images_read, AreCorrectResults, images_of, IsResultsFault, CitationGives, of_assertion, State, IsCitationFault}
 use Rattle.mm_read.specs.declared.stmt.Stmt.TheVariants as stmt
 use Rattle.frame.specs.Substitution.{apply as applied}
 
@@ -26,7 +26,7 @@ variables_are S V (p ∷ ps) (e ∷ rs) h = one (stmt_at S p) refl (variables_ar
 -- if the results are correct, the citation gives the conclusion under the images that they give
 pub gives_is : (S : Database) (at a : ℕ) (s : Stmt) (rs : List Expr) (stack below : List Expr) (e : Expr) → a < at → HasAssertion S a s
     → ((k p : ℕ) (l c x : Name) → slice_get (hypotheses (before S a) s) k ≡ Some p → stmt_at S p ≡ Some (stmt.Float l c x) → is_variable (before S a) x ≡ true)
-    → AreCorrect S at a s rs → stack ≡ below ++ rs → e ≡ applied (images_of S a s rs) (expr_of s) → CitationGives S at a s stack below e
+    → AreCorrectResults S at a s rs → stack ≡ below ++ rs → e ≡ applied (images_of S a s rs) (expr_of s) → CitationGives S at a s stack below e
 gives_is S at a s rs stack below e earlier stands variable taken whole is =
     of_assertion (images_of S a s rs)
     (record {
@@ -39,7 +39,7 @@ gives_is S at a s rs stack below e earlier stands variable taken whole is =
     (whole ∙ ap (λ r. below ++ r) (sym taken.fit)) is
 
 -- if the results are wrong, the citation has their fault
-pub wrong_fails : (S : Database) (names : List Name) (at a : ℕ) (s : Stmt) (h : State) (below rs : List Expr) (fault : Fault) → h.stack ≡ below ++ rs
+pub wrong_fails : (S : Database) (names : List Name) (at a : ℕ) (s : Stmt) (h : State) (below rs : List Expr) (fault : ItemFault) → h.stack ≡ below ++ rs
     → length rs ≡ length (hypotheses (before S a) s) → a < at → HasAssertion S a s → IsResultsFault S names at a s rs fault → IsCitationFault S names at h a s fault
 wrong_fails S names at a s h below rs UnknownLabel whole count earlier stands wrong = absurd wrong
 wrong_fails S names at a s h below rs (Inactive i) whole count earlier stands wrong = absurd wrong

@@ -1,5 +1,5 @@
 -- Letters that are read up to an index, and the effect of the next letter.
-use Rattle.explain.proofs.Words.{◌≡◌, ◌≢◌, ℕ, ◌+◌, ◌-◌, ◌*◌, ◌<◌, ◌≤◌, Bool, true, false, ◌&&◌, nat_le, List, [], ◌∷◌, ◌++◌, length, Option, Some, None, slice_get, refl, option_map, sym, ◌∙◌, ap, subst, arith, append_assoc, append-nil, length-append, inl, inr, list_all-append, or_left, or_right, le-leb, Name, Item, IsNumber, is_first, is_last, number_from, items_of, before_rest, numbers_from, starts_with_mark, WritesRow, is_first-true, number_of-placed, placed-number_of, first_bounds, last_bounds, is_first-false, is_last-true, WritesRow-read, LetterBreak, LetterFault, marks_in, IsEndOrMark, fault_index, IsAllowed, IsTooGreat, BeginsWith, Breaks, IsLetterBreak, zeros, IsReadTo}
+use Rattle.explain.proofs.Words.{◌≡◌, ◌≢◌, ℕ, ◌+◌, ◌-◌, ◌*◌, ◌<◌, ◌≤◌, Bool, true, false, ◌&&◌, nat_le, List, [], ◌∷◌, ◌++◌, length, Option, Some, None, slice_get, refl, option_map, sym, ◌∙◌, ap, subst, arith, append_assoc, append-nil, length-append, inl, inr, list_all-append, or_left, or_right, le-leb, Name, Item, IsNumber, is_first, is_last, number_from, items_of, before_rest, numbers_from, starts_with_mark, WritesRow, is_first-true, number_of-placed, placed-number_of, first_bounds, last_bounds, is_first-false, is_last-true, WritesRow-read, LetterBreak, LetterFault, marks_in, IsEndOrMark, fault_index, IsAllowedBeginning, IsTooGreat, BeginsWith, Breaks, IsLetterBreak, zeros, IsReadTo}
 use Rattle.explain.specs.Breaks.{IsNotLetter}
 use Rattle.explain.proofs.LetterNumberLemmas.{at-append, not-empty, marks-zeros, zeros-number, zeros-mark, before-push, over, last-over, zero-or}
 
@@ -20,11 +20,11 @@ read-none labels letters starts = record {
   at_index = refl;
   starts = starts;
   reads = λ text. before-none (numbers_from labels 0 text);
-  goes = λ text. refl;
-  counts = λ word. refl;
+  reads_begun = λ text. refl;
+  counts_begun = λ word. refl;
   firsts = refl;
-  empty = λ e. refl;
-  some = λ e. refl;
+  zero_digits = λ e. refl;
+  none_begun = λ e. refl;
   limit_is = omega arith;
   few = omega arith;
   small = omega arith;
@@ -50,8 +50,8 @@ module _ (labels : ℕ) (letters : List ℕ) (index limit digits begin : ℕ) (r
     greatest = r.limit_is ∙ (ap (λ n. n + zeros r.numbers) (sym count) ∙ ap (λ z. length names + z) (sym (marks-zeros names r.numbers)))
 
     -- the letters that are begun are the beginning of a word with an allowed number, or there are none
-    allowed : IsAllowed limit r.begun
-    allowed = elim (zero-or digits) [ inl e ↦ inl (r.empty e) | inr e ↦ inr (65 ∷ [], 20 * digits + 1, placed-number_of (r.begun ++ 65 ∷ []) (20 * digits + 1) (r.counts (65 ∷ [])), let q = r.room e in omega (arith, q)) ]
+    allowed : IsAllowedBeginning limit r.begun
+    allowed = elim (zero-or digits) [ inl e ↦ inl (r.zero_digits e) | inr e ↦ inr (65 ∷ [], 20 * digits + 1, placed-number_of (r.begun ++ 65 ∷ []) (20 * digits + 1) (r.counts_begun (65 ∷ [])), let q = r.room e in omega (arith, q)) ]
 
     -- a rule that the begun word breaks at the next letter is the rule that the letters break
     pub broken-at : (broken : LetterBreak) (fault : LetterFault) (letter : ℕ) → broken.fault ≡ fault → broken.letter ≡ letter → Breaks fault limit (items_of names r.numbers) r.begun r.rest
@@ -64,7 +64,7 @@ module _ (labels : ℕ) (letters : List ℕ) (index limit digits begin : ℕ) (r
       whole = r.whole;
       reads = writes;
       firsts = r.firsts;
-      allowed = subst (λ n. IsAllowed n r.begun) greatest allowed;
+      allowed = subst (λ n. IsAllowedBeginning n r.begun) greatest allowed;
       breaks = subst (λ f. Breaks f (length names + marks_in (items_of names r.numbers)) (items_of names r.numbers) r.begun r.rest) (sym is)
           (subst (λ n. Breaks fault n (items_of names r.numbers) r.begun r.rest) greatest breaks);
       letter_is = at ∙ (place ∙ ap (λ f. fault_index f (length r.front) (length r.begun)) (sym is));
@@ -92,13 +92,13 @@ module _ (labels : ℕ) (letters : List ℕ) (index limit digits begin : ℕ) (r
   ended h = drop-end (r.front ++ r.begun) r.rest index long (subst (λ l. length l ≤ index) split h)
 
   pub ends-here : length letters ≤ index → digits ≡ 0 → letters ≡ r.front
-  ends-here h e = r.whole ∙ (ap (λ b. r.front ++ (b ++ r.rest)) (r.empty e) ∙ (ap (λ x. r.front ++ x) (ended h) ∙ append-nil r.front))
+  ends-here h e = r.whole ∙ (ap (λ b. r.front ++ (b ++ r.rest)) (r.zero_digits e) ∙ (ap (λ x. r.front ++ x) (ended h) ∙ append-nil r.front))
 
   pub nothing-left : length letters ≤ index → IsEndOrMark r.rest
   nothing-left h = subst IsEndOrMark (sym (ended h)) tt
 
   pub some-begun : (digits ≡ 0 → ⊥) → r.begun ≢ []
-  some-begun h e = h (r.some e)
+  some-begun h e = h (r.none_begun e)
 
   module _ (letter : ℕ) (here : slice_get letters index ≡ Some letter) where
     -- the letter at the index is the first one of the rest
@@ -125,12 +125,12 @@ module _ (labels : ℕ) (letters : List ℕ) (index limit digits begin : ℕ) (r
       starts = r.starts;
       reads = λ text.
           ap (numbers_from labels 0) (append_assoc r.front (r.begun ++ letter ∷ []) text ∙ ap (λ x. r.front ++ x) (append_assoc r.begun (letter ∷ []) text))
-          ∙ (r.reads (r.begun ++ letter ∷ text) ∙ (ap (before_rest r.numbers) (r.goes (letter ∷ text) ∙ step text) ∙ before-push r.numbers n (numbers_from limit' 0 text)));
-      goes = λ text. refl;
-      counts = λ word. refl;
+          ∙ (r.reads (r.begun ++ letter ∷ text) ∙ (ap (before_rest r.numbers) (r.reads_begun (letter ∷ text) ∙ step text) ∙ before-push r.numbers n (numbers_from limit' 0 text)));
+      reads_begun = λ text. refl;
+      counts_begun = λ word. refl;
       firsts = refl;
-      empty = λ e. refl;
-      some = λ e. refl;
+      zero_digits = λ e. refl;
+      none_begun = λ e. refl;
       limit_is = limit_is;
       few = few;
       small = omega arith;
@@ -176,11 +176,11 @@ module _ (labels : ℕ) (letters : List ℕ) (index limit digits begin : ℕ) (r
       at_index = let b = length-append r.begun (letter ∷ []) in let c = r.at_index in omega (arith, b, c);
       starts = r.starts;
       reads = r.reads;
-      goes = λ text. ap (numbers_from limit 0) (append_assoc r.begun (letter ∷ []) text) ∙ (r.goes (letter ∷ text) ∙ (first-goes text ∙ ap (λ d. numbers_from limit d text) (sym is)));
-      counts = λ word. ap (number_from 0) (append_assoc r.begun (letter ∷ []) word) ∙ (r.counts (letter ∷ word) ∙ (first-counts word ∙ ap (λ d. number_from d word) (sym is)));
+      reads_begun = λ text. ap (numbers_from limit 0) (append_assoc r.begun (letter ∷ []) text) ∙ (r.reads_begun (letter ∷ text) ∙ (first-goes text ∙ ap (λ d. numbers_from limit d text) (sym is)));
+      counts_begun = λ word. ap (number_from 0) (append_assoc r.begun (letter ∷ []) word) ∙ (r.counts_begun (letter ∷ word) ∙ (first-counts word ∙ ap (λ d. number_from d word) (sym is)));
       firsts = list_all-append is_first r.begun (letter ∷ []) ∙ (ap (λ t. t && (is_first letter && true)) r.firsts ∙ ap (λ t. t && true) first);
-      empty = λ e. absurd (omega (arith, e, is, low));
-      some = λ e. absurd (not-empty r.begun letter e);
+      zero_digits = λ e. absurd (omega (arith, e, is, low));
+      none_begun = λ e. absurd (not-empty r.begun letter e);
       limit_is = r.limit_is;
       few = let f = r.few in omega (arith, f);
       small = omega (arith, within);
@@ -198,7 +198,7 @@ module _ (labels : ℕ) (letters : List ℕ) (index limit digits begin : ℕ) (r
 
     -- the number of a word that begins so is counted from the letters that are begun
     counted : (word : Name) (n : ℕ) → IsNumber (r.begun ++ letter ∷ word) n → number_from digits (letter ∷ word) ≡ Some n
-    counted word n is = sym (r.counts (letter ∷ word)) ∙ number_of-placed (r.begun ++ letter ∷ word) n is
+    counted word n is = sym (r.counts_begun (letter ∷ word)) ∙ number_of-placed (r.begun ++ letter ∷ word) n is
 
     pub word-over : 65 ≤ letter → letter ≤ 84 → limit < 20 * digits + (letter - 64) → BeginsWith (IsTooGreat limit r.begun) r.rest
     word-over low high h =
@@ -209,14 +209,14 @@ module _ (labels : ℕ) (letters : List ℕ) (index limit digits begin : ℕ) (r
         breaks-here (IsTooGreat limit r.begun) (
           or_left (is_first letter) (is_last letter) first,
           λ word n placed.
-              over limit (5 * digits + (letter - 84)) word n (omega (arith, h, is)) (sym (goes word) ∙ counted word n placed),
+              over limit (5 * digits + (letter - 84)) word n (omega (arith, h, is)) (sym (reads_begun word) ∙ counted word n placed),
         )
       where
         first : is_first letter ≡ true
         first = is_first-true letter low high
 
-        goes : (word : Name) → number_from digits (letter ∷ word) ≡ number_from (5 * digits + (letter - 84)) word
-        goes word = rw first refl
+        reads_begun : (word : Name) → number_from digits (letter ∷ word) ≡ number_from (5 * digits + (letter - 84)) word
+        reads_begun word = rw first refl
 
     pub other-here : (65 ≤ letter → letter ≤ 84 → ⊥) → (85 ≤ letter → letter ≤ 89 → ⊥) → letter ≢ 90 → BeginsWith IsNotLetter r.rest
     other-here last first mark = breaks-here IsNotLetter (not-first, not-last, mark)

@@ -1,5 +1,5 @@
 -- The fault of an item that cannot be done.
-use Rattle.explain.proofs.Words.{◌≡◌, ℕ, zero, suc, ◌+◌, ◌-◌, ◌<◌, ◌≤◌, cond, List, [], ◌∷◌, ◌++◌, length, take, get_or, arith, refl, sym, ◌∙◌, ap, subst, Some, None, Option, slice_get, IfOk, MatchOption, Result, Ok, Err, add-one, Vec, Name, Stmt, Database, Expr, decode, AreDistinct, Carries, IsPosition, ArePositions, Item, Cite, Recall, Mark, item_of, items_of, Fault, UnknownLabel, Inactive, NotEarlier, TooFewResults, OtherTypecode, OtherExpression, NotDisjoint, TooManySymbols, NoMarkedResult, IsCitationFault, IsCiteFault, IsItemFault, CitationGives, of_hypothesis, of_assertion, take_more, slice_get-map, SYMBOLS_LIMIT, lt-ltb, le-ltb, stmt_at, same_Some}
+use Rattle.explain.proofs.Words.{◌≡◌, ℕ, zero, suc, ◌+◌, ◌-◌, ◌<◌, ◌≤◌, cond, List, [], ◌∷◌, ◌++◌, length, take, get_or, arith, refl, sym, ◌∙◌, ap, subst, Some, None, Option, slice_get, IfOk, MatchOption, Result, Ok, Err, add-one, Vec, Name, Stmt, Database, Expr, decode, AreDistinct, Carries, IsPosition, ArePositions, Item, Cite, Recall, Mark, item_of, items_of, ItemFault, UnknownLabel, Inactive, NotEarlier, TooFewResults, OtherTypecode, OtherExpression, NotDisjoint, TooManySymbols, NoMarkedResult, IsCitationFault, IsLabelCitationFault, IsItemFault, CitationGives, of_hypothesis, of_assertion, take_more, slice_get-map, SYMBOLS_LIMIT, lt-ltb, le-ltb, stmt_at, same_Some}
 use Rattle.verify.specs.Machine.{State, Cites, of_hypothesis as cites_hypothesis, of_assertion as cites_assertion, Steps, with_result, with_mark}
 use Rattle.verify.proofs.Words.{take_all, length-append, length-map, option_map, slice_get-get_or, slice_get_within}
 
@@ -21,7 +21,7 @@ recall_item labels (suc n) l =
     ap (λ b. cond b (Cite (get_or labels n [])) (Recall (suc (n - length labels)))) (le-ltb n (length labels) (omega (arith, l))) ∙ ap (λ k. Recall (suc k)) same
 
 -- the fault of a citation of a statement is that of a citation of its label
-pub cited_fails : (S : Database) (names : List Name) (at : ℕ) (h : State) (i : ℕ) (s : Stmt) (label : Name) (fault : Fault) → Carries S i s label → IsCitationFault S names at h i s fault → IsCiteFault S names at h label fault
+pub cited_fails : (S : Database) (names : List Name) (at : ℕ) (h : State) (i : ℕ) (s : Stmt) (label : Name) (fault : ItemFault) → Carries S i s label → IsCitationFault S names at h i s fault → IsLabelCitationFault S names at h label fault
 cited_fails S names at h i s label UnknownLabel carries fails = absurd fails
 cited_fails S names at h i s label (Inactive j) carries fails = (i, s, carries, fails)
 cited_fails S names at h i s label (NotEarlier j) carries fails = (i, s, carries, fails)

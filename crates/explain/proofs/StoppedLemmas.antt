@@ -1,5 +1,5 @@
 -- The item or the end where the run stops is the first fault.
-use Rattle.explain.proofs.Words.{nat_lt, nat_tests, ◌≡◌, ◌≢◌, Bool, true, false, ℕ, zero, suc, ◌+◌, ◌-◌, ◌<◌, ◌≤◌, List, [], ◌∷◌, ◌++◌, length, map, take, drop, get_or, arith, refl, sym, ◌∙◌, ap, subst, Option, Some, None, slice_get, length-drop, Vec, Name, Stmt, Database, Expr, decode, stmt_at, expr_of, Carries, Item, Cite, Recall, Mark, item_of, items_of, Fault, TooManySymbols, NoMarkedResult, UnknownLabel, Reason, CitationGives, IsItemFault, RunsWithinLimit, IsFirstFault, IsPosition, ArePositions, without_cached, Results, State, start, IsSaved, Runs, IsStopped, item-cite, get_or_default, same_Some, SYMBOLS_LIMIT}
+use Rattle.explain.proofs.Words.{nat_lt, nat_tests, ◌≡◌, ◌≢◌, Bool, true, false, ℕ, zero, suc, ◌+◌, ◌-◌, ◌<◌, ◌≤◌, List, [], ◌∷◌, ◌++◌, length, map, take, drop, get_or, arith, refl, sym, ◌∙◌, ap, subst, Option, Some, None, slice_get, length-drop, Vec, Name, Stmt, Database, Expr, decode, stmt_at, expr_of, Carries, Item, Cite, Recall, Mark, item_of, items_of, ItemFault, TooManySymbols, NoMarkedResult, UnknownLabel, Reason, CitationGives, IsItemFault, RunsWithinLimit, IsFirstFault, IsPosition, ArePositions, without_cached, Results, State, start, IsSaved, Runs, IsStopped, item-cite, get_or_default, same_Some, SYMBOLS_LIMIT}
 use Rattle.explain.specs.declared.reason.Reason.TheVariants as reason
 use Rattle.explain.specs.FirstFault.{IsEndReason}
 use Rattle.explain.proofs.RunItemLemmas.{mark_fails, recall_heavy, cite_stuck, recall_item, what_is, found-at}
@@ -33,7 +33,7 @@ module _ (S : Database) (names : List Name) (at : ℕ) (items : List Item) (k la
       subst (λ w. IsItemFault S names at held w NoMarkedResult) same
       (λ e saved. let w = slice_get_within (map (decode names) (drop labels st.saved)) i e saved in omega (arith, w, l, m, over))
 
-  pub fails_recall : (what : Item) (i : ℕ) (fault : Fault) → slice_get items k ≡ Some what → Recall (suc i) ≡ what
+  pub fails_recall : (what : Item) (i : ℕ) (fault : ItemFault) → slice_get items k ≡ Some what → Recall (suc i) ≡ what
       → (i < length st.saved - labels → fault ≡ TooManySymbols) → (length st.saved - labels ≤ i → fault ≡ NoMarkedResult) → IsItemFault S names at held what fault
   fails_recall what i fault there same marked unmarked = by (nat_lt i (length st.saved - labels)) refl
     where
@@ -51,7 +51,7 @@ module _ (S : Database) (names : List Name) (at : ℕ) (items : List Item) (k la
   cannot_cite label i r there carries = cite_stuck S at held stopped.light label i r carries (stopped.stops.stuck (Cite label) there)
 
   -- the fault of an item is the first fault
-  pub first_at : (s : Stmt) (what : Item) (fault : Fault) → slice_get items k ≡ Some what → IsItemFault S names at held what fault → IsFirstFault S names at s items (reason.Item k fault)
+  pub first_at : (s : Stmt) (what : Item) (fault : ItemFault) → slice_get items k ≡ Some what → IsItemFault S names at held what fault → IsFirstFault S names at s items (reason.Item k fault)
   first_at s what fault there fails = (held, what, runs_well, there, fails)
 
 -- the fault at the end

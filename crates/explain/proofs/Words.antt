@@ -1,22 +1,22 @@
 -- Re-exports of the definitions and lemmas with which this crate is proved.
 pub use Rattle.entries.specs.declared.assertion_view.Hypothesis.{Hypothesis}
 pub use Rattle.entries.specs.declared.assertion_view.Hypothesis.TheVariants.{Essential, Float}
-pub use Rattle.explain.specs.Breaks.{AreLettersBroken, BeginsWith, Breaks, IsAllowed, IsEndOrMark, IsFirst, IsLetterBreak, IsListing, IsNotLabel, IsTooGreat, has_fault, joined, marks_in, fault_index}
+pub use Rattle.explain.specs.Breaks.{AreLettersBroken, BeginsWith, Breaks, IsAllowedBeginning, IsEndOrMark, IsFirst, IsLetterBreak, EndsListedLabels, IsNotLabel, IsTooGreat, has_fault, joined, marks_in, fault_index}
 pub use Rattle.explain.specs.CitationFaults.{AllMatch, HasOtherTypecode, IsFloat, IsMismatchFault, IsFirstMismatch, HasOtherTypecodeThan, IsFaultOfResult, HasOtherTypecodeNumber, required_result}
 pub use Rattle.explain.specs.DisjointViolations.{AreUnpairedIn, IsViolation, IsViolationIn, IsViolationWith, is_permitted_pair, is_other_disjoint}
 pub use Rattle.explain.specs.CitationResults.{CitationGives, named_without_cached, of_assertion, of_hypothesis}
-pub use Rattle.explain.specs.FirstFault.{IsItemFault, IsCitationFault, IsCiteFault, IsFirstFault, RunsWithinLimit}
+pub use Rattle.explain.specs.FirstFault.{IsItemFault, IsCitationFault, IsLabelCitationFault, IsFirstFault, RunsWithinLimit}
 pub use Rattle.explain.specs.ImageIndexes.{IsImageIndex}
 pub use Rattle.explain.specs.LettersBefore.{IsReadTo, zeros}
 pub use Rattle.explain.specs.ReadImages.{AreVariables, code_image_at, code_images_read, image_at, images_read, named_images}
 pub use Rattle.explain.specs.Stored.DisjointPairs.{AreDisjointPairs, IsDisjointPair, IsPairAt, IsPairOf}
-pub use Rattle.explain.specs.Stored.Vectors.{AreImages, AreSymbols, code_images, codes, named_expressions}
+pub use Rattle.explain.specs.Stored.CodeSlices.{AreImages, AreSymbols, code_images, codes, named_expressions}
 pub use Rattle.explain.specs.VariableLists.{AreListsOf, AreSeen, AreVariablesOf}
-pub use Rattle.explain.specs.WrongResults.{AreCorrect, IsResultsFault, images_of}
+pub use Rattle.explain.specs.WrongResults.{AreCorrectResults, IsResultsFault, images_of}
 pub use Rattle.explain.specs.declared.disjoint_pairs.VariablePair.{VariablePair}
 pub use Rattle.explain.specs.declared.images.Image.{Image}
-pub use Rattle.explain.specs.declared.reason.Fault.{Fault}
-pub use Rattle.explain.specs.declared.reason.Fault.TheVariants.{OtherTypecode, OtherExpression, TooFewResults, TooManySymbols, Inactive, NotEarlier, NotDisjoint, UnknownLabel, NoMarkedResult}
+pub use Rattle.explain.specs.declared.reason.ItemFault.{ItemFault}
+pub use Rattle.explain.specs.declared.reason.ItemFault.TheVariants.{OtherTypecode, OtherExpression, TooFewResults, TooManySymbols, Inactive, NotEarlier, NotDisjoint, UnknownLabel, NoMarkedResult}
 pub use Rattle.explain.specs.declared.reason.Reason.{Reason}
 pub use Rattle.explain.specs.declared.violation.DisjointViolation.{DisjointViolation}
 pub use Rattle.explain.specs.declared.why.LetterBreak.{LetterBreak}

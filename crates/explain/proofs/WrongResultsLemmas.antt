@@ -1,9 +1,9 @@
 -- Wrong results, from the tests in the code.
-use Rattle.explain.proofs.Words.{◌≡◌, ℕ, List, sym, ◌∙◌, ap, subst, true, Name, Stmt, Database, Expr, are_groups_disjoint, DisjointViolation, Fault, UnknownLabel, Inactive, NotEarlier, TooFewResults, OtherTypecode, OtherExpression, NotDisjoint, TooManySymbols, NoMarkedResult, IsViolation, IsMismatchFault, IsResultsFault}
+use Rattle.explain.proofs.Words.{◌≡◌, ℕ, List, sym, ◌∙◌, ap, subst, true, Name, Stmt, Database, Expr, are_groups_disjoint, DisjointViolation, ItemFault, UnknownLabel, Inactive, NotEarlier, TooFewResults, OtherTypecode, OtherExpression, NotDisjoint, TooManySymbols, NoMarkedResult, IsViolation, IsMismatchFault, IsResultsFault}
 use Rattle.frame.specs.Substitution.{Images}
 
 -- a mismatch makes the results wrong
-pub wrong_is : (S : Database) (names : List Name) (at a : ℕ) (s : Stmt) (rs : List Expr) (fault : Fault) → IsMismatchFault S names a s rs fault → IsResultsFault S names at a s rs fault
+pub wrong_is : (S : Database) (names : List Name) (at a : ℕ) (s : Stmt) (rs : List Expr) (fault : ItemFault) → IsMismatchFault S names a s rs fault → IsResultsFault S names at a s rs fault
 wrong_is S names at a s rs UnknownLabel h = absurd h
 wrong_is S names at a s rs (Inactive i) h = absurd h
 wrong_is S names at a s rs (NotEarlier i) h = absurd h

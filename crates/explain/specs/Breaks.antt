@@ -3,8 +3,8 @@
 -- The code reads tokens and letters from left to right.
 use Rattle.std.specs.Prelude.{◌≡◌, ◌≢◌, ℕ, suc, ◌+◌, ◌<◌, ◌≤◌, ◌⊎◌, Bool, not, ◌||◌, IsTrue, IsFalse, List, [], ◌∷◌, ◌++◌, length, flat_map}
 use Rattle.explain.specs.Words.{list_all, list_any, Name, has_byte, has_name, is_label, Item, Cite, Recall, Mark, IsNumber, is_first, is_last, question_mark, is_unfinished, is_compressed, begin, finish, WritesRow}
-use Rattle.explain.specs.declared.code.TokenFault.{TokenFault}
-use Rattle.explain.specs.declared.code.TokenFault.TheVariants as token_fault
+use Rattle.explain.specs.declared.broken_code.TokenFault.{TokenFault}
+use Rattle.explain.specs.declared.broken_code.TokenFault.TheVariants as token_fault
 use Rattle.explain.specs.declared.why.CodeBreak.{CodeBreak}
 use Rattle.explain.specs.declared.why.CodeBreak.TheVariants.{Unfinished, NotLabel, Mandatory, Unclosed, Letters}
 use Rattle.explain.specs.declared.why.LetterBreak.{LetterBreak}
@@ -53,8 +53,8 @@ abbrev pub IsNotLetter : ℕ → Type 0
 IsNotLetter letter = IsFalse (is_first letter) × IsFalse (is_last letter) × (letter ≢ 90)
 
 -- the letter group has no letter yet, or some group with this beginning has a number up to the limit
-abbrev pub IsAllowed : ℕ → List ℕ → Type 0
-IsAllowed limit begun = (begun ≡ []) ⊎ ((word : Name) × (n : ℕ) × IsNumber (begun ++ word) n × (n ≤ limit))
+abbrev pub IsAllowedBeginning : ℕ → List ℕ → Type 0
+IsAllowedBeginning limit begun = (begun ≡ []) ⊎ ((word : Name) × (n : ℕ) × IsNumber (begun ++ word) n × (n ≤ limit))
 
 -- a letter A to Y such that every letter group beginning with `begun` and this letter has a number greater than the limit
 abbrev pub IsTooGreat : ℕ → List ℕ → ℕ → Type 0
@@ -83,14 +83,14 @@ pub record IsLetterBreak (labels : List Name) (letters : List ℕ) (broken : Let
   pub whole : letters ≡ front ++ (begun ++ rest)
   pub reads : WritesRow labels front items
   pub firsts : IsTrue (list_all is_first begun)
-  pub allowed : IsAllowed (length labels + marks_in items) begun
+  pub allowed : IsAllowedBeginning (length labels + marks_in items) begun
   pub breaks : Breaks broken.fault (length labels + marks_in items) items begun rest
   pub letter_is : broken.letter ≡ fault_index broken.fault (length front) (length begun)
 
 -- ---- tokens
 
--- this token, at this index, is the first one after `(` that is not a label or is a mandatory one
-pub record IsListing (tokens mandatory : List Name) (index : ℕ) (word : Name) (rest : List Name) : Type 0 where
+-- this token, at this index after `(`, ends the listed labels: the first that is not a label or is a mandatory one
+pub record EndsListedLabels (tokens mandatory : List Name) (index : ℕ) (word : Name) (rest : List Name) : Type 0 where
   pub words : List Name
   pub whole : tokens ≡ begin ∷ words
   pub first : IsFirst (has_fault mandatory token_fault.NotListable) words index word rest
@@ -100,7 +100,7 @@ pub record IsNotLabel (tokens mandatory : List Name) (token : ℕ) : Type 0 wher
   pub word : Name
   pub rest : List Name
   pub here : (IsFalse (is_compressed tokens) × IsFirst (has_fault mandatory token_fault.NotLabel) tokens token word rest)
-      ⊎ ((index : ℕ) × (token ≡ index + 1) × IsListing tokens mandatory index word rest × (word ≢ finish))
+      ⊎ ((index : ℕ) × (token ≡ index + 1) × EndsListedLabels tokens mandatory index word rest × (word ≢ finish))
   pub other : IsFalse (is_label word)
 
 -- this token is the first listed label of a mandatory hypothesis
@@ -109,7 +109,7 @@ pub record IsMandatory (tokens mandatory : List Name) (token : ℕ) : Type 0 whe
   pub word : Name
   pub rest : List Name
   pub token_is : token ≡ index + 1
-  pub listing : IsListing tokens mandatory index word rest
+  pub list_end : EndsListedLabels tokens mandatory index word rest
   pub label : IsTrue (is_label word)
   pub named : IsTrue (has_name word mandatory)
 
@@ -123,8 +123,8 @@ pub record IsUnclosed (tokens mandatory : List Name) : Type 0 where
 pub record AreLettersBroken (tokens mandatory : List Name) (broken : LetterBreak) : Type 0 where
   pub index : ℕ
   pub rest : List Name
-  pub listing : IsListing tokens mandatory index finish rest
-  pub letters : IsLetterBreak (mandatory ++ listing.first.front) (joined rest) broken
+  pub list_end : EndsListedLabels tokens mandatory index finish rest
+  pub letters : IsLetterBreak (mandatory ++ list_end.first.front) (joined rest) broken
 
 -- the rule that the tokens break under these mandatory labels; a token has a `?` only if the rule is `Unfinished`
 abbrev pub IsBreak : List Name → List Name → CodeBreak → Type 0

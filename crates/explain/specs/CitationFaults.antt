@@ -6,10 +6,10 @@ use Rattle.explain.specs.Words.{Bor, Vec, Name, Stmt, Expr, Database, stmt_at, b
 use Rattle.mm_read.specs.declared.stmt.Stmt.TheVariants as stmt
 use Rattle.entries.specs.declared.assertion_view.Hypothesis.TheVariants as hypothesis
 use Rattle.frame.specs.Substitution.{Images, apply as applied}
-use Rattle.explain.specs.declared.reason.Fault.{Fault}
-use Rattle.explain.specs.declared.reason.Fault.TheVariants.{OtherTypecode, OtherExpression}
+use Rattle.explain.specs.declared.reason.ItemFault.{ItemFault}
+use Rattle.explain.specs.declared.reason.ItemFault.TheVariants.{OtherTypecode, OtherExpression}
 use Rattle.explain.specs.declared.images.Image.{Image}
-use Rattle.explain.specs.Stored.Vectors.{named_expressions, code_images}
+use Rattle.explain.specs.Stored.CodeSlices.{named_expressions, code_images}
 use Rattle.explain.specs.ReadImages.{images_read, named_images, AreVariables}
 
 -- the result that the hypothesis at p requires: its expression with the images substituted
@@ -40,7 +40,7 @@ HasOtherTypecodeThan s e = ⊥
 
 -- the first of the mandatory hypotheses of the assertion s at a that requires another result than it has, under the images
 -- that the results give
-abbrev pub IsMismatchFault : Database → List Name → ℕ → Stmt → List Expr → Fault → Type 0
+abbrev pub IsMismatchFault : Database → List Name → ℕ → Stmt → List Expr → ItemFault → Type 0
 IsMismatchFault S names a s rs (OtherExpression b p required actual) =
     (b ≡ a) × ((k : ℕ) × IsFirstMismatch S (images_read S (hypotheses (before S a) s) rs) (hypotheses (before S a) s) rs k p (decode names required.items) (decode names actual.items))
 IsMismatchFault S names a s rs (OtherTypecode b p actual) =
@@ -59,7 +59,7 @@ IsFloat (hypothesis.Float x) = Unit {0}
 IsFloat (hypothesis.Essential p) = ⊥
 
 -- the fault of a result that a hypothesis of this kind, with this typecode, does not require
-abbrev pub IsFaultOfResult : Hypothesis → ℕ → ℕ → ℕ → Vec ℕ → Vec ℕ → Fault → Type 0
+abbrev pub IsFaultOfResult : Hypothesis → ℕ → ℕ → ℕ → Vec ℕ → Vec ℕ → ItemFault → Type 0
 IsFaultOfResult kind typecode a p required actual (OtherTypecode b q r) = (b ≡ a) × (q ≡ p) × (r ≡ actual) × IsFloat kind × HasOtherTypecodeNumber typecode actual.items
 IsFaultOfResult kind typecode a p required actual (OtherExpression b q e r) = (b ≡ a) × (q ≡ p) × (e ≡ required) × (r ≡ actual)
 IsFaultOfResult kind typecode a p required actual fault = ⊥

@@ -13,7 +13,7 @@ is_permitted_pair S u v = not (is_variable S u) || not (is_variable S v) || is_p
 pub record IsUnpaired (S : Database) (u v : Name) : Type 0 where
   pub first : IsTrue (is_variable S u)
   pub second : IsTrue (is_variable S v)
-  pub disjoint : IsFalse (is_pair S u v)
+  pub no_pair : IsFalse (is_pair S u v)
 
 -- v occurs in the expression and is unpaired with u
 pub record IsUnpairedIn (S : Database) (u v : Name) (f : Expr) : Type 0 where
@@ -31,18 +31,18 @@ abbrev pub is_other_disjoint : Database → Images → Name → Name → Bool
 is_other_disjoint S σ x y = name_eq x y || are_disjoint S (image σ x) (image σ y)
 
 -- two variables that are together in a group, with unpaired variables of their images
-pub record IsViolation (S : Database) (names : List Name) (σ : Images) (groups : List (List Name)) (c : DisjointViolation) : Type 0 where
-  pub together : IsTrue (together groups (name_at names c.first) (name_at names c.second))
-  pub unpaired : AreUnpairedIn S (name_at names c.in_first_image) (name_at names c.in_second_image) (image σ (name_at names c.first)) (image σ (name_at names c.second))
+pub record IsViolation (S : Database) (names : List Name) (σ : Images) (groups : List (List Name)) (violation : DisjointViolation) : Type 0 where
+  pub together : IsTrue (together groups (name_at names violation.first) (name_at names violation.second))
+  pub unpaired : AreUnpairedIn S (name_at names violation.in_first_image) (name_at names violation.in_second_image) (image σ (name_at names violation.first)) (image σ (name_at names violation.second))
 
 -- two variables of this group, the first of them x, with unpaired variables of their images
-pub record IsViolationWith (S : Database) (names : List Name) (σ : Images) (x : Name) (group : List Name) (c : DisjointViolation) : Type 0 where
-  pub first : name_at names c.first ≡ x
-  pub second : IsTrue (has_name (name_at names c.second) group)
-  pub differ : IsFalse (name_eq x (name_at names c.second))
-  pub unpaired : AreUnpairedIn S (name_at names c.in_first_image) (name_at names c.in_second_image) (image σ x) (image σ (name_at names c.second))
+pub record IsViolationWith (S : Database) (names : List Name) (σ : Images) (x : Name) (group : List Name) (violation : DisjointViolation) : Type 0 where
+  pub first : name_at names violation.first ≡ x
+  pub second : IsTrue (has_name (name_at names violation.second) group)
+  pub differ : IsFalse (name_eq x (name_at names violation.second))
+  pub unpaired : AreUnpairedIn S (name_at names violation.in_first_image) (name_at names violation.in_second_image) (image σ x) (image σ (name_at names violation.second))
 
 -- two variables of this group, with unpaired variables of their images
-pub record IsViolationIn (S : Database) (names : List Name) (σ : Images) (group : List Name) (c : DisjointViolation) : Type 0 where
-  pub first : IsTrue (has_name (name_at names c.first) group)
-  pub second : IsViolationWith S names σ (name_at names c.first) group c
+pub record IsViolationIn (S : Database) (names : List Name) (σ : Images) (group : List Name) (violation : DisjointViolation) : Type 0 where
+  pub first : IsTrue (has_name (name_at names violation.first) group)
+  pub second : IsViolationWith S names σ (name_at names violation.first) group violation

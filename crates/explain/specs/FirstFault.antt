@@ -3,15 +3,15 @@
 -- The code stops at this fault.
 use Rattle.std.specs.Prelude.{◌≡◌, ◌≢◌, ℕ, ◌+◌, ◌<◌, ◌≤◌, true, IsTrue, List, [], ◌∷◌, ◌++◌, length, take, Some, slice_get}
 use Rattle.explain.specs.Words.{Name, Stmt, Expr, Database, before, expr_of, is_assertion, decode, hypotheses, Carries, IsHypothesis, Item, Cite, Recall, Mark, SYMBOLS_LIMIT, State, start, IsSaved, Runs}
-use Rattle.explain.specs.declared.reason.Fault.{Fault}
-use Rattle.explain.specs.declared.reason.Fault.TheVariants.{UnknownLabel, Inactive, NotEarlier, TooFewResults, OtherTypecode, OtherExpression, NotDisjoint, TooManySymbols, NoMarkedResult}
+use Rattle.explain.specs.declared.reason.ItemFault.{ItemFault}
+use Rattle.explain.specs.declared.reason.ItemFault.TheVariants.{UnknownLabel, Inactive, NotEarlier, TooFewResults, OtherTypecode, OtherExpression, NotDisjoint, TooManySymbols, NoMarkedResult}
 use Rattle.explain.specs.declared.reason.Reason.{Reason}
 use Rattle.explain.specs.declared.reason.Reason.TheVariants as reason
 use Rattle.explain.specs.CitationResults.{CitationGives}
 use Rattle.explain.specs.WrongResults.{IsResultsFault}
 
 -- the last results on the stack, one for each mandatory hypothesis of the earlier assertion s at a, are wrong
-pub record AreWrong (S : Database) (names : List Name) (at : ℕ) (h : State) (a : ℕ) (s : Stmt) (fault : Fault) : Type 0 where
+pub record HasWrongResults (S : Database) (names : List Name) (at : ℕ) (h : State) (a : ℕ) (s : Stmt) (fault : ItemFault) : Type 0 where
   pub earlier : a < at
   pub assertion : IsTrue (is_assertion s)
   pub below : List Expr
@@ -28,37 +28,37 @@ pub record ExceedsLimit (S : Database) (at : ℕ) (h : State) (i : ℕ) (s : Stm
   pub heavy : SYMBOLS_LIMIT < h.weight + length result
 
 -- the fault of a citation of the statement s at i
-abbrev pub IsCitationFault : Database → List Name → ℕ → State → ℕ → Stmt → Fault → Type 0
+abbrev pub IsCitationFault : Database → List Name → ℕ → State → ℕ → Stmt → ItemFault → Type 0
 IsCitationFault S names at h i s (Inactive j) = (j ≡ i) × (i < at) × (IsHypothesis S at i s → ⊥) × (is_assertion s ≡ true → ⊥)
 IsCitationFault S names at h i s (NotEarlier j) = (j ≡ i) × (at ≤ i)
 IsCitationFault S names at h i s (TooFewResults b required present) = (b ≡ i) × (i < at) × IsTrue (is_assertion s) × (required ≡ length (hypotheses (before S i) s)) × (present ≡ length h.stack) × (present < required)
-IsCitationFault S names at h i s (OtherTypecode b p r) = AreWrong S names at h i s (OtherTypecode b p r)
-IsCitationFault S names at h i s (OtherExpression b p q r) = AreWrong S names at h i s (OtherExpression b p q r)
-IsCitationFault S names at h i s (NotDisjoint b x y u v) = AreWrong S names at h i s (NotDisjoint b x y u v)
+IsCitationFault S names at h i s (OtherTypecode b p r) = HasWrongResults S names at h i s (OtherTypecode b p r)
+IsCitationFault S names at h i s (OtherExpression b p q r) = HasWrongResults S names at h i s (OtherExpression b p q r)
+IsCitationFault S names at h i s (NotDisjoint b x y u v) = HasWrongResults S names at h i s (NotDisjoint b x y u v)
 IsCitationFault S names at h i s TooManySymbols = ExceedsLimit S at h i s
 IsCitationFault S names at h i s fault = ⊥
 
 -- the fault of a citation of a label: no statement has it, or a citation of its statement has the
 -- fault
-abbrev pub IsCiteFault : Database → List Name → ℕ → State → Name → Fault → Type 0
-IsCiteFault S names at h label UnknownLabel = (i : ℕ) (s : Stmt) → Carries S i s label → ⊥
-IsCiteFault S names at h label fault = (i : ℕ) × (s : Stmt) × Carries S i s label × IsCitationFault S names at h i s fault
+abbrev pub IsLabelCitationFault : Database → List Name → ℕ → State → Name → ItemFault → Type 0
+IsLabelCitationFault S names at h label UnknownLabel = (i : ℕ) (s : Stmt) → Carries S i s label → ⊥
+IsLabelCitationFault S names at h label fault = (i : ℕ) × (s : Stmt) × Carries S i s label × IsCitationFault S names at h i s fault
 
 -- the fault of a recall: no result is marked with the number, or the lengths of all results would
 -- exceed the limit
-abbrev pub IsRecallFault : State → ℕ → Fault → Type 0
+abbrev pub IsRecallFault : State → ℕ → ItemFault → Type 0
 IsRecallFault h k NoMarkedResult = (e : Expr) → IsSaved h.saved k e → ⊥
 IsRecallFault h k TooManySymbols = (e : Expr) × IsSaved h.saved k e × (SYMBOLS_LIMIT < h.weight + length e)
 IsRecallFault h k fault = ⊥
 
 -- the fault of a mark: there is no result
-abbrev pub IsMarkFault : State → Fault → Type 0
+abbrev pub IsMarkFault : State → ItemFault → Type 0
 IsMarkFault h NoMarkedResult = h.stack ≡ []
 IsMarkFault h fault = ⊥
 
 -- the fault of an item
-abbrev pub IsItemFault : Database → List Name → ℕ → State → Item → Fault → Type 0
-IsItemFault S names at h (Cite label) fault = IsCiteFault S names at h label fault
+abbrev pub IsItemFault : Database → List Name → ℕ → State → Item → ItemFault → Type 0
+IsItemFault S names at h (Cite label) fault = IsLabelCitationFault S names at h label fault
 IsItemFault S names at h (Recall k) fault = IsRecallFault h k fault
 IsItemFault S names at h Mark fault = IsMarkFault h fault
 

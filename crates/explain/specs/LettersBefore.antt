@@ -11,7 +11,7 @@ zeros (zero ∷ numbers) = suc (zeros numbers)
 zeros (suc n ∷ numbers) = zeros numbers
 
 -- the letters before an index are whole letter groups and marks up to `begin`, then letters U to Y with the value `digits`
-pub record IsReadTo (labels : ℕ) (letters : List ℕ) (index limit digits begin : ℕ) : Type 0 where
+pub record IsReadTo (label_count : ℕ) (letters : List ℕ) (index limit digits begin : ℕ) : Type 0 where
   pub numbers : List ℕ
   pub front : List ℕ
   pub begun : List ℕ
@@ -20,13 +20,13 @@ pub record IsReadTo (labels : ℕ) (letters : List ℕ) (index limit digits begi
   pub at_begin : length front ≡ begin
   pub at_index : length front + length begun ≡ index
   pub starts : IsFalse (starts_with_mark letters)
-  pub reads : (text : List ℕ) → numbers_from labels 0 (front ++ text) ≡ before_rest numbers (numbers_from limit 0 text)
-  pub goes : (text : List ℕ) → numbers_from limit 0 (begun ++ text) ≡ numbers_from limit digits text
-  pub counts : (word : Name) → number_from 0 (begun ++ word) ≡ number_from digits word
+  pub reads : (text : List ℕ) → numbers_from label_count 0 (front ++ text) ≡ before_rest numbers (numbers_from limit 0 text)
+  pub reads_begun : (text : List ℕ) → numbers_from limit 0 (begun ++ text) ≡ numbers_from limit digits text
+  pub counts_begun : (word : Name) → number_from 0 (begun ++ word) ≡ number_from digits word
   pub firsts : IsTrue (list_all is_first begun)
-  pub empty : digits ≡ 0 → begun ≡ []
-  pub some : begun ≡ [] → digits ≡ 0
-  pub limit_is : limit ≡ labels + zeros numbers
+  pub zero_digits : digits ≡ 0 → begun ≡ []
+  pub none_begun : begun ≡ [] → digits ≡ 0
+  pub limit_is : limit ≡ label_count + zeros numbers
   pub few : zeros numbers ≤ index
   pub small : 20 * digits ≤ limit
   pub room : digits ≢ 0 → 20 * digits < limit

@@ -1,3 +1,3 @@
--- How expressions and images are kept as numbers. No public clause cites these modules.
-pub mod Vectors
+-- How expressions, images and disjoint pairs are kept as numbers. No public clause cites these modules.
+pub mod CodeSlices
 pub mod DisjointPairs

@@ -4,8 +4,8 @@
 use Rattle.std.specs.Prelude.{◌≡◌, ℕ, IsTrue, List}
 use Rattle.explain.specs.Words.{Name, Stmt, Expr, Database, before, hypotheses, mandatory_groups, are_groups_disjoint}
 use Rattle.frame.specs.Substitution.{Images}
-use Rattle.explain.specs.declared.reason.Fault.{Fault}
-use Rattle.explain.specs.declared.reason.Fault.TheVariants.{NotDisjoint, OtherTypecode, OtherExpression}
+use Rattle.explain.specs.declared.reason.ItemFault.{ItemFault}
+use Rattle.explain.specs.declared.reason.ItemFault.TheVariants.{NotDisjoint, OtherTypecode, OtherExpression}
 use Rattle.explain.specs.ReadImages.{images_read}
 use Rattle.explain.specs.DisjointViolations.{IsViolation}
 use Rattle.explain.specs.CitationFaults.{AllMatch, IsMismatchFault}
@@ -19,12 +19,12 @@ abbrev pub ResultsMatch : Database → ℕ → Stmt → List Expr → Type 0
 ResultsMatch S a s rs = AllMatch S (images_of S a s rs) (hypotheses (before S a) s) rs
 
 -- each hypothesis requires the result that it has, and the images are disjoint
-pub record AreCorrect (S : Database) (at a : ℕ) (s : Stmt) (rs : List Expr) : Type 0 where
+pub record AreCorrectResults (S : Database) (at a : ℕ) (s : Stmt) (rs : List Expr) : Type 0 where
   pub fit : ResultsMatch S a s rs
   pub disjoint : IsTrue (are_groups_disjoint (before S at) (images_of S a s rs) (mandatory_groups (before S a) s))
 
 -- the fault of the results: the first mismatch, or two variables that violate the disjoint variable condition
-abbrev pub IsResultsFault : Database → List Name → ℕ → ℕ → Stmt → List Expr → Fault → Type 0
+abbrev pub IsResultsFault : Database → List Name → ℕ → ℕ → Stmt → List Expr → ItemFault → Type 0
 IsResultsFault S names at a s rs (OtherTypecode b p actual) = IsMismatchFault S names a s rs (OtherTypecode b p actual)
 IsResultsFault S names at a s rs (OtherExpression b p required actual) = IsMismatchFault S names a s rs (OtherExpression b p required actual)
 IsResultsFault S names at a s rs (NotDisjoint b x y u v) =

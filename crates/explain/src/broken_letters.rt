@@ -24,9 +24,9 @@ pub(crate) struct LetterState {
 /// write items.
 ///
 /// Cost: the letters.
-pub(crate) fn letter_break(letters: &[u8], labels: usize) -> Option<LetterBreak>
-    requires { 5 * (labels + length letters.now) + 200 < 2 ^ 64 }
-    ensures { (names : List Name) → length names ≡ labels → MatchOption result ((items : List Item) × WritesRow names letters.now items)
+pub(crate) fn letter_break(letters: &[u8], label_count: usize) -> Option<LetterBreak>
+    requires { 5 * (label_count + length letters.now) + 200 < 2 ^ 64 }
+    ensures { (names : List Name) → length names ≡ label_count → MatchOption result ((items : List Item) × WritesRow names letters.now items)
         (IsLetterBreak names letters.now) }
 {
     if begins_with_mark(letters) {
@@ -36,7 +36,7 @@ pub(crate) fn letter_break(letters: &[u8], labels: usize) -> Option<LetterBreak>
         });
     }
     let mut state = LetterState {
-        limit: labels,
+        limit: label_count,
         digits: 0,
         begin: 0,
     };
@@ -66,9 +66,9 @@ impl LetterState {
         requires room { 5 * self.limit + 200 < 2 ^ 64 }
         requires index { index + 1 < 2 ^ 64 }
         requires small { 20 * self.digits ≤ self.limit }
-        ensures { (labels : ℕ) (letters : List ℕ) → IsReadTo labels letters index self.limit self.digits self.begin → slice_get letters index ≡ Some letter
-            → MatchResult result (λ next. IsReadTo labels letters (index + 1) next.limit next.digits next.begin)
-            (λ broken. (names : List Name) → length names ≡ labels → IsLetterBreak names letters broken) }
+        ensures { (label_count : ℕ) (letters : List ℕ) → IsReadTo label_count letters index self.limit self.digits self.begin → slice_get letters index ≡ Some letter
+            → MatchResult result (λ next. IsReadTo label_count letters (index + 1) next.limit next.digits next.begin)
+            (λ broken. (names : List Name) → length names ≡ label_count → IsLetterBreak names letters broken) }
     {
         match letter {
             b'A'..=b'T' => {

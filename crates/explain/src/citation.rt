@@ -5,16 +5,16 @@ ghost use Rattle.frame.specs.Below.{AllBelow};
 ghost use Rattle.frame.specs.FrameOf.{HasAssertion, hypotheses};
 ghost use Rattle.frame.specs.AssertionView.{IsViewOf};
 ghost use Rattle.frame.specs.AtPosition.{AreLegal};
-ghost use Rattle.explain.specs.Stored.Vectors.{AreSymbols, AreImages, CountIs, codes, named_expressions};
+ghost use Rattle.explain.specs.Stored.CodeSlices.{AreSymbols, AreImages, HasHypothesisCount, codes, named_expressions};
 ghost use Rattle.explain.specs.CitationFaults.{IsFaultOfResult, IsMismatchFault, NumberedResultsMatch, AreImagesOfResults};
 ghost use Rattle.scope.specs.Active.{before, stmt_at};
 ghost use Rattle.explain.specs.CitationResults.{CannotCite, named_without_cached};
 ghost use Rattle.explain.specs.FirstFault.{IsCitationFault};
-ghost use Rattle.explain.specs.WrongResults.{AreCorrect, IsResultsFault};
+ghost use Rattle.explain.specs.WrongResults.{AreCorrectResults, IsResultsFault};
 ghost use Rattle.subst.specs.declared.buffer.TheConstants.{SYMBOLS_LIMIT};
 
 use crate::images::{Images, agrees, apply, read_images};
-use crate::reason::Fault;
+use crate::reason::ItemFault;
 use crate::violation::find_violation;
 use entries::{AssertionView, Hypothesis};
 use frame::{FrameBuffers, Frames, Meaning};
@@ -31,7 +31,7 @@ pub fn citation_fault(
     at: usize,
     statement: usize,
     results: &Results,
-) -> Result<Fault, AllocError>
+) -> Result<ItemFault, AllocError>
     requires position { (1 ≤ at) × (at ≤ length frames.now.statements) }
     requires results { AllBelow (length frames.now.names) results.now.results.stack }
     requires stuck { CannotCite frames.now at statement results.now }
@@ -39,12 +39,12 @@ pub fn citation_fault(
         → IfOk result (IsCitationFault frames.now.statements frames.now.names at (named_without_cached frames.now labels results.now) statement s) }
 {
     match frames.meaning(at, statement) {
-        Meaning::Hypothesis(_) => Ok(Fault::TooManySymbols),
+        Meaning::Hypothesis(_) => Ok(ItemFault::TooManySymbols),
         Meaning::Assertion => assertion_fault(alloc, frames, at, statement, results),
-        Meaning::Nothing if statement < at => Ok(Fault::Inactive {
+        Meaning::Nothing if statement < at => Ok(ItemFault::Inactive {
             hypothesis: statement,
         }),
-        Meaning::Nothing => Ok(Fault::NotEarlier { statement }),
+        Meaning::Nothing => Ok(ItemFault::NotEarlier { statement }),
     }
 }
 
@@ -53,23 +53,31 @@ fn assertion_fault(
     alloc: Global,
     frames: &Frames,
     at: usize,
-    a: usize,
+    cited_at: usize,
     results: &Results,
-) -> Result<Fault, AllocError>
+) -> Result<ItemFault, AllocError>
     requires position { (1 ≤ at) × (at ≤ length frames.now.statements) }
-    requires earlier { a < at }
-    requires assertion { (s : Statement) × HasAssertion frames.now.statements a s }
+    requires earlier { cited_at < at }
+    requires assertion { (s : Statement) × HasAssertion frames.now.statements cited_at s }
     requires results { AllBelow (length frames.now.names) results.now.results.stack }
-    requires stuck { CannotCite frames.now at a results.now }
-    ensures { (labels : ℕ) (s : Statement) → stmt_at frames.now.statements a ≡ Some s
-        → IfOk result (IsCitationFault frames.now.statements frames.now.names at (named_without_cached frames.now labels results.now) a s) }
+    requires stuck { CannotCite frames.now at cited_at results.now }
+    ensures { (labels : ℕ) (s : Statement) → stmt_at frames.now.statements cited_at ≡ Some s
+        → IfOk result (IsCitationFault frames.now.statements frames.now.names at (named_without_cached frames.now labels results.now) cited_at s) }
 {
     let mut mandatory = Vec::new(alloc);
-    frames.mandatory(a, &mut mandatory)?;
+    frames.mandatory(cited_at, &mut mandatory)?;
     let mut frame_buffers = FrameBuffers::new(alloc);
-    frames.fill_buffers(a, &mut frame_buffers)?;
-    let cited = frames.buffered_view(a, &frame_buffers);
-    assertion_view_fault(alloc, frames, at, a, mandatory.as_slice(), &cited, results)
+    frames.fill_buffers(cited_at, &mut frame_buffers)?;
+    let cited = frames.buffered_view(cited_at, &frame_buffers);
+    assertion_view_fault(
+        alloc,
+        frames,
+        at,
+        cited_at,
+        mandatory.as_slice(),
+        &cited,
+        results,
+    )
 }
 
 /// Returns why an earlier assertion cannot be cited, given its mandatory hypotheses and a view of it.
@@ -77,35 +85,43 @@ fn assertion_view_fault(
     alloc: Global,
     frames: &Frames,
     at: usize,
-    a: usize,
+    cited_at: usize,
     mandatory: &[u32],
     cited: &AssertionView<'_>,
     results: &Results,
-) -> Result<Fault, AllocError>
+) -> Result<ItemFault, AllocError>
     requires legal { AreLegal frames.now.statements frames.now.names }
     requires position { (1 ≤ at) × (at ≤ length frames.now.statements) }
-    requires earlier { a < at }
-    requires assertion { (s : Statement) × HasAssertion frames.now.statements a s }
-    requires mandatory { (s : Statement) → stmt_at frames.now.statements a ≡ Some s → mandatory.now ≡ hypotheses (before frames.now.statements a) s }
-    requires cited { (s : Statement) → stmt_at frames.now.statements a ≡ Some s → IsViewOf frames.now.statements frames.now.names a s cited.now }
+    requires earlier { cited_at < at }
+    requires assertion { (s : Statement) × HasAssertion frames.now.statements cited_at s }
+    requires mandatory { (s : Statement) → stmt_at frames.now.statements cited_at ≡ Some s → mandatory.now ≡ hypotheses (before frames.now.statements cited_at) s }
+    requires cited { (s : Statement) → stmt_at frames.now.statements cited_at ≡ Some s → IsViewOf frames.now.statements frames.now.names cited_at s cited.now }
     requires results { AllBelow (length frames.now.names) results.now.results.stack }
-    requires stuck { CannotCite frames.now at a results.now }
-    ensures { (labels : ℕ) (s : Statement) → stmt_at frames.now.statements a ≡ Some s
-        → IfOk result (IsCitationFault frames.now.statements frames.now.names at (named_without_cached frames.now labels results.now) a s) }
+    requires stuck { CannotCite frames.now at cited_at results.now }
+    ensures { (labels : ℕ) (s : Statement) → stmt_at frames.now.statements cited_at ≡ Some s
+        → IfOk result (IsCitationFault frames.now.statements frames.now.names at (named_without_cached frames.now labels results.now) cited_at s) }
 {
     let present = results.len();
     let required = mandatory.len();
     if present < required {
-        return Ok(Fault::TooFewResults {
-            assertion: a,
+        return Ok(ItemFault::TooFewResults {
+            assertion: cited_at,
             required,
             present,
         });
     }
     let taken = last_results(alloc, results, present - required)?;
-    match results_fault(alloc, frames, at, a, mandatory, cited, taken.as_slice())? {
+    match results_fault(
+        alloc,
+        frames,
+        at,
+        cited_at,
+        mandatory,
+        cited,
+        taken.as_slice(),
+    )? {
         Some(fault) => Ok(fault),
-        None => Ok(Fault::TooManySymbols),
+        None => Ok(ItemFault::TooManySymbols),
     }
 }
 
@@ -133,32 +149,34 @@ fn results_fault(
     alloc: Global,
     frames: &Frames,
     at: usize,
-    a: usize,
+    cited_at: usize,
     mandatory: &[u32],
     cited: &AssertionView<'_>,
     results: &[&[u32]],
-) -> Result<Option<Fault>, AllocError>
+) -> Result<Option<ItemFault>, AllocError>
     requires legal { AreLegal frames.now.statements frames.now.names }
     requires position { (1 ≤ at) × (at ≤ length frames.now.statements) }
-    requires earlier { a < at }
-    requires assertion { (s : Statement) × HasAssertion frames.now.statements a s }
-    requires mandatory { (s : Statement) → stmt_at frames.now.statements a ≡ Some s → mandatory.now ≡ hypotheses (before frames.now.statements a) s }
-    requires cited { (s : Statement) → stmt_at frames.now.statements a ≡ Some s → IsViewOf frames.now.statements frames.now.names a s cited.now }
+    requires earlier { cited_at < at }
+    requires assertion { (s : Statement) × HasAssertion frames.now.statements cited_at s }
+    requires mandatory { (s : Statement) → stmt_at frames.now.statements cited_at ≡ Some s → mandatory.now ≡ hypotheses (before frames.now.statements cited_at) s }
+    requires cited { (s : Statement) → stmt_at frames.now.statements cited_at ≡ Some s → IsViewOf frames.now.statements frames.now.names cited_at s cited.now }
     requires symbols { AreSymbols (length frames.now.names) results.now }
-    requires count { CountIs frames.now.statements a (length results.now) }
-    ensures { (s : Statement) → stmt_at frames.now.statements a ≡ Some s
-        → IfOk result (λ r. MatchOption r (AreCorrect frames.now.statements at a s (named_expressions frames.now.names results.now))
-        (IsResultsFault frames.now.statements frames.now.names at a s (named_expressions frames.now.names results.now))) }
+    requires count { HasHypothesisCount frames.now.statements cited_at (length results.now) }
+    ensures { (s : Statement) → stmt_at frames.now.statements cited_at ≡ Some s
+        → IfOk result (λ r. MatchOption r (AreCorrectResults frames.now.statements at cited_at s (named_expressions frames.now.names results.now))
+        (IsResultsFault frames.now.statements frames.now.names at cited_at s (named_expressions frames.now.names results.now))) }
 {
     let images = read_images(alloc, &cited.hypotheses, results)?;
-    if let Some(fault) = first_mismatch(alloc, frames, a, mandatory, cited, results, &images)? {
+    if let Some(fault) = first_mismatch(
+        alloc, frames, cited_at, mandatory, cited, results, &images,
+    )? {
         return Ok(Some(fault));
     }
     let pairs = frames.active_pairs(at);
     let violation = find_violation(alloc, &pairs, &images, &cited.groups)?;
     if let Some(violation) = violation {
-        return Ok(Some(Fault::NotDisjoint {
-            assertion: a,
+        return Ok(Some(ItemFault::NotDisjoint {
+            assertion: cited_at,
             first: violation.first,
             second: violation.second,
             in_first_image: violation.in_first_image,
@@ -176,22 +194,22 @@ fn results_fault(
 fn first_mismatch(
     alloc: Global,
     frames: &Frames,
-    a: usize,
+    cited_at: usize,
     mandatory: &[u32],
     cited: &AssertionView<'_>,
     results: &[&[u32]],
     images: &Images<'_>,
-) -> Result<Option<Fault>, AllocError>
+) -> Result<Option<ItemFault>, AllocError>
     requires legal { AreLegal frames.now.statements frames.now.names }
-    requires assertion { (s : Statement) × HasAssertion frames.now.statements a s }
-    requires mandatory { (s : Statement) → stmt_at frames.now.statements a ≡ Some s → mandatory.now ≡ hypotheses (before frames.now.statements a) s }
-    requires cited { (s : Statement) → stmt_at frames.now.statements a ≡ Some s → IsViewOf frames.now.statements frames.now.names a s cited.now }
+    requires assertion { (s : Statement) × HasAssertion frames.now.statements cited_at s }
+    requires mandatory { (s : Statement) → stmt_at frames.now.statements cited_at ≡ Some s → mandatory.now ≡ hypotheses (before frames.now.statements cited_at) s }
+    requires cited { (s : Statement) → stmt_at frames.now.statements cited_at ≡ Some s → IsViewOf frames.now.statements frames.now.names cited_at s cited.now }
     requires symbols { AreSymbols (length frames.now.names) results.now }
     requires images { AreImages (length frames.now.names) images.now }
-    requires count { CountIs frames.now.statements a (length results.now) }
-    requires read { AreImagesOfResults frames.now a results.now images.now }
-    ensures { (s : Statement) → stmt_at frames.now.statements a ≡ Some s
-        → IfOk result (λ r. MatchOption r (NumberedResultsMatch frames.now a s results.now) (IsMismatchFault frames.now.statements frames.now.names a s (named_expressions frames.now.names results.now))) }
+    requires count { HasHypothesisCount frames.now.statements cited_at (length results.now) }
+    requires read { AreImagesOfResults frames.now cited_at results.now images.now }
+    ensures { (s : Statement) → stmt_at frames.now.statements cited_at ≡ Some s
+        → IfOk result (λ r. MatchOption r (NumberedResultsMatch frames.now cited_at s results.now) (IsMismatchFault frames.now.statements frames.now.names cited_at s (named_expressions frames.now.names results.now))) }
 {
     for k in 0..results.len() {
         let hypothesis = mandatory[k] as usize;
@@ -205,7 +223,7 @@ fn first_mismatch(
             return Ok(Some(mismatch_fault(
                 cited.hypotheses.get(k),
                 cited.typecodes[k],
-                a,
+                cited_at,
                 hypothesis,
                 required,
                 result,
@@ -223,7 +241,7 @@ fn mismatch_fault(
     hypothesis: usize,
     required: Vec<u32>,
     actual: Vec<u32>,
-) -> Fault
+) -> ItemFault
     ensures { IsFaultOfResult kind typecode assertion hypothesis required actual result }
 {
     let begins = match actual.first() {
@@ -231,13 +249,13 @@ fn mismatch_fault(
         None => false,
     };
     if matches!(kind, Hypothesis::Float(_)) && !begins {
-        return Fault::OtherTypecode {
+        return ItemFault::OtherTypecode {
             assertion,
             hypothesis,
             result: actual,
         };
     }
-    Fault::OtherExpression {
+    ItemFault::OtherExpression {
         assertion,
         hypothesis,
         required,

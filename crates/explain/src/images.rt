@@ -3,7 +3,7 @@ ghost use Rattle.std.specs.Prelude.{◌≡◌, ℕ, ◌<◌, ◌≤◌, ◌+◌,
 ghost use Rattle.frame.specs.Below.{AreBelow};
 ghost use Rattle.frame.specs.Substitution.{code_image, code_apply};
 ghost use Rattle.explain.specs.ImageIndexes.{IsImageIndex};
-ghost use Rattle.explain.specs.Stored.Vectors.{codes, AreSymbols, AreImages, code_images};
+ghost use Rattle.explain.specs.Stored.CodeSlices.{codes, AreSymbols, AreImages, code_images};
 ghost use Rattle.explain.specs.ReadImages.{code_images_read};
 
 use entries::{Hypotheses, Hypothesis};
@@ -74,19 +74,19 @@ impl<'a> Images<'a> {
 }
 
 /// Returns the images that the results give: the result for a `$f`, without its typecode, is the
-/// image of its variable. `kinds` are the hypotheses.
+/// image of its variable.
 ///
 /// Errors: an allocation fails. Cost: n log n for n hypotheses.
 pub fn read_images<'a>(
     alloc: Global,
-    kinds: &Hypotheses<'_>,
+    hypotheses: &Hypotheses<'_>,
     results: &[&'a [u32]],
 ) -> Result<Images<'a>, AllocError>
-    requires { length kinds.now ≡ length results.now }
+    requires { length hypotheses.now ≡ length results.now }
     ensures below { (n : ℕ) → AreSymbols n results.now → IfOk result (λ images. AreImages n images) }
-    ensures read { IfOk result (λ images. code_images images ≡ code_images_read kinds.now (codes results.now)) }
+    ensures read { IfOk result (λ images. code_images images ≡ code_images_read hypotheses.now (codes results.now)) }
 {
-    let list = list_images(alloc, kinds, results)?;
+    let list = list_images(alloc, hypotheses, results)?;
     Images::new(alloc, list)
 }
 
@@ -95,16 +95,16 @@ pub fn read_images<'a>(
 /// Errors: an allocation fails.
 fn list_images<'a>(
     alloc: Global,
-    kinds: &Hypotheses<'_>,
+    hypotheses: &Hypotheses<'_>,
     results: &[&'a [u32]],
 ) -> Result<Vec<Image<'a>>, AllocError>
-    requires { length kinds.now ≡ length results.now }
+    requires { length hypotheses.now ≡ length results.now }
     ensures below { (n : ℕ) → AreSymbols n results.now → IfOk result (λ images. AreImages n images.items) }
-    ensures read { IfOk result (λ images. code_images images.items ≡ code_images_read kinds.now (codes results.now)) }
+    ensures read { IfOk result (λ images. code_images images.items ≡ code_images_read hypotheses.now (codes results.now)) }
 {
     let mut images = Vec::new(alloc);
-    for k in 0..kinds.len() {
-        if let Hypothesis::Float(variable) = kinds.get(k) {
+    for k in 0..hypotheses.len() {
+        if let Hypothesis::Float(variable) = hypotheses.get(k) {
             let symbols = without_first(results[k]);
             images.push(Image { variable, symbols })?;
         }

@@ -9,13 +9,13 @@
 //!
 //! In clauses, codes are the numbers of symbols.
 //!
-//! Reading order: `why`, `proof_fault`, `code`, `broken_letters`; then `reason`, `images`,
+//! Reading order: `why`, `proof_fault`, `broken_code`, `broken_letters`; then `reason`, `images`,
 //! `variable_lists`, `disjoint_pairs`, `violation`, `citation`, `run`.
 #![tactic(auto)]
 
+mod broken_code;
 mod broken_letters;
 mod citation;
-mod code;
 mod disjoint_pairs;
 mod images;
 mod proof_fault;
@@ -26,6 +26,6 @@ mod violation;
 mod why;
 
 pub use proof_fault::explain;
-pub use reason::{Fault, Reason};
+pub use reason::{ItemFault, Reason};
 pub use run::first_fault;
 pub use why::{CodeBreak, LetterBreak, LetterFault, WhyUnproved};

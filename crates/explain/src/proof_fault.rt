@@ -10,7 +10,7 @@ ghost use Rattle.verify.specs.Proves.{Proves, mandatory_labels};
 ghost use Rattle.verify.specs.Right.{IsProvable};
 ghost use Rattle.explain.specs.Why.{IsWhy};
 
-use crate::code::code_break;
+use crate::broken_code::code_break;
 use crate::run::first_fault;
 use crate::why::WhyUnproved;
 use frame::Frames;

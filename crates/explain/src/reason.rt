@@ -4,7 +4,7 @@
 #[derive(Debug, Drop)]
 pub enum Reason {
     /// An item, counted from 0, has a fault.
-    Item { item: usize, fault: Fault },
+    Item { item: usize, fault: ItemFault },
     /// The number of results on the stack at the end is `count`, and not 1.
     ResultCount { count: usize },
     /// The only result at the end is not the theorem's expression.
@@ -13,7 +13,7 @@ pub enum Reason {
 
 /// A fault of an item.
 #[derive(Debug, Drop)]
-pub enum Fault {
+pub enum ItemFault {
     /// No statement has the label.
     UnknownLabel,
     /// The hypothesis is not active at the theorem.

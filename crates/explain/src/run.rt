@@ -5,12 +5,12 @@ ghost use Rattle.scope.specs.Active.{stmt_at};
 ghost use Rattle.proof_code.specs.declared.item.Item.{Item};
 ghost use Rattle.explain.specs.CitationResults.{named_without_cached};
 ghost use Rattle.explain.specs.FirstFault.{IsItemFault, IsEndReason, IsFirstFault};
-ghost use Rattle.explain.specs.declared.reason.Fault.TheVariants.{TooManySymbols, NoMarkedResult};
+ghost use Rattle.explain.specs.declared.reason.ItemFault.TheVariants.{TooManySymbols, NoMarkedResult};
 ghost use Rattle.verify.specs.Right.{IsProvable, IsRight};
 ghost use Rattle.verify.specs.Stops.{IsNotOnly, IsStopped};
 
 use crate::citation::citation_fault;
-use crate::reason::{Fault, Reason};
+use crate::reason::{ItemFault, Reason};
 use frame::Frames;
 use proof_code::Items;
 use std::alloc::{AllocError, Global};
@@ -51,7 +51,7 @@ pub fn first_fault(
 }
 
 /// Returns the fault of the item at which the run stops. The number of an item is 0 for a mark, from 1 to the count of the
-/// labels for a citation, and greater for a recall.
+/// labels for a citation, and greater for a recall. `labels` is the number of results cached for labels.
 fn item_fault(
     alloc: Global,
     frames: &Frames,
@@ -60,16 +60,16 @@ fn item_fault(
     item: usize,
     labels: usize,
     results: &Results,
-) -> Result<Fault, AllocError>
+) -> Result<ItemFault, AllocError>
     requires position { (1 ≤ at) × (at ≤ length frames.now.statements) }
     requires item { item < length items.now }
     requires stopped { IsStopped frames.now.statements at frames.now.names items.now item labels results.now.results }
-    ensures { (what : Item) → slice_get items.now item ≡ Some what → IfOk result (IsItemFault frames.now.statements frames.now.names at (named_without_cached frames.now labels results.now) what) }
+    ensures { (failing : Item) → slice_get items.now item ≡ Some failing → IfOk result (IsItemFault frames.now.statements frames.now.names at (named_without_cached frames.now labels results.now) failing) }
 {
     let parts = items.parts();
     let number = parts.numbers[item] as usize;
     if number == 0 {
-        return Ok(Fault::NoMarkedResult);
+        return Ok(ItemFault::NoMarkedResult);
     }
     let positions = frames.positions(parts.labels)?;
     if number > positions.len() {
@@ -77,19 +77,20 @@ fn item_fault(
     }
     match positions[number - 1] {
         Some(statement) => citation_fault(alloc, frames, at, statement, results),
-        None => Ok(Fault::UnknownLabel),
+        None => Ok(ItemFault::UnknownLabel),
     }
 }
 
-/// Returns the fault of a recall that fails. The index counts the marked results, which follow those cached for labels.
-fn recall_fault(results: &Results, labels: usize, index: usize) -> Fault
+/// Returns the fault of a recall that fails. The first `labels` saved results are cached for labels; the index counts the
+/// marked results, which follow them.
+fn recall_fault(results: &Results, labels: usize, index: usize) -> ItemFault
     ensures marked { index < length results.now.results.saved - labels → result ≡ TooManySymbols }
     ensures unmarked { length results.now.results.saved - labels ≤ index → result ≡ NoMarkedResult }
 {
     if index < results.saved_len().saturating_sub(labels) {
-        Fault::TooManySymbols
+        ItemFault::TooManySymbols
     } else {
-        Fault::NoMarkedResult
+        ItemFault::NoMarkedResult
     }
 }
 

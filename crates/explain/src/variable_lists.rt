@@ -4,7 +4,7 @@ ghost use Rattle.mm_lex.specs.Alphabet.{Name};
 ghost use Rattle.mm_read.specs.Statements.{Database};
 ghost use Rattle.frame.specs.Below.{AreBelow};
 ghost use Rattle.frame.specs.Substitution.{code_image};
-ghost use Rattle.explain.specs.Stored.Vectors.{AreImages, code_images};
+ghost use Rattle.explain.specs.Stored.CodeSlices.{AreImages, code_images};
 ghost use Rattle.explain.specs.VariableLists.{AreListsOf, AreSeen, AreVariablesOf, IsAdded};
 
 use crate::images::Images;
@@ -14,7 +14,7 @@ use std::collections::BTreeSet;
 
 /// The size of the table of recent variables. A variable is found without a search if, among the
 /// variables whose numbers are the same modulo this size, it was added last.
-const RECENT: usize = 256;
+const RECENT_SIZE: usize = 256;
 
 /// Distinct variables, in the order of their first occurrences.
 #[derive(Drop)]
@@ -23,8 +23,8 @@ pub struct VariableList {
     list: Vec<u32>,
     /// The same variables as a set.
     seen: BTreeSet<u32>,
-    /// For each number modulo `RECENT`, the index in the list of the variable that was added last.
-    recent: [usize; RECENT],
+    /// For each number modulo `RECENT_SIZE`, the index in the list of the variable that was added last.
+    recent: [usize; RECENT_SIZE],
 }
 
 impl VariableList {
@@ -36,7 +36,7 @@ impl VariableList {
         requires seen { AreSeen pairs.now.names self.old }
         ensures { OnOk result (IsAdded pairs.now.statements pairs.now.names self.old self.new code) }
     {
-        let bucket = code as usize % RECENT;
+        let bucket = code as usize % RECENT_SIZE;
         if is_at(self.list.as_slice(), self.recent[bucket], code) || !pairs.variable(code) {
             return Ok(());
         }
@@ -68,7 +68,7 @@ fn variables_of(alloc: Global, pairs: &Pairs<'_>, symbols: &[u32]) -> Result<Vec
     let mut variables = VariableList {
         list: Vec::new(alloc),
         seen: BTreeSet::new(alloc),
-        recent: [0; RECENT],
+        recent: [0; RECENT_SIZE],
     };
     for symbol in symbols {
         variables.add(pairs, *symbol)?;

@@ -5,7 +5,7 @@ ghost use Rattle.names.specs.Codes.{AreDistinct, name_at, decode};
 ghost use Rattle.frame.specs.Below.{AreBelow, AllBelow};
 ghost use Rattle.frame.specs.Substitution.{image};
 ghost use Rattle.frame.specs.Disjoint.{are_disjoint, is_group_disjoint, are_groups_disjoint};
-ghost use Rattle.explain.specs.Stored.Vectors.{AreImages, code_images};
+ghost use Rattle.explain.specs.Stored.CodeSlices.{AreImages, code_images};
 ghost use Rattle.explain.specs.ReadImages.{named_images, AreVariables};
 ghost use Rattle.explain.specs.DisjointViolations.{IsViolation, IsViolationIn, IsViolationWith, is_permitted_pair, is_other_disjoint, IsUnpairedIn, AreUnpairedIn};
 ghost use Rattle.explain.specs.VariableLists.{AreListsOf};

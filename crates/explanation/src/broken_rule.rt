@@ -72,13 +72,13 @@ fn explain_rule_in(alloc: Global, lines: &mut Lines<'_>, context: &RuleContext<'
 /// Writes that a block is never closed.
 fn explain_open_block(lines: &mut Lines<'_>, context: &RuleContext<'_>) {
     if let Some(open) = find_unclosed_block(context.statements) {
-        push_token_start(lines, context, open, 1);
+        push_token_place_and_colon(lines, context, open, 1);
         lines.push(b"this block is never closed\n");
     }
 }
 
 /// Writes `LINE:COLUMN: ` for a token of a statement.
-fn push_token_start(
+fn push_token_place_and_colon(
     lines: &mut Lines<'_>,
     context: &RuleContext<'_>,
     statement: usize,
@@ -150,7 +150,7 @@ fn explain_violation(
 
 /// Writes that a `$c` is inside a block, or that a `$}` closes none.
 fn explain_whole_statement(lines: &mut Lines<'_>, context: &RuleContext<'_>) {
-    push_token_start(lines, context, context.statement, 1);
+    push_token_place_and_colon(lines, context, context.statement, 1);
     // G1: a `$c` is in the outermost block. The other rule that a whole statement breaks is G10: a `$}` closes a block.
     if context.rule == Rule::G1 {
         return lines.push(
@@ -163,7 +163,7 @@ fn explain_whole_statement(lines: &mut Lines<'_>, context: &RuleContext<'_>) {
 /// Writes the place of a symbol of the statement, and the symbol.
 fn push_symbol(lines: &mut Lines<'_>, context: &RuleContext<'_>, stmt: &Stmt, symbol: usize) {
     let token = first_symbol_token(stmt).saturating_add(symbol);
-    push_token_start(lines, context, context.statement, token);
+    push_token_place_and_colon(lines, context, context.statement, token);
     lines.push(symbol_at(stmt, symbol));
 }
 
@@ -209,7 +209,7 @@ fn explain_earlier(
 
 /// Writes that another statement uses the label, and where.
 fn explain_label(lines: &mut Lines<'_>, context: &RuleContext<'_>, stmt: &Stmt, other: usize) {
-    push_token_start(lines, context, context.statement, 1);
+    push_token_place_and_colon(lines, context, context.statement, 1);
     lines.push(label_of(stmt));
     push_other_use(lines, context, label_of(stmt), other);
 }

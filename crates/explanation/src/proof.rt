@@ -14,7 +14,7 @@ use crate::step_fault::push_fault;
 use crate::text_tokens::TextTokens;
 use crate::theorem::Theorem;
 use crate::written_lines::Lines;
-use explain::{Fault, Reason, WhyUnproved, explain};
+use explain::{ItemFault, Reason, WhyUnproved, explain};
 use frame::Frames;
 use mm_read::{ReadFault, Stmt, read};
 use proof_code::Items;
@@ -121,7 +121,7 @@ fn explain_step(
     theorem: &Theorem<'_>,
     items: &Items,
     item: usize,
-    fault: &Fault,
+    fault: &ItemFault,
 ) {
     theorem.push_spot(lines, spot_of(theorem.proof, item));
     push_step(lines, items, item);

@@ -3,7 +3,7 @@
 use crate::expressions::push_expression;
 use crate::theorem::Theorem;
 use crate::written_lines::Lines;
-use explain::Fault;
+use explain::ItemFault;
 use frame::Frames;
 
 /// Writes the fault of the step, each line indented by two spaces.
@@ -11,26 +11,26 @@ pub(crate) fn push_fault(
     lines: &mut Lines<'_>,
     theorem: &Theorem<'_>,
     frames: &Frames,
-    fault: &Fault,
+    fault: &ItemFault,
 ) {
     match fault {
-        Fault::UnknownLabel => lines.push(b"  no statement has this label\n"),
-        Fault::Inactive { .. } => push_inactive(lines, theorem),
-        Fault::NotEarlier { statement } if theorem.is_hypothesis(*statement) => {
+        ItemFault::UnknownLabel => lines.push(b"  no statement has this label\n"),
+        ItemFault::Inactive { .. } => push_inactive(lines, theorem),
+        ItemFault::NotEarlier { statement } if theorem.is_hypothesis(*statement) => {
             push_inactive(lines, theorem);
         }
-        Fault::NotEarlier { statement } => push_not_earlier(lines, theorem, *statement),
-        Fault::TooFewResults {
+        ItemFault::NotEarlier { statement } => push_not_earlier(lines, theorem, *statement),
+        ItemFault::TooFewResults {
             required,
             present,
             ..
-        } => push_too_few(lines, *required, *present),
-        Fault::OtherTypecode {
+        } => push_too_few_results(lines, *required, *present),
+        ItemFault::OtherTypecode {
             hypothesis,
             result,
             ..
-        } => push_typecode(lines, theorem, frames, *hypothesis, result.as_slice()),
-        Fault::OtherExpression {
+        } => push_other_typecode(lines, theorem, frames, *hypothesis, result.as_slice()),
+        ItemFault::OtherExpression {
             hypothesis,
             required,
             result,
@@ -43,7 +43,7 @@ pub(crate) fn push_fault(
             required.as_slice(),
             result.as_slice(),
         ),
-        Fault::NotDisjoint {
+        ItemFault::NotDisjoint {
             first,
             second,
             in_first_image,
@@ -55,10 +55,10 @@ pub(crate) fn push_fault(
             [*first, *second],
             [*in_first_image, *in_second_image],
         ),
-        Fault::TooManySymbols => lines.push(
+        ItemFault::TooManySymbols => lines.push(
             b"  its results have more than 67108864 symbols, all together\n",
         ),
-        Fault::NoMarkedResult => lines.push(b"  no such result is marked\n"),
+        ItemFault::NoMarkedResult => lines.push(b"  no such result is marked\n"),
     }
 }
 
@@ -83,7 +83,7 @@ fn push_not_earlier(lines: &mut Lines<'_>, theorem: &Theorem<'_>, at: usize) {
 }
 
 /// Writes that the step requires more results than are present.
-fn push_too_few(lines: &mut Lines<'_>, required: usize, present: usize) {
+fn push_too_few_results(lines: &mut Lines<'_>, required: usize, present: usize) {
     lines.push(b"  it takes ");
     lines.push_number(required);
     lines.push(if required == 1 {
@@ -96,7 +96,7 @@ fn push_too_few(lines: &mut Lines<'_>, required: usize, present: usize) {
 }
 
 /// Writes that the result for a `$f` has another typecode.
-fn push_typecode(
+fn push_other_typecode(
     lines: &mut Lines<'_>,
     theorem: &Theorem<'_>,
     frames: &Frames,

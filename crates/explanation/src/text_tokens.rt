@@ -1,4 +1,4 @@
-//! A text with the places of its tokens.
+//! A text with the spans of its tokens.
 ghost use Rattle.std.specs.Prelude.{◌≡◌, IfOk};
 ghost use Rattle.std.specs.List.{All};
 ghost use Rattle.mm_lex.specs.Tokens.{IsWordAt};
@@ -8,7 +8,7 @@ use places::token_span_within;
 use std::alloc::Global;
 use std::marker::Model;
 
-/// A text with the places of its tokens. Contracts see only the bytes of the text.
+/// A text with the spans of its tokens. Contracts see only the bytes of the text.
 #[derive(Drop)]
 pub struct TextTokens<'a> {
     text: &'a [u8],
@@ -28,7 +28,7 @@ impl<'a> Model for TextTokens<'a> {
 }
 
 impl<'a> TextTokens<'a> {
-    /// Returns a text with the places of its tokens.
+    /// Returns a text with the spans of its tokens.
     ///
     /// Errors: the bytes or comments of the text are faulty, or an allocation fails. Cost: linear in the text.
     pub fn new(alloc: Global, text: &'a [u8]) -> Result<TextTokens<'a>, LexFault>

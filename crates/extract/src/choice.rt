@@ -13,7 +13,7 @@ struct Block {
     /// The position of its `${`.
     open: usize,
     /// The number of `$f`, `$e` and `$d` that are active before it.
-    active: usize,
+    active_count: usize,
     /// Whether the extract includes an assertion of the block.
     used: bool,
 }
@@ -103,10 +103,10 @@ impl<'a> Choice<'a> {
 
     /// Opens a block.
     fn open_block(&mut self, at: usize) -> Result<(), AllocError> {
-        let active = self.active.len();
+        let active_count = self.active.len();
         self.blocks.push(Block {
             open: at,
-            active,
+            active_count,
             used: false,
         })?;
         Ok(())
@@ -117,7 +117,7 @@ impl<'a> Choice<'a> {
         let Some(block) = self.blocks.pop() else {
             return;
         };
-        for _ in block.active..self.active.len() {
+        for _ in block.active_count..self.active.len() {
             if let Some(position) = self.active.pop() {
                 self.remove_records(position);
             }

@@ -26,7 +26,7 @@ struct ListsOfSymbol {
     /// The number of indexes that were visited for an included assertion.
     visited: usize,
     /// The `cover_count` of `DisjointLists` when they were visited.
-    visited_at: usize,
+    cover_count_at_visit: usize,
 }
 
 /// The active `$d`, as a stack. A variable is *covered* while an active, included `$e` contains it.
@@ -58,7 +58,7 @@ impl DisjointLists {
             indexes: Vec::new(alloc),
             covered: false,
             visited: 0,
-            visited_at: 0,
+            cover_count_at_visit: 0,
         })?;
         Ok(())
     }
@@ -202,13 +202,13 @@ impl DisjointLists {
         Ok(())
     }
 
-    /// Counts one more variable of the assertion at a position in a `$d`, if `counts`, and appends the position of the `$d` if
-    /// the count is 2 or more. The first call for an assertion starts from the covered variables, plus one if `has_most`.
+    /// Counts one more variable of the assertion at a position in a `$d`, if `is_counted`, and appends the position of the `$d`
+    /// if the count is 2 or more. The first call for an assertion starts from the covered variables, plus one if `has_most`.
     fn count_in(
         &mut self,
         at: usize,
         index: usize,
-        counts: bool,
+        is_counted: bool,
         has_most: bool,
         found: &mut Vec<usize>,
     ) -> Result<(), AllocError> {
@@ -219,7 +219,7 @@ impl DisjointLists {
             list.counted_for = at;
             list.count = list.covered.saturating_add(one_if(has_most));
         }
-        list.count = list.count.saturating_add(one_if(counts));
+        list.count = list.count.saturating_add(one_if(is_counted));
         if list.count >= 2 {
             found.push(list.position)?;
         }
@@ -241,7 +241,7 @@ impl DisjointLists {
         if let Some(symbol) = self.symbols.get_mut(code) {
             symbol.indexes.truncate(kept);
             symbol.visited = symbol.indexes.len();
-            symbol.visited_at = cover_count;
+            symbol.cover_count_at_visit = cover_count;
         }
     }
 
@@ -289,7 +289,7 @@ impl DisjointLists {
     /// Returns the number of these that were visited since a variable last became covered.
     fn visited_count(&self, code: usize) -> usize {
         match self.symbols.get(code) {
-            Some(symbol) if symbol.visited_at == self.cover_count => symbol.visited,
+            Some(symbol) if symbol.cover_count_at_visit == self.cover_count => symbol.visited,
             _ => 0,
         }
     }

@@ -13,8 +13,8 @@ use library::{Entry, Library, Submission};
 use mm_read::push_line;
 use std::alloc::{AllocError, Global};
 
-/// Returns the text of good statements of the library, as `export` writes them: the assertions of these labels with all that
-/// their proofs use, and few others.
+/// Returns the text of good statements of the library, as `export` writes them: the assertions of these labels, all that their
+/// proofs use, and few others; all statements if those chosen are not an extract.
 ///
 /// Errors: `NoLabel`, `NotAssertion` or `SameLabel` for the first wrong label, even if every allocation fails; else `Memory`.
 /// Cost: that of verifying the proofs of the extract, a pass over the rules of all statements, and a comparison of each

@@ -26,7 +26,7 @@ abbrev pub IsActiveHypothesis : Database → ℕ → ℕ → Type 0
 IsActiveHypothesis F at i = (s : Stmt) × IsHypothesis F at i s
 
 -- the length of the list up to the last position that is that of a hypothesis active at `at`, that position included; 0 if there is none
-pub record IsTrimmedLength (F : Database) (at : ℕ) (list : List ℕ) (left : ℕ) : Type 0 where
-  pub within : left ≤ length list
-  pub gone : (k : ℕ) → left ≤ k → k < length list → IsActiveHypothesis F at (get_or list k 0) → ⊥
-  pub last : (k : ℕ) → suc k ≡ left → IsActiveHypothesis F at (get_or list k 0)
+pub record IsTrimmedLength (F : Database) (at : ℕ) (list : List ℕ) (remaining : ℕ) : Type 0 where
+  pub within : remaining ≤ length list
+  pub gone : (k : ℕ) → remaining ≤ k → k < length list → IsActiveHypothesis F at (get_or list k 0) → ⊥
+  pub last : (k : ℕ) → suc k ≡ remaining → IsActiveHypothesis F at (get_or list k 0)

@@ -25,6 +25,7 @@ abbrev pub essential_expr : Stmt → Option Expr
 essential_expr (Ess label expr) = Some expr
 essential_expr s = None
 
+-- the expression of the `$e` at a position
 abbrev pub essential_at : Database → ℕ → Option Expr
 essential_at S position = option_and_then essential_expr (stmt_at S position)
 
@@ -38,12 +39,13 @@ abbrev pub SomeEssentialHas : List Part → Database → List ℕ → Type 0
 SomeEssentialHas p S [] = ⊥
 SomeEssentialHas p S (position ∷ positions) = HasPattern p (essential_at S position) ⊎ SomeEssentialHas p S positions
 
--- the description of the statement at an index
+-- the bytes of a span, or none if there is no span
 abbrev pub description_or_empty : List ℕ → Option (Option Span) → List ℕ
 description_or_empty text None = []
 description_or_empty text (Some None) = []
 description_or_empty text (Some (Some s)) = word text s
 
+-- the description of the statement at an index
 abbrev pub description_at : List ℕ → List (Option Span) → ℕ → List ℕ
 description_at text descriptions index = description_or_empty text (slice_get descriptions index)
 

@@ -50,29 +50,29 @@ fn push_position_if(
 /// Cost: the number of positions removed, and a constant.
 pub(crate) fn trim_to_active(frames: &Frames, at: usize, positions: &mut Vec<usize>) -> bool
     requires position { (1 ≤ at) × (at ≤ length frames.now.statements) }
-    ensures left { IsTrimmedLength frames.now.statements at positions.old.items
+    ensures trimmed { IsTrimmedLength frames.now.statements at positions.old.items
         (length positions.new.items) }
     ensures prefix { positions.new.items
         ≡ take (length positions.new.items) positions.old.items }
     ensures some { IsTrue result ↔ 0 < length positions.new.items }
 {
-    let left = count_left(frames, at, positions.as_slice());
-    positions.truncate(left);
-    left > 0
+    let remaining = trimmed_len(frames, at, positions.as_slice());
+    positions.truncate(remaining);
+    remaining > 0
 }
 
 /// Returns the length of the list up to the last position that is that of a hypothesis active at `at`,
 /// that position included, or 0 if there is none.
-fn count_left(frames: &Frames, at: usize, positions: &[usize]) -> usize
+fn trimmed_len(frames: &Frames, at: usize, positions: &[usize]) -> usize
     requires position { (1 ≤ at) × (at ≤ length frames.now.statements) }
     ensures { IsTrimmedLength frames.now.statements at positions.now result }
 {
-    let mut left = positions.len();
-    while left > 0 {
-        if is_active(frames, at, positions[left - 1]) {
-            return left;
+    let mut remaining = positions.len();
+    while remaining > 0 {
+        if is_active(frames, at, positions[remaining - 1]) {
+            return remaining;
         }
-        left -= 1;
+        remaining -= 1;
     }
     0
 }

@@ -1,6 +1,6 @@
 //! Finds assertions by a pattern or by words, and writes each as a line.
 //!
-//! The crate above calls `found_lines`, which returns a line for exactly the assertions that match, in order.
+//! `found_lines` returns a line for exactly the assertions that match, in order.
 //!
 //! Reading order: `query` (the pattern or words, and where they are searched for), `expressions` (a pattern in an
 //! expression), `hypotheses` (a pattern in a mandatory `$e`), `lines` (`found_lines`).

@@ -14,7 +14,7 @@ use Rattle.nodes.specs.Questions.{IsCellAt}
 pub record IsOutcome (k : ℕ) (entry : Entry) (outcome : Option Verdict) : Type 0 where
   pub cell : Cell
   pub of_node : IsCellAt k cell
-  pub is : IsOutcomeOf cell entry outcome
+  pub outcome_of_cell : IsOutcomeOf cell entry outcome
 
 -- the fault of a question at a node
 abbrev pub IsQuestionFault : StepFault → Type 0

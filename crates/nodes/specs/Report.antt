@@ -28,7 +28,7 @@ with_one_more_at k at [] = []
 with_one_more_at k at (count ∷ counts) = (count + (if is_node k at then 1 else 0)) ∷ with_one_more_at (suc k) at counts
 
 -- the counts are those of the nodes in the history of the switch
-pub record IsReport (switch : SwitchView Carried) (nodes : ℕ) (handled : List ℕ) : Type 0 where
+pub record IsReport (switch : SwitchView Carried) (node_count : ℕ) (handled : List ℕ) : Type 0 where
   pub world : World Carried
   pub is_after : world_of carried_size switch ≡ Ok world
-  pub counts : handled ≡ event_counts world 0 nodes switch.history
+  pub counts : handled ≡ event_counts world 0 node_count switch.history

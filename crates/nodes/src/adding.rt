@@ -117,10 +117,10 @@ impl<G: Gate, K: Keep<Carried>> Desk<G, K> {
     }
 }
 
-/// Returns the number of turns that node `k` waits after attempt `attempt`, from 0: `FIRST_WAIT`, doubled for
-/// each try up to `MAX_DOUBLINGS` times, plus a fraction of that, drawn for the node and the try.
+/// Returns the number of turns that node `k` waits after the try of number `attempt`, from 0: `FIRST_WAIT`, doubled for
+/// each try up to `MAX_DOUBLINGS` times, plus a fraction of that, which differs from node to node and from try to try.
 fn wait_after(k: u8, attempt: u32) -> u64 {
     let least = FIRST_WAIT << attempt.min(MAX_DOUBLINGS);
-    let drawn = (u64::from(attempt) * 256 + u64::from(k) + 1).wrapping_mul(GOLDEN) >> 32;
-    least.saturating_add(drawn.saturating_mul(least) >> 32)
+    let fraction = (u64::from(attempt) * 256 + u64::from(k) + 1).wrapping_mul(GOLDEN) >> 32;
+    least.saturating_add(fraction.saturating_mul(least) >> 32)
 }

@@ -104,7 +104,7 @@ impl<G: Gate, K: Keep<Carried>> Desk<G, K> {
     pub fn list<R: Wait>(&self, rt: &R, k: u8) -> Result<Vec<Listed>, StepFault>
         ensures listed { IfOk result (λ list. IsListed k list.items) }
         ensures no_node { self.now ≤ k → result ≡ Err NoNode }
-        ensures only_memory { k < self.now → IfErr result (λ fault. (fault ≡ Apart) ⊎ (fault ≡ Memory)) }
+        ensures faults { k < self.now → IfErr result (λ fault. (fault ≡ Apart) ⊎ (fault ≡ Memory)) }
     {
         let shared_cell = self.shared.cell(k)?.lock(rt);
         if shared_cell.cell.node() != k {
@@ -145,8 +145,8 @@ impl<G: Gate, K: Keep<Carried>> Desk<G, K> {
         ensures same { j ≡ k → k < self.now → result ≡ Ok Same }
         ensures only_apart { j < self.now → k < self.now → IsOkUnless result Apart }
     {
-        let nodes = self.shared.cells.len();
-        if usize::from(j) >= nodes || usize::from(k) >= nodes {
+        let node_count = self.shared.cells.len();
+        if usize::from(j) >= node_count || usize::from(k) >= node_count {
             return Err(StepFault::NoNode);
         }
         if j == k {

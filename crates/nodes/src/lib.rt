@@ -1,8 +1,8 @@
 //! The nodes of a cluster as threads of one process.
 //!
 //! Under the locks, threads and desks change the switch and the cells only by `Switch::play` and the calls of `cluster`, in
-//! whose terms contracts are stated. A clause of a call that waits for a lock holds if the call returns. By the type of a
-//! `Report`, its counts add up to its total. A hint is the number of a posted packet, sent to the thread of its receiver.
+//! whose terms contracts are stated. A clause of a call that waits for a lock holds if the call returns. By its type, the
+//! counts of a `Report` add up to its `events`. A hint is the number of a posted packet, sent to the thread of its receiver.
 //!
 //! Read `weather`, `shared_switch` and `shared_cell` (what the switch's and a node's lock guard), `shared_nodes` (the locks),
 //! `node_loop` (a node's thread), then `node_threads`, `desk`, `questions`, `adding` and `report`.

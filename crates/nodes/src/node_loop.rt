@@ -13,7 +13,8 @@ use world::Carried;
 /// The largest number of hints that a node takes at once: each lock is taken once for all of them.
 const MAX_HINTS: usize = 32;
 
-/// Takes the waiting hints, up to `MAX_HINTS` at once, until the channel is closed.
+/// Runs node `k` until its channel is closed: takes the waiting hints, up to `MAX_HINTS` at once, and delivers their packets as
+/// the weather says.
 pub(crate) fn run_node<
     G: Gate + Sync + Drop,
     K: Keep<Carried> + Drop,

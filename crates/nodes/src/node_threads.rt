@@ -32,7 +32,7 @@ use world::Carried;
 #[derive(Drop)]
 pub struct Cluster<G: Gate, K: Keep<Carried>> {
     alloc: Global,
-    nodes: u8,
+    node_count: u8,
     shared: Arc<SharedNodes<G, K>>,
     threads: Vec<JoinHandle<()>>,
 }
@@ -43,13 +43,14 @@ impl<G: Gate, K: Keep<Carried>> Model for Cluster<G, K> {
 
     ghost Value = { ℕ };
 
-    ghost view = { λ c. c.nodes };
+    ghost view = { λ c. c.node_count };
 
-    ghost invariant = { λ c. vec_len (arc_value c.shared).cells ≡ c.nodes };
+    ghost invariant = { λ c. vec_len (arc_value c.shared).cells ≡ c.node_count };
 }
 
 /// Starts the nodes' threads: for each weight a node with its keep, whose record is that of a new node, and its weather. The
-/// proofs of each entry that a node applies are checked by `workers` threads. Each entry and each proof passes `gate` first.
+/// proofs of each entry that a node applies are checked by `workers` threads. A thread passes `gate` before it applies an entry
+/// and before it checks a proof.
 ///
 /// Errors: `Memory`, if an allocation fails or a thread cannot be started; the threads that were started have then ended.
 pub fn start<
@@ -75,7 +76,7 @@ pub fn start<
     let (shared, receivers) = share(alloc, weights, workers, gate, keeps)?;
     let mut cluster = Cluster {
         alloc,
-        nodes: weights.count(),
+        node_count: weights.count(),
         shared,
         threads: Vec::new(alloc),
     };
@@ -104,16 +105,16 @@ fn share<G: Gate + Drop, K: Keep<Carried>>(
     let (switch, cells) = cells(alloc, weights, keeps)?;
     let cells = locks(alloc, cells)?;
     let (senders, receivers) = channels(alloc, weights.count())?;
-    let parts = SharedNodes {
+    let shared_nodes = SharedNodes {
         alloc,
         workers,
         gate,
         switch: Mutex::new(SharedSwitch::new(switch)),
         cells,
         senders: Mutex::new(senders),
-        heavy: Mutex::new(()),
+        heavy_proofs: Mutex::new(()),
     };
-    match Arc::new(alloc, parts) {
+    match Arc::new(alloc, shared_nodes) {
         Ok(shared) => Ok((shared, receivers)),
         Err(_) => Err(StepFault::Memory),
     }
@@ -130,14 +131,14 @@ fn locks(alloc: Global, cells: Vec<NodeCell>) -> Result<Vec<Mutex<SharedCell>>, 
     Ok(locks)
 }
 
-/// Creates a channel for each of `nodes` nodes.
+/// Creates a channel for each of `node_count` nodes.
 fn channels(
     alloc: Global,
-    nodes: u8,
+    node_count: u8,
 ) -> Result<(Vec<Sender<u64>>, Vec<Receiver<u64>>), AllocError> {
     let mut senders = Vec::new(alloc);
     let mut receivers = Vec::new(alloc);
-    for _node in 0..nodes {
+    for _node in 0..node_count {
         let (sender, receiver) = crossbeam_channel::unbounded(alloc)?;
         senders.push(sender)?;
         receivers.push(receiver)?;
@@ -161,11 +162,11 @@ impl<G: Gate, K: Keep<Carried>> Cluster<G, K> {
         self.threads.reserve(1)?;
         let shared = Arc::try_clone(&self.shared)?;
         let thread_rt = *rt;
-        let child = thread::spawn(
+        let handle = thread::spawn(
             rt,
             move || run_node(thread_rt, shared, k, weather, receiver),
         )?;
-        self.threads.push_reserved(child);
+        self.threads.push_reserved(handle);
         Ok(())
     }
 
@@ -179,7 +180,9 @@ impl<G: Gate, K: Keep<Carried>> Cluster<G, K> {
         K: Send + Drop + 'static,
         ensures { self.new ≡ self.old }
     {
-        for (k, (weather, receiver)) in (0..self.nodes).zip(weathers.into_iter().zip(receivers)) {
+        for (k, (weather, receiver)) in (0..self.node_count).zip(
+            weathers.into_iter().zip(receivers),
+        ) {
             self.start_thread(rt, k, weather, receiver)?;
         }
         Ok(())
@@ -221,9 +224,9 @@ impl<G: Gate, K: Keep<Carried>> Cluster<G, K> {
         if self.shared.is_stopped(rt) {
             return Err(StepFault::Stopped);
         }
-        let handled = vec![in self.alloc; 0; usize::from(self.nodes)]?;
+        let handled = vec![in self.alloc; 0; usize::from(self.node_count)]?;
         self.join_threads(rt);
         let shared_switch = self.shared.switch.lock(rt);
-        Ok(count_events(&shared_switch.switch, self.nodes, handled))
+        Ok(count_events(&shared_switch.switch, self.node_count, handled))
     }
 }

@@ -21,11 +21,11 @@ pub struct Report {
 /// Cost: one pass over the history.
 pub(crate) fn count_events<K: Keep<Carried>>(
     switch: &Switch<Carried, K>,
-    nodes: u8,
+    node_count: u8,
     mut handled: Vec<u64>,
 ) -> Report
-    requires { handled.items ≡ replicate nodes 0 }
-    ensures { IsReport switch.now nodes result.handled.items }
+    requires { handled.items ≡ replicate node_count 0 }
+    ensures { IsReport switch.now node_count result.handled.items }
 {
     let history = switch.history();
     let mut events = 0;

@@ -3,8 +3,8 @@ ghost use Rattle.std.specs.Prelude.{◌≡◌};
 
 use cluster::NodeCell;
 
-/// A node's cell. An entry for which an allocation failed is tried again at the 1st, 2nd, 4th, 8th, .. packet after
-/// that, since each try costs as much as the whole entry.
+/// A node's cell. An entry for which an allocation failed is tried again at the next packet, and then each time that the number
+/// of packets since the failure has doubled, since each try costs as much as the whole entry.
 #[derive(Drop)]
 pub(crate) struct SharedCell {
     pub cell: NodeCell,

@@ -17,9 +17,9 @@ use synod::Keep;
 use verify_pool::{Gate, LightGate, Place, PoolSize};
 use world::Carried;
 
-/// The locks of a cluster. A node's lock is taken before the switch's, and that of a lower node number before that of a
-/// higher one; the senders' lock is never taken while the switch's is held. The lock of heavy proofs is taken under one node's
-/// lock, and none under it.
+/// The state that the node threads and desks of a cluster share, under locks. A node's lock is taken before the switch's, and
+/// that of a lower node number before that of a higher one; the senders' lock is never taken while the switch's is held. The
+/// lock of heavy proofs is taken under one node's lock, and none under it.
 #[derive(Drop)]
 pub(crate) struct SharedNodes<G: Gate, K: Keep<Carried>> {
     pub alloc: Global,
@@ -29,8 +29,9 @@ pub(crate) struct SharedNodes<G: Gate, K: Keep<Carried>> {
     pub cells: Vec<Mutex<SharedCell>>,
     /// The sending ends of the nodes' channels; none once the cluster is stopped.
     pub senders: Mutex<Vec<Sender<u64>>>,
-    /// Held by the node that applies an entry with a heavy proof, so that one node at a time has the memory for it.
-    pub heavy: Mutex<()>,
+    /// Held by the node that applies an entry with a heavy proof, which needs more memory than a worker has: one node at a time
+    /// has that memory.
+    pub heavy_proofs: Mutex<()>,
 }
 
 impl<G: Gate, K: Keep<Carried>> SharedNodes<G, K> {
@@ -113,7 +114,7 @@ impl<G: Gate, K: Keep<Carried>> SharedNodes<G, K> {
         if apply_on_with(rt, &mut shared_cell.cell, self.workers, &LightGate { gate }).is_ok() {
             return true;
         }
-        let _heavy = self.heavy.lock(rt);
+        let _heavy = self.heavy_proofs.lock(rt);
         apply_on_with(rt, &mut shared_cell.cell, self.workers, gate).is_ok()
     }
 

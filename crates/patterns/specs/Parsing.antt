@@ -4,8 +4,8 @@
 use Rattle.std.specs.Prelude.{◌≡◌, Bool, not, ◌&&◌, ◌||◌, IsTrue, IsFalse, List, Some, None, codes}
 use Rattle.std.specs.List.{find, list_any}
 use Rattle.mm_lex.specs.Alphabet.{Name, name_eq, has_byte}
-use Rattle.patterns.specs.declared.pattern.BadPattern.{BadPattern}
-use Rattle.patterns.specs.declared.pattern.BadPattern.TheVariants.{UnknownWord, NoSymbol, Memory}
+use Rattle.patterns.specs.declared.pattern.PatternFault.{PatternFault}
+use Rattle.patterns.specs.declared.pattern.PatternFault.TheVariants.{UnknownWord, NoSymbol, Memory}
 
 -- a word without `$`
 abbrev pub is_symbol_word : Name → Bool
@@ -20,7 +20,7 @@ abbrev pub ArePattern : List Name → Type 0
 ArePattern ws = (find is_unknown_word ws ≡ None) × IsTrue (list_any is_symbol_word ws)
 
 -- the error: the first unknown word if there is one, else that no word is a symbol; `Memory` only if the words are a pattern
-abbrev pub IsParseError : List Name → BadPattern → Type 0
+abbrev pub IsParseError : List Name → PatternFault → Type 0
 IsParseError ws (UnknownWord w) = find is_unknown_word ws ≡ Some w.now
 IsParseError ws NoSymbol = (find is_unknown_word ws ≡ None) × IsFalse (list_any is_symbol_word ws)
 IsParseError ws Memory = ArePattern ws

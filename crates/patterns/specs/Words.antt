@@ -5,6 +5,7 @@ use Rattle.std.specs.Prelude.{ℕ, List, map}
 use Rattle.mm_lex.specs.Alphabet.{Name, runs, word}
 use Rattle.mm_lex.specs.Comments.{runs_after}
 
+-- the words of a text
 abbrev pub words_in : List ℕ → List Name
 words_in text = map (word text) (runs text)
 

@@ -10,5 +10,5 @@ mod pattern;
 mod search_words;
 mod words;
 
-pub use pattern::{BadPattern, Pattern};
+pub use pattern::{Pattern, PatternFault};
 pub use search_words::SearchWords;

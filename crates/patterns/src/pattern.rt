@@ -12,7 +12,7 @@ use std::marker::Model;
 
 /// The error of parsing a pattern.
 #[derive(Clone, Copy, Debug, Drop)]
-pub enum BadPattern<'a> {
+pub enum PatternFault<'a> {
     /// The first word that has a `$` and is neither `$?` nor `$*`.
     UnknownWord(&'a [u8]),
     /// No word is a symbol.
@@ -43,21 +43,21 @@ impl<'a> Pattern<'a> {
     ///
     /// Errors: `UnknownWord` with the first word that has a `$` and is neither `$?` nor `$*`; else `NoSymbol`;
     /// both even if every allocation fails; else `Memory`. Cost: the size of the text. Source: `search` of the program metamath.
-    pub fn parse(alloc: Global, text: &'a str) -> Result<Pattern<'a>, BadPattern<'a>>
+    pub fn parse(alloc: Global, text: &'a str) -> Result<Pattern<'a>, PatternFault<'a>>
         ensures parts { IfOk result (λ parts. parts ≡ map part_of (words_in text.now)) }
         ensures pattern { IfOk result (λ _. ArePattern (words_in text.now)) }
         ensures error { IfErr result (λ fault. IsParseError (words_in text.now) fault) }
     {
         let bytes = text.as_bytes();
         if let Some(word) = first_unknown_word(bytes) {
-            return Err(BadPattern::UnknownWord(word));
+            return Err(PatternFault::UnknownWord(word));
         }
         if !has_symbol(bytes) {
-            return Err(BadPattern::NoSymbol);
+            return Err(PatternFault::NoSymbol);
         }
         match parts_of(alloc, bytes) {
             Ok(parts) => Ok(Pattern { parts }),
-            Err(AllocError) => Err(BadPattern::Memory),
+            Err(AllocError) => Err(PatternFault::Memory),
         }
     }
 

@@ -3,7 +3,7 @@ ghost use Rattle.std.specs.Prelude.{◌≡◌, ◌∷◌, ◌++◌, []};
 ghost use Rattle.mm_read.specs.Statements.{AreShaped, Database};
 ghost use Rattle.scope.specs.Active.{bare};
 
-use crate::first_example::{COMPRESSED, NORMAL, items_of, push_all};
+use crate::first_example::{COMPRESSED_EXAMPLE, NORMAL_EXAMPLE, items_of, push_statements};
 use frame::Frames;
 use mm_lex::Words;
 use mm_read::{Stmt, read};
@@ -14,21 +14,25 @@ use verify::{Answer, Tree, TreeFault, check, derivation};
 /// If an allocation fails, the same call made again returns the number of nodes.
 #[test]
 fn right_after_a_failed_allocation(rt: HostRuntime) {
-    for text in [NORMAL, COMPRESSED] {
-        let mut nodes = nodes_of(rt.alloc(), text);
-        if nodes.is_none() {
-            nodes = nodes_of(rt.alloc(), text);
+    for text in [NORMAL_EXAMPLE, COMPRESSED_EXAMPLE] {
+        let mut node_count = node_count_of_text(rt.alloc(), text);
+        if node_count.is_none() {
+            node_count = node_count_of_text(rt.alloc(), text);
         }
-        assert_eq!(rt; nodes, Some(34));
+        assert_eq!(rt; node_count, Some(34));
     }
 }
 
 /// Returns the number of nodes of the tree of the text's last proof: 0 if the proof is wrong, `None` if an allocation fails.
 /// The symbols of a `$c` serve as the list of the theorem's mandatory labels, which is `tt` alone.
-fn nodes_of(alloc: Global, text: &[u8]) -> Option<usize> {
+fn node_count_of_text(alloc: Global, text: &[u8]) -> Option<usize> {
     match (read(alloc, text), read(alloc, b"$c tt $.")) {
         (Ok(statements), Ok(labels)) => match labels.first() {
-            Some(Stmt::Const(mandatory)) => last_nodes(alloc, statements.as_slice(), mandatory),
+            Some(Stmt::Const(mandatory)) => node_count_of_last(
+                alloc,
+                statements.as_slice(),
+                mandatory,
+            ),
             _ => None,
         },
         _ => None,
@@ -36,20 +40,20 @@ fn nodes_of(alloc: Global, text: &[u8]) -> Option<usize> {
 }
 
 /// Returns the number of nodes for the last of these statements, whose mandatory labels are given.
-fn last_nodes(alloc: Global, statements: &[Stmt], mandatory: &Words) -> Option<usize>
+fn node_count_of_last(alloc: Global, statements: &[Stmt], mandatory: &Words) -> Option<usize>
     requires { AreShaped statements.now }
 {
     let mut scope = Scope::new(alloc);
     let mut frames = Frames::new(alloc);
-    let nodes = nodes_in(alloc, statements, mandatory, &mut scope, &mut frames);
+    let node_count = node_count_in(alloc, statements, mandatory, &mut scope, &mut frames);
     // An explicit `drop` is proved once for each type; a drop at the end of the scope would be proved here.
     drop(frames);
     drop(scope);
-    nodes
+    node_count
 }
 
 /// Adds the statements to the scope and the frames, which are empty, and returns the number of nodes for the last one.
-fn nodes_in(
+fn node_count_in(
     alloc: Global,
     statements: &[Stmt],
     mandatory: &Words,
@@ -59,12 +63,12 @@ fn nodes_in(
     requires shaped { AreShaped statements.now }
     requires same { scope.old.statements ≡ frames.old.statements }
 {
-    let last = push_all(scope, frames, statements)?;
-    nodes_at(alloc, frames, last, mandatory)
+    let last = push_statements(scope, frames, statements)?;
+    node_count_at(alloc, frames, last, mandatory)
 }
 
 /// Returns the number of nodes for this statement, the one that was pushed last.
-fn nodes_at(alloc: Global, frames: &Frames, stmt: &Stmt, mandatory: &Words) -> Option<usize>
+fn node_count_at(alloc: Global, frames: &Frames, stmt: &Stmt, mandatory: &Words) -> Option<usize>
     requires { (S : Database) × (frames.now.statements ≡ S ++ bare stmt.now ∷ []) }
 {
     if let Stmt::Prove { proof, .. } = stmt {
@@ -88,12 +92,12 @@ fn nodes_at(alloc: Global, frames: &Frames, stmt: &Stmt, mandatory: &Words) -> O
 fn count_nodes(tree: &Tree) -> usize {
     match tree {
         Tree::Hyp(_) => 1,
-        Tree::Apply(_, kids) => {
-            let mut nodes = 1usize;
-            for kid in kids {
-                nodes = nodes.saturating_add(count_nodes(kid));
+        Tree::Apply(_, children) => {
+            let mut node_count = 1usize;
+            for child in children {
+                node_count = node_count.saturating_add(count_nodes(child));
             }
-            nodes
+            node_count
         }
     }
 }

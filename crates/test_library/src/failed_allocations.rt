@@ -14,7 +14,7 @@ const REFUSED: &[u8] = b"$c |- $. p $a |- $. p $a |- $.";
 const GOOD: &[u8] = b"$c |- $. p $a |- $.";
 
 /// Successive texts, each with its serial number, its verdict, and the number of statements of the library after it.
-const ROWS: [(u64, &[u8], Verdict, usize); 2] = [
+const CASES: [(u64, &[u8], Verdict, usize); 2] = [
     (
         1,
         REFUSED,
@@ -29,17 +29,17 @@ const ROWS: [(u64, &[u8], Verdict, usize); 2] = [
 
 #[test]
 fn whole_or_nothing_after_a_failed_allocation(rt: HostRuntime) {
-    assert!(rt; new_library_decides_rows(rt.alloc()));
+    assert!(rt; new_library_decides_texts(rt.alloc()));
 }
 
 /// Returns whether a new library decides the texts as expected.
-fn new_library_decides_rows(alloc: Global) -> bool {
-    with_new_library(alloc, |library| decides_rows(alloc, library))
+fn new_library_decides_texts(alloc: Global) -> bool {
+    with_new_library(alloc, |library| decides_texts(alloc, library))
 }
 
 /// Returns whether each text has its verdict, and the library has the expected number of statements after it.
-fn decides_rows(alloc: Global, library: &mut Library) -> bool {
-    for (serial, text, verdict, count) in ROWS {
+fn decides_texts(alloc: Global, library: &mut Library) -> bool {
+    for (serial, text, verdict, count) in CASES {
         if !is_decided(alloc, library, serial, text, verdict)
             || library.statements().len() != count
         {

@@ -11,7 +11,7 @@ use scope::{Scope, Steps};
 use std::alloc::Global;
 
 /// The book's first example, with a normal proof.
-pub const NORMAL: &[u8] =
+pub const NORMAL_EXAMPLE: &[u8] =
     b"$c 0 + = -> ( ) term wff |- $. $v t r s P Q $. tt $f term t $. tr $f term r $. \
     ts $f term s $. wp $f wff P $. wq $f wff Q $. tze $a term 0 $. tpl $a term ( t + r ) $. \
     weq $a wff t = r $. wim $a wff ( P -> Q ) $. a1 $a |- ( t = r -> ( t = s -> r = s ) ) $. \
@@ -20,7 +20,7 @@ pub const NORMAL: &[u8] =
     wim tt a2 tt tze tpl tt tt a1 mp mp $.";
 
 /// The book's first example, with a compressed proof.
-pub const COMPRESSED: &[u8] =
+pub const COMPRESSED_EXAMPLE: &[u8] =
     b"$c 0 + = -> ( ) term wff |- $. $v t r s P Q $. tt $f term t $. tr $f term r $. \
     ts $f term s $. wp $f wff P $. wq $f wff Q $. tze $a term 0 $. tpl $a term ( t + r ) $. \
     weq $a wff t = r $. wim $a wff ( P -> Q ) $. a1 $a |- ( t = r -> ( t = s -> r = s ) ) $. \
@@ -28,7 +28,7 @@ pub const COMPRESSED: &[u8] =
     th1 $p |- t = t $= ( tze tpl weq a2 wim a1 mp ) ABCZADZAADZAEZJJKFLIAAGHH $.";
 
 /// Adds the statement to the scope and the frames, or returns `None` if it is not legal as the next one or an allocation fails.
-pub fn push(scope: &mut Scope, frames: &mut Frames, stmt: &Stmt) -> Option<()>
+pub fn push_statement(scope: &mut Scope, frames: &mut Frames, stmt: &Stmt) -> Option<()>
     requires same { scope.old.statements ≡ frames.old.statements }
     requires shaped { IsShaped stmt.now }
     ensures same { OnSome result (scope.new.statements ≡ frames.new.statements) }
@@ -44,7 +44,7 @@ pub fn push(scope: &mut Scope, frames: &mut Frames, stmt: &Stmt) -> Option<()>
 }
 
 /// Adds the statements, and returns the last one, or `None` if there is none, one is not legal, or an allocation fails.
-pub fn push_all<'a>(
+pub fn push_statements<'a>(
     scope: &mut Scope,
     frames: &mut Frames,
     statements: &'a [Stmt],
@@ -55,7 +55,7 @@ pub fn push_all<'a>(
 {
     let mut last = None;
     for stmt in statements {
-        push(scope, frames, stmt)?;
+        push_statement(scope, frames, stmt)?;
         last = Some(stmt);
     }
     last

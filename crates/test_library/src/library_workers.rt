@@ -12,7 +12,7 @@ use std::thread::Threads;
 use verify_pool::{Gate, OpenGate, PoolSize};
 
 /// Texts whose proofs are shared among several workers, and the verdict on each.
-const ROWS: [(&[u8], Verdict); 6] = [
+const CASES: [(&[u8], Verdict); 6] = [
     (TWO_PROOFS, Verdict::Added),
     (HEAVY, Verdict::Added),
     (
@@ -49,7 +49,7 @@ const HEAVY_WRONG: &[u8] = b"$c |- w e $. $v x $. fx $f w x $. e0 $a w e $. d2 $
 
 #[test]
 fn judged_alike_by_workers(rt: HostRuntime) {
-    for (text, verdict) in ROWS {
+    for (text, verdict) in CASES {
         assert!(rt;
             is_judged_by_each(&rt, rt.alloc(), text, verdict),
             "{text:?}"
@@ -105,7 +105,7 @@ fn verdict_with_retry<G: Gate + Sync, R: Threads + Sync>(
 /// The text is so long that its first proofs are verified while later statements are added.
 #[test]
 fn long_text_judged_alike(rt: HostRuntime) -> Result<(), Fail> {
-    for (wrong, verdict) in LONG_ROWS {
+    for (wrong, verdict) in LONG_CASES {
         let text = long_text(rt.alloc(), wrong)?;
         assert!(rt;
             is_judged_by_each(&rt, rt.alloc(), &text, verdict),
@@ -117,7 +117,7 @@ fn long_text_judged_alike(rt: HostRuntime) -> Result<(), Fail> {
 
 /// Which of the proofs of the long text are wrong, by number from 0, and the verdict. The theorem of number n is the statement
 /// at position n + 3, since a `$c` and a `$a` precede the theorems.
-const LONG_ROWS: [(&[u64], Verdict); 4] = [
+const LONG_CASES: [(&[u64], Verdict); 4] = [
     (&[], Verdict::Added),
     (
         &[7, 11_998],
@@ -137,13 +137,13 @@ const LONG_ROWS: [(&[u64], Verdict); 4] = [
 fn long_text(alloc: Global, wrong: &[u64]) -> Result<Vec<u8>, AllocError> {
     let mut text = Vec::from_slice(alloc, b"$c |- o $. a $a |- o $. ".as_slice())?;
     for number in 0..12_000u64 {
-        push_proof(&mut text, number, !wrong.contains(&number))?;
+        push_theorem(&mut text, number, !wrong.contains(&number))?;
     }
     Ok(text)
 }
 
 /// Appends the theorem with this number, with a correct proof or a wrong one.
-fn push_proof(text: &mut Vec<u8>, number: u64, is_right: bool) -> Result<(), AllocError> {
+fn push_theorem(text: &mut Vec<u8>, number: u64, is_right: bool) -> Result<(), AllocError> {
     let proof: &[u8] = if is_right { b"a $. " } else { b"a a $. " };
     text.extend_from_slice(b"p")?;
     push_number(text, number)?;

@@ -4,7 +4,7 @@ ghost use Rattle.mm_read.specs.Statements.{Database, AreShaped, IsShaped};
 ghost use Rattle.scope.specs.Active.{bare};
 ghost use Rattle.verify_pool.specs.Jobs.{AreJobs};
 
-use crate::first_example::push;
+use crate::first_example::push_statement;
 use crate::rendezvous::Rendezvous;
 use frame::Frames;
 use mm_lex::Words;
@@ -67,11 +67,11 @@ fn first_wrong<G: Gate + Sync, R: Threads + Sync>(
 {
     let mut frames = Frames::new(alloc);
     let mut jobs = Vec::new(alloc);
-    let least = first_wrong_in(rt, alloc, statements, workers, gate, &mut jobs, &mut frames);
+    let answer = first_wrong_in(rt, alloc, statements, workers, gate, &mut jobs, &mut frames);
     // An explicit `drop` is proved once for each type; a drop at the end of the scope would be proved here.
     drop(jobs);
     drop(frames);
-    least
+    answer
 }
 
 /// Returns the same, with jobs and frames to fill, which are empty.
@@ -89,7 +89,7 @@ fn first_wrong_in<G: Gate + Sync, R: Threads + Sync>(
     requires none { frames.old.statements ≡ [] }
     requires jobs { AreJobs frames.old.statements jobs.old.items }
 {
-    if push_all(alloc, statements, frames, jobs) {
+    if push_jobs(alloc, statements, frames, jobs) {
         check_with_retry(rt, alloc, frames, jobs.as_slice(), workers, gate)
     } else {
         None
@@ -115,20 +115,20 @@ fn check_with_retry<G: Gate + Sync, R: Threads + Sync>(
 }
 
 /// Adds the statements to the frames, and a job for each proof, and returns whether all are added.
-fn push_all(alloc: Global, statements: &[Stmt], frames: &mut Frames, jobs: &mut Vec<Job>) -> bool
+fn push_jobs(alloc: Global, statements: &[Stmt], frames: &mut Frames, jobs: &mut Vec<Job>) -> bool
     requires shaped { AreShaped statements.now }
     requires none { frames.old.statements ≡ [] }
     requires jobs { AreJobs frames.old.statements jobs.old.items }
     ensures { IsTrue result → AreJobs frames.new.statements jobs.new.items }
 {
     let mut scope = Scope::new(alloc);
-    let pushed = push_each(alloc, statements, &mut scope, frames, jobs);
+    let pushed = push_jobs_with_scope(alloc, statements, &mut scope, frames, jobs);
     drop(scope);
     pushed
 }
 
 /// Does the same, with a scope to which the statements are added too.
-fn push_each(
+fn push_jobs_with_scope(
     alloc: Global,
     statements: &[Stmt],
     scope: &mut Scope,
@@ -141,7 +141,7 @@ fn push_each(
     ensures { IsTrue result → AreJobs frames.new.statements jobs.new.items }
 {
     for stmt in statements {
-        if !push_one(alloc, stmt, scope, frames, jobs) {
+        if !push_statement_and_job(alloc, stmt, scope, frames, jobs) {
             return false;
         }
     }
@@ -149,7 +149,7 @@ fn push_each(
 }
 
 /// Adds one statement, and its job if it is a `$p`, and returns whether both are added.
-fn push_one(
+fn push_statement_and_job(
     alloc: Global,
     stmt: &Stmt,
     scope: &mut Scope,
@@ -162,7 +162,7 @@ fn push_one(
     ensures same { IsTrue result → scope.new.statements ≡ frames.new.statements }
     ensures jobs { IsTrue result → AreJobs frames.new.statements jobs.new.items }
 {
-    if push(scope, frames, stmt).is_none() {
+    if push_statement(scope, frames, stmt).is_none() {
         return false;
     }
     push_job(alloc, frames, stmt, jobs).is_some()

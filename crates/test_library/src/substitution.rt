@@ -9,7 +9,7 @@ const X: u32 = 4;
 const Y: u32 = 5;
 
 /// The images of x and y, an expression, and the result of substituting the images in it.
-const ROWS: [(&[u32], &[u32], &[u32], &[u32]); 3] = [
+const CASES: [(&[u32], &[u32], &[u32], &[u32]); 3] = [
     (&[Y], &[X], &[0, X, 3, Y], &[0, Y, 3, X]),
     (&[], &[Y], &[0, 1, X, 2], &[0, 1, 2]),
     (&[1, Y, 2], &[0], &[X, X], &[1, Y, 2, 1, Y, 2]),
@@ -17,7 +17,7 @@ const ROWS: [(&[u32], &[u32], &[u32], &[u32]); 3] = [
 
 #[test]
 fn images_are_substituted_at_once(rt: HostRuntime) {
-    for (x, y, expr, expected) in ROWS {
+    for (x, y, expr, expected) in CASES {
         assert!(rt;
             yields(rt.alloc(), x, y, expr, expected) == Ok(true),
             "{expr:?}"

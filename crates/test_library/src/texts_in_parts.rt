@@ -49,7 +49,7 @@ fn refuses_incomplete<R: Threads + Sync>(rt: &R, alloc: Global, workers: usize) 
     }
 }
 
-/// Returns the text.
+/// Returns the text of `LINES` lines.
 fn lines(alloc: Global) -> Result<Vec<u8>, AllocError> {
     let mut text = Vec::new(alloc);
     for _ in 0..LINES {

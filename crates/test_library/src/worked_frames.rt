@@ -20,7 +20,7 @@ const DISJOINT: &[u8] = b"$c wff |- R $. $v x y z $. wx $f wff x $. wy $f wff y 
 
 /// A text, the number of statements before an assertion, and the assertion's frame: the positions of its mandatory hypotheses
 /// (counted from 1 in the whole text), its one group of disjoint variables, empty if it has none, and its conclusion.
-const ROWS: [(&[u8], usize, &[usize], &[u8], &[u8]); 5] = [
+const CASES: [(&[u8], usize, &[usize], &[u8], &[u8]); 5] = [
     (ARITHMETIC, 16, &[6, 7, 15, 16], b"", b"|- Q"),
     (
         ARITHMETIC,
@@ -36,7 +36,7 @@ const ROWS: [(&[u8], usize, &[usize], &[u8], &[u8]); 5] = [
 
 #[test]
 fn assertions_have_their_frames(rt: HostRuntime) {
-    for (text, count, hypotheses, group, conclusion) in ROWS {
+    for (text, count, hypotheses, group, conclusion) in CASES {
         let frame = frame_after(rt.alloc(), text, count);
         assert!(rt;
             is_frame(frame, hypotheses, group, conclusion),

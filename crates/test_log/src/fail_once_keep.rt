@@ -86,7 +86,7 @@ fn fails_now(calls_left: &mut Option<u32>) -> bool {
 }
 
 /// Makes three nodes, of which the first has this keep.
-pub fn make_three(
+pub fn make_three_nodes(
     alloc: Global,
     first: FailOnceKeep,
 ) -> Result<(Switch<Carried, FailOnceKeep>, Vec<NodeCell>), StepFault>
@@ -100,7 +100,7 @@ pub fn make_three(
 }
 
 /// Restarts the first node.
-pub fn restart_first(
+pub fn restart_first_node(
     switch: &mut Switch<Carried, FailOnceKeep>,
     cells: &mut Vec<NodeCell>,
 ) -> Result<u64, StepFault> {

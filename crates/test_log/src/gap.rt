@@ -5,7 +5,7 @@
 //! statements do. They also compare so if the keep of node 0 fails at one of its first 18 calls and the node restarts after
 //! any step.
 
-use crate::fail_once_keep::{FailOnceKeep, entry, make_three, restart_first};
+use crate::fail_once_keep::{FailOnceKeep, entry, make_three_nodes, restart_first_node};
 use cluster::{
     Ahead, NodeCell, Switch, apply_on, begin_on, belongs, compare_on, deliver_on, list_on,
     offer_on, take_on,
@@ -51,7 +51,7 @@ fn the_gap_is_filled(rt: HostRuntime) {
 
 /// Returns whether three new nodes fill the gap, and their cells apply what they have learned.
 fn new_nodes_fill_gap(alloc: Global) -> Result<bool, StepFault> {
-    let (mut switch, mut cells) = make_three(alloc, FailOnceKeep::new(alloc, None, false))?;
+    let (mut switch, mut cells) = make_three_nodes(alloc, FailOnceKeep::new(alloc, None, false))?;
     let filled = steps_fill_gap(alloc, &mut switch, &mut cells);
     // An explicit `drop` is proved once for each type; a drop at the end of the scope would be proved here.
     drop(cells);
@@ -204,7 +204,7 @@ fn agrees(
     leaves_new: bool,
     restart: usize,
 ) -> Result<bool, StepFault> {
-    let (mut switch, mut cells) = make_three(
+    let (mut switch, mut cells) = make_three_nodes(
         alloc,
         FailOnceKeep::new(alloc, calls_left, leaves_new),
     )?;
@@ -225,7 +225,7 @@ fn run_with_restart(
         let _ = make_step(alloc, switch, *step);
         take_over_and_apply_each(cells, switch)?;
         if i == restart {
-            let _ = restart_first(switch, cells);
+            let _ = restart_first_node(switch, cells);
         }
     }
     Ok(all_agree(switch, cells))

@@ -1,5 +1,5 @@
 //! A node whose keep fails is down until it restarts. A keep in memory keeps an entry at any slot.
-use crate::fail_once_keep::{FailOnceKeep, make_three, restart_first};
+use crate::fail_once_keep::{FailOnceKeep, make_three_nodes, restart_first_node};
 use cluster::{MemoryKeep, NodeCell, Switch, begin_on};
 use net::{Event, StepFault};
 use slots::SLOTS;
@@ -20,7 +20,10 @@ fn a_store_fails(rt: HostRuntime) {
 /// Returns whether the first node is down after its first store fails, and up again after it restarts. The failed store leaves
 /// the new record or the old one.
 fn store_fails(alloc: Global, leaves_new: bool) -> Result<bool, StepFault> {
-    let (mut switch, mut cells) = make_three(alloc, FailOnceKeep::new(alloc, Some(0), leaves_new))?;
+    let (mut switch, mut cells) = make_three_nodes(
+        alloc,
+        FailOnceKeep::new(alloc, Some(0), leaves_new),
+    )?;
     let down = goes_down(&mut switch, &mut cells);
     // An explicit `drop` is proved once for each type; a drop at the end of the scope would be proved here.
     drop(cells);
@@ -36,7 +39,7 @@ fn goes_down(
     Ok(
         begin_on(switch, 0) == Err(StepFault::Device)
             && begin_on(switch, 0) == Err(StepFault::Down)
-            && restart_first(switch, cells) == Ok(5)
+            && restart_first_node(switch, cells) == Ok(5)
             && is_up_again(switch)?,
     )
 }
@@ -83,7 +86,10 @@ fn a_load_fails(rt: HostRuntime) {
 
 /// Returns whether the first node restarts after its keep failed to load.
 fn load_fails(alloc: Global) -> Result<bool, StepFault> {
-    let (mut switch, mut cells) = make_three(alloc, FailOnceKeep::new(alloc, Some(0), false))?;
+    let (mut switch, mut cells) = make_three_nodes(
+        alloc,
+        FailOnceKeep::new(alloc, Some(0), false),
+    )?;
     let restarted = restarts_twice(&mut switch, &mut cells);
     drop(cells);
     drop(switch);
@@ -92,8 +98,8 @@ fn load_fails(alloc: Global) -> Result<bool, StepFault> {
 
 /// Returns whether the first restart meets the failure, and the second one is taken and stands alone in the history.
 fn restarts_twice(switch: &mut Switch<Carried, FailOnceKeep>, cells: &mut Vec<NodeCell>) -> bool {
-    restart_first(switch, cells) == Err(StepFault::Device)
-        && restart_first(switch, cells) == Ok(2)
+    restart_first_node(switch, cells) == Err(StepFault::Device)
+        && restart_first_node(switch, cells) == Ok(2)
         && matches!(switch.history(), [Event::Restart(0)])
 }
 

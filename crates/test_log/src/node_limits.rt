@@ -59,7 +59,7 @@ fn proposals_after_report(alloc: Global, node: &mut NodeCore<Number>) -> Option<
             ballot: Ballot { round: 1, node: 0 },
             page: 1,
             count: 1,
-            reports: last_reported(alloc)?,
+            reports: last_slot_reports(alloc)?,
         },
     };
     match node.on_packet(&promise) {
@@ -69,7 +69,7 @@ fn proposals_after_report(alloc: Global, node: &mut NodeCore<Number>) -> Option<
 }
 
 /// Returns the reports of such a promise: one, of a value at the last slot.
-fn last_reported(alloc: Global) -> Option<Reports<Number>>
+fn last_slot_reports(alloc: Global) -> Option<Reports<Number>>
     ensures { IfSome result (λ reports. AllByRecursion IsReport reports) }
 {
     let mut reports = Vec::new(alloc);

@@ -1,6 +1,8 @@
 //! A text submitted at the node that leads is added at each node, and their libraries are then the same, whether node 0 or
 //! node 1 leads; a cluster that is stopped still answers questions; a desk works in another thread.
-use crate::three_nodes::{EntryKeep, is_added_by_all, same_weathers, start_three_open, text_entry};
+use crate::three_nodes::{
+    EntryKeep, is_added_by_all, same_weathers, start_three_nodes_with_open_gate, text_entry,
+};
 use cluster::Ahead;
 use library::Entry;
 use net::StepFault;
@@ -37,7 +39,7 @@ fn agree<R: Threads + Wait + Clock + Copy + Send + Sync + Drop + 'static>(
         return Ok(false);
     };
     let weathers = same_weathers(alloc, Clear)?;
-    let mut cluster = start_three_open(rt, alloc, weights, weathers)?;
+    let mut cluster = start_three_nodes_with_open_gate(rt, alloc, weights, weathers)?;
     serves_and_stops(rt, alloc, &mut cluster, leader)
 }
 
@@ -159,7 +161,7 @@ fn adds_from_thread<R: Threads + Wait + Clock + Copy + Send + Sync + Drop + 'sta
     alloc: Global,
 ) -> Result<bool, StepFault> {
     let weathers = same_weathers(alloc, Clear)?;
-    let mut cluster = start_three_open(rt, alloc, Weights::equal(3), weathers)?;
+    let mut cluster = start_three_nodes_with_open_gate(rt, alloc, Weights::equal(3), weathers)?;
     adds_and_stops(rt, alloc, &mut cluster)
 }
 

@@ -1,6 +1,8 @@
 //! A text is added at node 0 even if one allocation, whichever it is, fails. If the failure ends the first attempt with
 //! `Memory`, a second attempt is made, with new nodes.
-use crate::three_nodes::{EntryKeep, polled_verdict, same_weathers, start_three_open, text_entry};
+use crate::three_nodes::{
+    EntryKeep, polled_verdict, same_weathers, start_three_nodes_with_open_gate, text_entry,
+};
 use library::Verdict;
 use net::StepFault;
 use nodes::{Clear, Cluster, Desk};
@@ -15,31 +17,31 @@ use verify_pool::{Gate, OpenGate};
 /// at a later hint, or a keep fails, and its node is down until it restarts.
 #[test]
 fn decides_after_a_failed_allocation(rt: HostRuntime) {
-    let mut verdict = decided_by_three(&rt, rt.alloc());
+    let mut verdict = verdict_of_three_nodes(&rt, rt.alloc());
     if verdict == Err(StepFault::Memory) {
-        verdict = decided_by_three(&rt, rt.alloc());
+        verdict = verdict_of_three_nodes(&rt, rt.alloc());
     }
     assert!(rt; verdict == Ok(Some(Verdict::Added)));
 }
 
 /// Returns the verdict at node 0 of three new nodes, which are stopped afterwards.
-fn decided_by_three<R: Threads + Wait + Clock + Copy + Send + Sync + Drop + 'static>(
+fn verdict_of_three_nodes<R: Threads + Wait + Clock + Copy + Send + Sync + Drop + 'static>(
     rt: &R,
     alloc: Global,
 ) -> Result<Option<Verdict>, StepFault> {
     let weathers = same_weathers(alloc, Clear)?;
-    let mut cluster = start_three_open(rt, alloc, Weights::equal(3), weathers)?;
-    decided_and_stopped(rt, alloc, &mut cluster)
+    let mut cluster = start_three_nodes_with_open_gate(rt, alloc, Weights::equal(3), weathers)?;
+    verdict_before_stop(rt, alloc, &mut cluster)
 }
 
 /// Returns the same for the nodes of this cluster. If an allocation fails in `stop`, it is called again.
-fn decided_and_stopped<R: Threads + Wait + Clock>(
+fn verdict_before_stop<R: Threads + Wait + Clock>(
     rt: &R,
     alloc: Global,
     cluster: &mut Cluster<OpenGate, EntryKeep>,
 ) -> Result<Option<Verdict>, StepFault> {
     let verdict = match cluster.desk() {
-        Ok(desk) => decided(rt, alloc, &desk),
+        Ok(desk) => verdict_at_desk(rt, alloc, &desk),
         Err(_) => Err(StepFault::Memory),
     };
     if cluster.stop(rt).is_err() {
@@ -51,7 +53,7 @@ fn decided_and_stopped<R: Threads + Wait + Clock>(
 /// Returns the verdict at node 0 on a text that is submitted there up to 30 times, or `None` if there is none even then. Before
 /// each time node 0 begins a ballot, whose packets replace those that a failed allocation lost; if it is down, it is restarted
 /// first.
-fn decided<G: Gate, R: Wait + Clock>(
+fn verdict_at_desk<G: Gate, R: Wait + Clock>(
     rt: &R,
     alloc: Global,
     desk: &Desk<G, EntryKeep>,

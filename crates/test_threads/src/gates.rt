@@ -1,6 +1,8 @@
 //! Two nodes apply an entry in parallel: each waits at a gate until the other has arrived there. A node's thread passes the
 //! gate of its cluster before it applies an entry.
-use crate::three_nodes::{EntryKeep, is_added_by_all, same_weathers, start_three, submit_text};
+use crate::three_nodes::{
+    EntryKeep, is_added_by_all, same_weathers, start_three_nodes, submit_text,
+};
 use net::StepFault;
 use nodes::{Clear, Cluster, Desk};
 use std::alloc::Global;
@@ -78,7 +80,7 @@ fn three_nodes_add<R: Threads + Wait + Clock + Copy + Send + Sync + Drop + 'stat
     gate: Arc<Rendezvous>,
 ) -> Result<bool, StepFault> {
     let weathers = same_weathers(alloc, Clear)?;
-    let mut cluster = start_three(rt, alloc, Weights::equal(3), gate, weathers)?;
+    let mut cluster = start_three_nodes(rt, alloc, Weights::equal(3), gate, weathers)?;
     let added = adds_one(rt, alloc, &cluster);
     cluster.stop(rt)?;
     added

@@ -28,7 +28,7 @@ pub fn text_entry(alloc: Global, serial: u64, text: &[u8]) -> Result<Entry, Allo
 }
 
 /// Starts three nodes with keeps in memory, each with two workers to check proofs.
-pub fn start_three<
+pub fn start_three_nodes<
     G: Gate + Send + Sync + Drop + 'static,
     W: Weather + Send + Drop + 'static,
     R: Threads + Wait + Copy + Send + Sync + Drop + 'static,
@@ -53,7 +53,7 @@ pub fn start_three<
 }
 
 /// Starts three nodes with these weathers and an open gate.
-pub fn start_three_open<
+pub fn start_three_nodes_with_open_gate<
     W: Weather + Send + Drop + 'static,
     R: Threads + Wait + Copy + Send + Sync + Drop + 'static,
 >(
@@ -68,7 +68,7 @@ pub fn start_three_open<
     let Ok(gate) = Arc::new(alloc, OpenGate) else {
         return Err(StepFault::Memory);
     };
-    start_three(rt, alloc, weights, gate, weathers)
+    start_three_nodes(rt, alloc, weights, gate, weathers)
 }
 
 /// Submits the text at node 0.
@@ -77,9 +77,9 @@ pub fn submit_text<G: Gate, R: Wait>(
     alloc: Global,
     desk: &Desk<G, EntryKeep>,
     serial: u64,
-    source: &[u8],
+    text: &[u8],
 ) -> Result<(), StepFault> {
-    let entry = text_entry(alloc, serial, source)?;
+    let entry = text_entry(alloc, serial, text)?;
     desk.submit(rt, 0, entry)
 }
 

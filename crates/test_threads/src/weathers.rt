@@ -2,8 +2,8 @@
 ghost use Rattle.std.specs.Prelude.{◌≡◌, length, IfOk};
 
 use crate::three_nodes::{
-    EntryKeep, MAX_POLLS, is_added_by_all, polled_verdict, same_weathers, start_three_open,
-    submit_text, text_entry,
+    EntryKeep, MAX_POLLS, is_added_by_all, polled_verdict, same_weathers,
+    start_three_nodes_with_open_gate, submit_text, text_entry,
 };
 use library::{Entry, Library, Verdict};
 use net::StepFault;
@@ -76,8 +76,8 @@ fn nodes_answer_like_new<R: Threads + Wait + Clock + Copy + Send + Sync + Drop +
 
 /// Applies the texts to the library in order. Returns whether it has three statements then.
 fn apply_all(alloc: Global, library: &mut Library) -> Result<bool, AllocError> {
-    for (serial, source) in TEXTS {
-        apply_one(library, &text_entry(alloc, serial, source)?)?;
+    for (serial, text) in TEXTS {
+        apply_one(library, &text_entry(alloc, serial, text)?)?;
     }
     Ok(library.statements().len() == 3)
 }
@@ -95,7 +95,7 @@ fn nodes_answer_like<R: Threads + Wait + Clock + Copy + Send + Sync + Drop + 'st
     library: &Library,
 ) -> Result<bool, StepFault> {
     let weathers = same_weathers(alloc, CyclingWeather(0))?;
-    let mut cluster = start_three_open(rt, alloc, Weights::equal(3), weathers)?;
+    let mut cluster = start_three_nodes_with_open_gate(rt, alloc, Weights::equal(3), weathers)?;
     answers_and_stops(rt, alloc, &mut cluster, library)
 }
 
@@ -159,8 +159,8 @@ fn submit_all<G: Gate, R: Wait>(
     desk: &Desk<G, EntryKeep>,
 ) -> Result<(), StepFault> {
     desk.begin(rt, 0)?;
-    for (serial, source) in TEXTS {
-        submit_text(rt, alloc, desk, serial, source)?;
+    for (serial, text) in TEXTS {
+        submit_text(rt, alloc, desk, serial, text)?;
     }
     Ok(())
 }
@@ -233,8 +233,8 @@ fn fills_its_gap<R: Threads + Wait + Clock + Copy + Send + Sync + Drop + 'static
     ) else {
         return Err(StepFault::Memory);
     };
-    let weathers = all_weathers(alloc, &first_two_setting, &third_setting)?;
-    let mut cluster = start_three_open(rt, alloc, Weights::equal(3), weathers)?;
+    let weathers = settable_weathers(alloc, &first_two_setting, &third_setting)?;
+    let mut cluster = start_three_nodes_with_open_gate(rt, alloc, Weights::equal(3), weathers)?;
     learns_and_stops(rt, alloc, &mut cluster, &first_two_setting, &third_setting)
 }
 
@@ -252,7 +252,7 @@ fn learns_and_stops<R: Threads + Wait + Clock>(
 }
 
 /// Returns three weathers: those of nodes 0 and 1 share one setting, and that of node 2 has its own.
-fn all_weathers(
+fn settable_weathers(
     alloc: Global,
     first_two_setting: &Arc<AtomicU8>,
     third_setting: &Arc<AtomicU8>,
@@ -295,12 +295,12 @@ fn learns_at<R: Wait + Clock>(
     third_setting: &AtomicU8,
 ) -> Result<bool, StepFault> {
     desk.begin(rt, 0)?;
-    let decided = decide(rt, alloc, desk, 1)?;
+    let decided = submit_and_wait(rt, alloc, desk, 1)?;
     third_setting.store(DELAY, Ordering::SeqCst);
-    let more = decide(rt, alloc, desk, 2)?
-        && decide(rt, alloc, desk, 3)?
-        && decide(rt, alloc, desk, 4)?
-        && decide(rt, alloc, desk, 5)?;
+    let more = submit_and_wait(rt, alloc, desk, 2)?
+        && submit_and_wait(rt, alloc, desk, 3)?
+        && submit_and_wait(rt, alloc, desk, 4)?
+        && submit_and_wait(rt, alloc, desk, 5)?;
     first_two_setting.store(LOSE, Ordering::SeqCst);
     third_setting.store(PASS, Ordering::SeqCst);
     thread::sleep(rt, Duration::from_millis(TRANSIT_MILLIS));
@@ -315,7 +315,7 @@ const TRANSIT_MILLIS: u64 = 100;
 
 /// Submits a text at node 0 and waits until nodes 0 and 1 have decided it; then waits `TRANSIT_MILLIS` for the hints on their
 /// way to node 2, which its weather loses or delays. Returns whether nodes 0 and 1 have added the text.
-fn decide<R: Wait + Clock>(
+fn submit_and_wait<R: Wait + Clock>(
     rt: &R,
     alloc: Global,
     desk: &Desk<OpenGate, EntryKeep>,

@@ -15,7 +15,7 @@ pub expr-expr-requires : goal.expr-expr-requires
 expr-expr-requires c =
     let s = c.requires.assertion.0 in let e = c.requires.assertion.1.0 in
     let S = c.args.frames.now.statements in let cited = c.requires.cited s e in
-    let ps : List ℕ = hypotheses (before S c.args.a) s in
+    let ps : List ℕ = hypotheses (before S c.args.cited_at) s in
     let d : Hypothesis = Float 0 in
     let same = c.requires.mandatory s e in
     let inside : c.loop-k.k < length ps = let count = c.requires.count s e in omega (arith, count, c.loop-k-test.true) in
@@ -27,7 +27,7 @@ get-requires c =
     let s = c.requires.assertion.0 in let e = c.requires.assertion.1.0 in
     let S = c.args.frames.now.statements in let cited = c.requires.cited s e in
     let same = ap length (c.requires.mandatory s e) in
-    let count = required-kinds S c.args.frames.now.names (hypotheses (before S c.args.a) s) c.args.cited.now.typecodes.now c.args.cited.now.hypotheses cited.required in
+    let count = required-kinds S c.args.frames.now.names (hypotheses (before S c.args.cited_at) s) c.args.cited.now.typecodes.now c.args.cited.now.hypotheses cited.required in
     let all = c.requires.count s e in omega (arith, all, count, c.loop-k-test.true)
 
 pub bounds-cited-k : goal.bounds-cited-k
@@ -35,7 +35,7 @@ bounds-cited-k c =
     let s = c.requires.assertion.0 in let e = c.requires.assertion.1.0 in
     let S = c.args.frames.now.statements in let cited = c.requires.cited s e in
     let same = ap length (c.requires.mandatory s e) in
-    let count = required-typecodes S c.args.frames.now.names (hypotheses (before S c.args.a) s) c.args.cited.now.typecodes.now c.args.cited.now.hypotheses cited.required in
+    let count = required-typecodes S c.args.frames.now.names (hypotheses (before S c.args.cited_at) s) c.args.cited.now.typecodes.now c.args.cited.now.hypotheses cited.required in
     let all = c.requires.count s e in omega (arith, all, count, c.loop-k-test.true)
 
 pub loop-k-preserved : goal.loop-k-preserved
@@ -76,13 +76,13 @@ returns-then-not-agrees c s e =
     (λ same_items. both_ways c.agrees.result c.if-not-agrees.true (c.agrees.ensures.1 (same_items ∙ fact.0))) in
     let copied = c.in_ok-result.ensures.items in
     let rs = named_expressions names c.args.results.now in
-    let ps = hypotheses (before S c.args.a) s in
+    let ps = hypotheses (before S c.args.cited_at) s in
     let p = get_or hyps c.loop-k.k 0 in
     let read = images_read S ps rs in
     let first = subst (λ σ. IsFirstMismatch S σ hyps rs c.loop-k.k p (decode names c.in-Some.required.items) (decode names (get_or c.args.results.now c.loop-k.k nothing).now)) (c.requires.read s e).0 other in
     let second = subst (λ qs. IsFirstMismatch S read qs rs c.loop-k.k p (decode names c.in-Some.required.items) (decode names (get_or c.args.results.now c.loop-k.k nothing).now)) same first in
     let third = subst (λ xs. IsFirstMismatch S read ps rs c.loop-k.k p (decode names c.in-Some.required.items) (decode names xs)) (sym copied) second in
-    mismatch_is S names c.args.a s rs kind (get_or c.args.cited.now.typecodes.now c.loop-k.k 0) p c.loop-k.k c.in-Some.required c.in_ok-result.result c.mismatch_fault.result
+    mismatch_is S names c.args.cited_at s rs kind (get_or c.args.cited.now.typecodes.now c.loop-k.k 0) p c.loop-k.k c.in-Some.required c.in_ok-result.result c.mismatch_fault.result
     c.mismatch_fault.ensures third
     (λ float starts. other_constant S names c.requires.legal.distinct p (get_or c.args.cited.now.typecodes.now c.loop-k.k 0) kind required
     c.in_ok-result.result.items (subst (λ xs. AreBelow n xs) (sym copied) below) float starts)

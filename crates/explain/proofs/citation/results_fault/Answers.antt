@@ -8,7 +8,7 @@ pub read_images-requires : goal.read_images-requires
 read_images-requires c =
     let s = c.requires.assertion.0 in let e = c.requires.assertion.1.0 in
     let S = c.args.frames.now.statements in let cited = c.requires.cited s e in
-    required-kinds S c.args.frames.now.names (hypotheses (before S c.args.a) s) c.args.cited.now.typecodes.now c.args.cited.now.hypotheses cited.required ∙ sym (c.requires.count s e)
+    required-kinds S c.args.frames.now.names (hypotheses (before S c.args.cited_at) s) c.args.cited.now.typecodes.now c.args.cited.now.hypotheses cited.required ∙ sym (c.requires.count s e)
 
 pub first_mismatch-requires-clause-images : goal.first_mismatch-requires-clause-images
 first_mismatch-requires-clause-images c =
@@ -28,7 +28,7 @@ find_violation-requires-clause-images c =
 pub first_mismatch-requires-clause-read : goal.first_mismatch-requires-clause-read
 first_mismatch-requires-clause-read c s e =
     let S = c.args.frames.now.statements in let names = c.args.frames.now.names in let cited = c.requires.cited s e in
-    let ps = hypotheses (before S c.args.a) s in
+    let ps = hypotheses (before S c.args.cited_at) s in
     let fact = c.in_ok-images.ensures.read in
     let is = fact in
     let are = images_are S names ps c.args.cited.now.typecodes.now c.args.cited.now.hypotheses (codes c.args.results.now) cited.required in
@@ -38,7 +38,7 @@ pub find_violation-requires-clause-variables : goal.find_violation-requires-clau
 find_violation-requires-clause-variables c =
     let s = c.requires.assertion.0 in let e = c.requires.assertion.1.0 in
     let S = c.args.frames.now.statements in let names = c.args.frames.now.names in let cited = c.requires.cited s e in
-    let ps = hypotheses (before S c.args.a) s in
+    let ps = hypotheses (before S c.args.cited_at) s in
     let is = c.in_ok-images.ensures.read in
     let are = images_are S names ps c.args.cited.now.typecodes.now c.args.cited.now.hypotheses (codes c.args.results.now) cited.required in
     subst (λ ns. AreVariables (length ns) (code_images c.in_ok-images.images)) (sym c.active_pairs-pairs.ensures.names) (subst (λ σ. AreVariables (length names) σ) (sym is) are.1)
@@ -49,13 +49,13 @@ find_violation-requires-clause-distinct c = subst (λ ns. AreDistinct ns) (sym c
 pub returns-in-Some : goal.returns-in-Some
 returns-in-Some c s e =
     let S = c.args.frames.now.statements in let names = c.args.frames.now.names in
-    wrong_is S names c.args.at c.args.a s (named_expressions names c.args.results.now) c.in-Some.fault (rw c.in-Some.is at (c.in_ok-fault.ensures s e))
+    wrong_is S names c.args.at c.args.cited_at s (named_expressions names c.args.results.now) c.in-Some.fault (rw c.in-Some.is at (c.in_ok-fault.ensures s e))
 
 pub returns-in-Some-violation : goal.returns-in-Some-violation
 returns-in-Some-violation c s e =
     let S = c.args.frames.now.statements in let names = c.args.frames.now.names in let cited = c.requires.cited s e in
     let rs = named_expressions names c.args.results.now in
-    let ps = hypotheses (before S c.args.a) s in
+    let ps = hypotheses (before S c.args.cited_at) s in
     let is = c.in_ok-images.ensures.read in
     let are = images_are S names ps c.args.cited.now.typecodes.now c.args.cited.now.hypotheses (codes c.args.results.now) cited.required in
     let pn = c.active_pairs-pairs.ensures.names in
@@ -66,7 +66,7 @@ returns-in-Some-violation c s e =
 pub returns : goal.returns
 returns c s e =
     let S = c.args.frames.now.statements in let names = c.args.frames.now.names in let cited = c.requires.cited s e in
-    let ps = hypotheses (before S c.args.a) s in
+    let ps = hypotheses (before S c.args.cited_at) s in
     let is = c.in_ok-images.ensures.read in
     let are = images_are S names ps c.args.cited.now.typecodes.now c.args.cited.now.hypotheses (codes c.args.results.now) cited.required in
     let pn = c.active_pairs-pairs.ensures.names in

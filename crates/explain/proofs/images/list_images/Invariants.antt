@@ -4,5 +4,5 @@ use Rattle.explain.proofs.images.list_images.Given as goal
 abbrev pub invariant-loop-k : goal.invariant-loop-k
 invariant-loop-k l = record {
   below : (n : ℕ) → AreSymbols n l.results → AreImages n l.images.items;
-  read : code_images l.images.items ++ code_images_read (drop l.k l.kinds) (codes (drop l.k l.results)) ≡ code_images_read l.kinds (codes l.results);
+  read : code_images l.images.items ++ code_images_read (drop l.k l.hypotheses) (codes (drop l.k l.results)) ≡ code_images_read l.hypotheses (codes l.results);
 }

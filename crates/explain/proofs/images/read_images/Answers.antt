@@ -1,4 +1,4 @@
-use Rattle.explain.specs.Stored.Vectors.{AreImages}
+use Rattle.explain.specs.Stored.CodeSlices.{AreImages}
 use Rattle.explain.proofs.ImagesLemmas.{ok_is}
 use Rattle.explain.proofs.images.read_images.Goals as goal
 

@@ -21,6 +21,6 @@ returns-then-not-has c =
       unpaired = record {
         first = sym c.variable.ensures ∙ c.if-not-variable.false;
         second = sym c.variable-in-loop-other.ensures ∙ c.if-variable.true;
-        disjoint = sym c.has.ensures ∙ c.if-not-has.true;
+        no_pair = sym c.has.ensures ∙ c.if-not-has.true;
       };
     }

@@ -17,7 +17,7 @@ returns-else-expr_matches c =
     let old : List ℕ = c.args.essentials.now.items in
     let new : List ℕ = c.trim_to_active.new.positions.items in
     let kept : AreMatchingEssentials p S c.args.index old = subst (λ query. AreRecorded query S c.args.index old) c.in-WithHypotheses.is c.requires.recorded in
-    let left : IsTrimmedLength (bares S) (c.args.index + 1) old (length new) = subst (λ F. IsTrimmedLength F (c.args.index + 1) old (length new)) c.requires.same c.trim_to_active.ensures.left in
+    let left : IsTrimmedLength (bares S) (c.args.index + 1) old (length new) = subst (λ F. IsTrimmedLength F (c.args.index + 1) old (length new)) c.requires.same c.trim_to_active.ensures.trimmed in
     let own = subst (λ expr. IsTrue c.in_ok-expr_matches-in-WithHypotheses.expr_matches ↔ HasPattern p expr) c.assertion_expr-in-WithHypotheses.ensures c.in_ok-expr_matches-in-WithHypotheses.ensures in
     let some = some-left p S c.args.index (c.args.index + 1) refl old new left c.trim_to_active.ensures.prefix c.args.statement.now c.trim_to_active.result kept c.trim_to_active.ensures.some in
     record {

@@ -5,6 +5,6 @@ use Rattle.nodes.proofs.report.count_events.Given as goal
 abbrev pub invariant-loop-event : goal.invariant-loop-event
 invariant-loop-event g l = record {
   total : l.events ≡ sum l.handled.items;
-  counts : ForOk (world_of carried_size l.switch) (λ world. l.handled.items ≡ event_counts world 0 l.fn.nodes (take l.event-index l.history));
+  counts : ForOk (world_of carried_size l.switch) (λ world. l.handled.items ≡ event_counts world 0 l.fn.node_count (take l.event-index l.history));
   few : l.events ≤ l.event-index;
 }

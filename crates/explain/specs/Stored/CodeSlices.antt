@@ -26,5 +26,5 @@ abbrev pub AreImages : ℕ → List Image → Type 0
 AreImages n images = AllBelow n (map (λ i. i.symbols.now) images)
 
 -- the assertion at a has `count` mandatory hypotheses
-abbrev pub CountIs : Database → ℕ → ℕ → Type 0
-CountIs S a count = (s : Stmt) → stmt_at S a ≡ Some s → count ≡ length (hypotheses (before S a) s)
+abbrev pub HasHypothesisCount : Database → ℕ → ℕ → Type 0
+HasHypothesisCount S a count = (s : Stmt) → stmt_at S a ≡ Some s → count ≡ length (hypotheses (before S a) s)

@@ -1,6 +1,6 @@
 use Rattle.explain.proofs.Words.{◌≡◌, ◌∷◌, sym, ◌∙◌, begin, begins}
 use Rattle.explain.proofs.TokenLemmas.{not-label-listed, finish-listing, letters-broken, letters-write}
-use Rattle.explain.proofs.code.listed_break.Goals as goal
+use Rattle.explain.proofs.broken_code.listed_break.Goals as goal
 
 pub unreachable-requires : goal.unreachable-requires
 unreachable-requires c =

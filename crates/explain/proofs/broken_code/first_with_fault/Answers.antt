@@ -1,6 +1,6 @@
 use Rattle.explain.proofs.Words.{sym, ◌∙◌, has_fault}
 use Rattle.explain.proofs.TokenLemmas.{passed-more}
-use Rattle.explain.proofs.code.first_with_fault.Goals as goal
+use Rattle.explain.proofs.broken_code.first_with_fault.Goals as goal
 
 pub loop-word-preserved : goal.loop-word-preserved
 loop-word-preserved c =

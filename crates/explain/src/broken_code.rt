@@ -71,7 +71,7 @@ fn compressed_break(
     ensures { IfOk result (IsBreak tokens.now mandatory.now) }
 {
     match names_of(alloc, mandatory) {
-        Some(names) => listed_break(alloc, tokens, mandatory, &names),
+        Some(mandatory_set) => listed_break(alloc, tokens, mandatory, &mandatory_set),
         None => Err(AllocError),
     }
 }
@@ -81,13 +81,13 @@ fn listed_break(
     alloc: Global,
     tokens: &Words,
     mandatory: &Words,
-    names: &BTreeSet<&[u8]>,
+    mandatory_set: &BTreeSet<&[u8]>,
 ) -> Result<CodeBreak, AllocError>
     requires compressed { IsTrue (is_compressed tokens.now) }
     requires finished { IsFalse (is_unfinished tokens.now) }
     requires few { length tokens.now ≤ 2 ^ 30 }
     requires none { (items : List Item) → ¬ Writes tokens.now mandatory.now items }
-    requires named { AreNames names.now mandatory.now }
+    requires named { AreNames mandatory_set.now mandatory.now }
     ensures { IfOk result (IsBreak tokens.now mandatory.now) }
 {
     if mandatory.len() > MAX_LETTERS {
@@ -98,13 +98,13 @@ fn listed_break(
     let Some((listed, word)) = first_with_fault(
         &mut words,
         mandatory,
-        Some(names),
+        Some(mandatory_set),
         TokenFault::NotListable,
     ) else {
         return Ok(CodeBreak::Unclosed);
     };
     if word == b")".as_slice() {
-        let letters = join(alloc, &mut words)?;
+        let letters = join_letters(alloc, &mut words)?;
         if letters.len() > MAX_LETTERS {
             return Err(AllocError);
         }
@@ -128,17 +128,17 @@ fn listed_break(
 fn first_with_fault<'a>(
     words: &mut WordIter<'a>,
     mandatory: &Words,
-    names: Option<&BTreeSet<&[u8]>>,
+    mandatory_set: Option<&BTreeSet<&[u8]>>,
     fault: TokenFault,
 ) -> Option<(usize, &'a [u8])>
     requires few { length words.old < 2 ^ 64 }
-    requires names { IfSome names (λ set. AreNames set.now mandatory.now) }
+    requires mandatory_set { IfSome mandatory_set (λ set. AreNames set.now mandatory.now) }
     ensures { MatchOption result (list_any (has_fault mandatory.now fault) words.old ≡ false)
         (λ r. IsFirst (has_fault mandatory.now fault) words.old r.0 r.1.now words.new) }
 {
     let mut index = 0usize;
     while let Some(word) = words.next() {
-        if has_fault(word, mandatory, names, fault) {
+        if has_fault(word, mandatory, mandatory_set, fault) {
             return Some((index, word));
         }
         index += 1;
@@ -150,23 +150,23 @@ fn first_with_fault<'a>(
 fn has_fault(
     token: &[u8],
     mandatory: &Words,
-    names: Option<&BTreeSet<&[u8]>>,
+    mandatory_set: Option<&BTreeSet<&[u8]>>,
     fault: TokenFault,
 ) -> bool
-    requires { IfSome names (λ set. AreNames set.now mandatory.now) }
+    requires { IfSome mandatory_set (λ set. AreNames set.now mandatory.now) }
     ensures { result ≡ has_fault mandatory.now fault token.now }
 {
     match fault {
         TokenFault::Unfinished => token.contains(&b'?'),
         TokenFault::NotLabel => !is_label(token),
-        TokenFault::NotListable => !is_label(token) || has(mandatory, names, token),
+        TokenFault::NotListable => !is_label(token) || has_label(mandatory, mandatory_set, token),
     }
 }
 
 /// Returns the letters of the tokens, joined.
 ///
 /// Errors: an allocation fails.
-fn join(alloc: Global, words: &mut WordIter<'_>) -> Result<Vec<u8>, AllocError>
+fn join_letters(alloc: Global, words: &mut WordIter<'_>) -> Result<Vec<u8>, AllocError>
     ensures { IfOk result (λ letters. letters.items ≡ joined words.old) }
 {
     let mut letters = Vec::new(alloc);
@@ -177,12 +177,12 @@ fn join(alloc: Global, words: &mut WordIter<'_>) -> Result<Vec<u8>, AllocError>
 }
 
 /// Returns whether a name is one of the labels, which may also be given as a set.
-fn has(labels: &Words, names: Option<&BTreeSet<&[u8]>>, name: &[u8]) -> bool
-    requires { IfSome names (λ set. AreNames set.now labels.now) }
+fn has_label(labels: &Words, label_set: Option<&BTreeSet<&[u8]>>, name: &[u8]) -> bool
+    requires { IfSome label_set (λ set. AreNames set.now labels.now) }
     ensures { result ≡ has_name name.now labels.now }
 {
-    match names {
-        Some(names) => names.contains(name),
+    match label_set {
+        Some(label_set) => label_set.contains(name),
         None => labels.iter().any(|other| name == other),
     }
 }

@@ -3,7 +3,7 @@ use Rattle.scope.specs.Active.{bare, is_provable}
 use Rattle.verify_pool.specs.declared.job.Job.{Job}
 use Rattle.verify_pool.specs.Jobs.{IsJob}
 use Rattle.verify_pool.proofs.JobsLemmas.{last_is_job}
-use Rattle.test_library.proofs.derivations.nodes_at.Goals as goal
+use Rattle.test_library.proofs.derivations.node_count_at.Goals as goal
 
 pub check-requires : goal.check-requires
 check-requires c =

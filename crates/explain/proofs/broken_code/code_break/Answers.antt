@@ -1,7 +1,7 @@
 use Rattle.explain.proofs.Words.{sym, ◌∙◌, ap, list_any, has_fault}
-use Rattle.explain.specs.declared.code.TokenFault.TheVariants as token_fault
+use Rattle.explain.specs.declared.broken_code.TokenFault.TheVariants as token_fault
 use Rattle.explain.proofs.TokenLemmas.{writes-normal, not-label-normal}
-use Rattle.explain.proofs.code.code_break.Goals as goal
+use Rattle.explain.proofs.broken_code.code_break.Goals as goal
 
 pub unreachable-requires : goal.unreachable-requires
 unreachable-requires c =
