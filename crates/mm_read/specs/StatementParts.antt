@@ -6,7 +6,7 @@
 use Rattle.std.specs.Prelude.{◌≡◌, ℕ, Bool, ◌+◌, ◌<◌, ◌≤◌, ◌⊎◌, IsTrue, IsFalse, List, [], ◌∷◌, ◌++◌, length, codes}
 use Rattle.std.specs.List.{list_all}
 use Rattle.mm_lex.specs.Alphabet.{Name, name_eq, has_name, is_symbol}
-use Rattle.mm_lex.specs.Between.{AreAfter, IsCommentFaultAfter}
+use Rattle.mm_lex.specs.Between.{AreTokensAfter, IsCommentFaultAfter}
 use Rattle.mm_read.specs.declared.keyword.Keyword.{Keyword}
 use Rattle.mm_read.specs.declared.keyword.Keyword.TheVariants.{Open, Close, Const, Var, Disj, Float, Ess, Axiom, Prove, Other}
 use Rattle.mm_read.specs.declared.fault.ReadFault.{ReadFault}
@@ -50,7 +50,7 @@ pub record BeginsBrokenList (tokens : List Name) (number least : ℕ) (end : Nam
 -- case the token's number is bounded by the bytes that are left (`few`)
 pub record HasBrokenList (text : List ℕ) (at number least : ℕ) (end : Name) (token : ℕ) : Type 0 where
   pub few : token + at ≤ number + length text
-  pub stops : (tokens : List Name) → AreAfter text at tokens → BeginsBrokenList tokens number least end token
+  pub stops : (tokens : List Name) → AreTokensAfter text at tokens → BeginsBrokenList tokens number least end token
 
 -- why no whole list follows an offset: a comment fault; the token at which it breaks off, if no
 -- comment is malformed; or a failed allocation
@@ -69,5 +69,5 @@ StartsOtherwise fits (t ∷ rest) = IsFalse (fits t)
 abbrev pub IsTokenFault : List ℕ → ℕ → ℕ → (Name → Bool) → ReadFault → Type 0
 IsTokenFault text at number fits (Text fault) = IsCommentFaultAfter text at fault
 IsTokenFault text at number fits (Shape token) =
-    (token ≡ number) × ((tokens : List Name) → AreAfter text at tokens → StartsOtherwise fits tokens)
+    (token ≡ number) × ((tokens : List Name) → AreTokensAfter text at tokens → StartsOtherwise fits tokens)
 IsTokenFault text at number fits Memory = Unit {0}

@@ -62,7 +62,7 @@ fn statements(alloc: Global, text: &[u8]) -> Result<Vec<Stmt>, ReadFault>
         match add_next(alloc, &mut statements, text, at) {
             Ok(Some(next)) => at = next,
             Ok(None) => return Ok(statements),
-            Err(fault) => return Err(first_fault(text, at, fault)?),
+            Err(fault) => return Err(whole_text_fault(text, at, fault)?),
         }
     }
 }
@@ -108,7 +108,7 @@ fn grow_heap(alloc: Global, at: usize, next: usize) {
 ///
 /// Errors: the comment fault of the text, if there is one: it takes precedence over `fault`. Cost:
 /// the size of the text.
-fn first_fault(text: &[u8], at: usize, fault: ReadFault) -> Result<ReadFault, LexFault>
+fn whole_text_fault(text: &[u8], at: usize, fault: ReadFault) -> Result<ReadFault, LexFault>
     requires allowed { HasOnlyAllowedBytes text.now }
     requires place { at ≤ length text.now }
     requires before { (S : Database) × ReadsUpTo text.now at S }

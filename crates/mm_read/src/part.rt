@@ -3,7 +3,7 @@ ghost use Rattle.std.specs.Prelude.{◌≡◌, ◌<◌, ◌≤◌, ◌∷◌, �
 ghost use Rattle.std.specs.List.{list_all};
 ghost use Rattle.mm_lex.specs.Alphabet.{name_eq, is_symbol};
 ghost use Rattle.mm_lex.specs.Tokens.{HasOnlyAllowedBytes};
-ghost use Rattle.mm_lex.specs.Between.{HasBetween};
+ghost use Rattle.mm_lex.specs.Between.{AreTokensBetween};
 ghost use Rattle.mm_read.specs.StatementParts.{IsListFault, IsTokenFault};
 
 use crate::fault::ReadFault;
@@ -34,13 +34,13 @@ pub fn symbols_until(
     requires number { number ≤ 3 }
     ensures symbols { IfOk result (λ r. IsTrue (list_all is_symbol r.0)) }
     ensures many { IfOk result (λ r. least ≤ length r.0) }
-    ensures between { IfOk result (λ r. HasBetween text.now at r.1 (r.0 ++ end.now ∷ [])) }
+    ensures between { IfOk result (λ r. AreTokensBetween text.now at r.1 (r.0 ++ end.now ∷ [])) }
     ensures later { IfOk result (λ r. at < r.1) }
     ensures fault { IfErr result (IsListFault text.now at number least end.now) }
 {
     let (words, stop) = symbols(alloc, text, at)?;
     if let Some(span) = stop {
-        if token_bytes(text, span) == end && has_least(&words, least) {
+        if token_bytes(text, span) == end && has_at_least(&words, least) {
             return Ok((words, span.end));
         }
     }
@@ -51,7 +51,7 @@ pub fn symbols_until(
 
 /// Returns whether there are at least `least` words. Cost: a constant if `least` is 0 or 1, else
 /// the size of the words.
-fn has_least(words: &Words, least: usize) -> bool
+fn has_at_least(words: &Words, least: usize) -> bool
     ensures { result ≡ nat_le least (length words.now) }
 {
     match least {
@@ -76,7 +76,7 @@ pub fn next_symbol(
     requires allowed { HasOnlyAllowedBytes text.now }
     requires place { at ≤ length text.now }
     ensures symbol { IfOk result (λ r. IsTrue (is_symbol r.0)) }
-    ensures between { IfOk result (λ r. HasBetween text.now at r.1 (r.0 ∷ [])) }
+    ensures between { IfOk result (λ r. AreTokensBetween text.now at r.1 (r.0 ∷ [])) }
     ensures fault { IfErr result (IsTokenFault text.now at number is_symbol) }
 {
     if let Some(span) = next_token(text, at)? {
@@ -98,7 +98,7 @@ pub fn next_symbol(
 pub fn expect_token(text: &[u8], at: usize, number: usize, end: &[u8]) -> Result<usize, ReadFault>
     requires allowed { HasOnlyAllowedBytes text.now }
     requires place { at ≤ length text.now }
-    ensures between { IfOk result (λ next. HasBetween text.now at next (end.now ∷ [])) }
+    ensures between { IfOk result (λ next. AreTokensBetween text.now at next (end.now ∷ [])) }
     ensures fault { IfErr result (IsTokenFault text.now at number (λ w. name_eq w end.now)) }
 {
     if let Some(span) = next_token(text, at)? {

@@ -4,7 +4,7 @@ ghost use Rattle.mm_lex.specs.Alphabet.{Name};
 ghost use Rattle.names.specs.Codes.{name_at, code_of, AreDistinct};
 ghost use Rattle.names.specs.Stored.Keys.{key_of};
 ghost use Rattle.names.specs.Stored.Overflow.{code_in_overflow};
-ghost use Rattle.names.specs.Stored.Table.{half_of, slot_of, slot_index_of, slot_at, AreFound, AreNameKeys, OverflowGrows, AreReachable, AreUnused, IsFree};
+ghost use Rattle.names.specs.Stored.Table.{half_of, slot_of, slot_index_of, IsProbedSlot, AreFound, AreNameKeys, OverflowGrows, AreReachable, AreUnused, IsFree};
 ghost use Rattle.names.specs.declared.keys.TheConstants.{IN_OVERFLOW};
 ghost use Rattle.names.specs.declared.table.TheConstants.{MAX_PROBES};
 
@@ -80,7 +80,7 @@ fn max_steps(len: usize) -> usize
 fn probe(slots: &[Slot], key: u64, step: usize) -> Slot
     requires within { step < length slots.now }
     requires near { step < MAX_PROBES }
-    ensures { slot_at slots.now key step result }
+    ensures { IsProbedSlot slots.now key step result }
 {
     item(slots, slot_index(key, step, slots.len()))
 }

@@ -1,7 +1,7 @@
 use Rattle.mm_lex.proofs.Prelude.{take, arith, length-take-le}
 use Rattle.mm_lex.proofs.RunsLemmas.{position_or_len-le}
 use Rattle.mm_lex.proofs.LanesLemmas.{is_low, mask_of_low, lowest_low}
-use Rattle.mm_lex.proofs.lanes.count_in_lanes.Goals as goal
+use Rattle.mm_lex.proofs.lanes.count_visible_in_lanes.Goals as goal
 
 pub returns-else-mask-eq0-clause-count : goal.returns-else-mask-eq0-clause-count
 returns-else-mask-eq0-clause-count c =

@@ -1,6 +1,6 @@
 use Rattle.mm_lex.proofs.Prelude.{take, drop, arith, length-take-le, length-drop}
 use Rattle.mm_lex.proofs.SpacedPrefixLemmas.{none_set, first_set, few_set}
-use Rattle.mm_lex.proofs.spaced_prefix.count_in_lanes.Goals as goal
+use Rattle.mm_lex.proofs.spaced_prefix.count_prefix_in_lanes.Goals as goal
 
 pub returns-then-mask-eq0-clause-count : goal.returns-then-mask-eq0-clause-count
 returns-then-mask-eq0-clause-count c =

@@ -1,7 +1,7 @@
 use Rattle.mm_lex.proofs.Prelude.{take, arith, length-take-le}
 use Rattle.mm_lex.proofs.RunsLemmas.{position_or_len-le}
 use Rattle.mm_lex.proofs.LanesLemmas.{is_high, mask_of_high, lowest_high, none_high}
-use Rattle.mm_lex.proofs.lanes.count_low_in_lanes.Goals as goal
+use Rattle.mm_lex.proofs.lanes.count_white_in_lanes.Goals as goal
 
 pub returns-then-mask-eq0-clause-count : goal.returns-then-mask-eq0-clause-count
 returns-then-mask-eq0-clause-count c =

@@ -1,6 +1,6 @@
 use Rattle.mm_lex.proofs.Prelude.{◌∙◌, ap, length, unwrap_or, is_white}
 use Rattle.mm_lex.proofs.RunsLemmas.{unwrap_or-position}
-use Rattle.mm_lex.proofs.lanes.count_one_by_one.Goals as goal
+use Rattle.mm_lex.proofs.lanes.count_visible_one_by_one.Goals as goal
 
 pub returns-clause-count : goal.returns-clause-count
 returns-clause-count c =

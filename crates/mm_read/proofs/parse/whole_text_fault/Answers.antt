@@ -1,7 +1,7 @@
 use Rattle.mm_read.proofs.Words.{◌++◌, ◌+◌, ◌-◌, ◌≡◌, [], arith, length, subst, err_from_is_err_and, after_on, stops_after, tokens_of, IsShapeFault, IsFaultAfter}
 use Rattle.mm_read.proofs.StatementByStatement.{fault_after}
 use Rattle.mm_read.proofs.NextLemmas.{count_before}
-use Rattle.mm_read.proofs.parse.first_fault.Goals as goal
+use Rattle.mm_read.proofs.parse.whole_text_fault.Goals as goal
 
 pub returns-in_err-count_tokens-in-Memory-clause-comment : goal.returns-in_err-count_tokens-in-Memory-clause-comment
 returns-in_err-count_tokens-in-Memory-clause-comment c =

@@ -1,6 +1,6 @@
 use Rattle.std.proofs.Common.{sym, arith}
 use Rattle.mm_lex.proofs.SpacedPrefixLemmas.{prefix_one}
-use Rattle.mm_lex.proofs.spaced_prefix.count_one_by_one.Goals as goal
+use Rattle.mm_lex.proofs.spaced_prefix.count_prefix_one_by_one.Goals as goal
 
 pub loop-at-preserved : goal.loop-at-preserved
 loop-at-preserved c =
