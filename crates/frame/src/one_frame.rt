@@ -76,7 +76,7 @@ fn record_variables(
 fn record_name(alloc: Global, used: &mut NameTable, name: &[u8]) -> Result<(), AllocError>
     ensures { OnOk result ((x : Name) → has_name x used.new ≡ (has_name x used.old || name_eq x name.now)) }
 {
-    used.code(alloc, name)?;
+    used.find_or_add(alloc, name)?;
     Ok(())
 }
 

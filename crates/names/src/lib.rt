@@ -2,10 +2,9 @@
 //! name is its index in it.
 //!
 //! `NameTable::add` gives a name its code, `find` returns the code of a name, and `name` the name
-//! of a code. Read `names` first. The module `texts` stores the bytes of names (a text is the bytes
-//! of one name), `table` is the hash table that finds a code by the key of its name, `keys`
-//! computes keys, `name_keys` stores them by code, and `overflow` has the names that found no slot
-//! in the table.
+//! of a code. Read `names` first. The module `name_list` stores the bytes of names, `table` is the
+//! hash table that finds a code by the key of its name, `keys` computes keys, `name_keys` stores
+//! them by code, and `overflow` has the names that found no slot in the table.
 #![tactic(auto)]
 
 mod keys;
@@ -13,6 +12,6 @@ mod name_keys;
 mod names;
 mod overflow;
 mod table;
-mod texts;
+mod name_list;
 
 pub use names::NameTable;

@@ -20,7 +20,7 @@ pub(crate) fn name_table(alloc: Global, words: &Words) -> Result<NameTable, Allo
 {
     let mut names = NameTable::new(alloc);
     for word in words.iter() {
-        names.code(alloc, word)?;
+        names.find_or_add(alloc, word)?;
     }
     Ok(names)
 }

@@ -149,7 +149,7 @@ pub(crate) fn first_repeated(
     let mut names = NameTable::new(alloc);
     for word in words.iter() {
         let index = names.len();
-        let first = names.code(alloc, word)?;
+        let first = names.find_or_add(alloc, word)?;
         if first < index {
             return Ok(Some(RuleViolation::Twice {
                 first,

@@ -1,11 +1,11 @@
--- Texts in one buffer, each after the one before.
-use Rattle.names.proofs.Words.{◌≡◌, ℕ, zero, suc, ◌+◌, ◌-◌, ◌<◌, ◌≤◌, List, [], ◌∷◌, ◌++◌, length, take, drop, slice_get, slice_range, Some, refl, ◌∙◌, ap, sym, subst, arith, length-drop, length-take-le, take-append-le, drop-append-le, take-append-drop, take_all, drop-append_seam, same_Some, name_at, texts_from, start_of, AreAscendingEnds}
+-- Names in one buffer, each after the one before.
+use Rattle.names.proofs.Words.{◌≡◌, ℕ, zero, suc, ◌+◌, ◌-◌, ◌<◌, ◌≤◌, List, [], ◌∷◌, ◌++◌, length, take, drop, slice_get, slice_range, Some, refl, ◌∙◌, ap, sym, subst, arith, length-drop, length-take-le, take-append-le, drop-append-le, take-append-drop, take_all, drop-append_seam, same_Some, name_at, names_from, start_of, AreAscendingEnds}
 
-pub texts_from-length : (xs : List ℕ) (from : ℕ) (ends : List ℕ) → length (texts_from xs from ends) ≡ length ends
-texts_from-length xs from [] = refl
-texts_from-length xs from (to ∷ ends) = ap suc (texts_from-length xs to ends)
+pub names_from-length : (xs : List ℕ) (from : ℕ) (ends : List ℕ) → length (names_from xs from ends) ≡ length ends
+names_from-length xs from [] = refl
+names_from-length xs from (to ∷ ends) = ap suc (names_from-length xs to ends)
 
--- the place where the texts begin is at most the last end
+-- the place where the names begin is at most the last end
 ascending-behind : (n from : ℕ) (ends : List ℕ) → AreAscendingEnds n from ends → from ≤ n
 ascending-behind n from [] l = omega (arith, l)
 ascending-behind n from (to ∷ ends) l = let r = ascending-behind n to ends l.1 in let a = l.0 in omega (arith, a, r)
@@ -25,7 +25,7 @@ start-within n from [] i l = omega (arith, l)
 start-within n from (to ∷ ends) zero l = ascending-behind n from (to ∷ ends) l
 start-within n from (to ∷ ends) (suc i) l = start-within n to ends i l.1
 
--- a text begins where the one before it ends
+-- a name begins where the one before it ends
 pub start-first : (from : ℕ) (ends : List ℕ) → start_of from ends 0 ≡ from
 start-first from [] = refl
 start-first from (to ∷ ends) = refl
@@ -35,10 +35,10 @@ start-next from [] i to h = cc
 start-next from (t ∷ ends) zero to h = start-first t ends ∙ same_Some _ _ h
 start-next from (t ∷ ends) (suc i) to h = start-next t ends i to h
 
-pub text-at : (xs : List ℕ) (from : ℕ) (ends : List ℕ) (i to : ℕ) → slice_get ends i ≡ Some to → slice_range xs (start_of from ends i) to ≡ name_at (texts_from xs from ends) i
-text-at xs from [] i to h = cc
-text-at xs from (t ∷ ends) zero to h = ap (slice_range xs from) (sym (same_Some _ _ h))
-text-at xs from (t ∷ ends) (suc i) to h = text-at xs t ends i to h
+pub name-at : (xs : List ℕ) (from : ℕ) (ends : List ℕ) (i to : ℕ) → slice_get ends i ≡ Some to → slice_range xs (start_of from ends i) to ≡ name_at (names_from xs from ends) i
+name-at xs from [] i to h = cc
+name-at xs from (t ∷ ends) zero to h = ap (slice_range xs from) (sym (same_Some _ _ h))
+name-at xs from (t ∷ ends) (suc i) to h = name-at xs t ends i to h
 
 range-more : (xs more : List ℕ) (from to : ℕ) → from ≤ to → to ≤ length xs → slice_range (xs ++ more) from to ≡ slice_range xs from to
 range-more xs more from to p q =
@@ -57,28 +57,28 @@ range-last xs ys from to p q =
     let k : to - from ≡ length ys = omega arith in
     ap (λ n. take n (drop from (xs ++ ys))) k ∙ (ap (λ n. take (length ys) (drop n (xs ++ ys))) p ∙ (ap (take (length ys)) (drop-append_seam xs ys) ∙ take_all (length ys) ys (omega arith)))
 
--- a text that is appended at the end
-pub push-text : (xs ys : List ℕ) (from : ℕ) (ends : List ℕ) (to : ℕ) → AreAscendingEnds (length xs) from ends → to ≡ length xs + length ys → texts_from (xs ++ ys) from (ends ++ to ∷ []) ≡ texts_from xs from ends ++ ys ∷ []
-push-text xs ys from [] to l q = ap (λ r. r ∷ []) (range-last xs ys from to (sym l) q)
-push-text xs ys from (t ∷ ends) to l q =
+-- a name that is appended at the end
+pub push-name : (xs ys : List ℕ) (from : ℕ) (ends : List ℕ) (to : ℕ) → AreAscendingEnds (length xs) from ends → to ≡ length xs + length ys → names_from (xs ++ ys) from (ends ++ to ∷ []) ≡ names_from xs from ends ++ ys ∷ []
+push-name xs ys from [] to l q = ap (λ r. r ∷ []) (range-last xs ys from to (sym l) q)
+push-name xs ys from (t ∷ ends) to l q =
     let first = range-more xs ys from t l.0 (ascending-behind (length xs) t ends l.1) in
-    let rest = push-text xs ys t ends to l.1 q in
+    let rest = push-name xs ys t ends to l.1 q in
     cc
 
 pub ascending-push : (n m from : ℕ) (ends : List ℕ) → n ≤ m → AreAscendingEnds n from ends → AreAscendingEnds m from (ends ++ m ∷ [])
 ascending-push n m from [] le l = (omega (arith, l, le), refl)
 ascending-push n m from (t ∷ ends) le l = (l.0, ascending-push n m t ends le l.1)
 
--- the texts before one of them end where that one begins
+-- the names before one of them end where that one begins
 pub ascending-take : (n from : ℕ) (ends : List ℕ) (i : ℕ) → i < length ends → AreAscendingEnds n from ends → AreAscendingEnds (start_of from ends i) from (take i ends)
 ascending-take n from [] i h l = absurd (omega (arith, h))
 ascending-take n from (t ∷ ends) zero h l = refl
 ascending-take n from (t ∷ ends) (suc i) h l = (l.0, ascending-take n t ends i (omega (arith, h)) l.1)
 
-pub texts_from-take : (xs : List ℕ) (from : ℕ) (ends : List ℕ) (i : ℕ) → i < length ends → AreAscendingEnds (length xs) from ends → texts_from (take (start_of from ends i) xs) from (take i ends) ≡ take i (texts_from xs from ends)
-texts_from-take xs from [] i h l = absurd (omega (arith, h))
-texts_from-take xs from (t ∷ ends) zero h l = refl
-texts_from-take xs from (t ∷ ends) (suc i) h l =
+pub names_from-take : (xs : List ℕ) (from : ℕ) (ends : List ℕ) (i : ℕ) → i < length ends → AreAscendingEnds (length xs) from ends → names_from (take (start_of from ends i) xs) from (take i ends) ≡ take i (names_from xs from ends)
+names_from-take xs from [] i h l = absurd (omega (arith, h))
+names_from-take xs from (t ∷ ends) zero h l = refl
+names_from-take xs from (t ∷ ends) (suc i) h l =
     let first = range-take xs (start_of t ends i) from t l.0 (ascending-start (length xs) t ends i l.1) (start-within (length xs) t ends i l.1) in
-    let rest = texts_from-take xs t ends i (omega (arith, h)) l.1 in
+    let rest = names_from-take xs t ends i (omega (arith, h)) l.1 in
     cc

@@ -1,6 +1,6 @@
 use Rattle.names.proofs.Words.{◌≡◌, ◌∙◌, ap, sym, arith, suc, ◌-◌, start_of}
-use Rattle.names.proofs.TextsLemmas.{start-first, start-next}
-use Rattle.names.proofs.texts.start.Goals as goal
+use Rattle.names.proofs.NameListLemmas.{start-first, start-next}
+use Rattle.names.proofs.name_list.start.Goals as goal
 
 pub returns-then-index-eq0 : goal.returns-then-index-eq0
 returns-then-index-eq0 c = sym (ap (start_of 0 c.args.ends.now) c.if-index-eq0.true ∙ start-first 0 c.args.ends.now)

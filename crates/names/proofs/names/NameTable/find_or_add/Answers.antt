@@ -2,7 +2,7 @@ use Rattle.names.proofs.Words.{sym, subst, AreDistinct}
 use Rattle.names.proofs.CodesLemmas.{code-name, added-name}
 use Rattle.names.proofs.CodesLemmas.{unknown-number}
 use Rattle.names.proofs.DistinctLemmas.{distinct-push}
-use Rattle.names.proofs.names.NameTable.code.Goals as goal
+use Rattle.names.proofs.names.NameTable.find_or_add.Goals as goal
 
 pub add-requires : goal.add-requires
 add-requires c = unknown-number c.args.self.now c.args.name.now c.in-None.ensures.code

@@ -1,7 +1,7 @@
-use Rattle.names.proofs.Words.{◌≡◌, ◌∙◌, ap, sym, subst, arith, length, take, length-take-le, take_all, ◌<◌, texts_from, start_of, AreAscendingEnds}
-use Rattle.names.proofs.TextsLemmas.{texts_from-length, start-within, texts_from-take, ascending-take}
-use Rattle.names.proofs.texts.Texts.truncate.Goals as goal
-use Rattle.names.proofs.texts.Texts.truncate.Goals.{After-truncate-then-len}
+use Rattle.names.proofs.Words.{◌≡◌, ◌∙◌, ap, sym, subst, arith, length, take, length-take-le, take_all, ◌<◌, names_from, start_of, AreAscendingEnds}
+use Rattle.names.proofs.NameListLemmas.{names_from-length, start-within, names_from-take, ascending-take}
+use Rattle.names.proofs.name_list.NameList.truncate.Goals as goal
+use Rattle.names.proofs.name_list.NameList.truncate.Goals.{After-truncate-then-len}
 
 from-is : (c : After-truncate-then-len) → c.start-from.result ≡ start_of 0 c.self.inside.ends.items c.args.len
 from-is c = c.start-from.ensures ∙ ap (λ xs. start_of 0 xs c.args.len) c.as_slice.ensures.value
@@ -11,10 +11,10 @@ within c = let h = c.if-len.true in let l = c.len.ensures in omega (arith, h, l)
 
 pub returns-then-len : goal.returns-then-len
 returns-then-len c =
-    ap (λ xs. texts_from xs 0 c.truncate-then-len.new.self.items) c.truncate.ensures.items
-    ∙ (ap (texts_from (take c.start-from.result c.self.inside.bytes.items) 0) c.truncate-then-len.ensures.items
-    ∙ (ap (λ n. texts_from (take n c.self.inside.bytes.items) 0 (take c.args.len c.self.inside.ends.items)) (from-is c)
-    ∙ (texts_from-take c.self.inside.bytes.items 0 c.self.inside.ends.items c.args.len (within c) c.self.invariant
+    ap (λ xs. names_from xs 0 c.truncate-then-len.new.self.items) c.truncate.ensures.items
+    ∙ (ap (names_from (take c.start-from.result c.self.inside.bytes.items) 0) c.truncate-then-len.ensures.items
+    ∙ (ap (λ n. names_from (take n c.self.inside.bytes.items) 0 (take c.args.len c.self.inside.ends.items)) (from-is c)
+    ∙ (names_from-take c.self.inside.bytes.items 0 c.self.inside.ends.items c.args.len (within c) c.self.invariant
     ∙ ap (take c.args.len) c.self.view_is)))
 
 pub invariant_of-self : goal.invariant_of-self
@@ -28,6 +28,6 @@ invariant_of-self c =
 
 pub returns-else-len : goal.returns-else-len
 returns-else-len c =
-    let l = texts_from-length c.self.inside.bytes.items 0 c.self.inside.ends.items in
+    let l = names_from-length c.self.inside.bytes.items 0 c.self.inside.ends.items in
     let h = c.if-len.false in
     sym (take_all c.args.len c.args.self.now (omega (arith, h, l, c.len.ensures, ap length c.self.view_is)))
