@@ -63,8 +63,8 @@ at-index numbers groups rs ks es i r kept many view same here =
 
 -- the parts follow one another
 ordered : (t : Bool) (run : List ℕ) → IsOrdered (layout_in t run)
-ordered true run = record { typecodes = omega arith; required = omega arith; symbols = omega arith; hypotheses = omega arith; grouped_variables = omega arith }
-ordered false run = record { typecodes = omega arith; required = omega arith; symbols = omega arith; hypotheses = omega arith; grouped_variables = omega arith }
+ordered true run = record { typecodes = omega arith; numbered_hypotheses = omega arith; symbols = omega arith; hypotheses = omega arith; grouped_variables = omega arith }
+ordered false run = record { typecodes = omega arith; numbered_hypotheses = omega arith; symbols = omega arith; hypotheses = omega arith; grouped_variables = omega arith }
 
 -- the parts read are those of the entry
 module _ (numbers : List ℕ) (groups : List BufferPart) (r : StatementRecord) (next : Option StatementRecord) (behind : Option StateBefore) (found : Option Entry) (run : Bor (List ℕ)) (at : Layout)

@@ -125,8 +125,8 @@ impl Entries {
             return None;
         }
         Some(AssertionView {
-            typecodes: part(numbers, at.typecodes, at.required),
-            hypotheses: Hypotheses::new(part(numbers, at.required, at.symbols)),
+            typecodes: part(numbers, at.typecodes, at.numbered_hypotheses),
+            hypotheses: Hypotheses::new(part(numbers, at.numbered_hypotheses, at.symbols)),
             conclusion: part(numbers, at.symbols, at.hypotheses),
             groups: Groups::new(groups, part(numbers, at.grouped_variables, at.end)),
         })
@@ -292,7 +292,7 @@ fn add_numbers(
         return append(numbers, parts.symbols);
     }
     append_both(numbers, &counts(parts)?, parts.typecodes)?;
-    append_both(numbers, parts.required, parts.symbols)?;
+    append_both(numbers, parts.numbered_hypotheses, parts.symbols)?;
     append_both(numbers, parts.hypotheses, parts.grouped_variables)
 }
 

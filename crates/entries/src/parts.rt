@@ -13,7 +13,7 @@ pub struct AssertionParts<'a> {
     /// The positions of its hypotheses, in order.
     pub hypotheses: &'a [u32],
     /// The hypotheses, in order: each as the one number that `number_of` returns for it.
-    pub required: &'a [u32],
+    pub numbered_hypotheses: &'a [u32],
     /// The typecode of each hypothesis.
     pub typecodes: &'a [u32],
     /// The variables of the groups, one group after another. Any two different variables of a group

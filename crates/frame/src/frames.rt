@@ -256,7 +256,7 @@ impl Frames {
     {
         AssertionView {
             typecodes: &frame_buffers.typecodes,
-            hypotheses: Hypotheses::new(&frame_buffers.required),
+            hypotheses: Hypotheses::new(&frame_buffers.numbered_hypotheses),
             conclusion: self.expr(a),
             groups: Groups::new(&frame_buffers.groups, &frame_buffers.grouped_variables),
         }
@@ -304,7 +304,7 @@ impl Frames {
     {
         AssertionView {
             typecodes: &buffers.typecodes,
-            hypotheses: Hypotheses::new(&buffers.required),
+            hypotheses: Hypotheses::new(&buffers.numbered_hypotheses),
             conclusion: self.expr(a),
             groups: Groups::new(&buffers.groups, &buffers.grouped_variables),
         }

@@ -108,7 +108,7 @@ impl StoredEntries {
     /// Cost: log n for n long expressions.
     pub fn places(&self, index: usize) -> Option<&SymbolPlaces>
         ensures places { (e : Entry) → slice_get self.now index ≡ Some e → IfSome result (λ places. ArePlacesOf e.symbols places.now) }
-        ensures constants { (e : Entry) → slice_get self.now index ≡ Some e → IfSome result (λ places. places.now.constants ≡ without_float e.assertion.required places.now.symbols) }
+        ensures constants { (e : Entry) → slice_get self.now index ≡ Some e → IfSome result (λ places. places.now.constants ≡ without_float e.assertion.numbered_hypotheses places.now.symbols) }
     {
         self.long.get(index)
     }
@@ -134,7 +134,7 @@ impl StoredEntries {
         }
         match self
             .long
-            .push(index, parts.symbols, &Hypotheses::new(parts.required))
+            .push(index, parts.symbols, &Hypotheses::new(parts.numbered_hypotheses))
         {
             Ok(()) => Ok(()),
             Err(error) => {

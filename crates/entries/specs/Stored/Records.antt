@@ -21,7 +21,7 @@ use Rattle.entries.specs.Stored.Spans.{cut, AreSpansIn}
 abbrev pub layout_of_counts : ℕ → ℕ → ℕ → ℕ → ℕ → Layout
 layout_of_counts from h s g p = record {
   typecodes = from;
-  required = from + h;
+  numbered_hypotheses = from + h;
   symbols = from + h + h;
   hypotheses = from + h + h + s;
   grouped_variables = from + h + h + s + h;
@@ -45,7 +45,7 @@ has_parts p = nat_lt 0 (length p.hypotheses.now + length p.groups.now)
 
 -- the numbers that a statement is stored as
 abbrev pub numbers_of : Bool → AssertionParts → List ℕ
-numbers_of true p = ((((counts_of p ++ p.typecodes.now) ++ p.required.now) ++ p.symbols.now) ++ p.hypotheses.now) ++ p.grouped_variables.now
+numbers_of true p = ((((counts_of p ++ p.typecodes.now) ++ p.numbered_hypotheses.now) ++ p.symbols.now) ++ p.hypotheses.now) ++ p.grouped_variables.now
 numbers_of false p = p.symbols.now
 
 abbrev pub record_by : Kind → Bool → Bool → ℕ → ℕ → StatementRecord
@@ -65,8 +65,8 @@ body_by r numbers spans at = record {
   assertion = record {
     whole = r.whole;
     hypotheses = slice_range numbers at.hypotheses at.grouped_variables;
-    required = map decoded_hypothesis (slice_range numbers at.required at.symbols);
-    typecodes = slice_range numbers at.typecodes at.required;
+    numbered_hypotheses = map decoded_hypothesis (slice_range numbers at.numbered_hypotheses at.symbols);
+    typecodes = slice_range numbers at.typecodes at.numbered_hypotheses;
     groups = cut (slice_range numbers at.grouped_variables at.end) spans;
   };
 }
@@ -137,8 +137,8 @@ pub record ArePacked (numbers : List ℕ) (groups : List BufferPart) (rs : List 
 
 -- the parts follow one another
 pub record IsOrdered (at : Layout) : Type 0 where
-  pub typecodes : at.typecodes ≤ at.required
-  pub required : at.required ≤ at.symbols
+  pub typecodes : at.typecodes ≤ at.numbered_hypotheses
+  pub numbered_hypotheses : at.numbered_hypotheses ≤ at.symbols
   pub symbols : at.symbols ≤ at.hypotheses
   pub hypotheses : at.hypotheses ≤ at.grouped_variables
   pub grouped_variables : at.grouped_variables ≤ at.end
