@@ -75,7 +75,7 @@ module _ (numbers : List ℕ) (groups : List BufferPart) (r : StatementRecord) (
   pub groups-count : r.groups_from + at.group_count ≡ groups_by groups next
   groups-count = ap (λ (x : Layout). r.groups_from + x.group_count) (sym layout) ∙ a.kept.grouped.count
 
-  pub is-stored : (spans : Bor (List BufferPart)) (k : StateBefore) → spans.now ≡ slice_range groups r.groups_from (r.groups_from + at.group_count) → behind ≡ Some k → IsStored found (record { kept = r; before = k; numbers = run; at = at; groups = spans })
+  pub is-stored : (spans : Bor (List BufferPart)) (k : StateBefore) → spans.now ≡ slice_range groups r.groups_from (r.groups_from + at.group_count) → behind ≡ Some k → IsStored found (record { statement_record = r; before = k; numbers = run; layout = at; groups = spans })
   is-stored spans k part there =
       let p = a.kept.placed in let w = a.kept.grouped in
       let of_next : spans.now ≡ spans_by groups r next = part ∙ ap (slice_range groups r.groups_from) groups-count in

@@ -31,7 +31,9 @@ pub fn number_of(hypothesis: Hypothesis) -> Result<u32, AllocError>
 {
     match hypothesis {
         Hypothesis::Float(variable) if variable < LEAST_ESSENTIAL => Ok(variable),
-        Hypothesis::Essential(position) if position < LEAST_ESSENTIAL => Ok(LEAST_ESSENTIAL + position),
+        Hypothesis::Essential(position) if position < LEAST_ESSENTIAL => Ok(
+            LEAST_ESSENTIAL + position,
+        ),
         _ => Err(AllocError),
     }
 }

@@ -134,7 +134,10 @@ pub fn fill_from_hypotheses(
         &mut buffers.numbered_hypotheses,
         &mut buffers.typecodes,
     )?;
-    record_variables(&Hypotheses::new(&buffers.numbered_hypotheses), &mut buffers.recorded)?;
+    record_variables(
+        &Hypotheses::new(&buffers.numbered_hypotheses),
+        &mut buffers.recorded,
+    )?;
     let mut last = last_active_at(storage, at).disjoint;
     while last != 0 {
         let entry = storage.entries.entry(last as usize - 1);

@@ -132,10 +132,11 @@ impl StoredEntries {
         if !is_long(header.kind, parts.symbols) {
             return Ok(());
         }
-        match self
-            .long
-            .push(index, parts.symbols, &Hypotheses::new(parts.numbered_hypotheses))
-        {
+        match self.long.push(
+            index,
+            parts.symbols,
+            &Hypotheses::new(parts.numbered_hypotheses),
+        ) {
             Ok(()) => Ok(()),
             Err(error) => {
                 self.list.truncate(index);

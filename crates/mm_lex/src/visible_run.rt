@@ -36,7 +36,7 @@ pub(crate) fn skip_white(text: &[u8], at: usize) -> usize
     ensures later { at ≤ result }
     ensures within { result ≤ length text.now }
     ensures runs { runs_from at (drop at text.now) ≡ runs_from result (drop result text.now) }
-    ensures visible { result < length text.now → IsFalse (is_empty_or_starts_white (drop result text.now)) }
+    ensures not_white { result < length text.now → IsFalse (is_empty_or_starts_white (drop result text.now)) }
 {
     at + count_white(&text[at..])
 }

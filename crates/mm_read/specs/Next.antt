@@ -24,8 +24,8 @@ abbrev pub IsNextAfter : List ℕ → List Name → ℕ → Stmt → ℕ → Typ
 IsNextAfter text before at s next = (from : ℕ) → from < at → AreTokensBetween text from at before → IsNext text from s next
 
 -- why no statement begins with the tokens `before`, which end at `at`: a comment fault after `at`;
--- or, if no comment after `at` is malformed, a shape fault that counts from the first of `before`;
--- or a failed allocation
+-- or, if there is none, a shape fault that counts from the first of `before`; or a failed
+-- allocation
 abbrev pub IsFaultAfter : List ℕ → List Name → ℕ → ReadFault → Type 0
 IsFaultAfter text before at (Text fault) = IsCommentFaultAfter text at fault
 IsFaultAfter text before at (Shape token) = (tokens : List Name) → AreTokensAfter text at tokens → IsShapeFault (before ++ tokens) token

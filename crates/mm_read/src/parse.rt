@@ -50,7 +50,7 @@ pub fn read(alloc: Global, text: &[u8]) -> Result<Vec<Stmt>, ReadFault>
     statements(alloc, text)
 }
 
-/// Returns the statements that a text reads as whose bytes are all allowed.
+/// Returns the statements that the text reads as. Its bytes are all allowed.
 fn statements(alloc: Global, text: &[u8]) -> Result<Vec<Stmt>, ReadFault>
     requires { HasOnlyAllowedBytes text.now }
     ensures found { IfOk result (λ statements. Reads text.now statements.items) }
@@ -70,7 +70,7 @@ fn statements(alloc: Global, text: &[u8]) -> Result<Vec<Stmt>, ReadFault>
 /// Appends the next statement after `at`; returns the offset after the statement, or `None` if no
 /// token is left.
 ///
-/// Errors: those of `statement`, and `Text`, if a comment before the statement is malformed.
+/// Errors: those of `statement`, and `Text`, for a comment fault before the statement.
 fn add_next(
     alloc: Global,
     statements: &mut Vec<Stmt>,

@@ -17,10 +17,10 @@ use std::alloc::Global;
 /// `number` is the number that `Shape` gives to the first token after `at`. It is at most 3, the
 /// number of the first symbol of an expression.
 ///
-/// Errors: `Text`, if a comment before the end of the list is malformed; `Shape`, with the number
-/// of the token that does not fit, or one past the last if the text ends first; `Memory`, if an
-/// allocation fails. If a comment anywhere after `at` is malformed, the clause `fault` does not say
-/// which token a `Shape` names; the same holds for the functions below.
+/// Errors: `Text`, for a comment fault before the end of the list; `Shape`, with the number of the
+/// token that does not fit, or one past the last if the text ends first; `Memory`, if an allocation
+/// fails. If there is a comment fault anywhere after `at`, the clause `fault` does not say which
+/// token a `Shape` names; the same holds for the functions below.
 pub fn symbols_until(
     alloc: Global,
     text: &[u8],
@@ -65,8 +65,8 @@ fn has_at_least(words: &Words, least: usize) -> bool
 ///
 /// `number` is the number of that token in its statement.
 ///
-/// Errors: `Text`, if a comment before it is malformed; `Shape`, with that number, if it is no
-/// symbol or no token is left; `Memory`, if an allocation fails.
+/// Errors: `Text`, for a comment fault before it; `Shape`, with that number, if it is no symbol or
+/// no token is left; `Memory`, if an allocation fails.
 pub fn next_symbol(
     alloc: Global,
     text: &[u8],
@@ -93,8 +93,8 @@ pub fn next_symbol(
 ///
 /// `number` is the number of that token in its statement.
 ///
-/// Errors: `Text`, if a comment before it is malformed; `Shape`, with that number, if it is not
-/// `end` or no token is left.
+/// Errors: `Text`, for a comment fault before it; `Shape`, with that number, if it is not `end` or
+/// no token is left.
 pub fn expect_token(text: &[u8], at: usize, number: usize, end: &[u8]) -> Result<usize, ReadFault>
     requires allowed { HasOnlyAllowedBytes text.now }
     requires place { at ≤ length text.now }

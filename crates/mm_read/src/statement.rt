@@ -14,11 +14,11 @@ use std::alloc::Global;
 
 /// Returns the statement whose first token is at `first`, and the offset after the statement.
 ///
-/// Errors: `Text`, if a comment in the statement is malformed; `Shape`, with the number of the
-/// first misplaced token, counted from 1 at `first`, or one past the last token if the text ends
-/// within the statement; `Memory`, if an allocation fails. If a comment after `first` is malformed,
-/// even one after the statement, the clause `fault` does not say which token a `Shape` names. Cost:
-/// the size of the statement with its comments.
+/// Errors: `Text`, for a comment fault in the statement; `Shape`, with the number of the first
+/// misplaced token, counted from 1 at `first`, or one past the last token if the text ends within
+/// the statement; `Memory`, if an allocation fails. If there is a comment fault after `first`, even
+/// after the statement, the clause `fault` does not say which token a `Shape` names. Cost: the size
+/// of the statement with its comments.
 pub fn statement(alloc: Global, text: &[u8], first: Span) -> Result<(Stmt, usize), ReadFault>
     requires allowed { HasOnlyAllowedBytes text.now }
     requires token { IsWordAt text.now first }

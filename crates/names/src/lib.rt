@@ -9,9 +9,9 @@
 
 mod keys;
 mod name_keys;
+mod name_list;
 mod names;
 mod overflow;
 mod table;
-mod name_list;
 
 pub use names::NameTable;

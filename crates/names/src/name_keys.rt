@@ -8,8 +8,8 @@ ghost use Rattle.names.specs.Stored.Table.{AreNameKeys};
 ghost use Rattle.names.specs.declared.keys.TheConstants.{IN_OVERFLOW};
 
 use crate::keys::{IN_OVERFLOW, key};
-use crate::overflow::Overflow;
 use crate::name_list::NameList;
+use crate::overflow::Overflow;
 use entries::give_back;
 use std::alloc::{AllocError, Global};
 

@@ -5,8 +5,8 @@ ghost use Rattle.names.specs.Codes.{name_at, code_of, AreDistinct};
 
 use crate::keys::{IN_OVERFLOW, key};
 use crate::name_keys::NameKeys;
-use crate::table::{FIRST_SLOTS, NO_NAME, Slot, build_slots, free_slot_index, make_slot, search};
 use crate::name_list::NameList;
+use crate::table::{FIRST_SLOTS, NO_NAME, Slot, build_slots, free_slot_index, make_slot, search};
 use std::alloc::{AllocError, Global};
 use std::marker::Model;
 

@@ -10,8 +10,8 @@ ghost use Rattle.names.specs.declared.table.TheConstants.{MAX_PROBES};
 
 use crate::keys::{IN_OVERFLOW, LEAST_HASHED_LEN, hash, key, scramble, short_key};
 use crate::name_keys::NameKeys;
-use crate::overflow::Overflow;
 use crate::name_list::{NameList, item};
+use crate::overflow::Overflow;
 use std::alloc::{AllocError, Global};
 
 /// Marks a free slot.
@@ -116,7 +116,12 @@ pub(crate) fn search(
 
 /// Returns the code of a name, quickly if it is long and in the first slot that it probes.
 #[inline(never)]
-fn search_long(slots: &[Slot], name_keys: &NameKeys, name_list: &NameList, name: &[u8]) -> Option<usize>
+fn search_long(
+    slots: &[Slot],
+    name_keys: &NameKeys,
+    name_list: &NameList,
+    name: &[u8],
+) -> Option<usize>
     requires found { AreFound slots.now name_keys.now.overflow name_list.now }
     requires name_keys { AreNameKeys name_keys.now name_list.now }
     requires distinct { AreDistinct name_list.now }
@@ -139,7 +144,12 @@ fn search_long(slots: &[Slot], name_keys: &NameKeys, name_list: &NameList, name:
 
 /// Returns the code of a name by a search slot by slot.
 #[inline(never)]
-fn search_slots(slots: &[Slot], name_keys: &NameKeys, name_list: &NameList, name: &[u8]) -> Option<usize>
+fn search_slots(
+    slots: &[Slot],
+    name_keys: &NameKeys,
+    name_list: &NameList,
+    name: &[u8],
+) -> Option<usize>
     requires found { AreFound slots.now name_keys.now.overflow name_list.now }
     requires name_keys { AreNameKeys name_keys.now name_list.now }
     requires distinct { AreDistinct name_list.now }
@@ -283,7 +293,9 @@ fn free_slots(alloc: Global, count: usize) -> Result<Vec<Slot>, AllocError>
 /// Returns the length of a table of which seven eighths are enough for `count` names and as many
 /// further ones, or `more` if that is greater.
 fn slots_for(count: usize, more: usize) -> usize {
-    let name_list = count.saturating_add(count.max(more));
-    let wanted = name_list.saturating_add(name_list.div_ceil(7)).max(FIRST_SLOTS);
+    let name_count = count.saturating_add(count.max(more));
+    let wanted = name_count
+        .saturating_add(name_count.div_ceil(7))
+        .max(FIRST_SLOTS);
     wanted.checked_next_power_of_two().unwrap_or(wanted)
 }

@@ -73,7 +73,10 @@ impl HypothesisList {
 }
 
 /// Appends the hypotheses, each as one number.
-fn copy_hypotheses(hypotheses: &Hypotheses<'_>, numbered_hypotheses: &mut Vec<u32>) -> Result<(), AllocError>
+fn copy_hypotheses(
+    hypotheses: &Hypotheses<'_>,
+    numbered_hypotheses: &mut Vec<u32>,
+) -> Result<(), AllocError>
     requires { numbered_hypotheses.old.items ≡ [] }
     ensures { OnOk result (map decoded_hypothesis numbered_hypotheses.new.items ≡ hypotheses.now) }
 {

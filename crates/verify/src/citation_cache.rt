@@ -119,7 +119,10 @@ impl AssertionLists {
 }
 
 /// Appends the hypotheses, each encoded as one number.
-fn copy_hypotheses(hypotheses: &Hypotheses<'_>, numbered_hypotheses: &mut Vec<u32>) -> Result<(), AllocError>
+fn copy_hypotheses(
+    hypotheses: &Hypotheses<'_>,
+    numbered_hypotheses: &mut Vec<u32>,
+) -> Result<(), AllocError>
     requires { numbered_hypotheses.old.items ≡ [] }
     ensures { OnOk result (map decoded_hypothesis numbered_hypotheses.new.items ≡ hypotheses.now) }
 {
