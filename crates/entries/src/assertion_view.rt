@@ -106,7 +106,7 @@ fn hypothesis_of(number: u32) -> Hypothesis
 pub struct AssertionView<'a> {
     /// The typecode of each mandatory hypothesis, in order.
     pub typecodes: &'a [u32],
-    /// The hypotheses, in order.
+    /// The mandatory hypotheses, in order.
     pub hypotheses: Hypotheses<'a>,
     /// The symbols of the assertion's expression.
     pub conclusion: &'a [u32],

@@ -57,22 +57,22 @@ fn labelled(alloc: Global, text: &[u8], label: &[u8], at: usize) -> Result<(Stmt
     ensures found { IfOk result (λ r. IsNextAfter text.now (label.now ∷ []) at r.0 r.1) }
     ensures fault { IfErr result (IsFaultAfter text.now (label.now ∷ []) at) }
 {
-    let Some(key) = next_token(text, at)? else {
+    let Some(keyword) = next_token(text, at)? else {
         return Err(ReadFault::Shape { token: 2 });
     };
-    match keyword_of(token_bytes(text, key)) {
-        Keyword::Float => floating(alloc, text, label, key.end),
+    match keyword_of(token_bytes(text, keyword)) {
+        Keyword::Float => floating(alloc, text, label, keyword.end),
         Keyword::Ess => {
-            let (expr, next) = symbols_until(alloc, text, key.end, 3, 1, b"$.")?;
+            let (expr, next) = symbols_until(alloc, text, keyword.end, 3, 1, b"$.")?;
             let label = Word::new(alloc, label)?;
             Ok((Stmt::Ess { label, expr }, next))
         }
         Keyword::Axiom => {
-            let (expr, next) = symbols_until(alloc, text, key.end, 3, 1, b"$.")?;
+            let (expr, next) = symbols_until(alloc, text, keyword.end, 3, 1, b"$.")?;
             let label = Word::new(alloc, label)?;
             Ok((Stmt::Axiom { label, expr }, next))
         }
-        Keyword::Prove => provable(alloc, text, label, key.end),
+        Keyword::Prove => provable(alloc, text, label, keyword.end),
         _ => Err(ReadFault::Shape { token: 2 }),
     }
 }
