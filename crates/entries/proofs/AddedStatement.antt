@@ -48,7 +48,7 @@ module _ (ns ms : List ℕ) (gs hs : List BufferPart) (rs qs : List StatementRec
 -- a statement without parts has neither hypotheses nor groups
 pub record IsBare (p : AssertionParts) : Type 0 where
   pub hypotheses : p.hypotheses.now ≡ []
-  pub required : p.required.now ≡ []
+  pub numbered_hypotheses : p.numbered_hypotheses.now ≡ []
   pub typecodes : p.typecodes.now ≡ []
   pub groups : p.groups.now ≡ []
 
@@ -56,7 +56,7 @@ bare : (p : AssertionParts) → AreShapedParts p → has_parts p ≡ false → I
 bare p shaped none =
     let n = ltb-false 0 (length p.hypotheses.now + length p.groups.now) none in
     let s = shaped in
-    record { hypotheses = nil_from_length _ (omega arith); required = nil_from_length _ (omega arith); typecodes = nil_from_length _ (omega arith); groups = nil_from_length _ (omega arith) }
+    record { hypotheses = nil_from_length _ (omega arith); numbered_hypotheses = nil_from_length _ (omega arith); typecodes = nil_from_length _ (omega arith); groups = nil_from_length _ (omega arith) }
 
 pub run-laid : (p : AssertionParts) (t : Bool) → AreShapedParts p → has_parts p ≡ t → IsLaid (layout_in t (numbers_of t p)) (numbers_of t p) p.groups.now
 run-laid p true shaped e =
@@ -71,20 +71,20 @@ pub run-body : (h : Kind) (p : AssertionParts) (from groups : ℕ) (t : Bool) �
 run-body h p from groups true shaped e =
     let s = shaped in
     let typecodes = counts_of p ++ p.typecodes.now in
-    let required = typecodes ++ p.required.now in
-    let symbols = required ++ p.symbols.now in
+    let numbered_hypotheses = typecodes ++ p.numbered_hypotheses.now in
+    let symbols = numbered_hypotheses ++ p.symbols.now in
     let hypotheses = symbols ++ p.hypotheses.now in
     let run = hypotheses ++ p.grouped_variables.now in
     let to_hypotheses : Extends hypotheses run = (p.grouped_variables.now, refl) in
     let to_symbols : Extends symbols run = extends-trans symbols hypotheses run (p.hypotheses.now, refl) to_hypotheses in
-    let to_required : Extends required run = extends-trans required symbols run (p.symbols.now, refl) to_symbols in
-    let to_typecodes : Extends typecodes run = extends-trans typecodes required run (p.required.now, refl) to_required in
+    let to_required : Extends numbered_hypotheses run = extends-trans numbered_hypotheses symbols run (p.symbols.now, refl) to_symbols in
+    let to_typecodes : Extends typecodes run = extends-trans typecodes numbered_hypotheses run (p.numbered_hypotheses.now, refl) to_required in
     let l = layout_in true run in
-    let i = length-append (counts_of p) p.typecodes.now in let j = length-append typecodes p.required.now in let k = length-append required p.symbols.now in
+    let i = length-append (counts_of p) p.typecodes.now in let j = length-append typecodes p.numbered_hypotheses.now in let k = length-append numbered_hypotheses p.symbols.now in
     let m = length-append symbols p.hypotheses.now in let n = length-append hypotheses p.grouped_variables.now in
-    let u = range-behind (counts_of p) p.typecodes.now typecodes run l.typecodes l.required (omega arith) refl (omega arith) to_typecodes in
-    let v = range-behind typecodes p.required.now required run l.required l.symbols (omega arith) refl (omega arith) to_required in
-    let w = range-behind required p.symbols.now symbols run l.symbols l.hypotheses (omega arith) refl (omega arith) to_symbols in
+    let u = range-behind (counts_of p) p.typecodes.now typecodes run l.typecodes l.numbered_hypotheses (omega arith) refl (omega arith) to_typecodes in
+    let v = range-behind typecodes p.numbered_hypotheses.now numbered_hypotheses run l.numbered_hypotheses l.symbols (omega arith) refl (omega arith) to_required in
+    let w = range-behind numbered_hypotheses p.symbols.now symbols run l.symbols l.hypotheses (omega arith) refl (omega arith) to_symbols in
     let x = range-behind symbols p.hypotheses.now hypotheses run l.hypotheses l.grouped_variables (omega arith) refl (omega arith) to_hypotheses in
     let y = range-behind hypotheses p.grouped_variables.now run run l.grouped_variables l.end (omega arith) refl (omega arith) (extends-refl run) in
     cc
@@ -95,7 +95,7 @@ run-body h p from groups false shaped e =
     let m : at.grouped_variables - at.hypotheses ≡ 0 = omega arith in
     let u : slice_range p.symbols.now 0 at.hypotheses ≡ p.symbols.now = ap (λ k. take k p.symbols.now) n ∙ take-length p.symbols.now in
     let v : slice_range p.symbols.now at.hypotheses at.grouped_variables ≡ [] = ap (λ k. take k (drop at.hypotheses p.symbols.now)) m in
-    rw (b.hypotheses, b.required, b.typecodes, b.groups) cc
+    rw (b.hypotheses, b.numbered_hypotheses, b.typecodes, b.groups) cc
 
 -- ---- the last statements are removed
 

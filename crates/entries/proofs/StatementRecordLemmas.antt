@@ -63,8 +63,8 @@ at-index numbers groups rs ks es i r kept many view same here =
 
 -- the parts follow one another
 ordered : (t : Bool) (run : List ℕ) → IsOrdered (layout_in t run)
-ordered true run = record { typecodes = omega arith; required = omega arith; symbols = omega arith; hypotheses = omega arith; grouped_variables = omega arith }
-ordered false run = record { typecodes = omega arith; required = omega arith; symbols = omega arith; hypotheses = omega arith; grouped_variables = omega arith }
+ordered true run = record { typecodes = omega arith; numbered_hypotheses = omega arith; symbols = omega arith; hypotheses = omega arith; grouped_variables = omega arith }
+ordered false run = record { typecodes = omega arith; numbered_hypotheses = omega arith; symbols = omega arith; hypotheses = omega arith; grouped_variables = omega arith }
 
 -- the parts read are those of the entry
 module _ (numbers : List ℕ) (groups : List BufferPart) (r : StatementRecord) (next : Option StatementRecord) (behind : Option StateBefore) (found : Option Entry) (run : Bor (List ℕ)) (at : Layout)
@@ -75,7 +75,7 @@ module _ (numbers : List ℕ) (groups : List BufferPart) (r : StatementRecord) (
   pub groups-count : r.groups_from + at.group_count ≡ groups_by groups next
   groups-count = ap (λ (x : Layout). r.groups_from + x.group_count) (sym layout) ∙ a.kept.grouped.count
 
-  pub is-stored : (spans : Bor (List BufferPart)) (k : StateBefore) → spans.now ≡ slice_range groups r.groups_from (r.groups_from + at.group_count) → behind ≡ Some k → IsStored found (record { kept = r; before = k; numbers = run; at = at; groups = spans })
+  pub is-stored : (spans : Bor (List BufferPart)) (k : StateBefore) → spans.now ≡ slice_range groups r.groups_from (r.groups_from + at.group_count) → behind ≡ Some k → IsStored found (record { statement_record = r; before = k; numbers = run; layout = at; groups = spans })
   is-stored spans k part there =
       let p = a.kept.placed in let w = a.kept.grouped in
       let of_next : spans.now ≡ spans_by groups r next = part ∙ ap (slice_range groups r.groups_from) groups-count in

@@ -7,7 +7,7 @@ use Rattle.entries.specs.declared.assertion_view.Hypothesis.{Hypothesis}
 use Rattle.std.proofs.lemmas.List.Elements.{All-contains, Contains-append_right}
 use Rattle.std.specs.List.{list_any}
 use Rattle.std.proofs.lemmas.Bool.{eqb-true, true≢false, cases_Bool, false_from_ne_true}
-use Rattle.entries.specs.SymbolPlaces.{SymbolGroups, has_float, is_float_of, is_symbol, without_float}
+use Rattle.entries.specs.SymbolPlaces.{SymbolGroups, has_float, is_float_of, equals_symbol, without_float}
 use Rattle.entries.proofs.Words.{◌≡◌, ℕ, zero, suc, true, false, ◌||◌, Option, None, Result, Ok, Err, cond, take, take_more, append-nil, filter-append, nat_eq, eq-eqb, ◌+◌, ◌-◌, ◌<◌, ◌≤◌, List, [], ◌∷◌, ◌++◌, length, drop, slice_get, slice_range, Some, refl, ◌∙◌, ap, sym, subst, arith, inl, inr, length-map, length-drop, length-take-le, get_or_from_slice_get, slice_get_within, BufferPart, cut, AreSpansIn, ⊎_elim, Contains, IsPermutation, IsSorted, eqb, get_or, map, nat_cmp, dedup, cases_lt, get_or-drop, get_or-map, get_or-take, get_or_default, Contains-get_or, AllPairs-from_increasing, Contains-dedup_nat, Contains-from_dedup, Contains-permutation, IsPermutation-sym, IsStrictlyIncreasing-dedup, div-mul-add, mod-mul-add, slice_get-get_or, INDEXES, key_of, symbol_of, symbol_at, index_of, AreKeys, AreKeysOf, IsRun, AreRuns, IsGroupOf, AreGroupsFrom, IsGrouped, ArePlacesOf}
 
 -- ---- two keys
@@ -239,7 +239,7 @@ group-of e [] (g ∷ gs) low i h in_one = absurd h
 group-of e (s ∷ ss) (g ∷ gs) low i h (inl here) = (0, omega arith, All-contains (λ k. slice_get e k ≡ Some s) g i h.1.only here)
 group-of e (s ∷ ss) (g ∷ gs) low i h (inr there) = let r = group-of e ss gs (suc s) i h.2 there in let l = r.1 in (suc r.0, omega (arith, l), r.2)
 
-symbol-is : (s : ℕ) (o : Option ℕ) → is_symbol s o ≡ true → o ≡ Some s
+symbol-is : (s : ℕ) (o : Option ℕ) → equals_symbol s o ≡ true → o ≡ Some s
 symbol-is s None h = absurd (true≢false (sym h))
 symbol-is s (Some x) h = ap Some (eqb-true x s h)
 
@@ -254,16 +254,16 @@ contains-any : (i : ℕ) (xs : List ℕ) → Contains xs i → list_any (λ j. n
 contains-any i xs c = list_any_at (λ j. nat_eq i j) xs c.0 i c.1 (eq-eqb i (get_or xs c.0 i) (sym c.2))
 
 module _ (e : List ℕ) (gs : SymbolGroups) (places : ArePlacesOf e gs) where
-  pub found-group : (at s : ℕ) (g : List ℕ) → at < length gs.symbols → get_or gs.symbols at 0 ≡ s → slice_get gs.groups at ≡ Some g → (i : ℕ) → list_any (λ j. nat_eq i j) g ≡ is_symbol s (slice_get e i)
+  pub found-group : (at s : ℕ) (g : List ℕ) → at < length gs.symbols → get_or gs.symbols at 0 ≡ s → slice_get gs.groups at ≡ Some g → (i : ℕ) → list_any (λ j. nat_eq i j) g ≡ equals_symbol s (slice_get e i)
   found-group at s g within is here i =
       let h : IsGroupOf e s g = subst (λ x. IsGroupOf e x g) is (subst (IsGroupOf e (get_or gs.symbols at 0)) (get_or_from_slice_get gs.groups at g [] here) (group-at e gs.symbols gs.groups 0 at places.each within)) in
-      both_ways (list_any (λ j. nat_eq i j) g) (is_symbol s (slice_get e i))
-      (λ some. ap (is_symbol s) (All-contains (λ k. slice_get e k ≡ Some s) g i h.only (any-contains i g some)) ∙ eq-eqb s s refl)
+      both_ways (list_any (λ j. nat_eq i j) g) (equals_symbol s (slice_get e i))
+      (λ some. ap (equals_symbol s) (All-contains (λ k. slice_get e k ≡ Some s) g i h.only (any-contains i g some)) ∙ eq-eqb s s refl)
       (λ some. contains-any i g (h.all i (symbol-is s (slice_get e i) some)))
 
-  pub missed-group : (s : ℕ) → ((k : ℕ) → k < length gs.symbols → get_or gs.symbols k 0 ≡ s → ⊥) → (i : ℕ) → false ≡ is_symbol s (slice_get e i)
+  pub missed-group : (s : ℕ) → ((k : ℕ) → k < length gs.symbols → get_or gs.symbols k 0 ≡ s → ⊥) → (i : ℕ) → false ≡ equals_symbol s (slice_get e i)
   missed-group s none i =
-      sym (false_from_ne_true (is_symbol s (slice_get e i)) (λ some.
+      sym (false_from_ne_true (equals_symbol s (slice_get e i)) (λ some.
       let at = symbol-is s (slice_get e i) some in
       let r = group-of e gs.symbols gs.groups 0 i places.each (places.all i (slice_get_within e i s at)) in
       let two : Some (get_or gs.symbols r.0 0) ≡ Some s = sym r.2 ∙ at in

@@ -14,14 +14,14 @@ use Rattle.entries.specs.Hypotheses.{decoded_hypothesis}
 use Rattle.entries.specs.Stored.Spans.{cut, AreSpansIn}
 
 -- the parts of a statement, which `frame` gives to assertions and `$e` alone: `hypotheses` are the
--- positions of its hypotheses, `required` each of them as a `$f` with its variable or a `$e` with
--- its position, `typecodes` the typecode of each, `groups` lists of variables. They are `whole` if
--- they are all mandatory hypotheses and groups of an assertion; else only the `$f` of the
--- statement's own variables
+-- positions of its hypotheses, `numbered_hypotheses` each of them as a `$f` with its variable or a
+-- `$e` with its position, `typecodes` the typecode of each, `groups` lists of variables. They are
+-- `whole` if they are all mandatory hypotheses and groups of an assertion; else only the `$f` of
+-- the statement's own variables
 pub record Assertion : Type 0 where
   pub whole : Bool
   pub hypotheses : List ℕ
-  pub required : List Hypothesis
+  pub numbered_hypotheses : List Hypothesis
   pub typecodes : List ℕ
   pub groups : List (List ℕ)
 
@@ -37,12 +37,12 @@ pub record Entry : Type 0 where
 
 -- the parts of a statement that is appended
 abbrev pub assertion_of : AssertionParts → Assertion
-assertion_of p = record { whole = p.whole; hypotheses = p.hypotheses.now; required = map decoded_hypothesis p.required.now; typecodes = p.typecodes.now; groups = cut p.grouped_variables.now p.groups.now }
+assertion_of p = record { whole = p.whole; hypotheses = p.hypotheses.now; numbered_hypotheses = map decoded_hypothesis p.numbered_hypotheses.now; typecodes = p.typecodes.now; groups = cut p.grouped_variables.now p.groups.now }
 
 -- each position of a hypothesis has that hypothesis as a number, and its typecode; and the groups
 -- are parts of `grouped_variables`
 pub record AreShapedParts (p : AssertionParts) : Type 0 where
-  pub paired : length p.required.now ≡ length p.hypotheses.now
+  pub paired : length p.numbered_hypotheses.now ≡ length p.hypotheses.now
   pub typecodes_counted : length p.typecodes.now ≡ length p.hypotheses.now
   pub grouped : AreSpansIn (length p.grouped_variables.now) p.groups.now
 
@@ -52,7 +52,7 @@ entry_by h codes a = record { kind = h.kind; label_count = h.before.label_count;
 
 -- no parts, with this `whole`
 abbrev pub no_parts : Bool → Assertion
-no_parts whole = record { whole = whole; hypotheses = []; required = []; typecodes = []; groups = [] }
+no_parts whole = record { whole = whole; hypotheses = []; numbered_hypotheses = []; typecodes = []; groups = [] }
 
 -- the statement that `entry` returns as x, with these parts
 abbrev pub entry_from_ref : EntryRef → Assertion → Entry
@@ -62,7 +62,7 @@ entry_from_ref x a = record { kind = x.kind; label_count = x.before.label_count;
 pub record IsWholeView (e : Entry) (c : AssertionView) : Type 0 where
   pub whole : e.assertion.whole ≡ true
   pub typecodes : c.typecodes.now ≡ e.assertion.typecodes
-  pub hypotheses : c.hypotheses ≡ e.assertion.required
+  pub hypotheses : c.hypotheses ≡ e.assertion.numbered_hypotheses
   pub conclusion : c.conclusion.now ≡ e.symbols
   pub groups : c.groups ≡ e.assertion.groups
 

@@ -41,9 +41,9 @@ pub record ArePlacesOf (expr : List ℕ) (places : SymbolGroups) : Type 0 where
   pub all : (i : ℕ) → i < length expr → IsGrouped i places.groups
 
 -- whether there is a symbol and it is s
-abbrev pub is_symbol : ℕ → Option ℕ → Bool
-is_symbol s None = false
-is_symbol s (Some x) = x == s
+abbrev pub equals_symbol : ℕ → Option ℕ → Bool
+equals_symbol s None = false
+equals_symbol s (Some x) = x == s
 
 -- whether the hypothesis is a `$f` and the symbol its variable
 abbrev pub is_float_of : ℕ → Hypothesis → Bool

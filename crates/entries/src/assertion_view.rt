@@ -12,7 +12,7 @@ pub const NO_TYPECODE: u32 = u32::MAX;
 
 /// The least number that encodes a `$e`: a `$e` is encoded as this plus its position, a `$f` as the
 /// number of its variable, which is lower.
-pub const ESSENTIALS: u32 = 0x8000_0000;
+pub const LEAST_ESSENTIAL: u32 = 0x8000_0000;
 
 /// A mandatory hypothesis: a `$f` by its variable, a `$e` by its position.
 #[derive(Clone, Copy, Debug, Drop, PartialEq, Eq)]
@@ -30,8 +30,10 @@ pub fn number_of(hypothesis: Hypothesis) -> Result<u32, AllocError>
     ensures { IfOk result (λ n. decoded_hypothesis n ≡ hypothesis) }
 {
     match hypothesis {
-        Hypothesis::Float(variable) if variable < ESSENTIALS => Ok(variable),
-        Hypothesis::Essential(position) if position < ESSENTIALS => Ok(ESSENTIALS + position),
+        Hypothesis::Float(variable) if variable < LEAST_ESSENTIAL => Ok(variable),
+        Hypothesis::Essential(position) if position < LEAST_ESSENTIAL => Ok(
+            LEAST_ESSENTIAL + position,
+        ),
         _ => Err(AllocError),
     }
 }
@@ -91,10 +93,10 @@ impl<'a> Hypotheses<'a> {
 fn hypothesis_of(number: u32) -> Hypothesis
     ensures { result ≡ decoded_hypothesis number }
 {
-    if number < ESSENTIALS {
+    if number < LEAST_ESSENTIAL {
         Hypothesis::Float(number)
     } else {
-        Hypothesis::Essential(number - ESSENTIALS)
+        Hypothesis::Essential(number - LEAST_ESSENTIAL)
     }
 }
 
@@ -104,7 +106,7 @@ fn hypothesis_of(number: u32) -> Hypothesis
 pub struct AssertionView<'a> {
     /// The typecode of each mandatory hypothesis, in order.
     pub typecodes: &'a [u32],
-    /// The hypotheses, in order.
+    /// The mandatory hypotheses, in order.
     pub hypotheses: Hypotheses<'a>,
     /// The symbols of the assertion's expression.
     pub conclusion: &'a [u32],

@@ -26,14 +26,14 @@ pub struct Entries {
     groups: Vec<BufferPart>,
 }
 
-/// The stored form of one statement: its record (`kept`), the state before it, its numbers, the
-/// layout of its parts among them (`at`), and its groups. No part is read before it is used.
+/// The stored form of one statement: its record, the state before it, its numbers, the layout of
+/// its parts among them, and its groups. No part is read before it is used.
 #[derive(Clone, Copy, Drop)]
 struct Stored<'a> {
-    kept: StatementRecord,
+    statement_record: StatementRecord,
     before: StateBefore,
     numbers: &'a [u32],
-    at: Layout,
+    layout: Layout,
     groups: &'a [BufferPart],
 }
 
@@ -77,16 +77,16 @@ impl Entries {
         ensures { IsEntry self.now index result }
     {
         let Stored {
-            kept,
+            statement_record,
             before,
             numbers,
-            at,
+            layout,
             ..
         } = self.stored(index);
         EntryRef {
-            kind: kept.kind,
+            kind: statement_record.kind,
             before,
-            symbols: part(numbers, at.symbols, at.hypotheses),
+            symbols: part(numbers, layout.symbols, layout.hypotheses),
         }
     }
 
@@ -95,8 +95,12 @@ impl Entries {
         requires { index < length self.now }
         ensures { (e : Entry) → slice_get self.now index ≡ Some e → result.now ≡ e.assertion.hypotheses }
     {
-        let Stored { numbers, at, .. } = self.stored(index);
-        part(numbers, at.hypotheses, at.grouped_variables)
+        let Stored {
+            numbers,
+            layout,
+            ..
+        } = self.stored(index);
+        part(numbers, layout.hypotheses, layout.grouped_variables)
     }
 
     /// Returns whether the parts of the statement at an index are whole, as `AssertionParts` says.
@@ -104,31 +108,31 @@ impl Entries {
         requires { index < length self.now }
         ensures { (e : Entry) → slice_get self.now index ≡ Some e → result ≡ e.assertion.whole }
     {
-        self.stored(index).kept.whole
+        self.stored(index).statement_record.whole
     }
 
     /// Returns the assertion at an index as it is stored: its symbols and its parts, without the
     /// positions of its hypotheses. Returns `None` if its parts are not whole.
-    pub fn kept_view(&self, index: usize) -> Option<AssertionView<'_>>
+    pub fn whole_view(&self, index: usize) -> Option<AssertionView<'_>>
         requires { index < length self.now }
         ensures parts { (e : Entry) → slice_get self.now index ≡ Some e → IfSome result (IsWholeView e) }
         ensures none { (e : Entry) → slice_get self.now index ≡ Some e → IfNone result (e.assertion.whole ≡ false) }
     {
         let Stored {
-            kept,
+            statement_record,
             numbers,
-            at,
+            layout,
             groups,
             ..
         } = self.stored(index);
-        if !kept.whole {
+        if !statement_record.whole {
             return None;
         }
         Some(AssertionView {
-            typecodes: part(numbers, at.typecodes, at.required),
-            hypotheses: Hypotheses::new(part(numbers, at.required, at.symbols)),
-            conclusion: part(numbers, at.symbols, at.hypotheses),
-            groups: Groups::new(groups, part(numbers, at.grouped_variables, at.end)),
+            typecodes: part(numbers, layout.typecodes, layout.numbered_hypotheses),
+            hypotheses: Hypotheses::new(part(numbers, layout.numbered_hypotheses, layout.symbols)),
+            conclusion: part(numbers, layout.symbols, layout.hypotheses),
+            groups: Groups::new(groups, part(numbers, layout.grouped_variables, layout.end)),
         })
     }
 
@@ -138,16 +142,16 @@ impl Entries {
         requires { index < length self.now }
         ensures { IsStored (slice_get self.now index) result }
     {
-        let kept = item(&self.records, index);
-        let (numbers, at) = numbers_at(&self.records, &self.numbers, index, kept);
-        let from = kept.groups_from as usize;
-        let groups = part(&self.groups, from, from + at.group_count);
+        let statement_record = item(&self.records, index);
+        let (numbers, layout) = numbers_at(&self.records, &self.numbers, index, statement_record);
+        let from = statement_record.groups_from as usize;
+        let groups = part(&self.groups, from, from + layout.group_count);
         let before = item(&self.states_before, index);
         Stored {
-            kept,
+            statement_record,
             before,
             numbers,
-            at,
+            layout,
             groups,
         }
     }
@@ -211,30 +215,30 @@ impl Entries {
     }
 }
 
-/// Returns the numbers of the statement at an index, whose record is `kept`, and the layout of its
+/// Returns the numbers of the statement at an index, which has this record, and the layout of its
 /// parts among them.
 #[inline(always)]
 fn numbers_at<'a>(
     records: &[StatementRecord],
     numbers: &'a [u32],
     index: usize,
-    kept: StatementRecord,
+    statement_record: StatementRecord,
 ) -> (&'a [u32], Layout)
     requires within { index < length records.now }
-    requires placed { IsPlaced numbers.now kept (slice_get records.now (index + 1)) }
-    ensures numbers { result.0.now ≡ numbers_by numbers.now kept (slice_get records.now (index + 1)) }
-    ensures at { result.1 ≡ layout_in kept.has_parts result.0.now }
+    requires placed { IsPlaced numbers.now statement_record (slice_get records.now (index + 1)) }
+    ensures numbers { result.0.now ≡ numbers_by numbers.now statement_record (slice_get records.now (index + 1)) }
+    ensures layout { result.1 ≡ layout_in statement_record.has_parts result.0.now }
 {
-    if kept.has_parts {
-        let rest = part(numbers, kept.from as usize, numbers.len());
-        let at = assertion_layout(rest);
-        return (part(rest, 0, at.end), at);
+    if statement_record.has_parts {
+        let rest = part(numbers, statement_record.from as usize, numbers.len());
+        let layout = assertion_layout(rest);
+        return (part(rest, 0, layout.end), layout);
     }
     let end = match records.get(index + 1) {
         Some(next) => next.from as usize,
         None => numbers.len(),
     };
-    let from = kept.from as usize;
+    let from = statement_record.from as usize;
     (
         part(numbers, from, end),
         layout_by_counts(0, 0, end - from, 0, 0),
@@ -292,7 +296,7 @@ fn add_numbers(
         return append(numbers, parts.symbols);
     }
     append_both(numbers, &counts(parts)?, parts.typecodes)?;
-    append_both(numbers, parts.required, parts.symbols)?;
+    append_both(numbers, parts.numbered_hypotheses, parts.symbols)?;
     append_both(numbers, parts.hypotheses, parts.grouped_variables)
 }
 

@@ -17,7 +17,7 @@ pub struct Layout {
     /// The typecodes of its hypotheses.
     pub typecodes: usize,
     /// Its hypotheses, each as the one number that `number_of` returns for it.
-    pub required: usize,
+    pub numbered_hypotheses: usize,
     /// Its symbols.
     pub symbols: usize,
     /// The positions of its hypotheses.
@@ -43,12 +43,12 @@ pub fn layout_by_counts(
     requires { (layout_of_counts typecodes count symbols group_count grouped_variables).end < 2 ^ 64 }
     ensures { result ≡ layout_of_counts typecodes count symbols group_count grouped_variables }
 {
-    let required = typecodes + count;
-    let hypotheses = required + count + symbols;
+    let numbered_hypotheses = typecodes + count;
+    let hypotheses = numbered_hypotheses + count + symbols;
     Layout {
         typecodes,
-        required,
-        symbols: required + count,
+        numbered_hypotheses,
+        symbols: numbered_hypotheses + count,
         hypotheses,
         grouped_variables: hypotheses + count,
         end: hypotheses + count + grouped_variables,

@@ -12,8 +12,8 @@ pub struct AssertionParts<'a> {
     pub symbols: &'a [u32],
     /// The positions of its hypotheses, in order.
     pub hypotheses: &'a [u32],
-    /// The hypotheses, in order: each as the one number that `number_of` returns for it.
-    pub required: &'a [u32],
+    /// The same hypotheses, each as the one number that `number_of` returns for it.
+    pub numbered_hypotheses: &'a [u32],
     /// The typecode of each hypothesis.
     pub typecodes: &'a [u32],
     /// The variables of the groups, one group after another. Any two different variables of a group

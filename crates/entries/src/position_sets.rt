@@ -11,11 +11,11 @@ use std::cmp::Ordering;
 use std::marker::Model;
 
 /// The largest number of nodes: sets have numbers of 32 bits.
-const MOST_NODES: usize = 0xffff_fffe;
+const MAX_NODES: usize = 0xffff_fffe;
 
 /// One side of a node may weigh at most this many times as much as the other. The weight of a side
 /// is its number of positions plus one.
-const MOST_IMBALANCE: usize = 3;
+const MAX_IMBALANCE: usize = 3;
 
 /// A side whose inner part weighs at least this many times its outer part needs a double rotation.
 const DOUBLE_ROTATION_RATIO: usize = 2;
@@ -272,12 +272,12 @@ impl PositionSets {
     {
         let below = self.len(left) + 1;
         let above = self.len(right) + 1;
-        if above > MOST_IMBALANCE * below
+        if above > MAX_IMBALANCE * below
             && let Some(right) = self.node(right)
         {
             return self.rotate_left(left, position, right);
         }
-        if below > MOST_IMBALANCE * above
+        if below > MAX_IMBALANCE * above
             && let Some(left) = self.node(left)
         {
             return self.rotate_right(left, position, right);
@@ -340,7 +340,7 @@ impl PositionSets {
     {
         let count = to_u32(self.len(left) + 1 + self.len(right))?;
         let set_count = self.set_count();
-        if set_count > MOST_NODES {
+        if set_count > MAX_NODES {
             return Err(AllocError);
         }
         self.nodes.push(Node {

@@ -2,7 +2,7 @@
 ghost use Rattle.std.specs.Prelude.{◌≡◌, ◌≢◌, ◌+◌, ◌<◌, ◌==◌, ◌||◌, ℕ, List, true, false, length, map, slice_get, slice_index, IfOk, OnOk};
 ghost use Rattle.std.specs.List.{list_any};
 ghost use Rattle.std.specs.List.Sorted.{IsNonDecreasing};
-ghost use Rattle.entries.specs.{SymbolPlaces.ArePlacesOf, SymbolPlaces.has_float, SymbolPlaces.is_float_of, SymbolPlaces.is_symbol, SymbolPlaces.without_float, Stored.Keys.symbol_of, Stored.Keys.symbol_at, Stored.Keys.index_of, Stored.Keys.AreKeys, Stored.Keys.AreKeysOf, Stored.Keys.AreRuns};
+ghost use Rattle.entries.specs.{SymbolPlaces.ArePlacesOf, SymbolPlaces.has_float, SymbolPlaces.is_float_of, SymbolPlaces.equals_symbol, SymbolPlaces.without_float, Stored.Keys.symbol_of, Stored.Keys.symbol_at, Stored.Keys.index_of, Stored.Keys.AreKeys, Stored.Keys.AreKeysOf, Stored.Keys.AreRuns};
 
 use crate::assertion_view::{Hypotheses, Hypothesis};
 use crate::buffer_part::{BufferPart, between};
@@ -95,7 +95,7 @@ impl SymbolPlaces {
     /// Cost: log n for n distinct symbols.
     pub fn group(&self, symbol: u32) -> &[u32]
         requires { (expr : List ℕ) × ArePlacesOf expr self.now }
-        ensures { (expr : List ℕ) → ArePlacesOf expr self.now → (i : ℕ) → list_any (λ j. i == j) result.now ≡ is_symbol symbol (slice_get expr i) }
+        ensures { (expr : List ℕ) → ArePlacesOf expr self.now → (i : ℕ) → list_any (λ j. i == j) result.now ≡ equals_symbol symbol (slice_get expr i) }
     {
         match self.symbols.binary_search(&symbol) {
             Ok(index) => self.groups().get(index),

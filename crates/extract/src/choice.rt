@@ -185,7 +185,7 @@ impl<'a> Choice<'a> {
     /// Records where these symbols are declared.
     fn declare(&mut self, at: usize, names: &Words) -> Result<(), AllocError> {
         for name in names.iter() {
-            let code = self.symbols.code(self.alloc, name)?;
+            let code = self.symbols.find_or_add(self.alloc, name)?;
             match self.records.get_mut(code) {
                 Some(record) => record.declared = at,
                 None => {

@@ -1,5 +1,5 @@
 -- Lists that have the mandatory pairs of an assertion: the groups of its frame, or a list of two for each pair.
-use Rattle.frame.proofs.Words.{◌≡◌, ◌∙◌, ap, sym, subst, arith, refl, true≢false, inl, inr, or_cases, or_right, ℕ, zero, suc, ◌+◌, ◌-◌, ◌<◌, ◌==◌, nat_eq, Bool, true, false, not, ◌&&◌, ◌||◌, or-false, and-false, and-or_distrib_left, List, [], ◌∷◌, ◌++◌, length, map, take, get_or, list_any, list_any_more, list_any-append, list_any-map, Name, name_eq, has_name, name_at, AreDistinct, Stmt, Database, before, decode, expr_of, is_assertion, hypotheses, is_mandatory, mandatory_groups, AreBelow, AllBelow, AreNumberedHypotheses, AreListsOf, IsKeptAs, is_typed, groups_by, symbols_at, required_at, required_by, option_required, typecode_at, is_typed_by, AreHypotheses, AreNumbered, HasTwo, Kind, Float, AreSearched, slice_get_within, ◌⊎◌, actives, is_disj, Assertion, AssertionView, Entry, Storage, AreStored, names_in, labels_in, statements_of, are_pair, IsFilledFrom}
+use Rattle.frame.proofs.Words.{◌≡◌, ◌∙◌, ap, sym, subst, arith, refl, true≢false, inl, inr, or_cases, or_right, ℕ, zero, suc, ◌+◌, ◌-◌, ◌<◌, ◌==◌, nat_eq, Bool, true, false, not, ◌&&◌, ◌||◌, or-false, and-false, and-or_distrib_left, List, [], ◌∷◌, ◌++◌, length, map, take, get_or, list_any, list_any_more, list_any-append, list_any-map, Name, name_eq, has_name, name_at, AreDistinct, Stmt, Database, before, decode, expr_of, is_assertion, hypotheses, is_mandatory, mandatory_groups, AreBelow, AllBelow, AreNumberedHypotheses, AreListsOf, IsKeptAs, is_typed, groups_by, symbols_at, hypothesis_at, hypothesis_by, entry_hypothesis, typecode_at, is_typed_by, AreHypotheses, AreNumbered, HasTwo, Kind, Float, AreSearched, slice_get_within, ◌⊎◌, actives, is_disj, Assertion, AssertionView, Entry, Storage, AreStored, names_in, labels_in, statements_of, are_pair, IsFilledFrom}
 use Rattle.frame.specs.AssertionView.{AreCitingListsOf, AreMandatoryPairs, IsCited, has_both}
 use Rattle.frame.specs.Stored.PairLists.{HasPairs, HasSameHypotheses, IsFilledByPairs, IsFilledForCitation, IsSearchPosition, are_among, is_beside}
 use Rattle.frame.proofs.AssertionLemmas.{filled-kept}
@@ -35,7 +35,7 @@ module _ (names : List Name) (x y : ℕ) (distinct : AreDistinct names) (first :
 -- the groups of a frame have exactly the mandatory pairs
 pub lists-citing : (S : Database) (names : List Name) (a : ℕ) (d : Assertion) (s : Stmt) → AreDistinct names → AreListsOf S names a d s → AreCitingListsOf S names a d s
 lists-citing S names a d s distinct l = record {
-  required = l.required;
+  numbered_hypotheses = l.numbered_hypotheses;
   pairs = λ x y first second differ.
       let X = name_at names x in
       let Y = name_at names y in
@@ -106,7 +106,7 @@ module _ (k : Storage) (at : ℕ) where
   pub pairs-same : (test : ℕ → ℕ → Bool) (d : Assertion) → ((u v : ℕ) → (u == v) ≡ false → (are_pair k at u v && test u v) ≡ false) → HasPairs k at test d d
   pairs-same test d none = record {
     hypotheses = refl;
-    required = refl;
+    numbered_hypotheses = refl;
     typecodes = refl;
     pairs = λ u v first second differ. sym (ap (λ t. list_any (has_both u v) d.groups || t) (none u v differ) ∙ or-false (list_any (has_both u v) d.groups));
     below = λ b. b;
@@ -128,10 +128,10 @@ module _ (k : Storage) (at : ℕ) where
   pairs-apart x y d turn none = pairs-same (is_beside x (y ∷ [])) d (λ u v differ. beside-pair (are_pair k at) x y u v turn ∙ ap (λ t. t && is_beside x (y ∷ []) u v) none)
 
   pub pairs-added : (x y : ℕ) (old new : Assertion) → are_pair k at y x ≡ are_pair k at x y → are_pair k at x y ≡ true → x < length (names_in k) → y < length (names_in k)
-      → new.hypotheses ≡ old.hypotheses → new.required ≡ old.required → new.typecodes ≡ old.typecodes → new.groups ≡ old.groups ++ (x ∷ y ∷ []) ∷ [] → HasPairs k at (is_beside x (y ∷ [])) old new
+      → new.hypotheses ≡ old.hypotheses → new.numbered_hypotheses ≡ old.numbered_hypotheses → new.typecodes ≡ old.typecodes → new.groups ≡ old.groups ++ (x ∷ y ∷ []) ∷ [] → HasPairs k at (is_beside x (y ∷ [])) old new
   pairs-added x y old new turn is first second hs rs ts gs = record {
     hypotheses = hs;
-    required = rs;
+    numbered_hypotheses = rs;
     typecodes = ts;
     pairs = λ u v a b differ.
         ap (list_any (has_both u v)) gs
@@ -146,7 +146,7 @@ module _ (k : Storage) (at : ℕ) where
   pub pairs-join : (s t r : ℕ → ℕ → Bool) (a b c : Assertion) → HasPairs k at s a b → HasPairs k at t b c → ((u v : ℕ) → (u == v) ≡ false → r u v ≡ (s u v || t u v)) → HasPairs k at r a c
   pairs-join s t r a b c h g is = record {
     hypotheses = g.hypotheses ∙ h.hypotheses;
-    required = g.required ∙ h.required;
+    numbered_hypotheses = g.numbered_hypotheses ∙ h.numbered_hypotheses;
     typecodes = g.typecodes ∙ h.typecodes;
     pairs = λ u v first second differ.
         g.pairs u v first second differ
@@ -203,18 +203,18 @@ module _ (k : Storage) (at : ℕ) where
   pub sought-at : (x y : ℕ) → IsSearchPosition k at → x < length (names_in k) → y < length (names_in k) → (x == y) ≡ false → AreSearched k at x y
   sought-at x y p first second differ = record { stored = p.stored; distinct = p.distinct; above = p.above; within = p.within; first = first; second = second; differ = differ }
 
-  pub by-pairs : (ps vs : List ℕ) (old new : Assertion) → HasPairs k at (are_among vs) old new → old.groups ≡ [] → old.hypotheses ≡ ps → old.required ≡ map (required_at k.entries) ps
-      → old.typecodes ≡ map (typecode_at k.entries) ps → ((c : ℕ) → list_any (λ n. n == c) vs ≡ is_typed old.required c) → IsFilledByPairs k at ps new
+  pub by-pairs : (ps vs : List ℕ) (old new : Assertion) → HasPairs k at (are_among vs) old new → old.groups ≡ [] → old.hypotheses ≡ ps → old.numbered_hypotheses ≡ map (hypothesis_at k.entries) ps
+      → old.typecodes ≡ map (typecode_at k.entries) ps → ((c : ℕ) → list_any (λ n. n == c) vs ≡ is_typed old.numbered_hypotheses c) → IsFilledByPairs k at ps new
   by-pairs ps vs old new h none hs rs ts typed = record {
     same = h.hypotheses ∙ hs;
-    required_made = h.required ∙ rs;
+    numbered_made = h.numbered_hypotheses ∙ rs;
     typecodes_made = h.typecodes ∙ ts;
     pairs = λ u v first second differ.
         h.pairs u v first second differ
         ∙ (ap (λ gs. list_any (has_both u v) gs || (are_pair k at u v && (list_any (λ c. c == u) vs && list_any (λ c. c == v) vs))) none
         ∙ (grouped (are_pair k at u v) (list_any (λ c. c == u) vs) (list_any (λ c. c == v) vs)
-        ∙ (ap (λ t. are_pair k at u v && t && list_any (λ c. c == v) vs) (typed u ∙ ap (λ hs. is_typed hs u) (sym h.required))
-        ∙ ap (λ t. are_pair k at u v && is_typed new.required u && t) (typed v ∙ ap (λ hs. is_typed hs v) (sym h.required)))));
+        ∙ (ap (λ t. are_pair k at u v && t && list_any (λ c. c == v) vs) (typed u ∙ ap (λ hs. is_typed hs u) (sym h.numbered_hypotheses))
+        ∙ ap (λ t. are_pair k at u v && is_typed new.numbered_hypotheses u && t) (typed v ∙ ap (λ hs. is_typed hs v) (sym h.numbered_hypotheses)))));
     below = h.below (subst (AllBelow (length (names_in k))) (sym none) tt);
   }
     where
@@ -224,14 +224,14 @@ module _ (k : Storage) (at : ℕ) where
 
   -- the groups were found before the hypotheses were described
   pub described-pairs : (ps vs : List ℕ) (old mid new : Assertion) → HasPairs k at (are_among vs) old mid → old.groups ≡ [] → old.hypotheses ≡ ps → new.hypotheses ≡ mid.hypotheses → new.groups ≡ mid.groups
-      → new.required ≡ map (required_at k.entries) mid.hypotheses → new.typecodes ≡ map (typecode_at k.entries) mid.hypotheses
-      → ((c : ℕ) → list_any (λ n. n == c) vs ≡ is_typed (map (required_at k.entries) ps) c) → IsFilledByPairs k at ps new
+      → new.numbered_hypotheses ≡ map (hypothesis_at k.entries) mid.hypotheses → new.typecodes ≡ map (typecode_at k.entries) mid.hypotheses
+      → ((c : ℕ) → list_any (λ n. n == c) vs ≡ is_typed (map (hypothesis_at k.entries) ps) c) → IsFilledByPairs k at ps new
   described-pairs ps vs old mid new h none hs same groups rs ts typed =
       let whole : mid.hypotheses ≡ ps = h.hypotheses ∙ hs in
-      let start : Assertion = record { whole = new.whole; hypotheses = ps; required = map (required_at k.entries) ps; typecodes = map (typecode_at k.entries) ps; groups = [] } in
+      let start : Assertion = record { whole = new.whole; hypotheses = ps; numbered_hypotheses = map (hypothesis_at k.entries) ps; typecodes = map (typecode_at k.entries) ps; groups = [] } in
       let found : HasPairs k at (are_among vs) start new = record {
         hypotheses = same ∙ whole;
-        required = rs ∙ ap (map (required_at k.entries)) whole;
+        numbered_hypotheses = rs ∙ ap (map (hypothesis_at k.entries)) whole;
         typecodes = ts ∙ ap (map (typecode_at k.entries)) whole;
         pairs = λ u v first second differ.
             ap (list_any (has_both u v)) groups
@@ -241,29 +241,29 @@ module _ (k : Storage) (at : ℕ) where
       by-pairs ps vs start new found refl refl refl refl typed
 
   pub same-start : (a : Assertion) → HasSameHypotheses a a
-  same-start a = record { hypotheses = refl; required = refl; typecodes = refl }
+  same-start a = record { hypotheses = refl; numbered_hypotheses = refl; typecodes = refl }
 
 -- ---- the variables of the hypotheses
 
-variable-below : (n c p : ℕ) (kind : Kind) (codes : List ℕ) → AreBelow n codes → HasTwo kind codes → is_typed_by c (required_by p kind codes) ≡ true → c < n
+variable-below : (n c p : ℕ) (kind : Kind) (codes : List ℕ) → AreBelow n codes → HasTwo kind codes → is_typed_by c (hypothesis_by p kind codes) ≡ true → c < n
 variable-below n c p Float [] b two e = absurd (omega (arith, two))
 variable-below n c p Float (x ∷ []) b two e = absurd (omega (arith, two))
 variable-below n c p Float (x ∷ y ∷ codes) b two e = let same : c ≡ y = grind (arith, e) in let low = b.1.0 in omega (arith, same, low)
 variable-below n c p kind codes b two e = cc
 
-typed-below : (n m c : ℕ) (es : List Entry) (ps : List ℕ) → AreNumbered n m es → AreHypotheses es ps → is_typed (map (required_at es) ps) c ≡ true → c < n
+typed-below : (n m c : ℕ) (es : List Entry) (ps : List ℕ) → AreNumbered n m es → AreHypotheses es ps → is_typed (map (hypothesis_at es) ps) c ≡ true → c < n
 typed-below n m c es [] a h e = cc
-typed-below n m c es (p ∷ ps) a h e = by (or_cases (is_typed_by c (required_at es p)) _ e) (λ r. typed-below n m c es ps a h.1 r)
+typed-below n m c es (p ∷ ps) a h e = by (or_cases (is_typed_by c (hypothesis_at es p)) _ e) (λ r. typed-below n m c es ps a h.1 r)
   where
-    by : (is_typed_by c (required_at es p) ≡ true) ⊎ (is_typed (map (required_at es) ps) c ≡ true) → (is_typed (map (required_at es) ps) c ≡ true → c < n) → c < n
+    by : (is_typed_by c (hypothesis_at es p) ≡ true) ⊎ (is_typed (map (hypothesis_at es) ps) c ≡ true) → (is_typed (map (hypothesis_at es) ps) c ≡ true → c < n) → c < n
     by (inl here) later =
         let x = h.0.0 in
         let g = h.0.2 in
         let b = numbered-at n m es (p - 1) x a g in
-        variable-below n c p x.kind x.symbols b.0 b.1 (ap (λ o. is_typed_by c (option_required p o)) (sym g) ∙ here)
+        variable-below n c p x.kind x.symbols b.0 b.1 (ap (λ o. is_typed_by c (entry_hypothesis p o)) (sym g) ∙ here)
     by (inr there) later = later there
 
-pub all-below : (n m : ℕ) (es : List Entry) (ps vs : List ℕ) → AreNumbered n m es → AreHypotheses es ps → ((c : ℕ) → list_any (λ v. v == c) vs ≡ is_typed (map (required_at es) ps) c) → AreBelow n vs
+pub all-below : (n m : ℕ) (es : List Entry) (ps vs : List ℕ) → AreNumbered n m es → AreHypotheses es ps → ((c : ℕ) → list_any (λ v. v == c) vs ≡ is_typed (map (hypothesis_at es) ps) c) → AreBelow n vs
 all-below n m es ps vs a h typed = each vs (λ c e. typed-below n m c es ps a h (sym (typed c) ∙ e))
   where
     each : (vs : List ℕ) → ((c : ℕ) → list_any (λ v. v == c) vs ≡ true → c < n) → AreBelow n vs
@@ -273,10 +273,10 @@ all-below n m es ps vs a h typed = each vs (λ c e. typed-below n m c es ps a h 
         (h v (ap (λ t. t || list_any (λ w. w == v) vs) same), each vs (λ c e. h c (or_right (nat_eq v c) (list_any (λ w. w == c) vs) e)))
 
 -- the variables of the first i hypotheses, and that of the next one
-pub typed-more : (es : List Entry) (ps : List ℕ) (i c : ℕ) → i < length ps → is_typed (map (required_at es) (take (i + 1) ps)) c ≡ (is_typed (map (required_at es) (take i ps)) c || is_typed_by c (required_at es (get_or ps i 0)))
+pub typed-more : (es : List Entry) (ps : List ℕ) (i c : ℕ) → i < length ps → is_typed (map (hypothesis_at es) (take (i + 1) ps)) c ≡ (is_typed (map (hypothesis_at es) (take i ps)) c || is_typed_by c (hypothesis_at es (get_or ps i 0)))
 typed-more es ps i c lt =
-    sym (list_any-map (required_at es) (is_typed_by c) (take (i + 1) ps))
-    ∙ (list_any_more (λ p. is_typed_by c (required_at es p)) ps i 0 lt ∙ ap (λ b. b || is_typed_by c (required_at es (get_or ps i 0))) (list_any-map (required_at es) (is_typed_by c) (take i ps)))
+    sym (list_any-map (hypothesis_at es) (is_typed_by c) (take (i + 1) ps))
+    ∙ (list_any_more (λ p. is_typed_by c (hypothesis_at es p)) ps i 0 lt ∙ ap (λ b. b || is_typed_by c (hypothesis_at es (get_or ps i 0))) (list_any-map (hypothesis_at es) (is_typed_by c) (take i ps)))
 
 -- ---- an assertion of the storage
 
@@ -285,10 +285,10 @@ module _ (k : Storage) (a i : ℕ) (s : Stmt) (e : Entry) (stored : AreStored k)
   T = take (a - 1) (statements_of k)
 
   -- a number is that of a mandatory `$f` exactly if its name is a mandatory variable
-  typed-mandatory : (d : Assertion) → IsKeptAs k.entries T s d → d.whole ≡ true → (c : ℕ) → c < length (names_in k) → is_typed d.required c ≡ is_mandatory T s (name_at (names_in k) c)
+  typed-mandatory : (d : Assertion) → IsKeptAs k.entries T s d → d.whole ≡ true → (c : ℕ) → c < length (names_in k) → is_typed d.numbered_hypotheses c ≡ is_mandatory T s (name_at (names_in k) c)
   typed-mandatory d kept whole c low =
       let place = t.place in
-      subst (λ x. is_typed d.required c ≡ is_mandatory T x (name_at (names_in k) c)) t.is
+      subst (λ x. is_typed d.numbered_hypotheses c ≡ is_mandatory T x (name_at (names_in k) c)) t.is
       (mandatory-is k.entries (names_in k) (labels_in k) (length (labels_in k)) a e d (stored-distinct k stored) stored.kept.coded stored.kept.legal (omega (arith, place)) t.got (ap is_assertion t.is ∙ asserts)
       (subst (λ x. IsKeptAs k.entries T x d) (sym t.is) kept) whole c low)
 
@@ -297,14 +297,14 @@ module _ (k : Storage) (a i : ℕ) (s : Stmt) (e : Entry) (stored : AreStored k)
 
   -- the parts of the assertion with the groups of its frame
   abbrev framed : Assertion → Assertion
-  framed d = record { whole = true; hypotheses = d.hypotheses; required = d.required; typecodes = d.typecodes; groups = groups_by d.required (map (λ q. symbols_at k.entries q.0) (actives is_disj T)) }
+  framed d = record { whole = true; hypotheses = d.hypotheses; numbered_hypotheses = d.numbered_hypotheses; typecodes = d.typecodes; groups = groups_by d.numbered_hypotheses (map (λ q. symbols_at k.entries q.0) (actives is_disj T)) }
 
   framed-filled : (ps : List ℕ) (d : Assertion) → IsFilledByPairs k a ps d → IsFilledFrom k.entries T ps (framed d)
   framed-filled ps d p = record {
     is_whole = refl;
     same = p.same;
     described = record {
-      required_made = p.required_made ∙ ap (map (required_at k.entries)) (sym p.same);
+      numbered_made = p.numbered_made ∙ ap (map (hypothesis_at k.entries)) (sym p.same);
       typecodes_made = p.typecodes_made ∙ ap (map (typecode_at k.entries)) (sym p.same);
       groups_made = λ w. refl;
     };
@@ -315,10 +315,10 @@ module _ (k : Storage) (a i : ℕ) (s : Stmt) (e : Entry) (stored : AreStored k)
       let filled = framed-filled ps d p in
       let typed = typed-mandatory (framed d) (filled-kept k.entries T s ps (framed d) h (not-essential s asserts) filled) refl in
       record {
-        required = (filled-lists k a i s e stored asserts t ps (framed d) filled h).required;
+        numbered_hypotheses = (filled-lists k a i s e stored asserts t ps (framed d) filled h).numbered_hypotheses;
         pairs = λ x y first second differ.
             p.pairs x y first second differ
-            ∙ (ap (λ b. are_pair k a x y && b && is_typed d.required y) (typed x first) ∙ ap (λ b. are_pair k a x y && is_mandatory T s (name_at (names_in k) x) && b) (typed y second));
+            ∙ (ap (λ b. are_pair k a x y && b && is_typed d.numbered_hypotheses y) (typed x first) ∙ ap (λ b. are_pair k a x y && is_mandatory T s (name_at (names_in k) x) && b) (typed y second));
         groups_below = p.below;
       }
 
@@ -334,9 +334,9 @@ module _ (k : Storage) (a i : ℕ) (s : Stmt) (e : Entry) (stored : AreStored k)
 
 -- the assertion can be cited by a view of these lists and its expression
 pub lists-cite : (S : Database) (names : List Name) (a : ℕ) (s : Stmt) (d : Assertion) (codes : List ℕ) → AreCitingListsOf S names a d s → decode names codes ≡ expr_of s → AreBelow (length names) codes
-    → (c : AssertionView) → c.typecodes.now ≡ d.typecodes → c.hypotheses ≡ d.required → c.conclusion.now ≡ codes → c.groups ≡ d.groups → IsCited S names a s c
+    → (c : AssertionView) → c.typecodes.now ≡ d.typecodes → c.hypotheses ≡ d.numbered_hypotheses → c.conclusion.now ≡ codes → c.groups ≡ d.groups → IsCited S names a s c
 lists-cite S names a s d codes l stand low c p q k g = record {
-  required = subst (λ hs. AreNumberedHypotheses S names (hypotheses (before S a) s) hs c.hypotheses) (sym p) (subst (AreNumberedHypotheses S names (hypotheses (before S a) s) d.typecodes) (sym q) l.required);
+  numbered_hypotheses = subst (λ hs. AreNumberedHypotheses S names (hypotheses (before S a) s) hs c.hypotheses) (sym p) (subst (AreNumberedHypotheses S names (hypotheses (before S a) s) d.typecodes) (sym q) l.numbered_hypotheses);
   conclusion = ap (decode names) k ∙ stand;
   conclusion_below = subst (AreBelow (length names)) (sym k) low;
   pairs = subst (AreMandatoryPairs S names a s) (sym g) l.pairs;

@@ -1,5 +1,5 @@
 -- The parts that are kept with an assertion describe it.
-use Rattle.frame.proofs.Words.{In, floats, is_typed_by, list_any, list_any-map, sym, ◌∙◌, ap, subst, arith, append_assoc, length-append, ◌≡◌, ℕ, suc, ◌+◌, ◌-◌, ◌<◌, ◌≤◌, Bool, true, false, cond, List, [], ◌∷◌, ◌++◌, length, map, filter, slice_get, Option, Some, None, refl, Name, Stmt, Database, stmt_at, before, stays_open, active_from, expr_of, disjoint_names, is_assertion, IsLegal, name_at, decode, AreDistinct, is_mandatory, is_hypothesis, hypotheses, has_two_or_more, AreBelow, AllBelow, typecode_of, IsTypecode, IsStatementOf, IsNumberedHypothesis, AreNumberedHypotheses, AreListsOf, IsViewOf, AssertionView, Kind, Disj, Entry, Assertion, actives, actives_from, is_disj, stmt_by, stmt_of, AreAllLegal, AreNumbered, HasTwo, is_typed, typed, symbols_at, option_symbols, has_two, groups_by, typecode_at, required_by, option_required, required_at, kept_with, IsKeptAs, take-get, Hypothesis}
+use Rattle.frame.proofs.Words.{In, floats, is_typed_by, list_any, list_any-map, sym, ◌∙◌, ap, subst, arith, append_assoc, length-append, ◌≡◌, ℕ, suc, ◌+◌, ◌-◌, ◌<◌, ◌≤◌, Bool, true, false, cond, List, [], ◌∷◌, ◌++◌, length, map, filter, slice_get, Option, Some, None, refl, Name, Stmt, Database, stmt_at, before, stays_open, active_from, expr_of, disjoint_names, is_assertion, IsLegal, name_at, decode, AreDistinct, is_mandatory, is_hypothesis, hypotheses, has_two_or_more, AreBelow, AllBelow, typecode_of, IsTypecode, IsStatementOf, IsNumberedHypothesis, AreNumberedHypotheses, AreListsOf, IsViewOf, AssertionView, Kind, Disj, Entry, Assertion, actives, actives_from, is_disj, stmt_by, stmt_of, AreAllLegal, AreNumbered, HasTwo, is_typed, typed, symbols_at, option_symbols, has_two, groups_by, typecode_at, hypothesis_by, entry_hypothesis, hypothesis_at, kept_with, IsKeptAs, take-get, Hypothesis}
 use Rattle.frame.proofs.LegalAfter.{stands-at}
 use Rattle.frame.proofs.LegalLabels.{AllKept}
 use Rattle.frame.proofs.VariablePlaceLemmas.{any-in, in-any, mandatory-float}
@@ -26,7 +26,7 @@ module _ (es : List Entry) (names labels : List Name) (m a : ℕ) (e : Entry) (d
   own = stmt_of names labels e
 
   abbrev places : List Hypothesis
-  places = d.required
+  places = d.numbered_hypotheses
 
   front-legal : AllKept front_of
   front-legal = kept-front all (a - 1) legal
@@ -66,7 +66,7 @@ module _ (es : List Entry) (names labels : List Name) (m a : ℕ) (e : Entry) (d
 
   -- ---- the required hypotheses
 
-  one-required : (p : ℕ) → IsHyp front_of own p → IsNumberedHypothesis all names p (typecode_at es p) (required_at es p)
+  one-required : (p : ℕ) → IsHyp front_of own p → IsNumberedHypothesis all names p (typecode_at es p) (hypothesis_at es p)
   one-required p h =
       let x = hyp-at p h in
       let k = required-kind names x.entry.kind (name_at labels x.entry.label_count) x.entry.symbols p front_of own x.codes x.two (sym (ap (is_hypothesis front_of own) x.same) ∙ h.passes) in
@@ -74,42 +74,42 @@ module _ (es : List Entry) (names labels : List Name) (m a : ℕ) (e : Entry) (d
         stmt = h.stmt;
         stands = ap (stmt_at all) h.at ∙ x.stands_at;
         first = subst (λ o. IsTypecode names (typecode_of (option_symbols o)) (expr_of h.stmt)) (sym x.found) (subst (λ t. IsTypecode names (typecode_of x.entry.symbols) (expr_of t)) (sym x.same) k.0);
-        is = subst (λ o. IsStatementOf names p h.stmt (option_required p o)) (sym x.found) (subst (λ t. IsStatementOf names p t (required_by p x.entry.kind x.entry.symbols)) (sym x.same) k.1);
+        is = subst (λ o. IsStatementOf names p h.stmt (entry_hypothesis p o)) (sym x.found) (subst (λ t. IsStatementOf names p t (hypothesis_by p x.entry.kind x.entry.symbols)) (sym x.same) k.1);
       }
 
-  all-required : (ps : List ℕ) → AreHyps front_of own ps → AreNumberedHypotheses all names ps (map (typecode_at es) ps) (map (required_at es) ps)
+  all-required : (ps : List ℕ) → AreHyps front_of own ps → AreNumberedHypotheses all names ps (map (typecode_at es) ps) (map (hypothesis_at es) ps)
   all-required [] h = tt
   all-required (p ∷ ps) h = (one-required p h.0, all-required ps h.1)
 
-  kept-required : AreNumberedHypotheses all names (hypotheses front_of own) d.typecodes d.required
+  kept-required : AreNumberedHypotheses all names (hypotheses front_of own) d.typecodes d.numbered_hypotheses
   kept-required =
-      subst (λ ps. AreNumberedHypotheses all names ps d.typecodes d.required) hyps-are
-      (subst (λ hs. AreNumberedHypotheses all names d.hypotheses hs d.required) (sym kept.typecodes_kept)
-      (subst (AreNumberedHypotheses all names d.hypotheses (map (typecode_at es) d.hypotheses)) (sym kept.required_kept) (all-required d.hypotheses own-hyps)))
+      subst (λ ps. AreNumberedHypotheses all names ps d.typecodes d.numbered_hypotheses) hyps-are
+      (subst (λ hs. AreNumberedHypotheses all names d.hypotheses hs d.numbered_hypotheses) (sym kept.typecodes_kept)
+      (subst (AreNumberedHypotheses all names d.hypotheses (map (typecode_at es) d.hypotheses)) (sym kept.numbered_kept) (all-required d.hypotheses own-hyps)))
 
   -- ---- groups
 
   -- a number is that of a mandatory `$f` exactly if its name is a mandatory variable
   pub mandatory-is : (c : ℕ) → c < length names → is_typed places c ≡ is_mandatory front_of own (name_at names c)
   mandatory-is c low =
-      ap (list_any (is_typed_by c)) kept.required_kept ∙ (sym (list_any-map (required_at es) (is_typed_by c) d.hypotheses)
-      ∙ both_ways (list_any (λ p. is_typed_by c (required_at es p)) d.hypotheses) (is_mandatory front_of own (name_at names c)) there back)
+      ap (list_any (is_typed_by c)) kept.numbered_kept ∙ (sym (list_any-map (hypothesis_at es) (is_typed_by c) d.hypotheses)
+      ∙ both_ways (list_any (λ p. is_typed_by c (hypothesis_at es p)) d.hypotheses) (is_mandatory front_of own (name_at names c)) there back)
     where
-      there : list_any (λ p. is_typed_by c (required_at es p)) d.hypotheses ≡ true → is_mandatory front_of own (name_at names c) ≡ true
+      there : list_any (λ p. is_typed_by c (hypothesis_at es p)) d.hypotheses ≡ true → is_mandatory front_of own (name_at names c) ≡ true
       there h =
-          let r = any-in (λ p. is_typed_by c (required_at es p)) d.hypotheses h in
+          let r = any-in (λ p. is_typed_by c (hypothesis_at es p)) d.hypotheses h in
           let a = active-members front_of (is_hypothesis front_of own) r.0 [] front_of 1 refl refl (subst (In r.0) hyps-are r.1) in
           let x = entry-at r.0 a.front a.stmt a.rest a.whole a.at in
-          let passes : floats c x.entry ≡ true = sym (code-floats c r.0 x.entry.kind x.entry.symbols x.two) ∙ (ap (λ o. is_typed_by c (option_required r.0 o)) (sym x.found) ∙ r.2) in
+          let passes : floats c x.entry ≡ true = sym (code-floats c r.0 x.entry.kind x.entry.symbols x.two) ∙ (ap (λ o. is_typed_by c (entry_hypothesis r.0 o)) (sym x.found) ∙ r.2) in
           let y = floats-is names c x.entry (name_at labels x.entry.label_count) passes in
           ap (is_hypothesis front_of own) (sym (x.same ∙ y.1)) ∙ a.passes
 
-      back : is_mandatory front_of own (name_at names c) ≡ true → list_any (λ p. is_typed_by c (required_at es p)) d.hypotheses ≡ true
+      back : is_mandatory front_of own (name_at names c) ≡ true → list_any (λ p. is_typed_by c (hypothesis_at es p)) d.hypotheses ≡ true
       back m =
           let f = mandatory-float front_of own (name_at names c) front-legal own-legal asserts m in
           let x = entry-at (suc (length f.front)) f.front (Float f.label f.constant (name_at names c)) f.rest f.whole refl in
-          in-any (λ p. is_typed_by c (required_at es p)) d.hypotheses (suc (length f.front)) (subst (In (suc (length f.front))) (sym hyps-are) f.listed)
-          (ap (λ o. is_typed_by c (option_required (suc (length f.front)) o)) x.found ∙ (code-floats c (suc (length f.front)) x.entry.kind x.entry.symbols x.two
+          in-any (λ p. is_typed_by c (hypothesis_at es p)) d.hypotheses (suc (length f.front)) (subst (In (suc (length f.front))) (sym hyps-are) f.listed)
+          (ap (λ o. is_typed_by c (entry_hypothesis (suc (length f.front)) o)) x.found ∙ (code-floats c (suc (length f.front)) x.entry.kind x.entry.symbols x.two
           ∙ is-floats names c x.entry (name_at labels x.entry.label_count) f.constant f.label distinct x.codes x.two low (sym x.same)))
 
   typed-stands : (codes : List ℕ) → AreBelow (length names) codes → decode names (typed places codes) ≡ filter (is_mandatory front_of own) (decode names codes)
@@ -182,16 +182,16 @@ module _ (es : List Entry) (names labels : List Name) (m a : ℕ) (e : Entry) (d
 
   pub kept-lists : AreListsOf all names a d own
   kept-lists = record {
-    required = kept-required;
+    numbered_hypotheses = kept-required;
     groups = ap (map (decode names)) (kept.groups_kept whole) ∙ groups-from [] front_of 1 refl refl;
     groups_below = subst (AllBelow (length names)) (sym (kept.groups_kept whole)) (groups-low (actives is_disj front_of));
   }
 
 -- a view with these lists and the expression is a view of the assertion
 pub lists-cited : (S : Database) (names : List Name) (a : ℕ) (s : Stmt) (d : Assertion) (codes : List ℕ) → AreListsOf S names a d s → decode names codes ≡ expr_of s → AreBelow (length names) codes
-    → (c : AssertionView) → c.typecodes.now ≡ d.typecodes → c.hypotheses ≡ d.required → c.conclusion.now ≡ codes → c.groups ≡ d.groups → IsViewOf S names a s c
+    → (c : AssertionView) → c.typecodes.now ≡ d.typecodes → c.hypotheses ≡ d.numbered_hypotheses → c.conclusion.now ≡ codes → c.groups ≡ d.groups → IsViewOf S names a s c
 lists-cited S names a s d codes l stand low c p q k g = record {
-  required = subst (λ hs. AreNumberedHypotheses S names (hypotheses (before S a) s) hs c.hypotheses) (sym p) (subst (AreNumberedHypotheses S names (hypotheses (before S a) s) d.typecodes) (sym q) l.required);
+  numbered_hypotheses = subst (λ hs. AreNumberedHypotheses S names (hypotheses (before S a) s) hs c.hypotheses) (sym p) (subst (AreNumberedHypotheses S names (hypotheses (before S a) s) d.typecodes) (sym q) l.numbered_hypotheses);
   conclusion = ap (decode names) k ∙ stand;
   conclusion_below = subst (AreBelow (length names)) (sym k) low;
   groups = ap (map (decode names)) g ∙ l.groups;

@@ -18,7 +18,7 @@ pub short-pushed : (es new : List Entry) (x : Entry) (long : List (ℕ × Symbol
 short-pushed es new x long e h = subst (λ v. AreLongIn v long) (sym e) (record { each = long-more es (x ∷ []) long h.each })
 
 -- a statement with a long expression is appended
-pub long-pushed : (es new : List Entry) (x : Entry) (long grown : List (ℕ × SymbolGroups)) (groups : SymbolGroups) (i : ℕ) → new ≡ es ++ x ∷ [] → i ≡ length es → ArePlacesOf x.symbols groups → groups.constants ≡ without_float x.assertion.required groups.symbols → grown ≡ long ++ (i, groups) ∷ []
+pub long-pushed : (es new : List Entry) (x : Entry) (long grown : List (ℕ × SymbolGroups)) (groups : SymbolGroups) (i : ℕ) → new ≡ es ++ x ∷ [] → i ≡ length es → ArePlacesOf x.symbols groups → groups.constants ≡ without_float x.assertion.numbered_hypotheses groups.symbols → grown ≡ long ++ (i, groups) ∷ []
     → AreLongIn es long → AreLongIn new grown
 long-pushed es new x long grown groups i e last are fixed g h =
     subst (λ v. AreLongIn v grown) (sym e) (subst (AreLongIn (es ++ x ∷ [])) (sym g)
@@ -58,7 +58,7 @@ long-found es i (p ∷ long) groups h found =
       | inl e ↦
           let s : Some p.1 ≡ Some groups = sym (ap (λ b. cond b (Some p.1) (lookup (nat_eq i) long)) e) ∙ found in
           let same : p.1 ≡ groups = cc in
-          (is.0, ap (slice_get es) (eqb-true i p.0 e) ∙ is.1, subst (ArePlacesOf is.0.symbols) same is.2, subst (λ (g : SymbolGroups). g.constants ≡ without_float is.0.assertion.required g.symbols) same is.3)
+          (is.0, ap (slice_get es) (eqb-true i p.0 e) ∙ is.1, subst (ArePlacesOf is.0.symbols) same is.2, subst (λ (g : SymbolGroups). g.constants ≡ without_float is.0.assertion.numbered_hypotheses g.symbols) same is.3)
       | inr e ↦ long-found es i long groups (All-tail (IsLongIn es) p long h) (sym (ap (λ b. cond b (Some p.1) (lookup (nat_eq i) long)) e) ∙ found)
     ]
 
@@ -69,9 +69,9 @@ found-places es i long groups x h found stands =
     let same : f.0 ≡ x = cc in
     subst (λ (v : Entry). ArePlacesOf v.symbols groups) same f.2
 
-pub found-constants : (es : List Entry) (i : ℕ) (long : List (ℕ × SymbolGroups)) (groups : SymbolGroups) (x : Entry) → AreLongIn es long → lookup (nat_eq i) long ≡ Some groups → slice_get es i ≡ Some x → groups.constants ≡ without_float x.assertion.required groups.symbols
+pub found-constants : (es : List Entry) (i : ℕ) (long : List (ℕ × SymbolGroups)) (groups : SymbolGroups) (x : Entry) → AreLongIn es long → lookup (nat_eq i) long ≡ Some groups → slice_get es i ≡ Some x → groups.constants ≡ without_float x.assertion.numbered_hypotheses groups.symbols
 found-constants es i long groups x h found stands =
     let f = long-found es i long groups h.each found in
     let both : Some f.0 ≡ Some x = sym f.1 ∙ stands in
     let same : f.0 ≡ x = cc in
-    subst (λ (v : Entry). groups.constants ≡ without_float v.assertion.required groups.symbols) same f.3
+    subst (λ (v : Entry). groups.constants ≡ without_float v.assertion.numbered_hypotheses groups.symbols) same f.3

@@ -39,7 +39,7 @@ AreNumberedHypotheses S names ps typecodes hs = ⊥
 
 -- these lists describe the assertion s at a
 pub record AreListsOf (S : Database) (names : List Name) (a : ℕ) (g : Assertion) (s : Stmt) : Type 0 where
-  pub required : AreNumberedHypotheses S names (hypotheses (before S a) s) g.typecodes g.required
+  pub numbered_hypotheses : AreNumberedHypotheses S names (hypotheses (before S a) s) g.typecodes g.numbered_hypotheses
   pub groups : map (decode names) g.groups ≡ mandatory_groups (before S a) s
   pub groups_below : AllBelow (length names) g.groups
 
@@ -49,7 +49,7 @@ AreBuffersOf S names a g = (s : Stmt) → stmt_at S a ≡ Some s → AreListsOf 
 
 -- these are the parts of the assertion s at a
 pub record IsViewOf (S : Database) (names : List Name) (a : ℕ) (s : Stmt) (c : AssertionView) : Type 0 where
-  pub required : AreNumberedHypotheses S names (hypotheses (before S a) s) c.typecodes.now c.hypotheses
+  pub numbered_hypotheses : AreNumberedHypotheses S names (hypotheses (before S a) s) c.typecodes.now c.hypotheses
   pub conclusion : decode names c.conclusion.now ≡ expr_of s
   pub conclusion_below : AreBelow (length names) c.conclusion.now
   pub groups : map (decode names) c.groups ≡ mandatory_groups (before S a) s
@@ -69,7 +69,7 @@ AreMandatoryPairs S names a s groups =
 
 -- the assertion s at a can be cited by these lists
 pub record AreCitingListsOf (S : Database) (names : List Name) (a : ℕ) (g : Assertion) (s : Stmt) : Type 0 where
-  pub required : AreNumberedHypotheses S names (hypotheses (before S a) s) g.typecodes g.required
+  pub numbered_hypotheses : AreNumberedHypotheses S names (hypotheses (before S a) s) g.typecodes g.numbered_hypotheses
   pub pairs : AreMandatoryPairs S names a s g.groups
   pub groups_below : AllBelow (length names) g.groups
 
@@ -79,7 +79,7 @@ AreCitingLists S names a g = (s : Stmt) → stmt_at S a ≡ Some s → AreCiting
 
 -- the assertion s at a can be cited by these parts
 pub record IsCited (S : Database) (names : List Name) (a : ℕ) (s : Stmt) (c : AssertionView) : Type 0 where
-  pub required : AreNumberedHypotheses S names (hypotheses (before S a) s) c.typecodes.now c.hypotheses
+  pub numbered_hypotheses : AreNumberedHypotheses S names (hypotheses (before S a) s) c.typecodes.now c.hypotheses
   pub conclusion : decode names c.conclusion.now ≡ expr_of s
   pub conclusion_below : AreBelow (length names) c.conclusion.now
   pub pairs : AreMandatoryPairs S names a s c.groups

@@ -3,7 +3,7 @@ ghost use Rattle.std.specs.Prelude.{◌≡◌, ◌==◌, ◌≤◌, ◌<◌, ◌
 ghost use Rattle.std.specs.List.{list_any};
 ghost use Rattle.frame.specs.Below.{AreBelow};
 ghost use Rattle.frame.specs.PairFacts.{AreFacts};
-ghost use Rattle.frame.specs.Stored.AssertionParts.{is_typed, is_typed_by, required_at, typecode_at};
+ghost use Rattle.frame.specs.Stored.AssertionParts.{is_typed, is_typed_by, hypothesis_at, typecode_at};
 ghost use Rattle.frame.specs.Stored.EntryMeanings.{names_in, numbered, statements_of};
 ghost use Rattle.frame.specs.Stored.Hypotheses.{AreHypotheses};
 ghost use Rattle.frame.specs.Stored.PairLists.{HasPairs, HasSameHypotheses, IsFilledForCitation, IsSearchPosition, are_among, is_beside};
@@ -40,7 +40,7 @@ pub fn fill_citing_lists(
     requires kept { AreFacts (numbered storage.now) kept.now }
     requires facts { AreFacts (numbered storage.now) facts.old }
     requires hypotheses { AreHypotheses storage.now.entries buffers.old.hypotheses }
-    requires undescribed { (buffers.old.required ≡ []) × (buffers.old.typecodes ≡ []) × (buffers.old.groups ≡ []) }
+    requires undescribed { (buffers.old.numbered_hypotheses ≡ []) × (buffers.old.typecodes ≡ []) × (buffers.old.groups ≡ []) }
     ensures facts { AreFacts (numbered storage.now) facts.new }
     ensures filled { OnOk result (IsFilledForCitation storage.now at buffers.old.hypotheses buffers.new) }
 {
@@ -58,7 +58,7 @@ pub fn fill_citing_lists(
 fn variables(alloc: Global, storage: &Storage, hypotheses: &[u32]) -> Result<Vec<u32>, AllocError>
     requires stored { AreStored storage.now }
     requires hypotheses { AreHypotheses storage.now.entries hypotheses.now }
-    ensures { IfOk result (λ list. (c : ℕ) → list_any (λ n. n == c) list.items ≡ is_typed (map (required_at storage.now.entries) hypotheses.now) c) }
+    ensures { IfOk result (λ list. (c : ℕ) → list_any (λ n. n == c) list.items ≡ is_typed (map (hypothesis_at storage.now.entries) hypotheses.now) c) }
 {
     let mut list = Vec::new(alloc);
     list.reserve(hypotheses.len())?;
@@ -196,16 +196,16 @@ fn has_more_symbols(storage: &Storage, at: usize, most: usize) -> bool
 fn encode_all_hypotheses(storage: &Storage, buffers: &mut FrameBuffers) -> Result<(), AllocError>
     requires stored { AreStored storage.now }
     requires hypotheses { AreHypotheses storage.now.entries buffers.old.hypotheses }
-    requires undescribed { (buffers.old.required ≡ []) × (buffers.old.typecodes ≡ []) }
+    requires undescribed { (buffers.old.numbered_hypotheses ≡ []) × (buffers.old.typecodes ≡ []) }
     ensures hypotheses { buffers.new.hypotheses ≡ buffers.old.hypotheses }
     ensures groups { buffers.new.groups ≡ buffers.old.groups }
-    ensures required { OnOk result (buffers.new.required ≡ map (required_at storage.now.entries) buffers.old.hypotheses) }
+    ensures numbered_hypotheses { OnOk result (buffers.new.numbered_hypotheses ≡ map (hypothesis_at storage.now.entries) buffers.old.hypotheses) }
     ensures typecodes { OnOk result (buffers.new.typecodes ≡ map (typecode_at storage.now.entries) buffers.old.hypotheses) }
 {
     encode_hypotheses(
         storage,
         &buffers.hypotheses,
-        &mut buffers.required,
+        &mut buffers.numbered_hypotheses,
         &mut buffers.typecodes,
     )
 }

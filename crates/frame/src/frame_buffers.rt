@@ -23,7 +23,7 @@ pub struct FrameBuffers {
     /// The positions of the hypotheses, in order.
     pub(crate) hypotheses: Vec<u32>,
     /// Each hypothesis as one number: the variable of a `$f`, or the position of a `$e`.
-    pub(crate) required: Vec<u32>,
+    pub(crate) numbered_hypotheses: Vec<u32>,
     /// The typecode of each hypothesis.
     pub(crate) typecodes: Vec<u32>,
     /// The variables whose images must be disjoint, one group after another.
@@ -38,7 +38,7 @@ impl Model for FrameBuffers {
 
     ghost Value = { Assertion };
 
-    ghost view = { λ a. record { whole = a.whole; hypotheses = a.hypotheses.items; required = map decoded_hypothesis a.required.items; typecodes = a.typecodes.items; groups = cut a.grouped_variables.items a.groups.items } };
+    ghost view = { λ a. record { whole = a.whole; hypotheses = a.hypotheses.items; numbered_hypotheses = map decoded_hypothesis a.numbered_hypotheses.items; typecodes = a.typecodes.items; groups = cut a.grouped_variables.items a.groups.items } };
 
     ghost invariant = { λ a. AreSpansIn (length a.grouped_variables.items) a.groups.items };
 }
@@ -50,7 +50,7 @@ impl FrameBuffers {
             whole: false,
             recorded: Stack::new(alloc),
             hypotheses: Vec::new(alloc),
-            required: Vec::new(alloc),
+            numbered_hypotheses: Vec::new(alloc),
             typecodes: Vec::new(alloc),
             grouped_variables: Vec::new(alloc),
             groups: Vec::new(alloc),
@@ -59,7 +59,7 @@ impl FrameBuffers {
 
     /// Returns the parts of a statement with these symbols, in the form in which they are kept.
     pub(crate) fn parts<'a>(&'a self, symbols: &'a [u32]) -> AssertionParts<'a>
-        requires required { length self.now.required ≡ length self.now.hypotheses }
+        requires numbered_hypotheses { length self.now.numbered_hypotheses ≡ length self.now.hypotheses }
         requires typecodes { length self.now.typecodes ≡ length self.now.hypotheses }
         ensures shaped { AreShapedParts result }
         ensures symbols { result.symbols.now ≡ symbols.now }
@@ -69,7 +69,7 @@ impl FrameBuffers {
             whole: self.whole,
             symbols,
             hypotheses: &self.hypotheses,
-            required: &self.required,
+            numbered_hypotheses: &self.numbered_hypotheses,
             typecodes: &self.typecodes,
             grouped_variables: &self.grouped_variables,
             groups: &self.groups,
@@ -90,7 +90,7 @@ impl FrameBuffers {
     pub(crate) fn add_pair(&mut self, x: u32, y: u32) -> Result<(), AllocError>
         ensures groups { OnOk result (self.new.groups ≡ self.old.groups ++ (x ∷ y ∷ []) ∷ []) }
         ensures hypotheses { self.new.hypotheses ≡ self.old.hypotheses }
-        ensures required { self.new.required ≡ self.old.required }
+        ensures numbered_hypotheses { self.new.numbered_hypotheses ≡ self.old.numbered_hypotheses }
         ensures typecodes { self.new.typecodes ≡ self.old.typecodes }
     {
         let from = self.grouped_variables.len();
@@ -105,7 +105,7 @@ impl FrameBuffers {
     pub(crate) fn clear_groups(&mut self)
         ensures groups { self.new.groups ≡ [] }
         ensures hypotheses { self.new.hypotheses ≡ self.old.hypotheses }
-        ensures required { self.new.required ≡ self.old.required }
+        ensures numbered_hypotheses { self.new.numbered_hypotheses ≡ self.old.numbered_hypotheses }
         ensures typecodes { self.new.typecodes ≡ self.old.typecodes }
     {
         self.grouped_variables.clear();
@@ -118,7 +118,7 @@ impl FrameBuffers {
     {
         self.whole = false;
         self.hypotheses.clear();
-        self.required.clear();
+        self.numbered_hypotheses.clear();
         self.typecodes.clear();
         self.grouped_variables.clear();
         self.groups.clear();

@@ -221,11 +221,11 @@ impl Frames {
     /// to be kept whole.
     ///
     /// Cost: a constant.
-    pub fn kept_view(&self, a: usize) -> Option<AssertionView<'_>>
+    pub fn whole_view(&self, a: usize) -> Option<AssertionView<'_>>
         requires { (s : Statement) × HasAssertion self.now.statements a s }
         ensures { (s : Statement) → stmt_at self.now.statements a ≡ Some s → IfSome result (IsViewOf self.now.statements self.now.names a s) }
     {
-        self.storage.entries.kept_view(a - 1)
+        self.storage.entries.whole_view(a - 1)
     }
 
     /// Fills the buffers with the parts of the assertion at a position, kept whole or not.
@@ -256,7 +256,7 @@ impl Frames {
     {
         AssertionView {
             typecodes: &frame_buffers.typecodes,
-            hypotheses: Hypotheses::new(&frame_buffers.required),
+            hypotheses: Hypotheses::new(&frame_buffers.numbered_hypotheses),
             conclusion: self.expr(a),
             groups: Groups::new(&frame_buffers.groups, &frame_buffers.grouped_variables),
         }
@@ -304,7 +304,7 @@ impl Frames {
     {
         AssertionView {
             typecodes: &buffers.typecodes,
-            hypotheses: Hypotheses::new(&buffers.required),
+            hypotheses: Hypotheses::new(&buffers.numbered_hypotheses),
             conclusion: self.expr(a),
             groups: Groups::new(&buffers.groups, &buffers.grouped_variables),
         }

@@ -1,7 +1,7 @@
 //! Makes the parts that are kept with a statement: its hypotheses, each as one number, and its disjoint variables.
 ghost use Rattle.std.specs.Prelude.{◌≡◌, ℕ, List, ◌+◌, ◌-◌, ◌≤◌, ◌==◌, ◌||◌, ◌++◌, ◌∷◌, [], true, false, if◌then◌else◌, length, map, take, OnOk};
 ghost use Rattle.mm_read.specs.declared.stmt.Stmt.{Stmt as Statement};
-ghost use Rattle.{names.specs.Codes.decode, names.specs.Codes.with_names, scope.specs.Active.expr_of, scope.specs.Active.bare, scope.specs.Stored.SymbolNumbers.AreRecorded, scope.specs.Symbols.symbols_declared_by, scope.specs.Symbols.symbols_in, entries.specs.Hypotheses.decoded_hypothesis, entries.specs.Stored.Spans.cut, entries.specs.Stored.Spans.AreSpansIn, frame.specs.Below.AreBelow, frame.specs.AssertionView.typecode_of, frame.specs.Stored.Whole.AreStored, frame.specs.Stored.Whole.ArePartsFor, frame.specs.Stored.Hypotheses.AreHypotheses, frame.specs.Stored.Hypotheses.IsFilledFrom, frame.specs.Stored.Counts.HasTwo, frame.specs.Stored.Counts.kind_of, frame.specs.Stored.AssertionParts.required_at, frame.specs.Stored.AssertionParts.required_by, frame.specs.Stored.AssertionParts.typecode_at, frame.specs.Stored.AssertionParts.has_two, frame.specs.Stored.AssertionParts.is_typed, frame.specs.Stored.AssertionParts.is_typed_by, frame.specs.Stored.AssertionParts.recorded_in, std.specs.List.list_any, frame.specs.Stored.AssertionParts.has_parts, frame.specs.Stored.EntryMeanings.names_in, frame.specs.Stored.EntryMeanings.statements_of, frame.specs.FrameOf.hypotheses, frame.specs.Stored.OneFrame.required};
+ghost use Rattle.{names.specs.Codes.decode, names.specs.Codes.with_names, scope.specs.Active.expr_of, scope.specs.Active.bare, scope.specs.Stored.SymbolNumbers.AreRecorded, scope.specs.Symbols.symbols_declared_by, scope.specs.Symbols.symbols_in, entries.specs.Hypotheses.decoded_hypothesis, entries.specs.Stored.Spans.cut, entries.specs.Stored.Spans.AreSpansIn, frame.specs.Below.AreBelow, frame.specs.AssertionView.typecode_of, frame.specs.Stored.Whole.AreStored, frame.specs.Stored.Whole.ArePartsFor, frame.specs.Stored.Hypotheses.AreHypotheses, frame.specs.Stored.Hypotheses.IsFilledFrom, frame.specs.Stored.Counts.HasTwo, frame.specs.Stored.Counts.kind_of, frame.specs.Stored.AssertionParts.hypothesis_at, frame.specs.Stored.AssertionParts.hypothesis_by, frame.specs.Stored.AssertionParts.typecode_at, frame.specs.Stored.AssertionParts.has_two, frame.specs.Stored.AssertionParts.is_typed, frame.specs.Stored.AssertionParts.is_typed_by, frame.specs.Stored.AssertionParts.recorded_in, std.specs.List.list_any, frame.specs.Stored.AssertionParts.has_parts, frame.specs.Stored.EntryMeanings.names_in, frame.specs.Stored.EntryMeanings.statements_of, frame.specs.FrameOf.hypotheses, frame.specs.Stored.OneFrame.mandatory_positions};
 
 use crate::at_position::last_active_at;
 use crate::essential_sets::EssentialSets;
@@ -29,7 +29,7 @@ fn typecode(codes: &[u32]) -> u32
 /// Returns the hypothesis at a position: the variable of a `$f`, or the position of a `$e`.
 pub fn hypothesis(entry: EntryRef<'_>, position: u32) -> Hypothesis
     requires { HasTwo entry.kind entry.symbols.now }
-    ensures { result ≡ required_by position entry.entry.kind entry.entry.symbols.now }
+    ensures { result ≡ hypothesis_by position entry.entry.kind entry.entry.symbols.now }
 {
     match entry.kind {
         Kind::Float => Hypothesis::Float(entry.symbols[1]),
@@ -41,19 +41,19 @@ pub fn hypothesis(entry: EntryRef<'_>, position: u32) -> Hypothesis
 pub fn encode_hypotheses(
     storage: &Storage,
     hypotheses: &[u32],
-    required: &mut Vec<u32>,
+    numbered_hypotheses: &mut Vec<u32>,
     typecodes: &mut Vec<u32>,
 ) -> Result<(), AllocError>
     requires stored { AreStored storage.now }
     requires hypotheses { AreHypotheses storage.now.entries hypotheses.now }
-    requires no_required { map decoded_hypothesis required.old.items ≡ [] }
+    requires no_numbered_hypotheses { map decoded_hypothesis numbered_hypotheses.old.items ≡ [] }
     requires no_typecodes { typecodes.old.items ≡ [] }
-    ensures required { OnOk result (map decoded_hypothesis required.new.items ≡ map (required_at storage.now.entries) hypotheses.now) }
+    ensures numbered_hypotheses { OnOk result (map decoded_hypothesis numbered_hypotheses.new.items ≡ map (hypothesis_at storage.now.entries) hypotheses.now) }
     ensures typecodes { OnOk result (typecodes.new.items ≡ map (typecode_at storage.now.entries) hypotheses.now) }
 {
     for position in hypotheses {
         let entry = storage.entries.entry(*position as usize - 1);
-        required.push(number_of(hypothesis(entry, *position))?)?;
+        numbered_hypotheses.push(number_of(hypothesis(entry, *position))?)?;
         typecodes.push(typecode(entry.symbols))?;
     }
     Ok(())
@@ -125,16 +125,19 @@ pub fn fill_from_hypotheses(
     requires stored { AreStored storage.now }
     requires place { (1 ≤ at) × (at ≤ length (statements_of storage.now) + 1) }
     requires hypotheses { AreHypotheses storage.now.entries buffers.old.hypotheses }
-    requires undescribed { (buffers.old.required ≡ []) × (buffers.old.typecodes ≡ []) × (buffers.old.groups ≡ []) }
+    requires undescribed { (buffers.old.numbered_hypotheses ≡ []) × (buffers.old.typecodes ≡ []) × (buffers.old.groups ≡ []) }
     ensures { OnOk result (IsFilledFrom storage.now.entries (take (at - 1) (statements_of storage.now)) buffers.old.hypotheses buffers.new) }
 {
     encode_hypotheses(
         storage,
         &buffers.hypotheses,
-        &mut buffers.required,
+        &mut buffers.numbered_hypotheses,
         &mut buffers.typecodes,
     )?;
-    record_variables(&Hypotheses::new(&buffers.required), &mut buffers.recorded)?;
+    record_variables(
+        &Hypotheses::new(&buffers.numbered_hypotheses),
+        &mut buffers.recorded,
+    )?;
     let mut last = last_active_at(storage, at).disjoint;
     while last != 0 {
         let entry = storage.entries.entry(last as usize - 1);
@@ -184,7 +187,7 @@ pub fn fill_parts(
         return encode_hypotheses(
             storage,
             &buffers.hypotheses,
-            &mut buffers.required,
+            &mut buffers.numbered_hypotheses,
             &mut buffers.typecodes,
         );
     }
@@ -213,7 +216,7 @@ fn fill_own(storage: &Storage, buffers: &mut FrameBuffers, codes: &[u32]) -> Res
     encode_hypotheses(
         storage,
         &buffers.hypotheses,
-        &mut buffers.required,
+        &mut buffers.numbered_hypotheses,
         &mut buffers.typecodes,
     )
 }

@@ -93,12 +93,12 @@ impl StoredEntries {
 
     /// Returns the parts of the assertion at an index, or `None` if not all of them are kept.
     #[inline(always)]
-    pub fn kept_view(&self, index: usize) -> Option<AssertionView<'_>>
+    pub fn whole_view(&self, index: usize) -> Option<AssertionView<'_>>
         requires { index < length self.now }
         ensures parts { (e : Entry) → slice_get self.now index ≡ Some e → IfSome result (IsWholeView e) }
         ensures none { (e : Entry) → slice_get self.now index ≡ Some e → IfNone result (e.assertion.whole ≡ false) }
     {
-        self.list.kept_view(index)
+        self.list.whole_view(index)
     }
 
     /// Returns where each symbol of the expression at an index occurs, if the expression is long.
@@ -108,7 +108,7 @@ impl StoredEntries {
     /// Cost: log n for n long expressions.
     pub fn places(&self, index: usize) -> Option<&SymbolPlaces>
         ensures places { (e : Entry) → slice_get self.now index ≡ Some e → IfSome result (λ places. ArePlacesOf e.symbols places.now) }
-        ensures constants { (e : Entry) → slice_get self.now index ≡ Some e → IfSome result (λ places. places.now.constants ≡ without_float e.assertion.required places.now.symbols) }
+        ensures constants { (e : Entry) → slice_get self.now index ≡ Some e → IfSome result (λ places. places.now.constants ≡ without_float e.assertion.numbered_hypotheses places.now.symbols) }
     {
         self.long.get(index)
     }
@@ -132,10 +132,11 @@ impl StoredEntries {
         if !is_long(header.kind, parts.symbols) {
             return Ok(());
         }
-        match self
-            .long
-            .push(index, parts.symbols, &Hypotheses::new(parts.required))
-        {
+        match self.long.push(
+            index,
+            parts.symbols,
+            &Hypotheses::new(parts.numbered_hypotheses),
+        ) {
             Ok(()) => Ok(()),
             Err(error) => {
                 self.list.truncate(index);

@@ -1,5 +1,5 @@
 -- A list of symbols, read piece by piece and word by word.
-use Rattle.mm_lex.proofs.Prelude.{◌≡◌, ℕ, ◌+◌, ◌-◌, ◌<◌, ◌≤◌, true, false, List, [], ◌∷◌, ◌++◌, length, take, drop, refl, list_all, sym, ◌∙◌, ap, arith, append_assoc, append-nil, list_all-append, and_from, Span, Name, starts_white, word, is_symbol, words_of, AreWords, HasOnlyAllowedBytes, words, runs_after, spaced_prefix_len, AreAfter, IsTokenAfter, AddsSymbols, EndsSymbols}
+use Rattle.mm_lex.proofs.Prelude.{◌≡◌, ℕ, ◌+◌, ◌-◌, ◌<◌, ◌≤◌, true, false, List, [], ◌∷◌, ◌++◌, length, take, drop, refl, list_all, sym, ◌∙◌, ap, arith, append_assoc, append-nil, list_all-append, and_from, Span, Name, is_empty_or_starts_white, word, is_symbol, words_of, AreWords, HasOnlyAllowedBytes, words, runs_after, spaced_prefix_len, AreTokensAfter, IsTokenAfter, AddsSymbols, EndsSymbols}
 use Rattle.mm_lex.proofs.LanesLemmas.{allowed-drop}
 use Rattle.mm_lex.proofs.VisibleRunLemmas.{IsFrontOf, prefix_front, symbols_words}
 use Rattle.mm_lex.proofs.BetweenLemmas.{between_none, between_on, between_as, between_plain, between_runs, after_on, after_as}
@@ -48,16 +48,16 @@ module _ {text : List ℕ} where
     }
 
     -- if no token is left, the list ends with the text
-    pub ends_text : AreAfter text at [] → AreAfter text from words
+    pub ends_text : AreTokensAfter text at [] → AreTokensAfter text from words
     ends_text none = after_as from (append-nil adds.more ∙ sym adds.whole) (after_on adds.between none)
 
 module _ (text : List ℕ) where
   -- a spaced prefix of the text that is left
-  module _ (start end n : ℕ) (allowed : HasOnlyAllowedBytes text) (shown : starts_white (drop start text) ≡ false) (is : n ≡ spaced_prefix_len (drop start text)) (some : 0 < n)
-      (same : end ≡ start + n) (within : end ≤ length text) (white : starts_white (drop end text) ≡ true) where
+  module _ (start end n : ℕ) (allowed : HasOnlyAllowedBytes text) (shown : is_empty_or_starts_white (drop start text) ≡ false) (is : n ≡ spaced_prefix_len (drop start text)) (some : 0 < n)
+      (same : end ≡ start + n) (within : end ≤ length text) (white : is_empty_or_starts_white (drop end text) ≡ true) where
     -- the runs of the spaced prefix, whose words are symbols
     front : IsFrontOf text start n (take n (drop start text))
-    front = prefix_front text start n (allowed-drop start text allowed) shown is some (omega (arith, same, within)) (ap (λ k. starts_white (drop k text)) (sym same) ∙ white)
+    front = prefix_front text start n (allowed-drop start text allowed) shown is some (omega (arith, same, within)) (ap (λ k. is_empty_or_starts_white (drop k text)) (sym same) ∙ white)
 
     -- the spaced prefix is as long as the piece that is copied
     width : end - start ≡ n

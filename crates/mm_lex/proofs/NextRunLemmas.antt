@@ -1,12 +1,12 @@
 -- The next run is a token, or there is a comment fault at it or in the comment that begins with it.
-use Rattle.mm_lex.proofs.Prelude.{◌≡◌, ℕ, ◌≤◌, true, List, [], ◌∷◌, refl, ◌∙◌, ap, arith, inl, inr, Span, word, IsRunAt, opener, closer, is_plain, AllPlain, HasOnlyAllowedBytes, IsCommentFaultOfRuns, runs_after, IsNestedAt, HasBetween, IsTokenAfter}
+use Rattle.mm_lex.proofs.Prelude.{◌≡◌, ℕ, ◌≤◌, true, List, [], ◌∷◌, refl, ◌∙◌, ap, arith, inl, inr, Span, word, IsPartOfRun, opener, closer, is_plain, AllPlain, HasOnlyAllowedBytes, IsCommentFaultOfRuns, runs_after, IsNestedAt, AreTokensBetween, IsTokenAfter}
 use Rattle.mm_lex.proofs.ScanResults.{no_runs}
 use Rattle.mm_lex.proofs.Progress.{IsWordAt-run}
 use Rattle.mm_lex.proofs.BetweenLemmas.{between_on, between_token, stops_on}
 
-module _ {text : List ℕ} {at from : ℕ} (has : HasBetween text at from []) (s : Span) (run : runs_after text from ≡ s ∷ runs_after text s.end) where
+module _ {text : List ℕ} {at from : ℕ} (has : AreTokensBetween text at from []) (s : Span) (run : runs_after text from ≡ s ∷ runs_after text s.end) where
   -- if the run is plain, it is the next token
-  pub next_is : HasOnlyAllowedBytes text → IsRunAt text s → from ≤ s.start → is_plain (word text s) ≡ true → IsTokenAfter text at s
+  pub next_is : HasOnlyAllowedBytes text → IsPartOfRun text s → from ≤ s.start → is_plain (word text s) ≡ true → IsTokenAfter text at s
   next_is allowed is later plain = record {
     token = IsWordAt-run text s allowed is;
     later = omega (arith, has.later, later, is.some);

@@ -1,5 +1,5 @@
 -- The split at the comments is unique: a list of plain runs ends at the first run that is not plain.
-use Rattle.mm_lex.proofs.Prelude.{◌≡◌, ℕ, true, false, List, [], ◌∷◌, ◌++◌, flat_map, refl, sym, ◌∙◌, ap, true≢false, append_assoc, and_parts, Span, word, opener, closer, is_plain, AllPlain, Part, part_spans, AreParts, SplitsInto}
+use Rattle.mm_lex.proofs.Prelude.{◌≡◌, ℕ, true, false, List, [], ◌∷◌, ◌++◌, flat_map, refl, sym, ◌∙◌, ap, true≢false, append_assoc, and_parts, Span, word, opener, closer, is_plain, AllPlain, CommentAndTokens, all_spans, AreCommentsAndTokens, SplitsInto}
 
 module _ (text : List ℕ) where
   -- the list is empty, or begins with a run that is not plain
@@ -39,12 +39,12 @@ module _ (text : List ℕ) where
   marked_closer s e = ap is_plain e
 
   -- the runs of some comments begin with a `$(`, or there are none
-  marked_parts : (ps : List Part) → AreParts text ps → BeginsMarked (flat_map part_spans ps)
+  marked_parts : (ps : List CommentAndTokens) → AreCommentsAndTokens text ps → BeginsMarked (flat_map all_spans ps)
   marked_parts [] are = tt
   marked_parts (p ∷ ps) are = marked_opener p.begin are.0.begins
 
   -- two comments, with the runs after them, are equal if their four parts are
-  same_part : (p q : Part) → p.begin ≡ q.begin → p.inside ≡ q.inside → p.end ≡ q.end → p.after ≡ q.after → p ≡ q
+  same_part : (p q : CommentAndTokens) → p.begin ≡ q.begin → p.inside ≡ q.inside → p.end ≡ q.end → p.after ≡ q.after → p ≡ q
   same_part p q b i e a =
       ap (λ x. record { begin = x; inside = p.inside; end = p.end; after = p.after }) b
       ∙ (ap (λ x. record { begin = q.begin; inside = x; end = p.end; after = p.after }) i
@@ -52,21 +52,21 @@ module _ (text : List ℕ) where
       ∙ ap (λ x. record { begin = q.begin; inside = q.inside; end = q.end; after = x }) a))
 
   -- two lists of comments, with the runs after each, are equal if they have the same runs
-  same_parts : (ps qs : List Part) → AreParts text ps → AreParts text qs → flat_map part_spans ps ≡ flat_map part_spans qs → ps ≡ qs
+  same_parts : (ps qs : List CommentAndTokens) → AreCommentsAndTokens text ps → AreCommentsAndTokens text qs → flat_map all_spans ps ≡ flat_map all_spans qs → ps ≡ qs
   same_parts [] [] are also e = refl
   same_parts [] (q ∷ qs) are also e = cc
   same_parts (p ∷ ps) [] are also e = cc
   same_parts (p ∷ ps) (q ∷ qs) are also e =
       let begins : p.begin ≡ q.begin = cc in
-      let tails : (p.inside ++ (p.end ∷ p.after)) ++ flat_map part_spans ps ≡ (q.inside ++ (q.end ∷ q.after)) ++ flat_map part_spans qs = cc in
-      let joined : p.inside ++ (p.end ∷ (p.after ++ flat_map part_spans ps)) ≡ q.inside ++ (q.end ∷ (q.after ++ flat_map part_spans qs)) =
-      sym (append_assoc p.inside (p.end ∷ p.after) (flat_map part_spans ps)) ∙ (tails ∙ append_assoc q.inside (q.end ∷ q.after) (flat_map part_spans qs)) in
-      let inner = same_split p.inside q.inside (p.end ∷ (p.after ++ flat_map part_spans ps)) (q.end ∷ (q.after ++ flat_map part_spans qs)) are.0.inside also.0.inside
+      let tails : (p.inside ++ (p.end ∷ p.after)) ++ flat_map all_spans ps ≡ (q.inside ++ (q.end ∷ q.after)) ++ flat_map all_spans qs = cc in
+      let joined : p.inside ++ (p.end ∷ (p.after ++ flat_map all_spans ps)) ≡ q.inside ++ (q.end ∷ (q.after ++ flat_map all_spans qs)) =
+      sym (append_assoc p.inside (p.end ∷ p.after) (flat_map all_spans ps)) ∙ (tails ∙ append_assoc q.inside (q.end ∷ q.after) (flat_map all_spans qs)) in
+      let inner = same_split p.inside q.inside (p.end ∷ (p.after ++ flat_map all_spans ps)) (q.end ∷ (q.after ++ flat_map all_spans qs)) are.0.inside also.0.inside
       (marked_closer p.end are.0.ends) (marked_closer q.end also.0.ends) joined in
       let back = inner.back in
       let ends : p.end ≡ q.end = cc in
-      let tails_after : p.after ++ flat_map part_spans ps ≡ q.after ++ flat_map part_spans qs = cc in
-      let outer = same_split p.after q.after (flat_map part_spans ps) (flat_map part_spans qs) are.0.after also.0.after (marked_parts ps are.1) (marked_parts qs also.1) tails_after in
+      let tails_after : p.after ++ flat_map all_spans ps ≡ q.after ++ flat_map all_spans qs = cc in
+      let outer = same_split p.after q.after (flat_map all_spans ps) (flat_map all_spans qs) are.0.after also.0.after (marked_parts ps are.1) (marked_parts qs also.1) tails_after in
       let rest = same_parts ps qs are.1 also.1 outer.back in
       let insides = inner.front in
       let afters = outer.front in
@@ -75,6 +75,6 @@ module _ (text : List ℕ) where
   -- two splits of the same runs have the same first runs and the same comments
   pub same_first : (spans a b : List Span) (split : SplitsInto text spans a) (other : SplitsInto text spans b) → (split.first ≡ other.first) × (split.parts ≡ other.parts)
   same_first spans a b split other =
-      let halves = same_split split.first other.first (flat_map part_spans split.parts) (flat_map part_spans other.parts) split.plain other.plain
+      let halves = same_split split.first other.first (flat_map all_spans split.parts) (flat_map all_spans other.parts) split.plain other.plain
       (marked_parts split.parts split.comments) (marked_parts other.parts other.comments) (sym split.whole ∙ other.whole) in
       (halves.front, same_parts split.parts other.parts split.comments other.comments halves.back)

@@ -1,5 +1,5 @@
 -- Runs without a `$` are plain, and the runs of bytes that end with a white byte do not depend on the bytes that follow.
-use Rattle.mm_lex.proofs.Prelude.{◌≡◌, ℕ, ◌+◌, ◌-◌, ◌<◌, ◌≤◌, suc, zero, Bool, true, false, List, [], ◌∷◌, ◌++◌, length, take, drop, refl, sym, ◌∙◌, ap, arith, get_or, subst, eqb, eq-eqb, append-nil, get_or-take, get_or-drop, length-take, length-drop, take-append-drop, drop-drop, drop-length, and_from, Nowhere, NoneBefore, Passes, is_byte, Span, Name, is_white, starts_white, with_byte, runs_from, word, is_plain, AllPlain, runs_after, PassesPlain}
+use Rattle.mm_lex.proofs.Prelude.{◌≡◌, ℕ, ◌+◌, ◌-◌, ◌<◌, ◌≤◌, suc, zero, Bool, true, false, List, [], ◌∷◌, ◌++◌, length, take, drop, refl, sym, ◌∙◌, ap, arith, get_or, subst, eqb, eq-eqb, append-nil, get_or-take, get_or-drop, length-take, length-drop, take-append-drop, drop-drop, drop-length, and_from, Nowhere, NoneBefore, Passes, is_byte, Span, Name, is_white, is_empty_or_starts_white, with_byte, runs_from, word, is_plain, AllPlain, runs_after, PassesPlain}
 
 -- ---- where the runs lie
 
@@ -34,7 +34,7 @@ between_step at b bytes true e are =
     rw e (wider (at + 1) at (at + 1 + length bytes) (at + length (b ∷ bytes)) (runs_from (at + 1) bytes) (omega arith) (omega arith) are)
 between_step at b bytes false e are =
     let same : at + 1 + length bytes ≡ at + length (b ∷ bytes) = omega arith in
-    rw e (between_with at (at + length (b ∷ bytes)) (starts_white bytes) (runs_from (at + 1) bytes) (omega arith)
+    rw e (between_with at (at + length (b ∷ bytes)) (is_empty_or_starts_white bytes) (runs_from (at + 1) bytes) (omega arith)
     (wider (at + 1) (at + 1) (at + 1 + length bytes) (at + length (b ∷ bytes)) (runs_from (at + 1) bytes) (omega arith) (omega arith) are))
 
 -- the runs of some bytes lie where these bytes are
@@ -96,7 +96,7 @@ with_some at false (s ∷ spans) = tt
 
 -- bytes that begin with one that is not white have a run
 runs_some : (at b : ℕ) (bytes : List ℕ) → is_white b ≡ false → IsSome (runs_from at (b ∷ bytes))
-runs_some at b bytes e = rw e (with_some at (starts_white bytes) (runs_from (at + 1) bytes))
+runs_some at b bytes e = rw e (with_some at (is_empty_or_starts_white bytes) (runs_from (at + 1) bytes))
 
 -- a visible byte in front of two lists of runs changes only the first list, which may be empty only if the byte is a run of its own
 with_append : (at : ℕ) (t : Bool) (spans more : List Span) → (t ≡ false → IsSome spans) → with_byte at t (spans ++ more) ≡ with_byte at t spans ++ more

@@ -1,13 +1,13 @@
 -- The names that the proofs of this crate use, exported again from one place.
 pub use Rattle.memchr.specs.Find.{NoneBefore, Nowhere, Passes, is_byte}
-pub use Rattle.mm_lex.specs.Alphabet.{IsRunAt, Name, has_byte, is_allowed, is_empty, is_label, is_symbol, is_visible, is_white, name_eq, runs, runs_from, starts_white, with_byte, word}
-pub use Rattle.mm_lex.specs.Between.{AreAfter, IsCommentFaultOrMemoryAfter, HasBetween, IsNextToken, IsTokenAfter, IsCommentFaultAfter}
+pub use Rattle.mm_lex.specs.Alphabet.{IsPartOfRun, Name, has_byte, is_allowed, is_empty, is_label, is_symbol, is_visible, is_white, name_eq, runs, runs_from, is_empty_or_starts_white, with_byte, word}
+pub use Rattle.mm_lex.specs.Between.{AreTokensAfter, IsCommentFaultOrMemoryAfter, AreTokensBetween, IsNextToken, IsTokenAfter, IsCommentFaultAfter}
 pub use Rattle.mm_lex.specs.Comments.{IsClosedAt, IsNestedAt, PassesPlain, runs_after}
 pub use Rattle.mm_lex.specs.Laws.{SomeAnswer}
 pub use Rattle.mm_lex.specs.Stored.SpacedPrefix.{ends_between, ends_here, lanes_end, spaced_prefix_len}
 pub use Rattle.mm_lex.specs.SymbolList.{AddsSymbols, EndsSymbols}
 pub use Rattle.mm_lex.specs.TextFaults.{IsCommentFault, IsFirstBadByte, IsNestedOpener, IsStrayCloser, IsUnclosed, IsCommentFaultOfRuns}
-pub use Rattle.mm_lex.specs.Tokens.{AllPlain, AreParts, AreTokens, SplitsInto, HasOnlyAllowedBytes, IsPart, IsWordAt, Part, closer, is_plain, opener, part_spans, words}
+pub use Rattle.mm_lex.specs.Tokens.{AllPlain, AreCommentsAndTokens, AreTokens, SplitsInto, HasOnlyAllowedBytes, IsCommentAndTokens, IsWordAt, CommentAndTokens, closer, is_plain, opener, all_spans, words}
 pub use Rattle.mm_lex.specs.Words.{AreWords, is_word, spaced, words_of}
 pub use Rattle.mm_lex.specs.declared.fault.LexFault.{LexFault}
 pub use Rattle.mm_lex.specs.declared.fault.LexFault.TheVariants.{Comment, Memory, Text}

@@ -1,5 +1,5 @@
 -- How far the code has read: the result of the scan of the whole text, by the text that is left.
-use Rattle.mm_lex.proofs.Prelude.{◌≡◌, ℕ, ◌-◌, ◌<◌, ◌≤◌, Bool, true, false, not, cond, ◌||◌, List, [], ◌∷◌, ◌++◌, length, drop, Some, None, Ok, Err, refl, list_all, All, sym, ◌∙◌, ap, arith, append_assoc, true≢false, min, append-nil, length-take, length-drop, All-push, list_all-append, bytes_eq-Decides, and_from, and_parts, Span, Name, is_white, is_visible, is_allowed, runs, word, IsRunAt, is_word, opener, closer, is_plain, AllPlain, HasOnlyAllowedBytes, AreTokens, IsWordAt, IsCommentFault, runs_after, PassesPlain, IsClosedAt, IsNestedAt}
+use Rattle.mm_lex.proofs.Prelude.{◌≡◌, ℕ, ◌-◌, ◌<◌, ◌≤◌, Bool, true, false, not, cond, ◌||◌, List, [], ◌∷◌, ◌++◌, length, drop, Some, None, Ok, Err, refl, list_all, All, sym, ◌∙◌, ap, arith, append_assoc, true≢false, min, append-nil, length-take, length-drop, All-push, list_all-append, bytes_eq-Decides, and_from, and_parts, Span, Name, is_white, is_visible, is_allowed, runs, word, IsPartOfRun, is_word, opener, closer, is_plain, AllPlain, HasOnlyAllowedBytes, AreTokens, IsWordAt, IsCommentFault, runs_after, PassesPlain, IsClosedAt, IsNestedAt}
 use Rattle.mm_lex.proofs.LanesLemmas.{allowed-take, allowed-drop}
 use Rattle.mm_lex.proofs.ScanRuns.{prepend, prepend-append, scan, opens, closes, scan_opener, scan_closer, scan_plain, scan_nested, scan_closing, scan_all_inside, is_opener, is_closer, closer_no_opener, scan-stops}
 use Rattle.mm_lex.proofs.ScanResults.{split-scan, stops-scan, plain}
@@ -24,7 +24,7 @@ some_word : (bytes : Name) → 0 < length bytes → list_all is_visible bytes �
 some_word [] some h = absurd (omega (arith, some))
 some_word (b ∷ bytes) some h = h
 
-pub IsWordAt-run : (text : List ℕ) (s : Span) → HasOnlyAllowedBytes text → IsRunAt text s → IsWordAt text s
+pub IsWordAt-run : (text : List ℕ) (s : Span) → HasOnlyAllowedBytes text → IsPartOfRun text s → IsWordAt text s
 IsWordAt-run text s allowed is =
     let long : length (word text s) ≡ min (s.end - s.start) (length text - s.start) = length-take (s.end - s.start) (drop s.start text) ∙ ap (min (s.end - s.start)) (length-drop s.start text) in
     let some : 0 < length (word text s) = omega (arith, long, is.some, is.within) in
@@ -51,7 +51,7 @@ all_plain-push text [] s h k = and_from _ _ k refl
 all_plain-push text (x ∷ xs) s h k = and_from (is_plain (word text x)) _ (and_parts (is_plain (word text x)) _ h).0 (all_plain-push text xs s (and_parts (is_plain (word text x)) _ h).1 k)
 
 module _ {text : List ℕ} {from at : ℕ} (so : PassesPlain text from at) where
-  module _ (s : Span) (run : runs_after text at ≡ s ∷ runs_after text s.end) (is : IsRunAt text s) (later : at ≤ s.start) where
+  module _ (s : Span) (run : runs_after text at ≡ s ∷ runs_after text s.end) (is : IsPartOfRun text s) (later : at ≤ s.start) where
     -- the runs from the inside of the comment on: those that were passed, this one, and those after it
     inside_whole : runs_after text from ≡ so.passed ++ s ∷ runs_after text s.end
     inside_whole = so.whole ∙ ap (λ r. so.passed ++ r) run
@@ -121,7 +121,7 @@ module _ {text : List ℕ} {spans : List Span} {allocation_failed : Bool} {at : 
     here = so.whole ∙ ap (λ r. prepend so.tokens (scan text r None)) run
 
     -- a plain run is one more token
-    pub split_more : HasOnlyAllowedBytes text → IsRunAt text s → opens text s ≡ false → closes text s ≡ false
+    pub split_more : HasOnlyAllowedBytes text → IsPartOfRun text s → opens text s ≡ false → closes text s ≡ false
         → (new : List Span) (r : Bool) → new ≡ cond r spans (spans ++ s ∷ []) → (allocation_failed ≡ true → r ≡ true) → SplitUpTo text new r s.end
     split_more allowed is unopened unclosed new r e stays = record {
       tokens = so.tokens ++ s ∷ [];

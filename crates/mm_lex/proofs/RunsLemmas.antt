@@ -1,5 +1,5 @@
 -- The runs of a text, found from left to right: white bytes are passed over, and a run ends at the next white byte.
-use Rattle.mm_lex.proofs.Prelude.{◌≡◌, ℕ, ◌+◌, ◌-◌, ◌<◌, ◌≤◌, suc, Bool, true, false, not, cond, nat_lt, List, [], ◌∷◌, length, take, drop, Some, None, refl, list_all, position, position_or_len, unwrap_or, sym, ◌∙◌, ap, arith, ltb-true, ltb-false, add-zero, length-drop, drop-drop, drop-length, prefix_len-le-length, Span, is_white, starts_white, with_byte, runs_from, IsRunAt}
+use Rattle.mm_lex.proofs.Prelude.{◌≡◌, ℕ, ◌+◌, ◌-◌, ◌<◌, ◌≤◌, suc, Bool, true, false, not, cond, nat_lt, List, [], ◌∷◌, length, take, drop, Some, None, refl, list_all, position, position_or_len, unwrap_or, sym, ◌∙◌, ap, arith, ltb-true, ltb-false, add-zero, length-drop, drop-drop, drop-length, prefix_len-le-length, Span, is_white, is_empty_or_starts_white, with_byte, runs_from, IsPartOfRun}
 
 -- ---- the first place that passes a test
 
@@ -148,7 +148,7 @@ module _ (text : List ℕ) (at white visible : ℕ) (within : at ≤ length text
         ∙ (ap (λ n. span_of (at + white) (at + white + n) ∷ runs_from (at + white + n) (drop n (begins.first ∷ begins.rest))) (sym visible_is)
         ∙ ap (λ r. span_of (at + white) (at + white + visible) ∷ runs_from (at + white + visible) r) back))))
 
-    pub next_run-place : IsRunAt text (span_of (at + white) (at + white + visible))
+    pub next_run-place : IsPartOfRun text (span_of (at + white) (at + white + visible))
     next_run-place =
         let few = position_or_len-le is_white (drop white (drop at text)) in
         let width : at + white + visible - (at + white) ≡ visible = omega arith in
@@ -168,8 +168,8 @@ module _ (text : List ℕ) (at white : ℕ) (within : at ≤ length text) (blank
       ∙ (ap (λ n. runs_from (at + n) (drop n (drop at text))) (sym blanks) ∙ ap (runs_from (at + white)) (drop-drop white at text))
 
   -- the text after the white bytes does not start white, if any is left
-  pub shown_after : at + white < length text → starts_white (drop (at + white) text) ≡ false
+  pub shown_after : at + white < length text → is_empty_or_starts_white (drop (at + white) text) ≡ false
   shown_after inside =
       let k : position_or_len is_shown (drop at text) < length (drop at text) = omega (arith, blanks, inside, length-drop at text) in
       let begins = begins_shown (drop at text) k in
-      ap starts_white (sym (drop-drop white at text) ∙ (ap (λ n. drop n (drop at text)) blanks ∙ begins.whole)) ∙ begins.shown
+      ap is_empty_or_starts_white (sym (drop-drop white at text) ∙ (ap (λ n. drop n (drop at text)) blanks ∙ begins.whole)) ∙ begins.shown

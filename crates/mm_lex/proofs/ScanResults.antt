@@ -1,5 +1,5 @@
 -- The result of the scan of a list of runs is right: it is the tokens of a split, or the offset of the comment fault.
-use Rattle.mm_lex.proofs.Prelude.{◌≡◌, ℕ, Bool, true, false, ◌⊎◌, List, [], ◌∷◌, ◌++◌, flat_map, Option, Some, None, Ok, Err, refl, sym, ◌∙◌, ap, inl, inr, append_assoc, bytes_eq-Decides, and_from, Span, name_eq, word, opener, closer, is_plain, AllPlain, Part, part_spans, SplitsInto, IsCommentFaultOfRuns}
+use Rattle.mm_lex.proofs.Prelude.{◌≡◌, ℕ, Bool, true, false, ◌⊎◌, List, [], ◌∷◌, ◌++◌, flat_map, Option, Some, None, Ok, Err, refl, sym, ◌∙◌, ap, inl, inr, append_assoc, bytes_eq-Decides, and_from, Span, name_eq, word, opener, closer, is_plain, AllPlain, CommentAndTokens, all_spans, SplitsInto, IsCommentFaultOfRuns}
 use Rattle.mm_lex.proofs.ScanRuns.{Outcome, prepend, outside, inside, scan}
 
 module _ (text : List ℕ) where
@@ -34,8 +34,8 @@ module _ (text : List ℕ) where
   pub with_comment : (begin end : Span) (inner spans tokens : List Span) → word text begin ≡ opener → AllPlain text inner → word text end ≡ closer
       → SplitsInto text spans tokens → SplitsInto text (begin ∷ (inner ++ end ∷ spans)) tokens
   with_comment begin end inner spans tokens is_begin are is_end split =
-      let p : Part = record { begin = begin; inside = inner; end = end; after = split.first } in
-      let rest = flat_map part_spans split.parts in record {
+      let p : CommentAndTokens = record { begin = begin; inside = inner; end = end; after = split.first } in
+      let rest = flat_map all_spans split.parts in record {
         first = [];
         parts = p ∷ split.parts;
         whole = ap (λ r. begin ∷ (inner ++ end ∷ r)) split.whole ∙ ap (λ r. begin ∷ r) (sym (append_assoc inner (end ∷ split.first) rest));

@@ -1,6 +1,6 @@
 -- The split at the comments, read once from left to right: the scan gives tokens exactly if there is a split,
 -- and otherwise the offset of the comment fault.
-use Rattle.mm_lex.proofs.Prelude.{◌≡◌, ℕ, Bool, true, false, ◌||◌, List, [], ◌∷◌, ◌++◌, flat_map, Option, Some, None, Result, Ok, Err, refl, sym, ◌∙◌, ap, inl, inr, append_assoc, append-nil, and_parts, or_parts, not-true, Span, name_eq, word, opener, closer, is_plain, AllPlain, Part, part_spans, IsPart, AreParts, SplitsInto, IsStrayCloser, IsNestedOpener, IsUnclosed, IsCommentFaultOfRuns}
+use Rattle.mm_lex.proofs.Prelude.{◌≡◌, ℕ, Bool, true, false, ◌||◌, List, [], ◌∷◌, ◌++◌, flat_map, Option, Some, None, Result, Ok, Err, refl, sym, ◌∙◌, ap, inl, inr, append_assoc, append-nil, and_parts, or_parts, not-true, Span, name_eq, word, opener, closer, is_plain, AllPlain, CommentAndTokens, all_spans, IsCommentAndTokens, AreCommentsAndTokens, SplitsInto, IsStrayCloser, IsNestedOpener, IsUnclosed, IsCommentFaultOfRuns}
 
 -- the tokens, or the offset at which the scan stops
 abbrev pub Outcome : Type 0
@@ -112,7 +112,7 @@ module _ (text : List ℕ) where
   -- ---- runs that can be split, and then other runs
 
   -- a comment with plain runs after it gives these runs as tokens
-  scan_part : (p : Part) (ys : List Span) → IsPart text p → scan text (part_spans p ++ ys) None ≡ prepend p.after (scan text ys None)
+  scan_part : (p : CommentAndTokens) (ys : List Span) → IsCommentAndTokens text p → scan text (all_spans p ++ ys) None ≡ prepend p.after (scan text ys None)
   scan_part p ys is =
       scan_opener p.begin ((p.inside ++ (p.end ∷ p.after)) ++ ys) (is_opener p.begin is.begins)
       ∙ (ap (λ r. scan text r (Some p.begin.start)) (append_assoc p.inside (p.end ∷ p.after) ys)
@@ -121,19 +121,19 @@ module _ (text : List ℕ) where
       ∙ scan_all_plain p.after ys is.after)))
 
   -- .. and a list of comments gives the runs after each
-  scan_parts : (ps : List Part) (ys : List Span) → AreParts text ps → scan text (flat_map part_spans ps ++ ys) None ≡ prepend (flat_map (λ (p : Part). p.after) ps) (scan text ys None)
+  scan_parts : (ps : List CommentAndTokens) (ys : List Span) → AreCommentsAndTokens text ps → scan text (flat_map all_spans ps ++ ys) None ≡ prepend (flat_map (λ (p : CommentAndTokens). p.after) ps) (scan text ys None)
   scan_parts [] ys h = sym (prepend-nil (scan text ys None))
   scan_parts (p ∷ ps) ys h =
-      ap (λ r. scan text r None) (append_assoc (part_spans p) (flat_map part_spans ps) ys)
-      ∙ (scan_part p (flat_map part_spans ps ++ ys) h.0
+      ap (λ r. scan text r None) (append_assoc (all_spans p) (flat_map all_spans ps) ys)
+      ∙ (scan_part p (flat_map all_spans ps ++ ys) h.0
       ∙ (ap (prepend p.after) (scan_parts ps ys h.1)
-      ∙ prepend-append p.after (flat_map (λ (p : Part). p.after) ps) (scan text ys None)))
+      ∙ prepend-append p.after (flat_map (λ (p : CommentAndTokens). p.after) ps) (scan text ys None)))
 
   -- runs that can be split give their tokens, and the scan continues after them
   pub scan_split : (spans tokens ys : List Span) → SplitsInto text spans tokens → scan text (spans ++ ys) None ≡ prepend tokens (scan text ys None)
   scan_split spans tokens ys split =
-      let rest = flat_map part_spans split.parts in
-      let outer = flat_map (λ (p : Part). p.after) split.parts in
+      let rest = flat_map all_spans split.parts in
+      let outer = flat_map (λ (p : CommentAndTokens). p.after) split.parts in
       ap (λ r. scan text r None) (ap (λ r. r ++ ys) split.whole ∙ append_assoc split.first rest ys)
       ∙ (scan_all_plain split.first (rest ++ ys) split.plain
       ∙ (ap (prepend split.first) (scan_parts split.parts ys split.comments)

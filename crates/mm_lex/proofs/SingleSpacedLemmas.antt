@@ -1,5 +1,5 @@
 -- Symbols with one space between two: a spaced prefix has this form, and the words of bytes of this form are symbols.
-use Rattle.mm_lex.proofs.Prelude.{◌≡◌, ℕ, ◌<◌, zero, suc, Bool, true, false, not, cond, ◌&&◌, ◌||◌, ◌==◌, List, [], ◌∷◌, take, refl, list_all, slice_split, onto_first, sym, ◌∙◌, ap, arith, and_from, and_parts, Name, is_white, is_visible, is_allowed, starts_white, is_symbol, has_byte, is_empty, HasOnlyAllowedBytes, spaced_prefix_len, ends_here, ends_between}
+use Rattle.mm_lex.proofs.Prelude.{◌≡◌, ℕ, ◌<◌, zero, suc, Bool, true, false, not, cond, ◌&&◌, ◌||◌, ◌==◌, List, [], ◌∷◌, take, refl, list_all, slice_split, onto_first, sym, ◌∙◌, ap, arith, and_from, and_parts, Name, is_white, is_visible, is_allowed, is_empty_or_starts_white, is_symbol, has_byte, is_empty, HasOnlyAllowedBytes, spaced_prefix_len, ends_here, ends_between}
 use Rattle.mm_lex.proofs.WordsLemmas.{first_part}
 
 abbrev pub is_space : ℕ → Bool
@@ -93,7 +93,7 @@ single_spaced_from b (c ∷ d ∷ bytes) allowed white goes =
     (single_spaced_from c (d ∷ bytes) next) (single_spaced_from d bytes (and_parts (is_allowed c) _ next).1) (ends_here (c ∷ d ∷ bytes)) refl
 
 -- a spaced prefix of a text of allowed bytes that does not start white is single-spaced
-pub prefix_spaced : (bytes : List ℕ) → HasOnlyAllowedBytes bytes → starts_white bytes ≡ false → 0 < spaced_prefix_len bytes → is_single_spaced (take (spaced_prefix_len bytes) bytes) ≡ true
+pub prefix_spaced : (bytes : List ℕ) → HasOnlyAllowedBytes bytes → is_empty_or_starts_white bytes ≡ false → 0 < spaced_prefix_len bytes → is_single_spaced (take (spaced_prefix_len bytes) bytes) ≡ true
 prefix_spaced [] allowed white some = absurd (omega (arith, some))
 prefix_spaced (b ∷ bytes) allowed white some = by (ends_here (b ∷ bytes)) refl
   where

@@ -1,5 +1,5 @@
 -- There are at most as many tokens between two places as bytes.
-use Rattle.mm_lex.proofs.Prelude.{◌≡◌, ℕ, ◌+◌, ◌-◌, ◌<◌, ◌≤◌, zero, suc, Bool, true, false, List, [], ◌∷◌, length, drop, flat_map, refl, sym, ◌∙◌, ap, arith, length-append, drop-cons, get_or, subst, length-map, drop-length, Span, Name, is_white, starts_white, with_byte, word, runs_from, Part, part_spans, SplitsInto, runs_after, HasBetween, AreAfter}
+use Rattle.mm_lex.proofs.Prelude.{◌≡◌, ℕ, ◌+◌, ◌-◌, ◌<◌, ◌≤◌, zero, suc, Bool, true, false, List, [], ◌∷◌, length, drop, flat_map, refl, sym, ◌∙◌, ap, arith, length-append, drop-cons, get_or, subst, length-map, drop-length, Span, Name, is_white, is_empty_or_starts_white, with_byte, word, runs_from, CommentAndTokens, all_spans, SplitsInto, runs_after, AreTokensBetween, AreTokensAfter}
 
 -- a visible byte in front of runs adds at most one run
 with_few : (at : ℕ) (t : Bool) (spans : List Span) → length (with_byte at t spans) ≤ 1 + length spans
@@ -10,7 +10,7 @@ with_few at false (s ∷ spans) = omega arith
 -- a byte in front, white or visible, adds at most one run
 byte_few : (at b : ℕ) (bytes : List ℕ) (t : Bool) → is_white b ≡ t → length (runs_from at (b ∷ bytes)) ≤ 1 + length (runs_from (at + 1) bytes)
 byte_few at b bytes true e = rw e (omega arith)
-byte_few at b bytes false e = rw e (with_few at (starts_white bytes) (runs_from (at + 1) bytes))
+byte_few at b bytes false e = rw e (with_few at (is_empty_or_starts_white bytes) (runs_from (at + 1) bytes))
 
 module _ (text : List ℕ) where
   -- so there is at most one more run after a place than after the next one
@@ -32,14 +32,14 @@ module _ (text : List ℕ) where
       subst (λ k. length (runs_after text at) ≤ suc n + length (runs_after text k)) same (omega (arith, first, rest))
 
   -- the runs after comments are at most as many as all runs
-  parts_few : (ps : List Part) → length (flat_map (λ (p : Part). p.after) ps) ≤ length (flat_map part_spans ps)
+  parts_few : (ps : List CommentAndTokens) → length (flat_map (λ (p : CommentAndTokens). p.after) ps) ≤ length (flat_map all_spans ps)
   parts_few [] = omega arith
   parts_few (p ∷ ps) =
       omega (
         arith,
         parts_few ps,
-        length-append p.after (flat_map (λ (p : Part). p.after) ps),
-        length-append (part_spans p) (flat_map part_spans ps),
+        length-append p.after (flat_map (λ (p : CommentAndTokens). p.after) ps),
+        length-append (all_spans p) (flat_map all_spans ps),
         length-append p.inside (p.end ∷ p.after),
       )
 
@@ -51,12 +51,12 @@ module _ (text : List ℕ) where
         parts_few split.parts,
         ap length split.whole,
         ap length split.outside,
-        length-append split.first (flat_map part_spans split.parts),
-        length-append split.first (flat_map (λ (p : Part). p.after) split.parts),
+        length-append split.first (flat_map all_spans split.parts),
+        length-append split.first (flat_map (λ (p : CommentAndTokens). p.after) split.parts),
       )
 
   -- there are at most as many tokens between two places as bytes
-  pub between_few : (from at : ℕ) (ws : List Name) → HasBetween text from at ws → length ws + from ≤ at
+  pub between_few : (from at : ℕ) (ws : List Name) → AreTokensBetween text from at ws → length ws + from ≤ at
   between_few from at ws has =
       let same : from + (at - from) ≡ at = omega (arith, has.later) in
       let runs : length (runs_after text from) ≤ (at - from) + length (runs_after text at) =
@@ -73,7 +73,7 @@ module _ (text : List ℕ) where
       )
 
   -- there are at most as many tokens after a place as bytes left
-  pub after_few : (at : ℕ) (ws : List Name) → at ≤ length text → AreAfter text at ws → length ws + at ≤ length text
+  pub after_few : (at : ℕ) (ws : List Name) → at ≤ length text → AreTokensAfter text at ws → length ws + at ≤ length text
   after_few at ws within are =
       let same : at + (length text - at) ≡ length text = omega (arith, within) in
       let none : runs_after text (length text) ≡ [] = ap (λ r. runs_from (length text) r) (drop-length text) in

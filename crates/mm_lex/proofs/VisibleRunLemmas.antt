@@ -1,5 +1,5 @@
 -- The runs of single-spaced bytes, and the words of a spaced prefix.
-use Rattle.mm_lex.proofs.Prelude.{◌≡◌, ℕ, ◌+◌, ◌-◌, ◌<◌, ◌≤◌, suc, Bool, true, false, not, ◌||◌, ◌==◌, List, [], ◌∷◌, ◌++◌, length, take, drop, refl, list_all, onto_first, sym, ◌∙◌, ap, arith, take-append-drop, drop-drop, length-take-le, length-drop, and_from, and_parts, Span, Name, is_white, is_visible, starts_white, with_byte, runs_from, word, is_symbol, has_byte, words_of, is_word, is_plain, AllPlain, HasOnlyAllowedBytes, words, spaced_prefix_len}
+use Rattle.mm_lex.proofs.Prelude.{◌≡◌, ℕ, ◌+◌, ◌-◌, ◌<◌, ◌≤◌, suc, Bool, true, false, not, ◌||◌, ◌==◌, List, [], ◌∷◌, ◌++◌, length, take, drop, refl, list_all, onto_first, sym, ◌∙◌, ap, arith, take-append-drop, drop-drop, length-take-le, length-drop, and_from, and_parts, Span, Name, is_white, is_visible, is_empty_or_starts_white, with_byte, runs_from, word, is_symbol, has_byte, words_of, is_word, is_plain, AllPlain, HasOnlyAllowedBytes, words, spaced_prefix_len}
 use Rattle.mm_lex.proofs.PlainLemmas.{append_step}
 use Rattle.mm_lex.proofs.SingleSpacedLemmas.{is_space, is_symbol_byte, is_single_spaced, prefix_spaced, space_is, not_white, split_of, split_byte, split_gap, first_byte, after_gap, after_byte, single_spaced_symbols}
 
@@ -18,7 +18,7 @@ pub white_run : (at c : ℕ) (bytes : List ℕ) → is_white c ≡ true → runs
 white_run at c bytes e = rw e refl
 
 -- a byte that is not white begins a run, or lengthens the one after it
-shown_run : (at b : ℕ) (bytes : List ℕ) → is_white b ≡ false → runs_from at (b ∷ bytes) ≡ with_byte at (starts_white bytes) (runs_from (at + 1) bytes)
+shown_run : (at b : ℕ) (bytes : List ℕ) → is_white b ≡ false → runs_from at (b ∷ bytes) ≡ with_byte at (is_empty_or_starts_white bytes) (runs_from (at + 1) bytes)
 shown_run at b bytes e = rw e refl
 
 -- if a place is followed by a byte and other bytes, the next place is followed by these
@@ -91,12 +91,12 @@ module _ (text more : List ℕ) where
 -- ---- runs before a white byte
 
 -- one byte before bytes that start white: its run ends there
-no_more_runs : (at b : ℕ) (more : List ℕ) (t : Bool) → is_white b ≡ t → starts_white more ≡ true → runs_from at (b ∷ more) ≡ runs_from at (b ∷ []) ++ runs_from (at + 1) more
+no_more_runs : (at b : ℕ) (more : List ℕ) (t : Bool) → is_white b ≡ t → is_empty_or_starts_white more ≡ true → runs_from at (b ∷ more) ≡ runs_from at (b ∷ []) ++ runs_from (at + 1) more
 no_more_runs at b more true e white = rw e refl
 no_more_runs at b more false e white = rw (e, white) refl
 
 -- the runs of bytes before others that start white are those of the first and then those of the others
-runs_before_white : (at : ℕ) (bytes more : List ℕ) → starts_white more ≡ true → runs_from at (bytes ++ more) ≡ runs_from at bytes ++ runs_from (at + length bytes) more
+runs_before_white : (at : ℕ) (bytes more : List ℕ) → is_empty_or_starts_white more ≡ true → runs_from at (bytes ++ more) ≡ runs_from at bytes ++ runs_from (at + length bytes) more
 runs_before_white at [] more white = let same : at ≡ at + 0 = omega arith in ap (λ n. runs_from n more) same
 runs_before_white at (b ∷ []) more white = no_more_runs at b more (is_white b) refl white
 runs_before_white at (b ∷ c ∷ bytes) more white = append_step at b c bytes more (is_white b) refl (runs_before_white (at + 1) (c ∷ bytes) more white)
@@ -144,8 +144,8 @@ pub record IsFrontOf (text : List ℕ) (at n : ℕ) (bytes : List ℕ) : Type 0 
   pub plain : AllPlain text spans
 
 -- the text begins with the runs of a spaced prefix, if a white byte or the end of the text follows it
-pub prefix_front : (text : List ℕ) (at n : ℕ) → HasOnlyAllowedBytes (drop at text) → starts_white (drop at text) ≡ false → n ≡ spaced_prefix_len (drop at text) → 0 < n
-    → at + n ≤ length text → starts_white (drop (at + n) text) ≡ true → IsFrontOf text at n (take n (drop at text))
+pub prefix_front : (text : List ℕ) (at n : ℕ) → HasOnlyAllowedBytes (drop at text) → is_empty_or_starts_white (drop at text) ≡ false → n ≡ spaced_prefix_len (drop at text) → 0 < n
+    → at + n ≤ length text → is_empty_or_starts_white (drop (at + n) text) ≡ true → IsFrontOf text at n (take n (drop at text))
 prefix_front text at n allowed shown e some within white =
     let bytes = take n (drop at text) in
     let more : drop n (drop at text) ≡ drop (at + n) text = drop-drop n at text in

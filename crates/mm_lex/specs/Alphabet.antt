@@ -26,10 +26,10 @@ is_allowed b = is_visible b || is_white b
 abbrev pub name_eq : Name → Name → Bool
 name_eq = bytes_eq
 
--- the text is empty or begins with a white byte, so a token before it ends there
-abbrev pub starts_white : List ℕ → Bool
-starts_white [] = true
-starts_white (b ∷ bytes) = is_white b
+-- whether a word before these bytes ends there: they are empty or begin with a white byte
+abbrev pub is_empty_or_starts_white : List ℕ → Bool
+is_empty_or_starts_white [] = true
+is_empty_or_starts_white (b ∷ bytes) = is_white b
 
 -- the runs from the visible byte at `at` on; `spans` are the runs after that byte. It is a run of
 -- its own if a white byte or the end of the text follows it (`true`), else the first byte of the
@@ -43,7 +43,7 @@ with_byte at false (s ∷ spans) = record { start = at; end = s.end } ∷ spans
 abbrev pub runs_from : ℕ → List ℕ → List Span
 runs_from at [] = []
 runs_from at (b ∷ bytes) =
-    if is_white b then runs_from (at + 1) bytes else with_byte at (starts_white bytes) (runs_from (at + 1) bytes)
+    if is_white b then runs_from (at + 1) bytes else with_byte at (is_empty_or_starts_white bytes) (runs_from (at + 1) bytes)
 
 abbrev pub runs : List ℕ → List Span
 runs text = runs_from 0 text
@@ -54,7 +54,7 @@ word text s = take (s.end - s.start) (drop s.start text)
 
 -- the span lies in the text and has at least one byte, none of them white; it may be part of a
 -- longer run
-pub record IsRunAt (text : List ℕ) (s : Span) : Type 0 where
+pub record IsPartOfRun (text : List ℕ) (s : Span) : Type 0 where
   pub some : s.start < s.end
   pub within : s.end ≤ length text
   pub visible : IsTrue (list_all (λ b. not (is_white b)) (word text s))

@@ -1,4 +1,5 @@
--- The tokens between two offsets of a text, and after an offset: the words outside comments.
+-- The tokens (words outside comments) between two offsets of a text, and after an offset, that is,
+-- from the byte at it on.
 -- Source: Metamath, 4.1.1 and 4.1.2.
 -- The code goes from token to token; here the runs between two offsets, or after one, are split at
 -- the comments at once.
@@ -12,7 +13,7 @@ use Rattle.mm_lex.specs.TextFaults.{IsCommentFaultOfRuns}
 use Rattle.mm_lex.specs.Comments.{runs_after}
 
 -- the tokens from one offset up to the other are these words
-pub record HasBetween (text : List ℕ) (from at : ℕ) (ws : List Name) : Type 0 where
+pub record AreTokensBetween (text : List ℕ) (from at : ℕ) (ws : List Name) : Type 0 where
   pub later : from ≤ at
   pub within : at ≤ length text
   pub passed : List Span
@@ -21,13 +22,13 @@ pub record HasBetween (text : List ℕ) (from at : ℕ) (ws : List Name) : Type 
   pub split : SplitsInto text passed tokens
   pub are : words text tokens ≡ ws
 
--- the tokens at or after an offset are these words
-abbrev pub AreAfter : List ℕ → ℕ → List Name → Type 0
-AreAfter text at ws = (tokens : List Span) × SplitsInto text (runs_after text at) tokens × (words text tokens ≡ ws)
+-- the tokens after an offset are these words
+abbrev pub AreTokensAfter : List ℕ → ℕ → List Name → Type 0
+AreTokensAfter text at ws = (tokens : List Span) × SplitsInto text (runs_after text at) tokens × (words text tokens ≡ ws)
 
--- there are `count` tokens at or after an offset
-abbrev pub CountAfter : List ℕ → ℕ → ℕ → Type 0
-CountAfter text at count = (ws : List Name) × AreAfter text at ws × (length ws ≡ count)
+-- there are `count` tokens after an offset
+abbrev pub IsTokenCountAfter : List ℕ → ℕ → ℕ → Type 0
+IsTokenCountAfter text at count = (ws : List Name) × AreTokensAfter text at ws × (length ws ≡ count)
 
 -- the fault is the comment fault of the text after an offset
 abbrev pub IsCommentFaultAfter : List ℕ → ℕ → LexFault → Type 0
@@ -45,9 +46,9 @@ IsCommentFaultOrMemoryAfter text at Memory = Unit {0}
 pub record IsTokenAfter (text : List ℕ) (at : ℕ) (s : Span) : Type 0 where
   pub token : IsWordAt text s
   pub later : at < s.end
-  pub between : HasBetween text at s.end (word text s ∷ [])
+  pub between : AreTokensBetween text at s.end (word text s ∷ [])
 
 -- the place of the next token after an offset, or `None` if no token is left
 abbrev pub IsNextToken : List ℕ → ℕ → Option Span → Type 0
 IsNextToken text at (Some s) = IsTokenAfter text at s
-IsNextToken text at None = AreAfter text at []
+IsNextToken text at None = AreTokensAfter text at []

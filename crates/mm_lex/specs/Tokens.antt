@@ -21,35 +21,35 @@ is_plain w = not (name_eq w opener || name_eq w closer)
 abbrev pub AllPlain : List ℕ → List Span → Type 0
 AllPlain text spans = IsTrue (list_all (λ s. is_plain (word text s)) spans)
 
--- a comment and the tokens after it up to the next one: the spans of its `$(` and `$)`, and the
--- runs between these
-pub record Part : Type 0 where
+-- a comment and the tokens after it up to the next one: `begin` and `end` are its `$(` and `$)`,
+-- `inside` the runs between them, `after` the tokens
+pub record CommentAndTokens : Type 0 where
   pub begin : Span
   pub inside : List Span
   pub end : Span
   pub after : List Span
 
-abbrev pub part_spans : Part → List Span
-part_spans p = p.begin ∷ (p.inside ++ (p.end ∷ p.after))
+abbrev pub all_spans : CommentAndTokens → List Span
+all_spans p = p.begin ∷ (p.inside ++ (p.end ∷ p.after))
 
-pub record IsPart (text : List ℕ) (p : Part) : Type 0 where
+pub record IsCommentAndTokens (text : List ℕ) (p : CommentAndTokens) : Type 0 where
   pub begins : word text p.begin ≡ opener
   pub inside : AllPlain text p.inside
   pub ends : word text p.end ≡ closer
   pub after : AllPlain text p.after
 
-abbrev pub AreParts : List ℕ → List Part → Type 0
-AreParts text [] = Unit {0}
-AreParts text (p ∷ ps) = IsPart text p × AreParts text ps
+abbrev pub AreCommentsAndTokens : List ℕ → List CommentAndTokens → Type 0
+AreCommentsAndTokens text [] = Unit {0}
+AreCommentsAndTokens text (p ∷ ps) = IsCommentAndTokens text p × AreCommentsAndTokens text ps
 
 -- the runs split into plain runs and whole comments; the plain runs outside the comments are the
 -- tokens
 pub record SplitsInto (text : List ℕ) (spans tokens : List Span) : Type 0 where
   pub first : List Span
-  pub parts : List Part
-  pub whole : spans ≡ first ++ flat_map part_spans parts
+  pub parts : List CommentAndTokens
+  pub whole : spans ≡ first ++ flat_map all_spans parts
   pub plain : AllPlain text first
-  pub comments : AreParts text parts
+  pub comments : AreCommentsAndTokens text parts
   pub outside : tokens ≡ first ++ flat_map (λ p. p.after) parts
 
 -- each byte is allowed

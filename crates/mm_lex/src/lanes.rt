@@ -18,18 +18,18 @@ pub(crate) fn count_visible(text: &[u8]) -> usize
 {
     let mut at = 0;
     while text.len() - at >= LANES {
-        let count = count_in_lanes(&text[at..]);
+        let count = count_visible_in_lanes(&text[at..]);
         at += count;
         if count < LANES {
             return at;
         }
     }
-    at + count_one_by_one(&text[at..])
+    at + count_visible_one_by_one(&text[at..])
 }
 
 /// Returns how many of the first 16 bytes precede the first one that is at most 0x20, or 16 if none
 /// is. If all bytes are allowed, these are the visible bytes before the first white one.
-fn count_in_lanes(text: &[u8]) -> usize
+fn count_visible_in_lanes(text: &[u8]) -> usize
     requires room { 16 ≤ length text.now }
     ensures count { result ≡ position_or_len (λ b. nat_le b 32) (take 16 text.now) }
     ensures within { result ≤ 16 }
@@ -51,17 +51,17 @@ pub(crate) fn count_white(text: &[u8]) -> usize
     ensures within { result ≤ length text.now }
 {
     if text.len() >= LANES {
-        let count = count_low_in_lanes(text);
+        let count = count_white_in_lanes(text);
         if count < LANES {
             return count;
         }
     }
-    first_visible(text).unwrap_or(text.len())
+    first_not_white(text).unwrap_or(text.len())
 }
 
 /// Returns how many of the first 16 bytes precede the first one above 0x20, or 16 if none is. If
 /// all bytes are allowed, these are the white bytes before the first visible one.
-fn count_low_in_lanes(text: &[u8]) -> usize
+fn count_white_in_lanes(text: &[u8]) -> usize
     requires room { 16 ≤ length text.now }
     ensures count { result ≡ position_or_len (λ b. nat_lt 32 b) (take 16 text.now) }
     ensures within { result ≤ 16 }
@@ -76,14 +76,14 @@ fn count_low_in_lanes(text: &[u8]) -> usize
 }
 
 /// Returns the index of the first byte that is not white, or `None`.
-fn first_visible(text: &[u8]) -> Option<usize>
+fn first_not_white(text: &[u8]) -> Option<usize>
     ensures { result ≡ position (λ b. not (is_white b)) text.now }
 {
     text.iter().position(|b| !b.is_ascii_whitespace())
 }
 
 /// Returns the number of bytes before the first white one, testing byte by byte.
-fn count_one_by_one(text: &[u8]) -> usize
+fn count_visible_one_by_one(text: &[u8]) -> usize
     ensures count { result ≡ position_or_len is_white text.now }
     ensures within { result ≤ length text.now }
 {

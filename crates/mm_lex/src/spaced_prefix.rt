@@ -18,18 +18,18 @@ pub(crate) fn count_spaced_prefix(text: &[u8]) -> usize
 {
     let mut at = 0;
     while text.len() - at > LANES {
-        let count = count_in_lanes(&text[at..]);
+        let count = count_prefix_in_lanes(&text[at..]);
         if count < LANES {
             return at + count;
         }
         at += LANES;
     }
-    at + count_one_by_one(&text[at..])
+    at + count_prefix_one_by_one(&text[at..])
 }
 
 /// Returns how many of the first 16 bytes precede the one at which the prefix ends, or 16 if it
 /// does not end at any of them.
-fn count_in_lanes(text: &[u8]) -> usize
+fn count_prefix_in_lanes(text: &[u8]) -> usize
     requires room { 16 < length text.now }
     ensures count { result ≡ prefix_len not (lanes_end (take 16 text.now) (take 16 (drop 1 text.now))) }
     ensures within { result ≤ 16 }
@@ -47,7 +47,7 @@ fn count_in_lanes(text: &[u8]) -> usize
 }
 
 /// Returns the length of the prefix, testing byte by byte.
-fn count_one_by_one(text: &[u8]) -> usize
+fn count_prefix_one_by_one(text: &[u8]) -> usize
     ensures count { result ≡ spaced_prefix_len text.now }
     ensures within { result ≤ length text.now }
 {

@@ -1,11 +1,11 @@
 //! Reads a list of symbols up to its end, copying many words at a time.
 ghost use Rattle.std.specs.Prelude.{◌≡◌, ◌≤◌, [], length, drop, IsTrue, IfOk, IfErr};
 ghost use Rattle.std.specs.List.{list_all};
-ghost use Rattle.mm_lex.specs.Alphabet.{starts_white, is_symbol};
+ghost use Rattle.mm_lex.specs.Alphabet.{is_empty_or_starts_white, is_symbol};
 ghost use Rattle.mm_lex.specs.Words.{is_word};
 ghost use Rattle.mm_lex.specs.Tokens.{HasOnlyAllowedBytes};
 ghost use Rattle.mm_lex.specs.Between.{IsCommentFaultOrMemoryAfter};
-ghost use Rattle.mm_lex.specs.SymbolList.{AddsSymbols, IsListEnd};
+ghost use Rattle.mm_lex.specs.SymbolList.{AddsSymbols, IsListAndEnd};
 
 use crate::fault::LexFault;
 use crate::spaced_prefix::count_spaced_prefix;
@@ -25,7 +25,7 @@ pub fn symbols(alloc: Global, text: &[u8], from: usize) -> Result<(Words, Option
     requires allowed { HasOnlyAllowedBytes text.now }
     requires place { from ≤ length text.now }
     ensures symbols { IfOk result (λ r. IsTrue (list_all is_symbol r.0)) }
-    ensures end { IfOk result (λ r. IsListEnd text.now from r.0 r.1) }
+    ensures end { IfOk result (λ r. IsListAndEnd text.now from r.0 r.1) }
     ensures fault { IfErr result (IsCommentFaultOrMemoryAfter text.now from) }
 {
     let mut words = with_estimated_capacity(alloc, &text[from..])?;
@@ -83,7 +83,7 @@ fn push_pieces(words: &mut Words, text: &[u8], from: usize) -> Result<usize, All
 /// Returns whether a word that reaches `at` ends there: at white space or at the end of the text.
 fn is_word_end(text: &[u8], at: usize) -> bool
     requires { at ≤ length text.now }
-    ensures { result ≡ starts_white (drop at text.now) }
+    ensures { result ≡ is_empty_or_starts_white (drop at text.now) }
 {
     at == text.len() || text[at].is_ascii_whitespace()
 }

@@ -1,7 +1,7 @@
 //! Finds the runs of visible bytes in a text whose bytes are all allowed, one after another.
 ghost use Rattle.std.specs.Prelude.{◌≡◌, ◌-◌, ◌<◌, ◌≤◌, [], ◌∷◌, ℕ, not, length, take, drop, MatchOption, IfSome, IsTrue, slice_index, IsFalse};
 ghost use Rattle.std.specs.List.{position, position_or_len};
-ghost use Rattle.mm_lex.specs.Alphabet.{is_white, starts_white, runs_from, IsRunAt, name_eq};
+ghost use Rattle.mm_lex.specs.Alphabet.{is_white, is_empty_or_starts_white, runs_from, IsPartOfRun, name_eq};
 ghost use Rattle.mm_lex.specs.Tokens.{opener, closer, HasOnlyAllowedBytes};
 
 use crate::lanes::{count_visible, count_white};
@@ -13,7 +13,7 @@ pub(crate) fn next_run(text: &[u8], at: usize) -> Option<Span>
     requires place { at ≤ length text.now }
     ensures run { MatchOption result (runs_from at (drop at text.now) ≡ [])
         (λ s. runs_from at (drop at text.now) ≡ s ∷ runs_from s.end (drop s.end text.now)) }
-    ensures place { IfSome result (λ s. IsRunAt text.now s) }
+    ensures place { IfSome result (λ s. IsPartOfRun text.now s) }
     ensures later { IfSome result (λ s. at ≤ s.start) }
 {
     let rest = &text[at..];
@@ -36,7 +36,7 @@ pub(crate) fn skip_white(text: &[u8], at: usize) -> usize
     ensures later { at ≤ result }
     ensures within { result ≤ length text.now }
     ensures runs { runs_from at (drop at text.now) ≡ runs_from result (drop result text.now) }
-    ensures shown { result < length text.now → IsFalse (starts_white (drop result text.now)) }
+    ensures not_white { result < length text.now → IsFalse (is_empty_or_starts_white (drop result text.now)) }
 {
     at + count_white(&text[at..])
 }

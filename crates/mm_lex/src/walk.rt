@@ -1,7 +1,7 @@
 //! Walks from token to token through a text, without a list of them.
 ghost use Rattle.std.specs.Prelude.{◌≤◌, length, IfOk, IfErr};
 ghost use Rattle.mm_lex.specs.Tokens.{HasOnlyAllowedBytes};
-ghost use Rattle.mm_lex.specs.Between.{IsNextToken, CountAfter, IsCommentFaultAfter};
+ghost use Rattle.mm_lex.specs.Between.{IsNextToken, IsTokenCountAfter, IsCommentFaultAfter};
 
 use crate::comment::{CommentEnd, comment_end};
 use crate::fault::LexFault;
@@ -45,7 +45,7 @@ pub fn next_token(text: &[u8], at: usize) -> Result<Option<Span>, LexFault>
 pub fn count_tokens(text: &[u8], at: usize) -> Result<usize, LexFault>
     requires allowed { HasOnlyAllowedBytes text.now }
     requires place { at ≤ length text.now }
-    ensures count { IfOk result (CountAfter text.now at) }
+    ensures count { IfOk result (IsTokenCountAfter text.now at) }
     ensures within { IfOk result (λ count. count ≤ length text.now) }
     ensures fault { IfErr result (IsCommentFaultAfter text.now at) }
 {

@@ -7,13 +7,13 @@ use std::alloc::{AllocError, Global};
 use std::marker::Model;
 
 /// The maximum number of bytes that a `Word` stores inline, that is, without an allocation.
-const INLINE: usize = 22;
+const MAX_INLINE: usize = 22;
 
 /// Where the bytes of a word are stored.
 #[derive(Drop)]
 enum WordStorage {
     /// Here: the word is the first `len` of these bytes.
-    Inline { len: u8, bytes: [u8; INLINE] },
+    Inline { len: u8, bytes: [u8; MAX_INLINE] },
     /// On the heap: all bytes of the vector. The box keeps this variant no larger than `Inline`.
     Heap(Box<Vec<u8>>),
 }
@@ -76,11 +76,11 @@ fn store_bytes(alloc: Global, bytes: &[u8]) -> Result<WordStorage, AllocError>
     ensures valid { IfOk result IsLengthValid }
 {
     let len = bytes.len();
-    if len > INLINE {
+    if len > MAX_INLINE {
         let all = Vec::from_slice(alloc, bytes)?;
         return Ok(WordStorage::Heap(Box::new(alloc, all)?));
     }
-    let mut inline = [0; INLINE];
+    let mut inline = [0; MAX_INLINE];
     inline[..len].copy_from_slice(bytes);
     Ok(WordStorage::Inline {
         len: len as u8,

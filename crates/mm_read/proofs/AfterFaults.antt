@@ -1,5 +1,5 @@
 -- Why no statement follows a place, from the tokens of the statement so far and the fault of its next part.
-use Rattle.mm_read.proofs.Words.{◌≡◌, ℕ, Bool, ◌+◌, ◌≤◌, true, false, List, [], ◌∷◌, ◌++◌, length, Some, None, codes, list_all, option_and_then, sym, ◌∙◌, ap, arith, refl, subst, append_assoc, length-append, LexFault, Name, name_eq, is_symbol, is_label, HasBetween, AreAfter, IsCommentFaultAfter, after_rest, after_unique, stops_after, between_on, ReadFault, Text, Shape, Memory, IsShapeFault, read_fault, BeginsBrokenList, HasBrokenList, IsListFault, StartsOtherwise, IsTokenFault, IsFaultAfter}
+use Rattle.mm_read.proofs.Words.{◌≡◌, ℕ, Bool, ◌+◌, ◌≤◌, true, false, List, [], ◌∷◌, ◌++◌, length, Some, None, codes, list_all, option_and_then, sym, ◌∙◌, ap, arith, refl, subst, append_assoc, length-append, LexFault, Name, name_eq, is_symbol, is_label, AreTokensBetween, AreTokensAfter, IsCommentFaultAfter, after_rest, after_unique, stops_after, between_on, ReadFault, Text, Shape, Memory, IsShapeFault, read_fault, BeginsBrokenList, HasBrokenList, IsListFault, StartsOtherwise, IsTokenFault, IsFaultAfter}
 use Rattle.mm_lex.specs.declared.fault.LexFault.TheVariants as lex
 use Rattle.mm_read.proofs.ReaderStates.{ReaderState, between, labelled, listing, floating, proving, step, go}
 use Rattle.mm_read.proofs.ReaderRuns.{go-label, go-proving}
@@ -14,11 +14,11 @@ module _ (text : List ℕ) where
   -- ---- from a place back to an earlier one
 
   -- a fault after a place, with the tokens up to it, is a fault after the earlier place
-  pub fault_back : {from at : ℕ} {ws : List Name} (before : List Name) → HasBetween text from at ws → (fault : ReadFault) → IsFaultAfter text (before ++ ws) at fault
+  pub fault_back : {from at : ℕ} {ws : List Name} (before : List Name) → AreTokensBetween text from at ws → (fault : ReadFault) → IsFaultAfter text (before ++ ws) at fault
       → IsFaultAfter text before from fault
   fault_back before has (Text fault) is = stops_after has fault is
   fault_back {from} {at} {ws} before has (Shape token) is = λ tokens are.
-      let r : (us : List Name) × AreAfter text at us × (tokens ≡ ws ++ us) = after_rest has are in
+      let r : (us : List Name) × AreTokensAfter text at us × (tokens ≡ ws ++ us) = after_rest has are in
       subst (λ ts. IsShapeFault ts token) (append_assoc before ws r.0 ∙ ap (λ ts. before ++ ts) (sym r.2)) (is r.0 r.1)
   fault_back before has Memory is = tt
 
@@ -32,13 +32,13 @@ module _ (text : List ℕ) where
 
   module _ (at : ℕ) (done : List Name) (p : ReaderState) (goes : go between done ≡ Some p) (inside : p ≡ between → ⊥) where
     -- if no token is left, the next one is missing
-    pub none_after : AreAfter text at [] → IsFaultAfter text done at (Shape (length done + 1))
+    pub none_after : AreTokensAfter text at [] → IsFaultAfter text done at (Shape (length done + 1))
     none_after none = λ tokens are. stuck (done ++ tokens) done tokens p refl goes inside (subst (Stuck p) (after_unique at none are) tt)
 
     -- if the machine stops at the next token, this token is misplaced
-    pub other_after : {end : ℕ} (t : Name) → HasBetween text at end (t ∷ []) → step p t ≡ None → IsFaultAfter text done at (Shape (length done + 1))
+    pub other_after : {end : ℕ} (t : Name) → AreTokensBetween text at end (t ∷ []) → step p t ≡ None → IsFaultAfter text done at (Shape (length done + 1))
     other_after {end} t has stop = λ tokens are.
-        let r : (us : List Name) × AreAfter text end us × (tokens ≡ t ∷ us) = after_rest has are in
+        let r : (us : List Name) × AreTokensAfter text end us × (tokens ≡ t ∷ us) = after_rest has are in
         stuck (done ++ tokens) done tokens p refl goes inside (subst (Stuck p) (sym r.2) stop)
 
     -- if the machine stops at each token of another kind, the fault of the next token is the fault of the statement
@@ -72,11 +72,11 @@ module _ (text : List ℕ) where
 
   module _ (at : ℕ) (label : Name) (is_one : is_label label ≡ true) where
     -- if nothing follows a label, the second token is missing
-    pub label_alone : AreAfter text at [] → IsFaultAfter text (label ∷ []) at (Shape 2)
+    pub label_alone : AreTokensAfter text at [] → IsFaultAfter text (label ∷ []) at (Shape 2)
     label_alone none = none_after at (label ∷ []) labelled (go-label label [] is_one) (λ bad. cc) none
 
     -- a token after a label is misplaced if it is no keyword of a labelled statement
-    pub label_before : {end : ℕ} (t : Name) → HasBetween text at end (t ∷ []) → step labelled t ≡ None → IsFaultAfter text (label ∷ []) at (Shape 2)
+    pub label_before : {end : ℕ} (t : Name) → AreTokensBetween text at end (t ∷ []) → step labelled t ≡ None → IsFaultAfter text (label ∷ []) at (Shape 2)
     label_before t has stop = other_after at (label ∷ []) labelled (go-label label [] is_one) (λ bad. cc) t has stop
 
     -- `$e` and `$a`: the fault of the expression
@@ -89,7 +89,7 @@ module _ (text : List ℕ) where
         token_after at (label ∷ codes "$f" ∷ []) (floating 2) (goes_on label is_one (codes "$f") (floating 2) [] refl) (λ bad. cc) 3 is_symbol fault refl (λ t e. step-floating_symbol 1 t e) is
 
     -- `$f`: the fault of the variable, after the constant was read
-    pub variable_fault : {after : ℕ} (c : Name) → is_symbol c ≡ true → HasBetween text at after (c ∷ []) → (fault : ReadFault) → IsTokenFault text after 4 is_symbol fault
+    pub variable_fault : {after : ℕ} (c : Name) → is_symbol c ≡ true → AreTokensBetween text at after (c ∷ []) → (fault : ReadFault) → IsTokenFault text after 4 is_symbol fault
         → IsFaultAfter text (label ∷ codes "$f" ∷ []) at fault
     variable_fault {after} c symbol has fault is =
         fault_back (label ∷ codes "$f" ∷ []) has fault
@@ -97,7 +97,7 @@ module _ (text : List ℕ) where
         (λ t e. step-floating_symbol 0 t e) is)
 
     -- `$f`: the fault of the `$.`, after both symbols were read
-    pub end_fault : {after_constant after_variable : ℕ} (c v : Name) → is_symbol c ≡ true → is_symbol v ≡ true → HasBetween text at after_constant (c ∷ []) → HasBetween text after_constant after_variable (v ∷ [])
+    pub end_fault : {after_constant after_variable : ℕ} (c v : Name) → is_symbol c ≡ true → is_symbol v ≡ true → AreTokensBetween text at after_constant (c ∷ []) → AreTokensBetween text after_constant after_variable (v ∷ [])
         → (fault : ReadFault) → IsTokenFault text after_variable 5 (λ w. name_eq w (codes "$.")) fault → IsFaultAfter text (label ∷ codes "$f" ∷ []) at fault
     end_fault {after_constant} {after_variable} c v symbol other has next fault is =
         fault_back (label ∷ codes "$f" ∷ []) (between_on has next) fault
@@ -108,7 +108,7 @@ module _ (text : List ℕ) where
     pub expr_fault : (fault : ReadFault) → IsListFault text at 3 1 (codes "$=") fault → IsFaultAfter text (label ∷ codes "$p" ∷ []) at fault
     expr_fault fault is = expr_after at (label ∷ codes "$p" ∷ []) 3 1 refl (goes_on label is_one (codes "$p") (proving 1) [] refl) fault is
 
-    module _ {after : ℕ} (expr : List Name) (symbols : list_all is_symbol expr ≡ true) (many : 1 ≤ length expr) (has : HasBetween text at after (expr ++ codes "$=" ∷ [])) where
+    module _ {after : ℕ} (expr : List Name) (symbols : list_all is_symbol expr ≡ true) (many : 1 ≤ length expr) (has : AreTokensBetween text at after (expr ++ codes "$=" ∷ [])) where
       -- `$p`: the fault of the proof, after the expression was read
       pub proof_fault : (token : ℕ) → HasBrokenList text after 1 0 (codes "$.") token → IsFaultAfter text (label ∷ codes "$p" ∷ []) at (Shape (3 + length expr + token))
       proof_fault token is =

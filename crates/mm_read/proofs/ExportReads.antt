@@ -1,6 +1,6 @@
 -- The export form of statements reads as these statements: it is their tokens, each followed by one white byte, and no
 -- token of a statement begins or ends a comment.
-use Rattle.mm_read.proofs.Words.{◌≡◌, ℕ, ◌+◌, ◌-◌, Bool, true, false, not, ◌&&◌, ◌||◌, cond, List, [], ◌∷◌, ◌++◌, length, take, map, codes, list_all, sym, ◌∙◌, ap, arith, refl, true≢false, append_assoc, length-append, append-nil, take-append_seam, drop-append_seam, and_parts, and_from, nat_tests, list_all-map, list_all-append, word-visible, Span, Name, is_empty, is_white, is_visible, is_allowed, is_symbol, is_label, is_label_byte, has_byte, runs, runs_from, starts_white, with_byte, word, spaced, is_word, is_plain, words, Stmt, Open, Close, Const, Var, Disj, Float, Ess, Axiom, Prove, Database, is_shaped, are_symbols, has_two, stmt_tokens, tokens_of, export_of, white_run}
+use Rattle.mm_read.proofs.Words.{◌≡◌, ℕ, ◌+◌, ◌-◌, Bool, true, false, not, ◌&&◌, ◌||◌, cond, List, [], ◌∷◌, ◌++◌, length, take, map, codes, list_all, sym, ◌∙◌, ap, arith, refl, true≢false, append_assoc, length-append, append-nil, take-append_seam, drop-append_seam, and_parts, and_from, nat_tests, list_all-map, list_all-append, word-visible, Span, Name, is_empty, is_white, is_visible, is_allowed, is_symbol, is_label, is_label_byte, has_byte, runs, runs_from, is_empty_or_starts_white, with_byte, word, spaced, is_word, is_plain, words, Stmt, Open, Close, Const, Var, Disj, Float, Ess, Axiom, Prove, Database, is_shaped, are_symbols, has_two, stmt_tokens, tokens_of, export_of, white_run}
 use Rattle.mm_read.specs.Laws as laws
 use Rattle.mm_read.proofs.StatementsLemmas.{symbol_plain, label_plain, symbols_of, plain_is_no_key}
 
@@ -17,8 +17,8 @@ label_byte_visible b h = grind (arith, nat_tests, h)
 abbrev span_of : ℕ → ℕ → Span
 span_of start end = record { start = start; end = end }
 
-runs-visible : (at c : ℕ) (text : List ℕ) → is_visible c ≡ true → runs_from at (c ∷ text) ≡ with_byte at (starts_white text) (runs_from (at + 1) text)
-runs-visible at c text h = ap (λ t. cond t (runs_from (at + 1) text) (with_byte at (starts_white text) (runs_from (at + 1) text))) (visible_not_white c h)
+runs-visible : (at c : ℕ) (text : List ℕ) → is_visible c ≡ true → runs_from at (c ∷ text) ≡ with_byte at (is_empty_or_starts_white text) (runs_from (at + 1) text)
+runs-visible at c text h = ap (λ t. cond t (runs_from (at + 1) text) (with_byte at (is_empty_or_starts_white text) (runs_from (at + 1) text))) (visible_not_white c h)
 
 runs-word : (at : ℕ) (w : Name) (b : ℕ) (text : List ℕ) → is_word w ≡ true → is_white b ≡ true
     → runs_from at (w ++ b ∷ text) ≡ span_of at (at + length w) ∷ runs_from (at + length w + 1) text

@@ -1,14 +1,14 @@
 -- Two joined texts read as the statements of the first and then those of the second, if no word continues from the first into
 -- the second: the runs of the joined text are those of the first and then those of the second, runs with the same words are
 -- split at the same comments, and two splits join into one.
-use Rattle.mm_read.proofs.Words.{◌≡◌, ℕ, ◌+◌, ◌-◌, ◌<◌, suc, Bool, true, false, ◌||◌, if◌then◌else◌, List, [], ◌∷◌, ◌++◌, length, take, drop, Option, Some, None, Ok, Err, refl, list_all, sym, ◌∙◌, ap, arith, subst, true≢false, drop-append_seam, and_from, flat_map-append, drop-drop, map-append, list_all-append, Span, Name, name_eq, is_white, is_allowed, starts_white, with_byte, runs, runs_from, word, opener, closer, SplitsInto, words, append_step, Outcome, outside, inside, prepend, scan, scan-split, splits_as, split-scan, splits_join, is_shaped, stmt_tokens, tokens_of, HasTokens, joins_no_words}
+use Rattle.mm_read.proofs.Words.{◌≡◌, ℕ, ◌+◌, ◌-◌, ◌<◌, suc, Bool, true, false, ◌||◌, if◌then◌else◌, List, [], ◌∷◌, ◌++◌, length, take, drop, Option, Some, None, Ok, Err, refl, list_all, sym, ◌∙◌, ap, arith, subst, true≢false, drop-append_seam, and_from, flat_map-append, drop-drop, map-append, list_all-append, Span, Name, name_eq, is_white, is_allowed, is_empty_or_starts_white, with_byte, runs, runs_from, word, opener, closer, SplitsInto, words, append_step, Outcome, outside, inside, prepend, scan, scan-split, splits_as, split-scan, splits_join, is_shaped, stmt_tokens, tokens_of, HasTokens, joins_no_words}
 use Rattle.std.proofs.lemmas.List.{append-nil}
 use Rattle.mm_read.specs.Laws as laws
 
 -- ---- the runs of the joined text
 
 -- the last byte of the first text, if it is white or the second text starts white
-last_byte : (at b : ℕ) (other : List ℕ) (t : Bool) → is_white b ≡ t → (t || starts_white other) ≡ true
+last_byte : (at b : ℕ) (other : List ℕ) (t : Bool) → is_white b ≡ t → (t || is_empty_or_starts_white other) ≡ true
     → runs_from at (b ∷ other) ≡ runs_from at (b ∷ []) ++ runs_from (at + 1) other
 last_byte at b other true e h = rw e refl
 last_byte at b other false e h = rw (e, h) refl
@@ -27,7 +27,7 @@ with_first b false (w ∷ ws) = (b ∷ w) ∷ ws
 
 abbrev run_words : List ℕ → List Name
 run_words [] = []
-run_words (b ∷ bytes) = if is_white b then run_words bytes else with_first b (starts_white bytes) (run_words bytes)
+run_words (b ∷ bytes) = if is_white b then run_words bytes else with_first b (is_empty_or_starts_white bytes) (run_words bytes)
 
 -- the first of these spans, if there is any, begins at the place
 abbrev StartsAt : ℕ → List Span → Type 0
@@ -58,15 +58,15 @@ ends_earlier at (s ∷ spans) later = omega (arith, later)
 ends_step : (at b : ℕ) (bytes : List ℕ) (t : Bool) → is_white b ≡ t → EndsAfter (at + 1) (runs_from (at + 1) bytes) → EndsAfter at (runs_from at (b ∷ bytes))
 ends_step at b bytes true e later = rw e (ends_earlier at (runs_from (at + 1) bytes) later)
 ends_step at b bytes false e later =
-    rw e (ends_after at (with_byte at (starts_white bytes) (runs_from (at + 1) bytes)) (with-starts at (starts_white bytes) (runs_from (at + 1) bytes) later))
+    rw e (ends_after at (with_byte at (is_empty_or_starts_white bytes) (runs_from (at + 1) bytes)) (with-starts at (is_empty_or_starts_white bytes) (runs_from (at + 1) bytes) later))
 
 runs-end : (at : ℕ) (bytes : List ℕ) → EndsAfter at (runs_from at bytes)
 runs-end at [] = tt
 runs-end at (b ∷ bytes) = ends_step at b bytes (is_white b) refl (runs-end (at + 1) bytes)
 
-runs-start : (at : ℕ) (bytes : List ℕ) → starts_white bytes ≡ false → StartsAt at (runs_from at bytes)
+runs-start : (at : ℕ) (bytes : List ℕ) → is_empty_or_starts_white bytes ≡ false → StartsAt at (runs_from at bytes)
 runs-start at [] h = absurd (true≢false h)
-runs-start at (b ∷ bytes) h = rw h (with-starts at (starts_white bytes) (runs_from (at + 1) bytes) (runs-end (at + 1) bytes))
+runs-start at (b ∷ bytes) h = rw h (with-starts at (is_empty_or_starts_white bytes) (runs_from (at + 1) bytes) (runs-end (at + 1) bytes))
 
 abbrev span_of : ℕ → ℕ → Span
 span_of start end = record { start = start; end = end }
@@ -95,7 +95,7 @@ module _ (text : List ℕ) (at b : ℕ) (bytes : List ℕ) (here : drop at text 
       → words text (runs_from at (b ∷ rest)) ≡ run_words (b ∷ rest)
   words-step true e rest k = rw e k
   words-step false e rest k =
-      rw e (words-with (starts_white rest) (runs_from (at + 1) rest) (λ h. runs-start (at + 1) rest h) ∙ ap (with_first b (starts_white rest)) k)
+      rw e (words-with (is_empty_or_starts_white rest) (runs_from (at + 1) rest) (λ h. runs-start (at + 1) rest h) ∙ ap (with_first b (is_empty_or_starts_white rest)) k)
 
 words-runs : (text more : List ℕ) (at : ℕ) (bytes : List ℕ) → drop at text ≡ bytes ++ more → words text (runs_from at bytes) ≡ run_words bytes
 words-runs text more at [] here = refl

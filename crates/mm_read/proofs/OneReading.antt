@@ -1,6 +1,6 @@
 -- The answer of the reader is the only one: a text has tokens or one fault of the tokens, and its tokens read as one list of
 -- statements or have one misplaced token.
-use Rattle.mm_read.proofs.Words.{◌≡◌, ℕ, ◌⊎◌, List, Result, Ok, Err, MatchResult, IfOk, IfErr, IsErrAnd, sym, ◌∙◌, ap, refl, subst, inl, inr, Name, HasOnlyAllowedBytes, words, IsFirstBadByte, IsCommentFault, AreAfter, HasOnlyAllowedBytes-no_fault, AreTokens-unique, AreTokens-no_comment_fault, IsCommentFault-unique, ReadFault, Text, Shape, Memory, Database, tokens_of, HasTokens, Reads, IsShapeFault, HasShapeFault, IsReadFault, IsFaultOf}
+use Rattle.mm_read.proofs.Words.{◌≡◌, ℕ, ◌⊎◌, List, Result, Ok, Err, MatchResult, IfOk, IfErr, IsErrAnd, sym, ◌∙◌, ap, refl, subst, inl, inr, Name, HasOnlyAllowedBytes, words, IsFirstBadByte, IsCommentFault, AreTokensAfter, HasOnlyAllowedBytes-no_fault, AreTokens-unique, AreTokens-no_comment_fault, IsCommentFault-unique, ReadFault, Text, Shape, Memory, Database, tokens_of, HasTokens, Reads, IsShapeFault, HasShapeFault, IsReadFault, IsFaultOf}
 use Rattle.mm_lex.specs.declared.fault.LexFault.TheVariants as lex
 use Rattle.mm_read.proofs.OneStatementList.{one_statement_list}
 use Rattle.mm_read.proofs.ShapeFaults.{one_shape_fault}
@@ -11,7 +11,7 @@ same_tokens text ts us has also = sym has.2 ∙ (ap (words text) (AreTokens-uniq
 
 module _ (text : List ℕ) (allowed : HasOnlyAllowedBytes text) where
   -- the tokens after the first place are the tokens of the text
-  all_tokens : (ts : List Name) → AreAfter text 0 ts → HasTokens text ts
+  all_tokens : (ts : List Name) → AreTokensAfter text 0 ts → HasTokens text ts
   all_tokens ts are = (are.0, (allowed, are.1), are.2)
 
   -- a text with tokens has no comment fault

@@ -1,9 +1,9 @@
 -- The parts of a statement after a place, and what follows the place if a part is missing.
-use Rattle.mm_read.proofs.Words.{◌≡◌, ℕ, Bool, ◌+◌, ◌<◌, ◌≤◌, ◌⊎◌, true, false, List, [], ◌∷◌, ◌++◌, length, Option, Some, None, list_all, sym, ◌∙◌, arith, refl, subst, append_assoc, length-append, Span, Name, name_eq, is_symbol, word, AreAfter, IsTokenAfter, EndsSymbols, IsListEnd, after_rest, after_unique, between_few, after_few, HasBrokenList, StartsOtherwise}
+use Rattle.mm_read.proofs.Words.{◌≡◌, ℕ, Bool, ◌+◌, ◌<◌, ◌≤◌, ◌⊎◌, true, false, List, [], ◌∷◌, ◌++◌, length, Option, Some, None, list_all, sym, ◌∙◌, arith, refl, subst, append_assoc, length-append, Span, Name, name_eq, is_symbol, word, AreTokensAfter, IsTokenAfter, EndsSymbols, IsListAndEnd, after_rest, after_unique, between_few, after_few, HasBrokenList, StartsOtherwise}
 use Rattle.std.proofs.lemmas.List.{append-nil}
 
 -- a list has at most as many symbols as there are bytes left
-pub list_few : (text : List ℕ) (at : ℕ) (ws : List Name) (stop : Option Span) → at ≤ length text → IsListEnd text at ws stop → length ws + at ≤ length text
+pub list_few : (text : List ℕ) (at : ℕ) (ws : List Name) (stop : Option Span) → at ≤ length text → IsListAndEnd text at ws stop → length ws + at ≤ length text
 list_few text at ws (Some s) within is = omega (arith, between_few text at s.end (ws ++ word text s ∷ []) is.between, length-append ws (word text s ∷ []), is.token.within)
 list_few text at ws None within all = after_few text at ws within all
 
@@ -11,20 +11,20 @@ module _ {text : List ℕ} (at : ℕ) where
   -- ---- one token
 
   -- if no token is left, no token of the required kind follows
-  pub starts_none : (fits : Name → Bool) → AreAfter text at [] → (tokens : List Name) → AreAfter text at tokens → StartsOtherwise fits tokens
+  pub starts_none : (fits : Name → Bool) → AreTokensAfter text at [] → (tokens : List Name) → AreTokensAfter text at tokens → StartsOtherwise fits tokens
   starts_none fits none tokens are = subst (StartsOtherwise fits) (after_unique at none are) tt
 
   -- if the next token is of another kind, no token of the required kind follows
-  pub starts_other : (fits : Name → Bool) (s : Span) → IsTokenAfter text at s → fits (word text s) ≡ false → (tokens : List Name) → AreAfter text at tokens → StartsOtherwise fits tokens
+  pub starts_other : (fits : Name → Bool) (s : Span) → IsTokenAfter text at s → fits (word text s) ≡ false → (tokens : List Name) → AreTokensAfter text at tokens → StartsOtherwise fits tokens
   starts_other fits s is other tokens are =
-      let r : (us : List Name) × AreAfter text s.end us × (tokens ≡ word text s ∷ us) = after_rest is.between are in
+      let r : (us : List Name) × AreTokensAfter text s.end us × (tokens ≡ word text s ∷ us) = after_rest is.between are in
       subst (StartsOtherwise fits) (sym r.2) other
 
   -- ---- a list
 
   module _ (ws : List Name) (symbols : list_all is_symbol ws ≡ true) (number least : ℕ) (end : Name) where
     -- a list that the end of the text cuts off is broken there
-    pub stops_at_end : at ≤ length text → AreAfter text at ws → HasBrokenList text at number least end (number + length ws)
+    pub stops_at_end : at ≤ length text → AreTokensAfter text at ws → HasBrokenList text at number least end (number + length ws)
     stops_at_end within all = record {
       few = omega (arith, after_few text at ws within all);
       stops = λ tokens are. record {
@@ -42,7 +42,7 @@ module _ {text : List ℕ} (at : ℕ) where
     stops_otherwise s is why = record {
       few = omega (arith, between_few text at s.end (ws ++ word text s ∷ []) is.between, length-append ws (word text s ∷ []), is.token.within);
       stops = λ tokens are.
-          let r : (us : List Name) × AreAfter text s.end us × (tokens ≡ (ws ++ word text s ∷ []) ++ us) = after_rest is.between are in record {
+          let r : (us : List Name) × AreTokensAfter text s.end us × (tokens ≡ (ws ++ word text s ∷ []) ++ us) = after_rest is.between are in record {
             ws = ws;
             rest = word text s ∷ r.0;
             symbols = symbols;

@@ -8,9 +8,9 @@ pub use Rattle.mm_lex.proofs.PlainLemmas.{append_step}
 pub use Rattle.mm_lex.proofs.TokensLemmas.{AreTokens-no_comment_fault, AreTokens-unique, IsCommentFault-unique}
 pub use Rattle.mm_lex.proofs.VisibleRunLemmas.{white_run}
 pub use Rattle.mm_lex.proofs.WordsLemmas.{spaced-words_of, word-visible, words_of-one, words_of-spaced}
-pub use Rattle.mm_lex.specs.Alphabet.{Name, has_byte, has_name, is_allowed, is_empty, is_label, is_label_byte, is_symbol, is_visible, is_white, name_eq, runs, runs_from, starts_white, with_byte, word}
-pub use Rattle.mm_lex.specs.Between.{AreAfter, CountAfter, HasBetween, IsNextToken, IsTokenAfter, IsCommentFaultAfter}
-pub use Rattle.mm_lex.specs.SymbolList.{EndsSymbols, IsListEnd}
+pub use Rattle.mm_lex.specs.Alphabet.{Name, has_byte, has_name, is_allowed, is_empty, is_label, is_label_byte, is_symbol, is_visible, is_white, name_eq, runs, runs_from, is_empty_or_starts_white, with_byte, word}
+pub use Rattle.mm_lex.specs.Between.{AreTokensAfter, IsTokenCountAfter, AreTokensBetween, IsNextToken, IsTokenAfter, IsCommentFaultAfter}
+pub use Rattle.mm_lex.specs.SymbolList.{EndsSymbols, IsListAndEnd}
 pub use Rattle.mm_lex.specs.TextFaults.{IsCommentFault, IsFirstBadByte}
 pub use Rattle.mm_lex.specs.Tokens.{SplitsInto, HasOnlyAllowedBytes, closer, is_plain, opener, words}
 pub use Rattle.mm_lex.specs.Words.{is_word, spaced, words_of}

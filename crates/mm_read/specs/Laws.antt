@@ -2,7 +2,7 @@
 -- Source: Metamath, 4.1; by these laws "the statements of a text" is well defined.
 -- They relate the definitions that contracts cite, and say nothing of code.
 use Rattle.std.specs.Prelude.{◌≡◌, ℕ, ◌⊎◌, Bool, true, ◌||◌, IsTrue, List, [], ◌∷◌, ◌++◌}
-use Rattle.mm_lex.specs.Alphabet.{Name, is_white, starts_white}
+use Rattle.mm_lex.specs.Alphabet.{Name, is_white, is_empty_or_starts_white}
 use Rattle.mm_read.specs.Statements.{Database, AreShaped, tokens_of}
 use Rattle.mm_read.specs.Reads.{Reads, IsShapeFault}
 use Rattle.mm_read.specs.Export.{export_of}
@@ -28,7 +28,7 @@ ExportReads = (S : Database) → AreShaped S → Reads (export_of S) S
 -- the second is empty or begins with one
 abbrev pub joins_no_words : List ℕ → List ℕ → Bool
 joins_no_words [] other = true
-joins_no_words (b ∷ []) other = is_white b || starts_white other
+joins_no_words (b ∷ []) other = is_white b || is_empty_or_starts_white other
 joins_no_words (b ∷ c ∷ text) other = joins_no_words (c ∷ text) other
 
 -- if each of two texts reads as statements and joining them does not make one word of two, the

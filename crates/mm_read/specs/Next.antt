@@ -4,7 +4,7 @@
 -- The functions that read one statement cite these; `Reads` defines reading for a whole text.
 use Rattle.std.specs.Prelude.{◌≡◌, ℕ, ◌<◌, List, [], ◌∷◌, ◌++◌, Option, Some, None}
 use Rattle.mm_lex.specs.Alphabet.{Name}
-use Rattle.mm_lex.specs.Between.{HasBetween, AreAfter, IsCommentFaultAfter}
+use Rattle.mm_lex.specs.Between.{AreTokensBetween, AreTokensAfter, IsCommentFaultAfter}
 use Rattle.mm_read.specs.declared.stmt.Stmt.{Stmt}
 use Rattle.mm_read.specs.declared.fault.ReadFault.{ReadFault}
 use Rattle.mm_read.specs.declared.fault.ReadFault.TheVariants.{Text, Shape, Memory}
@@ -15,20 +15,20 @@ use Rattle.mm_read.specs.Reads.{IsShapeFault}
 pub record IsNext (text : List ℕ) (at : ℕ) (s : Stmt) (next : ℕ) : Type 0 where
   pub shaped : IsShaped s
   pub later : at < next
-  pub between : HasBetween text at next (stmt_tokens s)
+  pub between : AreTokensBetween text at next (stmt_tokens s)
 
 -- the statement s consists of the tokens `before`, which end at `at`, and the tokens from `at` to
 -- `next`: from each offset from which `before` are the tokens up to `at`, the tokens up to `next`
 -- are those of s
 abbrev pub IsNextAfter : List ℕ → List Name → ℕ → Stmt → ℕ → Type 0
-IsNextAfter text before at s next = (from : ℕ) → from < at → HasBetween text from at before → IsNext text from s next
+IsNextAfter text before at s next = (from : ℕ) → from < at → AreTokensBetween text from at before → IsNext text from s next
 
 -- why no statement begins with the tokens `before`, which end at `at`: a comment fault after `at`;
--- or, if no comment after `at` is malformed, a shape fault that counts from the first of `before`;
--- or a failed allocation
+-- or, if there is none, a shape fault that counts from the first of `before`; or a failed
+-- allocation
 abbrev pub IsFaultAfter : List ℕ → List Name → ℕ → ReadFault → Type 0
 IsFaultAfter text before at (Text fault) = IsCommentFaultAfter text at fault
-IsFaultAfter text before at (Shape token) = (tokens : List Name) → AreAfter text at tokens → IsShapeFault (before ++ tokens) token
+IsFaultAfter text before at (Shape token) = (tokens : List Name) → AreTokensAfter text at tokens → IsShapeFault (before ++ tokens) token
 IsFaultAfter text before at Memory = Unit {0}
 
 -- the new list has one more statement, the next one in the text, which ends at `next`
@@ -41,16 +41,16 @@ pub record IsOneMore (text : List ℕ) (at next : ℕ) (old new : Database) : Ty
 -- is left and the list is unchanged (`None`)
 abbrev pub IsNextStep : List ℕ → ℕ → Database → Database → Option ℕ → Type 0
 IsNextStep text at old new (Some next) = IsOneMore text at next old new
-IsNextStep text at old new None = AreAfter text at [] × (new ≡ old)
+IsNextStep text at old new None = AreTokensAfter text at [] × (new ≡ old)
 
 -- the tokens up to an offset read as these statements
 pub record ReadsUpTo (text : List ℕ) (at : ℕ) (S : Database) : Type 0 where
   pub shaped : AreShaped S
-  pub between : HasBetween text 0 at (tokens_of S)
+  pub between : AreTokensBetween text 0 at (tokens_of S)
 
 -- why a text whose bytes are all allowed is refused: a comment fault, or else a shape fault or a
 -- failed allocation
 abbrev pub IsFaultOf : List ℕ → ReadFault → Type 0
 IsFaultOf text (Text fault) = IsCommentFaultAfter text 0 fault
-IsFaultOf text (Shape token) = (tokens : List Name) × AreAfter text 0 tokens × IsShapeFault tokens token
-IsFaultOf text Memory = (tokens : List Name) × AreAfter text 0 tokens
+IsFaultOf text (Shape token) = (tokens : List Name) × AreTokensAfter text 0 tokens × IsShapeFault tokens token
+IsFaultOf text Memory = (tokens : List Name) × AreTokensAfter text 0 tokens

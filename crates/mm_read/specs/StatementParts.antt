@@ -6,7 +6,7 @@
 use Rattle.std.specs.Prelude.{◌≡◌, ℕ, Bool, ◌+◌, ◌<◌, ◌≤◌, ◌⊎◌, IsTrue, IsFalse, List, [], ◌∷◌, ◌++◌, length, codes}
 use Rattle.std.specs.List.{list_all}
 use Rattle.mm_lex.specs.Alphabet.{Name, name_eq, has_name, is_symbol}
-use Rattle.mm_lex.specs.Between.{AreAfter, IsCommentFaultAfter}
+use Rattle.mm_lex.specs.Between.{AreTokensAfter, IsCommentFaultAfter}
 use Rattle.mm_read.specs.declared.keyword.Keyword.{Keyword}
 use Rattle.mm_read.specs.declared.keyword.Keyword.TheVariants.{Open, Close, Const, Var, Disj, Float, Ess, Axiom, Prove, Other}
 use Rattle.mm_read.specs.declared.fault.ReadFault.{ReadFault}
@@ -46,14 +46,14 @@ pub record BeginsBrokenList (tokens : List Name) (number least : ℕ) (end : Nam
   pub place : token ≡ number + length ws
   pub stop : BreaksList least end ws rest
 
--- if no comment after an offset is malformed, the tokens after it begin with such a list; in any
+-- if there is no comment fault after an offset, the tokens after it begin with such a list; in any
 -- case the token's number is bounded by the bytes that are left (`few`)
 pub record HasBrokenList (text : List ℕ) (at number least : ℕ) (end : Name) (token : ℕ) : Type 0 where
   pub few : token + at ≤ number + length text
-  pub stops : (tokens : List Name) → AreAfter text at tokens → BeginsBrokenList tokens number least end token
+  pub stops : (tokens : List Name) → AreTokensAfter text at tokens → BeginsBrokenList tokens number least end token
 
--- why no whole list follows an offset: a comment fault; the token at which it breaks off, if no
--- comment is malformed; or a failed allocation
+-- why no whole list follows an offset: a comment fault; the token at which it breaks off, if there
+-- is no comment fault; or a failed allocation
 abbrev pub IsListFault : List ℕ → ℕ → ℕ → ℕ → Name → ReadFault → Type 0
 IsListFault text at number least end (Text fault) = IsCommentFaultAfter text at fault
 IsListFault text at number least end (Shape token) = HasBrokenList text at number least end token
@@ -64,10 +64,10 @@ abbrev pub StartsOtherwise : (Name → Bool) → List Name → Type 0
 StartsOtherwise fits [] = Unit {0}
 StartsOtherwise fits (t ∷ rest) = IsFalse (fits t)
 
--- why no fitting token follows an offset: a comment fault; another token or none, if no comment is
--- malformed; or a failed allocation
+-- why no fitting token follows an offset: a comment fault; another token or none, if there is no
+-- comment fault; or a failed allocation
 abbrev pub IsTokenFault : List ℕ → ℕ → ℕ → (Name → Bool) → ReadFault → Type 0
 IsTokenFault text at number fits (Text fault) = IsCommentFaultAfter text at fault
 IsTokenFault text at number fits (Shape token) =
-    (token ≡ number) × ((tokens : List Name) → AreAfter text at tokens → StartsOtherwise fits tokens)
+    (token ≡ number) × ((tokens : List Name) → AreTokensAfter text at tokens → StartsOtherwise fits tokens)
 IsTokenFault text at number fits Memory = Unit {0}

@@ -7,7 +7,7 @@ use std::alloc::{AllocError, AllocFailed};
 /// Why a text is not read: it reads as no statements, or an allocation failed.
 #[derive(Clone, Copy, Debug, Drop, PartialEq, Eq)]
 pub enum ReadFault {
-    /// The text cannot be split into tokens, because of a byte (`LexFault::Text`) or of a comment
+    /// The text cannot be split into tokens, because of a byte (`LexFault::Text`) or its comments
     /// (`LexFault::Comment`).
     Text(LexFault),
     /// The tokens are those of no list of statements. `token` is the number of the first misplaced

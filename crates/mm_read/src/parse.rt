@@ -50,7 +50,7 @@ pub fn read(alloc: Global, text: &[u8]) -> Result<Vec<Stmt>, ReadFault>
     statements(alloc, text)
 }
 
-/// Returns the statements that a text reads as whose bytes are all allowed.
+/// Returns the statements that the text reads as. Its bytes are all allowed.
 fn statements(alloc: Global, text: &[u8]) -> Result<Vec<Stmt>, ReadFault>
     requires { HasOnlyAllowedBytes text.now }
     ensures found { IfOk result (λ statements. Reads text.now statements.items) }
@@ -62,7 +62,7 @@ fn statements(alloc: Global, text: &[u8]) -> Result<Vec<Stmt>, ReadFault>
         match add_next(alloc, &mut statements, text, at) {
             Ok(Some(next)) => at = next,
             Ok(None) => return Ok(statements),
-            Err(fault) => return Err(first_fault(text, at, fault)?),
+            Err(fault) => return Err(whole_text_fault(text, at, fault)?),
         }
     }
 }
@@ -70,7 +70,7 @@ fn statements(alloc: Global, text: &[u8]) -> Result<Vec<Stmt>, ReadFault>
 /// Appends the next statement after `at`; returns the offset after the statement, or `None` if no
 /// token is left.
 ///
-/// Errors: those of `statement`, and `Text`, if a comment before the statement is malformed.
+/// Errors: those of `statement`, and `Text`, for a comment fault before the statement.
 fn add_next(
     alloc: Global,
     statements: &mut Vec<Stmt>,
@@ -108,7 +108,7 @@ fn grow_heap(alloc: Global, at: usize, next: usize) {
 ///
 /// Errors: the comment fault of the text, if there is one: it takes precedence over `fault`. Cost:
 /// the size of the text.
-fn first_fault(text: &[u8], at: usize, fault: ReadFault) -> Result<ReadFault, LexFault>
+fn whole_text_fault(text: &[u8], at: usize, fault: ReadFault) -> Result<ReadFault, LexFault>
     requires allowed { HasOnlyAllowedBytes text.now }
     requires place { at ≤ length text.now }
     requires before { (S : Database) × ReadsUpTo text.now at S }

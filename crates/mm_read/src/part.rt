@@ -3,7 +3,7 @@ ghost use Rattle.std.specs.Prelude.{◌≡◌, ◌<◌, ◌≤◌, ◌∷◌, �
 ghost use Rattle.std.specs.List.{list_all};
 ghost use Rattle.mm_lex.specs.Alphabet.{name_eq, is_symbol};
 ghost use Rattle.mm_lex.specs.Tokens.{HasOnlyAllowedBytes};
-ghost use Rattle.mm_lex.specs.Between.{HasBetween};
+ghost use Rattle.mm_lex.specs.Between.{AreTokensBetween};
 ghost use Rattle.mm_read.specs.StatementParts.{IsListFault, IsTokenFault};
 
 use crate::fault::ReadFault;
@@ -17,10 +17,10 @@ use std::alloc::Global;
 /// `number` is the number that `Shape` gives to the first token after `at`. It is at most 3, the
 /// number of the first symbol of an expression.
 ///
-/// Errors: `Text`, if a comment before the end of the list is malformed; `Shape`, with the number
-/// of the token that does not fit, or one past the last if the text ends first; `Memory`, if an
-/// allocation fails. If a comment anywhere after `at` is malformed, the clause `fault` does not say
-/// which token a `Shape` names; the same holds for the functions below.
+/// Errors: `Text`, for a comment fault before the end of the list; `Shape`, with the number of the
+/// token that does not fit, or one past the last if the text ends first; `Memory`, if an allocation
+/// fails. If there is a comment fault anywhere after `at`, the clause `fault` does not say which
+/// token a `Shape` names; the same holds for the functions below.
 pub fn symbols_until(
     alloc: Global,
     text: &[u8],
@@ -34,13 +34,13 @@ pub fn symbols_until(
     requires number { number ≤ 3 }
     ensures symbols { IfOk result (λ r. IsTrue (list_all is_symbol r.0)) }
     ensures many { IfOk result (λ r. least ≤ length r.0) }
-    ensures between { IfOk result (λ r. HasBetween text.now at r.1 (r.0 ++ end.now ∷ [])) }
+    ensures between { IfOk result (λ r. AreTokensBetween text.now at r.1 (r.0 ++ end.now ∷ [])) }
     ensures later { IfOk result (λ r. at < r.1) }
     ensures fault { IfErr result (IsListFault text.now at number least end.now) }
 {
     let (words, stop) = symbols(alloc, text, at)?;
     if let Some(span) = stop {
-        if token_bytes(text, span) == end && has_least(&words, least) {
+        if token_bytes(text, span) == end && has_at_least(&words, least) {
             return Ok((words, span.end));
         }
     }
@@ -51,7 +51,7 @@ pub fn symbols_until(
 
 /// Returns whether there are at least `least` words. Cost: a constant if `least` is 0 or 1, else
 /// the size of the words.
-fn has_least(words: &Words, least: usize) -> bool
+fn has_at_least(words: &Words, least: usize) -> bool
     ensures { result ≡ nat_le least (length words.now) }
 {
     match least {
@@ -65,8 +65,8 @@ fn has_least(words: &Words, least: usize) -> bool
 ///
 /// `number` is the number of that token in its statement.
 ///
-/// Errors: `Text`, if a comment before it is malformed; `Shape`, with that number, if it is no
-/// symbol or no token is left; `Memory`, if an allocation fails.
+/// Errors: `Text`, for a comment fault before it; `Shape`, with that number, if it is no symbol or
+/// no token is left; `Memory`, if an allocation fails.
 pub fn next_symbol(
     alloc: Global,
     text: &[u8],
@@ -76,7 +76,7 @@ pub fn next_symbol(
     requires allowed { HasOnlyAllowedBytes text.now }
     requires place { at ≤ length text.now }
     ensures symbol { IfOk result (λ r. IsTrue (is_symbol r.0)) }
-    ensures between { IfOk result (λ r. HasBetween text.now at r.1 (r.0 ∷ [])) }
+    ensures between { IfOk result (λ r. AreTokensBetween text.now at r.1 (r.0 ∷ [])) }
     ensures fault { IfErr result (IsTokenFault text.now at number is_symbol) }
 {
     if let Some(span) = next_token(text, at)? {
@@ -93,12 +93,12 @@ pub fn next_symbol(
 ///
 /// `number` is the number of that token in its statement.
 ///
-/// Errors: `Text`, if a comment before it is malformed; `Shape`, with that number, if it is not
-/// `end` or no token is left.
+/// Errors: `Text`, for a comment fault before it; `Shape`, with that number, if it is not `end` or
+/// no token is left.
 pub fn expect_token(text: &[u8], at: usize, number: usize, end: &[u8]) -> Result<usize, ReadFault>
     requires allowed { HasOnlyAllowedBytes text.now }
     requires place { at ≤ length text.now }
-    ensures between { IfOk result (λ next. HasBetween text.now at next (end.now ∷ [])) }
+    ensures between { IfOk result (λ next. AreTokensBetween text.now at next (end.now ∷ [])) }
     ensures fault { IfErr result (IsTokenFault text.now at number (λ w. name_eq w end.now)) }
 {
     if let Some(span) = next_token(text, at)? {

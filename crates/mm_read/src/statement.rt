@@ -14,11 +14,11 @@ use std::alloc::Global;
 
 /// Returns the statement whose first token is at `first`, and the offset after the statement.
 ///
-/// Errors: `Text`, if a comment in the statement is malformed; `Shape`, with the number of the
-/// first misplaced token, counted from 1 at `first`, or one past the last token if the text ends
-/// within the statement; `Memory`, if an allocation fails. If a comment after `first` is malformed,
-/// even one after the statement, the clause `fault` does not say which token a `Shape` names. Cost:
-/// the size of the statement with its comments.
+/// Errors: `Text`, for a comment fault in the statement; `Shape`, with the number of the first
+/// misplaced token, counted from 1 at `first`, or one past the last token if the text ends within
+/// the statement; `Memory`, if an allocation fails. If there is a comment fault after `first`, even
+/// after the statement, the clause `fault` does not say which token a `Shape` names. Cost: the size
+/// of the statement with its comments.
 pub fn statement(alloc: Global, text: &[u8], first: Span) -> Result<(Stmt, usize), ReadFault>
     requires allowed { HasOnlyAllowedBytes text.now }
     requires token { IsWordAt text.now first }
@@ -57,22 +57,22 @@ fn labelled(alloc: Global, text: &[u8], label: &[u8], at: usize) -> Result<(Stmt
     ensures found { IfOk result (λ r. IsNextAfter text.now (label.now ∷ []) at r.0 r.1) }
     ensures fault { IfErr result (IsFaultAfter text.now (label.now ∷ []) at) }
 {
-    let Some(key) = next_token(text, at)? else {
+    let Some(keyword) = next_token(text, at)? else {
         return Err(ReadFault::Shape { token: 2 });
     };
-    match keyword_of(token_bytes(text, key)) {
-        Keyword::Float => floating(alloc, text, label, key.end),
+    match keyword_of(token_bytes(text, keyword)) {
+        Keyword::Float => floating(alloc, text, label, keyword.end),
         Keyword::Ess => {
-            let (expr, next) = symbols_until(alloc, text, key.end, 3, 1, b"$.")?;
+            let (expr, next) = symbols_until(alloc, text, keyword.end, 3, 1, b"$.")?;
             let label = Word::new(alloc, label)?;
             Ok((Stmt::Ess { label, expr }, next))
         }
         Keyword::Axiom => {
-            let (expr, next) = symbols_until(alloc, text, key.end, 3, 1, b"$.")?;
+            let (expr, next) = symbols_until(alloc, text, keyword.end, 3, 1, b"$.")?;
             let label = Word::new(alloc, label)?;
             Ok((Stmt::Axiom { label, expr }, next))
         }
-        Keyword::Prove => provable(alloc, text, label, key.end),
+        Keyword::Prove => provable(alloc, text, label, keyword.end),
         _ => Err(ReadFault::Shape { token: 2 }),
     }
 }

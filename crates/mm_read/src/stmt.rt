@@ -4,9 +4,9 @@ use mm_lex::{Word, Words};
 /// One statement. Its words are labels, symbols and tokens of a proof as they are written in the
 /// text.
 ///
-/// Reading checks only that a symbol stands where one has to. By the rules of `scope`, those of
-/// `$c` are constants, those of `$v` and `$d` are variables, those of `$f` are a constant and a
-/// variable, and an expression begins with a constant.
+/// Reading accepts any symbol where one has to stand. By the rules of `scope`, the symbols of `$c`
+/// are constants, those of `$v` and `$d` variables, those of `$f` a constant and a variable, and an
+/// expression begins with a constant.
 ///
 /// Source: Metamath, 4.1. `specs/Statements` defines which statements are well shaped.
 #[derive(Drop)]

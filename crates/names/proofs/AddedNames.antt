@@ -1,5 +1,5 @@
 -- Names are only added at the end, and a name keeps its code.
-use Rattle.names.proofs.Words.{◌≡◌, ℕ, ◌+◌, Bool, true, false, not, cond, ◌||◌, List, [], ◌∷◌, ◌++◌, refl, sym, ◌∙◌, ap, subst, arith, inl, inr, append_assoc, append-nil, or_left, or_right, or_assoc, Name, name_eq, has_name, with_name, with_names, code_or_len, codes_or_len, AreNamed, name_same, same_name}
+use Rattle.names.proofs.Words.{◌≡◌, ℕ, ◌+◌, Bool, true, false, not, cond, ◌||◌, List, [], ◌∷◌, ◌++◌, refl, sym, ◌∙◌, ap, subst, arith, inl, inr, append_assoc, append-nil, or_left, or_right, or_assoc, Name, name_eq, has_name, with_name, with_names, code_or_len, codes_or_len, HaveCodes, name_same, same_name}
 pub use Rattle.std.proofs.lemmas.Bool.{or_cases}
 
 pub has_name-append : (x : Name) (xs ys : List Name) → has_name x (xs ++ ys) ≡ (has_name x xs || has_name x ys)
@@ -47,7 +47,7 @@ code_or_len-more x (y ∷ names) more h = by (name_eq x y) h (code_or_len-more x
     by true h rest = refl
     by false h rest = ap (λ n. 1 + n) (rest h)
 
-pub codes_or_len-more : (names more xs : List Name) → AreNamed names xs → codes_or_len (names ++ more) xs ≡ codes_or_len names xs
+pub codes_or_len-more : (names more xs : List Name) → HaveCodes names xs → codes_or_len (names ++ more) xs ≡ codes_or_len names xs
 codes_or_len-more names more [] named = refl
 codes_or_len-more names more (x ∷ xs) named =
     ap (λ n. n ∷ codes_or_len (names ++ more) xs) (code_or_len-more x names more (named x (or_left (name_eq x x) (has_name x xs) (name_same x))))

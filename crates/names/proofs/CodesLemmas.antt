@@ -1,5 +1,5 @@
 -- Names and their codes.
-use Rattle.names.proofs.Words.{◌≡◌, ℕ, zero, suc, ◌+◌, ◌<◌, Bool, true, false, not, cond, ◌||◌, nat_lt, length, List, [], ◌∷◌, ◌++◌, map, Option, Some, None, get_or, refl, list_any, position_or_len, prefix_len, sym, ◌∙◌, ap, true≢false, arith, length-append, position-Some, or_right, false_from_ne_true, cond_some, Name, name_eq, has_name, name_at, code_of, AreDistinct, code_or_len, AreNamed}
+use Rattle.names.proofs.Words.{◌≡◌, ℕ, zero, suc, ◌+◌, ◌<◌, Bool, true, false, not, cond, ◌||◌, nat_lt, length, List, [], ◌∷◌, ◌++◌, map, Option, Some, None, get_or, refl, list_any, position_or_len, prefix_len, sym, ◌∙◌, ap, true≢false, arith, length-append, position-Some, or_right, false_from_ne_true, cond_some, Name, name_eq, has_name, name_at, code_of, AreDistinct, code_or_len, HaveCodes}
 pub use Rattle.mm_lex.proofs.NameLemmas.{name_same, same_name}
 
 pub list_any-map : {A B : Type 0} (f : A → B) (p : B → Bool) (xs : List A) → list_any (λ a. p (f a)) xs ≡ list_any p (map f xs)
@@ -104,9 +104,9 @@ pub unknown-number : (names : List Name) (x : Name) → None ≡ code_of names x
 unknown-number names x h = sym (lt-list_any (name_eq x) names) ∙ none_cond (nat_lt (code_or_len names x) (length names)) (code_or_len names x) (sym h)
 
 -- the first of names that have codes has a code
-pub first-named : (names words rest : List Name) (x : Name) → AreNamed names words → words ≡ x ∷ rest → has_name x names ≡ true
+pub first-named : (names words rest : List Name) (x : Name) → HaveCodes names words → words ≡ x ∷ rest → has_name x names ≡ true
 first-named names words rest x h is = h x (ap (has_name x) is ∙ ap (λ b. b || has_name x rest) (name_same x))
 
 -- .. and so have the others
-pub rest-named : (names words rest : List Name) (x : Name) → AreNamed names words → words ≡ x ∷ rest → AreNamed names rest
+pub rest-named : (names words rest : List Name) (x : Name) → HaveCodes names words → words ≡ x ∷ rest → HaveCodes names rest
 rest-named names words rest x h is y k = h y (ap (has_name y) is ∙ or_right (name_eq y x) (has_name y rest) k)

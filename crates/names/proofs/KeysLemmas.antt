@@ -1,5 +1,5 @@
 -- The key of a name that is too short to be hashed is the key of no other name.
-use Rattle.names.proofs.Words.{◌≡◌, ℕ, zero, suc, ◌+◌, ◌-◌, ◌*◌, ◌/◌, ◌%◌, ◌<◌, ◌≤◌, ◌^◌, Bool, true, false, cond, List, [], ◌∷◌, length, nat_lt, refl, sym, ◌∙◌, ap, subst, arith, Name, LEAST_HASHED_LEN, LEAST_HASH, AreBytes, digits, first_middle_last, first_four_last_three, key_bytes, eight, mixed, mixed_front, key_of}
+use Rattle.names.proofs.Words.{◌≡◌, ℕ, zero, suc, ◌+◌, ◌-◌, ◌*◌, ◌/◌, ◌%◌, ◌<◌, ◌≤◌, ◌^◌, Bool, true, false, cond, List, [], ◌∷◌, length, nat_lt, refl, sym, ◌∙◌, ap, subst, arith, Name, LEAST_HASHED_LEN, LEAST_HASH, AreBytes, digits, first_middle_last, first_four_last_three, key_bytes, eight_bytes_from, mixed, mixed_front, key_of}
 use Rattle.names.specs.Stored.Keys.{hash_of}
 
 -- a number in base 256 determines its lowest digit and the others
@@ -84,13 +84,13 @@ key_bytes-same x y p q l h e =
     sizes : (m n : ℕ) → m ≡ n → length (key_bytes x) ≡ length (key_bytes y)
     sizes m n s = size x ∙ (ap (λ k. cond (nat_lt k 4) 3 7) l ∙ sym (size y))
 
-pub hash-is : (x : Name) (front block last r : ℕ) → LEAST_HASHED_LEN ≤ length x → front ≡ mixed_front x block → block ≤ (length x - 1) / 8 → (length x - 1) / 8 ≤ block → last ≡ digits (eight x (length x - 8)) → r ≡ mixed front last
+pub hash-is : (x : Name) (front block last r : ℕ) → LEAST_HASHED_LEN ≤ length x → front ≡ mixed_front x block → block ≤ (length x - 1) / 8 → (length x - 1) / 8 ≤ block → last ≡ digits (eight_bytes_from x (length x - 8)) → r ≡ mixed front last
     → r % LEAST_HASH + LEAST_HASH ≡ key_of x
 unfolding hash_of
 hash-is x front block last r long e p q l m =
     let s : block ≡ (length x - 1) / 8 = omega (arith, p, q) in
     let t : nat_lt (length x) LEAST_HASHED_LEN ≡ false = grind (arith, long) in
-    ap (λ n. n % LEAST_HASH + LEAST_HASH) (m ∙ (ap (mixed front) l ∙ ap (λ f. mixed f (digits (eight x (length x - 8)))) (e ∙ ap (mixed_front x) s)))
+    ap (λ n. n % LEAST_HASH + LEAST_HASH) (m ∙ (ap (mixed front) l ∙ ap (λ f. mixed f (digits (eight_bytes_from x (length x - 8)))) (e ∙ ap (mixed_front x) s)))
     ∙ sym (ap (λ b. cond b (digits (key_bytes x) * 8 + length x) (hash_of x)) t)
 
 hash-above : (x : Name) → LEAST_HASH ≤ hash_of x

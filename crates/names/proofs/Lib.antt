@@ -6,5 +6,5 @@ pub mod CodesLemmas
 pub mod DistinctLemmas
 pub mod KeysLemmas
 pub mod TableLemmas
-pub mod TextsLemmas
+pub mod NameListLemmas
 pub mod PutLemmas

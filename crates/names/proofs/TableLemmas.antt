@@ -1,11 +1,11 @@
 -- A table of slots by keys: a name that is put there is found, and a name that is not found is not there.
-use Rattle.names.proofs.Words.{◌≡◌, ◌≢◌, ℕ, zero, suc, ◌+◌, ◌<◌, ◌≤◌, ◌^◌, ◌⊎◌, List, [], ◌∷◌, ◌++◌, length, take, slice_get, Option, Some, None, IfSome, refl, sym, ◌∙◌, ap, subst, arith, inl, inr, slice_set, cases_lt, unwrap_or, replicate, length-set, length-replicate, get_or-replicate, slice_get_within, unwrap_or-slice_get, same_Some, Name, name_at, code_of, Slot, NO_NAME, MAX_PROBES, NameKeys, Overflow, code_in_overflow, key_of, half_of, slot_of, slot_index_of, slot_at, IsTaken, IsReachable, AreReachable, AreFound, AreUnused, IsFree, IsPassed}
+use Rattle.names.proofs.Words.{◌≡◌, ◌≢◌, ℕ, zero, suc, ◌+◌, ◌<◌, ◌≤◌, ◌^◌, ◌⊎◌, List, [], ◌∷◌, ◌++◌, length, take, slice_get, Option, Some, None, IfSome, refl, sym, ◌∙◌, ap, subst, arith, inl, inr, slice_set, cases_lt, unwrap_or, replicate, length-set, length-replicate, get_or-replicate, slice_get_within, unwrap_or-slice_get, same_Some, Name, name_at, code_of, Slot, NO_NAME, MAX_PROBES, NameKeys, Overflow, code_in_overflow, key_of, half_of, slot_of, slot_index_of, IsProbedSlot, IsTaken, IsReachable, AreReachable, AreFound, AreUnused, IsFree, IsPassed}
 use Rattle.names.proofs.CodesLemmas.{code-absent}
 
-same-slot : (slots : List Slot) (key step : ℕ) (s t : Slot) → slot_at slots key step s → slot_at slots key step t → s ≡ t
+same-slot : (slots : List Slot) (key step : ℕ) (s t : Slot) → IsProbedSlot slots key step s → IsProbedSlot slots key step t → s ≡ t
 same-slot slots key step s t a b = same_Some _ _ (sym a ∙ b)
 
-pub passed-one : (slots : List Slot) (names : List Name) (name : Name) (key step : ℕ) (t : Slot) → slot_at slots key step t → t.code ≢ NO_NAME → (t.half ≡ half_of key → t.code < length names → name_at names t.code ≢ name)
+pub passed-one : (slots : List Slot) (names : List Name) (name : Name) (key step : ℕ) (t : Slot) → IsProbedSlot slots key step t → t.code ≢ NO_NAME → (t.half ≡ half_of key → t.code < length names → name_at names t.code ≢ name)
     → IsPassed slots names name key step
 passed-one slots names name key step t at taken other s g =
     subst (λ (u : Slot). (u.code ≢ NO_NAME) × (u.half ≡ half_of key → u.code < length names → name_at names u.code ≢ name)) (same-slot slots key step t s at g) (taken, other)
@@ -15,7 +15,7 @@ no-name k n p q e = omega (arith, p, q, e)
 
 -- no name is this one, if it is not in the overflow and the search reached a slot without a code or has tried all its slots
 pub not-found : (slots : List Slot) (a : Overflow) (names : List Name) (name : Name) (key step : ℕ) → key ≡ key_of name → AreFound slots a names → length names < 2 ^ 32
-    → ((i : ℕ) → i < step → IsPassed slots names name key i) → ((length slots ≤ step) ⊎ (MAX_PROBES ≤ step)) ⊎ ((s : Slot) × slot_at slots key step s × (s.code ≡ NO_NAME))
+    → ((i : ℕ) → i < step → IsPassed slots names name key i) → ((length slots ≤ step) ⊎ (MAX_PROBES ≤ step)) ⊎ ((s : Slot) × IsProbedSlot slots key step s × (s.code ≡ NO_NAME))
     → ((k : ℕ) → k < length names → name_at names k ≡ name → code_in_overflow a name ≢ Some k) → code_of names name ≡ None
 not-found slots a names name key step own found few passed end other = code-absent names name none
   where
@@ -35,21 +35,21 @@ not-found slots a names name key step own found few passed end other = code-abse
             past (inl all) p = let w = h.within in absurd (omega (arith, w, all, p))
             past (inr all) p = let w = h.near in absurd (omega (arith, w, all, p))
 
-            by : ((length slots ≤ step) ⊎ (MAX_PROBES ≤ step)) ⊎ ((s : Slot) × slot_at slots key step s × (s.code ≡ NO_NAME)) → (h.step < step) ⊎ (step ≤ h.step) → ⊥
+            by : ((length slots ≤ step) ⊎ (MAX_PROBES ≤ step)) ⊎ ((s : Slot) × IsProbedSlot slots key step s × (s.code ≡ NO_NAME)) → (h.step < step) ⊎ (step ≤ h.step) → ⊥
             by end (inl p) = met p
             by (inl all) (inr p) = past all p
             by (inr f) (inr p) = later f (cases_lt step h.step)
               where
-                later : (s : Slot) × slot_at slots key step s × (s.code ≡ NO_NAME) → (step < h.step) ⊎ (h.step ≤ step) → ⊥
+                later : (s : Slot) × IsProbedSlot slots key step s × (s.code ≡ NO_NAME) → (step < h.step) ⊎ (h.step ≤ step) → ⊥
                 later g (inl q) = h.before step q g.0 g.1 g.2
                 later g (inr q) =
                     let same : h.step ≡ step = omega (arith, p, q) in
-                    let there : slot_at slots key step (slot_of key k) = subst (λ i. slot_at slots key i (slot_of key k)) same h.there in
+                    let there : IsProbedSlot slots key step (slot_of key k) = subst (λ i. IsProbedSlot slots key i (slot_of key k)) same h.there in
                     no-name k (length names) lt few (ap (λ (u : Slot). u.code) (same-slot slots key step (slot_of key k) g.0 there g.1) ∙ g.2)
 
 -- the answer of the overflow is then the answer for the name
 pub ended : (slots : List Slot) (a : Overflow) (names : List Name) (name : Name) (key step : ℕ) (r : Option ℕ) → key ≡ key_of name → AreFound slots a names → length names < 2 ^ 32
-    → ((i : ℕ) → i < step → IsPassed slots names name key i) → ((length slots ≤ step) ⊎ (MAX_PROBES ≤ step)) ⊎ ((s : Slot) × slot_at slots key step s × (s.code ≡ NO_NAME))
+    → ((i : ℕ) → i < step → IsPassed slots names name key i) → ((length slots ≤ step) ⊎ (MAX_PROBES ≤ step)) ⊎ ((s : Slot) × IsProbedSlot slots key step s × (s.code ≡ NO_NAME))
     → IfSome r (λ n. code_of names name ≡ Some n) → (r ≡ None → (k : ℕ) → k < length names → name_at names k ≡ name → code_in_overflow a name ≢ Some k) → r ≡ code_of names name
 ended slots a names name key step (Some n) own found few passed end some none = sym some
 ended slots a names name key step None own found few passed end some none = sym (not-found slots a names name key step own found few passed end (none refl))

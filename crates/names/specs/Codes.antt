@@ -46,5 +46,5 @@ abbrev pub codes_or_len : List Name → List Name → List ℕ
 codes_or_len names xs = map (code_or_len names) xs
 
 -- each of the names xs has a code in the list `names`
-abbrev pub AreNamed : List Name → List Name → Type 0
-AreNamed names xs = (x : Name) → has_name x xs ≡ true → has_name x names ≡ true
+abbrev pub HaveCodes : List Name → List Name → Type 0
+HaveCodes names xs = (x : Name) → has_name x xs ≡ true → has_name x names ≡ true

@@ -1,6 +1,6 @@
 //! A 64-bit key for each name: all bytes of a short name, a hash of a longer one.
 ghost use Rattle.std.specs.Prelude.{◌≡◌, ◌≢◌, ◌+◌, ◌*◌, ◌^◌, ◌<◌, ◌≤◌, length};
-ghost use Rattle.names.specs.Stored.Keys.{AreBytes, digits, key_bytes, eight, scrambled, mixed, key_of};
+ghost use Rattle.names.specs.Stored.Keys.{AreBytes, digits, key_bytes, eight_bytes_from, scrambled, mixed, key_of};
 
 /// The least length of a name whose key is a hash, which other names may share. A shorter name
 /// shares its key with no other.
@@ -72,7 +72,7 @@ fn more_bytes(name: &[u8]) -> u64
 /// Returns the eight bytes from an index on as one number.
 fn eight_bytes(name: &[u8], at: usize) -> u64
     requires { at + 8 ≤ length name.now }
-    ensures { result ≡ digits (eight name.now at) }
+    ensures { result ≡ digits (eight_bytes_from name.now at) }
 {
     let last = digit(name[at + 5], digit(name[at + 6], digit(name[at + 7], 0)));
     let middle = digit(name[at + 3], digit(name[at + 4], last));

@@ -2,17 +2,16 @@
 //! name is its index in it.
 //!
 //! `NameTable::add` gives a name its code, `find` returns the code of a name, and `name` the name
-//! of a code. Read `names` first. The module `texts` stores the bytes of names (a text is the bytes
-//! of one name), `table` is the hash table that finds a code by the key of its name, `keys`
-//! computes keys, `name_keys` stores them by code, and `overflow` has the names that found no slot
-//! in the table.
+//! of a code. Read `names` first. The module `name_list` stores the bytes of names, `table` is the
+//! hash table that finds a code by the key of its name, `keys` computes keys, `name_keys` stores
+//! them by code, and `overflow` has the names that found no slot in the table.
 #![tactic(auto)]
 
 mod keys;
 mod name_keys;
+mod name_list;
 mod names;
 mod overflow;
 mod table;
-mod texts;
 
 pub use names::NameTable;

@@ -8,8 +8,8 @@ ghost use Rattle.names.specs.Stored.Table.{AreNameKeys};
 ghost use Rattle.names.specs.declared.keys.TheConstants.{IN_OVERFLOW};
 
 use crate::keys::{IN_OVERFLOW, key};
+use crate::name_list::NameList;
 use crate::overflow::Overflow;
-use crate::texts::Texts;
 use entries::give_back;
 use std::alloc::{AllocError, Global};
 
@@ -30,24 +30,24 @@ impl NameKeys {
         }
     }
 
-    /// Returns the keys of the texts, with an empty overflow.
-    pub(crate) fn of(alloc: Global, texts: &Texts) -> Result<NameKeys, AllocError>
-        ensures { IfOk result (λ name_keys. AreNameKeys name_keys texts.now) }
+    /// Returns the keys of the names, with an empty overflow.
+    pub(crate) fn of(alloc: Global, name_list: &NameList) -> Result<NameKeys, AllocError>
+        ensures { IfOk result (λ name_keys. AreNameKeys name_keys name_list.now) }
     {
         let mut name_keys = NameKeys::new(alloc);
-        for code in 0..texts.len() {
-            name_keys.push(code, key(texts.get(code)))?;
+        for code in 0..name_list.len() {
+            name_keys.push(code, key(name_list.get(code)))?;
         }
         Ok(name_keys)
     }
 
     /// Returns whether the name of a code has this key, and is not in the overflow.
-    pub(crate) fn has(&self, texts: &Texts, code: u32, key: u64) -> bool
-        requires name_keys { AreNameKeys self.now texts.now }
+    pub(crate) fn has(&self, name_list: &NameList, code: u32, key: u64) -> bool
+        requires name_keys { AreNameKeys self.now name_list.now }
         requires not_overflow { key ≢ IN_OVERFLOW }
-        ensures { result ≡ true → (code < length texts.now) × AreBytes (name_at texts.now code) × (key_of (name_at texts.now code) ≡ key) }
+        ensures { result ≡ true → (code < length name_list.now) × AreBytes (name_at name_list.now code) × (key_of (name_at name_list.now code) ≡ key) }
     {
-        (code as usize) < texts.len() && self.keys[code as usize] == key
+        (code as usize) < name_list.len() && self.keys[code as usize] == key
     }
 
     /// Records the key of the next name, whose code is `code`.
@@ -104,19 +104,19 @@ impl NameKeys {
 
     /// Removes the names with the code `len` or a greater one from the overflow. The list of keys
     /// keeps its length: keys after the last name have no meaning.
-    pub(crate) fn truncate(&mut self, texts: &Texts, len: usize)
-        requires name_keys { AreNameKeys self.old texts.now }
-        requires distinct { AreDistinct texts.now }
-        requires within { len ≤ length texts.now }
+    pub(crate) fn truncate(&mut self, name_list: &NameList, len: usize)
+        requires name_keys { AreNameKeys self.old name_list.now }
+        requires distinct { AreDistinct name_list.now }
+        requires within { len ≤ length name_list.now }
         ensures keys { self.new.keys ≡ self.old.keys }
-        ensures codes { (k : ℕ) → k < len → code_in_overflow self.new.overflow (name_at texts.now k) ≡ code_in_overflow self.old.overflow (name_at texts.now k) }
+        ensures codes { (k : ℕ) → k < len → code_in_overflow self.new.overflow (name_at name_list.now k) ≡ code_in_overflow self.old.overflow (name_at name_list.now k) }
     {
         if self.overflow.is_empty() {
             return;
         }
-        for code in len..texts.len() {
+        for code in len..name_list.len() {
             if self.keys[code] == IN_OVERFLOW {
-                self.overflow.remove(texts.get(code));
+                self.overflow.remove(name_list.get(code));
             }
         }
     }

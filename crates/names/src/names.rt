@@ -5,8 +5,8 @@ ghost use Rattle.names.specs.Codes.{name_at, code_of, AreDistinct};
 
 use crate::keys::{IN_OVERFLOW, key};
 use crate::name_keys::NameKeys;
+use crate::name_list::NameList;
 use crate::table::{FIRST_SLOTS, NO_NAME, Slot, build_slots, free_slot_index, make_slot, search};
-use crate::texts::Texts;
 use std::alloc::{AllocError, Global};
 use std::marker::Model;
 
@@ -17,7 +17,7 @@ use std::marker::Model;
 /// goes into the overflow, which looks names up in sorted maps.
 #[derive(Drop)]
 pub struct NameTable {
-    texts: Texts,
+    name_list: NameList,
     name_keys: NameKeys,
     slots: Vec<Slot>,
     /// An upper bound on the number of slots that are taken, those of removed names included.
@@ -31,9 +31,9 @@ impl Model for NameTable {
 
     ghost Value = { List (List ℕ) };
 
-    ghost view = { λ a. a.texts };
+    ghost view = { λ a. a.name_list };
 
-    ghost invariant = { λ a. (length a.texts < 2 ^ 32) × (AreDistinct a.texts × IsTable a.slots.items a.name_keys a.texts) };
+    ghost invariant = { λ a. (length a.name_list < 2 ^ 32) × (AreDistinct a.name_list × IsTable a.slots.items a.name_keys a.name_list) };
 }
 
 impl NameTable {
@@ -42,7 +42,7 @@ impl NameTable {
         ensures { result ≡ [] }
     {
         NameTable {
-            texts: Texts::new(alloc),
+            name_list: NameList::new(alloc),
             name_keys: NameKeys::new(alloc),
             slots: Vec::new(alloc),
             taken: 0,
@@ -55,12 +55,12 @@ impl NameTable {
     pub fn copy(&self, alloc: Global) -> Result<NameTable, AllocError>
         ensures { IfOk result (λ names. names ≡ self.now) }
     {
-        let texts = self.texts.copy(alloc)?;
-        let mut name_keys = NameKeys::of(alloc, &texts)?;
-        let slots = build_slots(alloc, &texts, &mut name_keys, 0)?;
-        let taken = texts.len();
+        let name_list = self.name_list.copy(alloc)?;
+        let mut name_keys = NameKeys::of(alloc, &name_list)?;
+        let slots = build_slots(alloc, &name_list, &mut name_keys, 0)?;
+        let taken = name_list.len();
         Ok(NameTable {
-            texts,
+            name_list,
             name_keys,
             slots,
             taken,
@@ -71,7 +71,7 @@ impl NameTable {
     pub fn len(&self) -> usize
         ensures { result ≡ length self.now }
     {
-        self.texts.len()
+        self.name_list.len()
     }
 
     /// Returns the code of a name, or `None` if it has none.
@@ -86,7 +86,7 @@ impl NameTable {
         ensures distinct { AreDistinct self.now }
     {
         let slots = self.slots.as_slice();
-        search(slots, &self.name_keys, &self.texts, name)
+        search(slots, &self.name_keys, &self.name_list, name)
     }
 
     /// Returns the name of a code.
@@ -94,7 +94,7 @@ impl NameTable {
         requires { code < length self.now }
         ensures { result.now ≡ name_at self.now code }
     {
-        self.texts.get(code)
+        self.name_list.get(code)
     }
 
     /// Returns the code of a name, and appends the name if it has none.
@@ -102,7 +102,7 @@ impl NameTable {
     /// Errors: an allocation fails, or there are 2^32 - 1 names already; the list is then
     /// unchanged.
     /// Cost: that of `find`, and if the name is new that of `add`.
-    pub fn code(&mut self, alloc: Global, name: &[u8]) -> Result<usize, AllocError>
+    pub fn find_or_add(&mut self, alloc: Global, name: &[u8]) -> Result<usize, AllocError>
         ensures name { IfOk result (λ n. (n < length self.new) × (name_at self.new n ≡ name.now)) }
         ensures known { IfOk result (λ n. n < length self.old → self.new ≡ self.old) }
         ensures fresh { IfOk result (λ n. length self.old ≤ n → self.new ≡ self.old ++ name.now ∷ []) }
@@ -131,7 +131,7 @@ impl NameTable {
         ensures err { OnErr result (self.new ≡ self.old) }
     {
         self.make_room(alloc, 1)?;
-        let code = self.texts.len();
+        let code = self.name_list.len();
         if code >= NO_NAME as usize {
             return Err(AllocError);
         }
@@ -139,14 +139,14 @@ impl NameTable {
         match free_slot_index(self.slots.as_slice(), key) {
             Some(at) => {
                 self.name_keys.push(code, key)?;
-                self.texts.push(name)?;
+                self.name_list.push(name)?;
                 self.slots[at] = make_slot(key, code as u32);
                 self.taken = self.taken.saturating_add(1);
             }
             None => {
                 self.name_keys.push(code, IN_OVERFLOW)?;
                 self.name_keys.overflow.insert(alloc, name, code as u32)?;
-                self.texts.push(name)?;
+                self.name_list.push(name)?;
             }
         }
         Ok(code)
@@ -159,7 +159,7 @@ impl NameTable {
     pub fn reserve(&mut self, alloc: Global, more: usize)
         ensures { self.new ≡ self.old }
     {
-        self.texts.reserve(more);
+        self.name_list.reserve(more);
         self.name_keys.reserve(more);
         let _ = self.make_room(alloc, more);
     }
@@ -179,8 +179,8 @@ impl NameTable {
     fn rebuild(&mut self, alloc: Global, more: usize) -> Result<(), AllocError>
         ensures { self.new ≡ self.old }
     {
-        self.slots = build_slots(alloc, &self.texts, &mut self.name_keys, more)?;
-        self.taken = self.texts.len();
+        self.slots = build_slots(alloc, &self.name_list, &mut self.name_keys, more)?;
+        self.taken = self.name_list.len();
         Ok(())
     }
 
@@ -191,11 +191,11 @@ impl NameTable {
     pub fn truncate(&mut self, len: usize)
         ensures { self.new ≡ take len self.old }
     {
-        if len >= self.texts.len() {
+        if len >= self.name_list.len() {
             return;
         }
-        self.name_keys.truncate(&self.texts, len);
-        self.texts.truncate(len);
+        self.name_keys.truncate(&self.name_list, len);
+        self.name_list.truncate(len);
     }
 
     /// Frees unused memory, as `entries::give_back` does. Makes a new table if there are more than
@@ -206,9 +206,9 @@ impl NameTable {
     pub fn shrink(&mut self, alloc: Global)
         ensures { self.new ≡ self.old }
     {
-        self.texts.shrink();
-        self.name_keys.shrink(self.texts.len());
-        if self.slots.len() / 8 > self.texts.len().max(FIRST_SLOTS) {
+        self.name_list.shrink();
+        self.name_keys.shrink(self.name_list.len());
+        if self.slots.len() / 8 > self.name_list.len().max(FIRST_SLOTS) {
             let _ = self.rebuild(alloc, 0);
         }
     }

@@ -53,8 +53,8 @@ impl Overflow {
             self.short.insert(key(name), code)?;
             return Ok(());
         }
-        let text = Vec::from_slice(alloc, name)?;
-        self.long.insert(text, code)?;
+        let name_copy = Vec::from_slice(alloc, name)?;
+        self.long.insert(name_copy, code)?;
         Ok(())
     }
 

@@ -4,14 +4,14 @@ ghost use Rattle.mm_lex.specs.Alphabet.{Name};
 ghost use Rattle.names.specs.Codes.{name_at, code_of, AreDistinct};
 ghost use Rattle.names.specs.Stored.Keys.{key_of};
 ghost use Rattle.names.specs.Stored.Overflow.{code_in_overflow};
-ghost use Rattle.names.specs.Stored.Table.{half_of, slot_of, slot_index_of, slot_at, AreFound, AreNameKeys, OverflowGrows, AreReachable, AreUnused, IsFree};
+ghost use Rattle.names.specs.Stored.Table.{half_of, slot_of, slot_index_of, IsProbedSlot, AreFound, AreNameKeys, OverflowGrows, AreReachable, AreUnused, IsFree};
 ghost use Rattle.names.specs.declared.keys.TheConstants.{IN_OVERFLOW};
 ghost use Rattle.names.specs.declared.table.TheConstants.{MAX_PROBES};
 
 use crate::keys::{IN_OVERFLOW, LEAST_HASHED_LEN, hash, key, scramble, short_key};
 use crate::name_keys::NameKeys;
+use crate::name_list::{NameList, item};
 use crate::overflow::Overflow;
-use crate::texts::{Texts, item};
 use std::alloc::{AllocError, Global};
 
 /// Marks a free slot.
@@ -31,7 +31,7 @@ const HALVES: u64 = 0x1_0000_0000;
 /// if the slot is free. `NameKeys` has the whole key.
 ///
 /// The slot of a removed name stays taken: its code is then that of no name, or of another one. A
-/// search therefore also compares the key or the text of the name that has the code now.
+/// search therefore also compares the key or the bytes of the name that has the code now.
 #[derive(Clone, Copy, Drop)]
 pub struct Slot {
     pub half: u32,
@@ -80,84 +80,94 @@ fn max_steps(len: usize) -> usize
 fn probe(slots: &[Slot], key: u64, step: usize) -> Slot
     requires within { step < length slots.now }
     requires near { step < MAX_PROBES }
-    ensures { slot_at slots.now key step result }
+    ensures { IsProbedSlot slots.now key step result }
 {
     item(slots, slot_index(key, step, slots.len()))
 }
 
 /// Returns the code of a name, or `None` if it has none. Most short names are in the first slot
-/// that it probes; it then reads no text.
+/// that it probes; it then reads no bytes of names.
 #[inline(always)]
 pub(crate) fn search(
     slots: &[Slot],
     name_keys: &NameKeys,
-    texts: &Texts,
+    name_list: &NameList,
     name: &[u8],
 ) -> Option<usize>
-    requires found { AreFound slots.now name_keys.now.overflow texts.now }
-    requires name_keys { AreNameKeys name_keys.now texts.now }
-    requires distinct { AreDistinct texts.now }
-    requires few { length texts.now < 2 ^ 32 }
-    ensures { result ≡ code_of texts.now name.now }
+    requires found { AreFound slots.now name_keys.now.overflow name_list.now }
+    requires name_keys { AreNameKeys name_keys.now name_list.now }
+    requires distinct { AreDistinct name_list.now }
+    requires few { length name_list.now < 2 ^ 32 }
+    ensures { result ≡ code_of name_list.now name.now }
 {
     if slots.is_empty() || name.is_empty() || name.len() >= LEAST_HASHED_LEN {
-        return search_long(slots, name_keys, texts, name);
+        return search_long(slots, name_keys, name_list, name);
     }
     let key = short_key(name);
     let slot = probe(slots, key, 0);
-    if slot.half == half(key) && name_keys.has(texts, slot.code, key) {
+    if slot.half == half(key) && name_keys.has(name_list, slot.code, key) {
         return Some(slot.code as usize);
     }
     if is_absent(slot, name_keys) {
         return None;
     }
-    search_slots(slots, name_keys, texts, name)
+    search_slots(slots, name_keys, name_list, name)
 }
 
 /// Returns the code of a name, quickly if it is long and in the first slot that it probes.
 #[inline(never)]
-fn search_long(slots: &[Slot], name_keys: &NameKeys, texts: &Texts, name: &[u8]) -> Option<usize>
-    requires found { AreFound slots.now name_keys.now.overflow texts.now }
-    requires name_keys { AreNameKeys name_keys.now texts.now }
-    requires distinct { AreDistinct texts.now }
-    requires few { length texts.now < 2 ^ 32 }
-    ensures { result ≡ code_of texts.now name.now }
+fn search_long(
+    slots: &[Slot],
+    name_keys: &NameKeys,
+    name_list: &NameList,
+    name: &[u8],
+) -> Option<usize>
+    requires found { AreFound slots.now name_keys.now.overflow name_list.now }
+    requires name_keys { AreNameKeys name_keys.now name_list.now }
+    requires distinct { AreDistinct name_list.now }
+    requires few { length name_list.now < 2 ^ 32 }
+    ensures { result ≡ code_of name_list.now name.now }
 {
     if slots.is_empty() || name.len() < LEAST_HASHED_LEN {
-        return search_slots(slots, name_keys, texts, name);
+        return search_slots(slots, name_keys, name_list, name);
     }
     let key = hash(name);
     let slot = probe(slots, key, 0);
-    if slot.half == half(key) && is_text(texts, slot.code, name) {
+    if slot.half == half(key) && has_name_at(name_list, slot.code, name) {
         return Some(slot.code as usize);
     }
     if is_absent(slot, name_keys) {
         return None;
     }
-    search_slots(slots, name_keys, texts, name)
+    search_slots(slots, name_keys, name_list, name)
 }
 
 /// Returns the code of a name by a search slot by slot.
 #[inline(never)]
-fn search_slots(slots: &[Slot], name_keys: &NameKeys, texts: &Texts, name: &[u8]) -> Option<usize>
-    requires found { AreFound slots.now name_keys.now.overflow texts.now }
-    requires name_keys { AreNameKeys name_keys.now texts.now }
-    requires distinct { AreDistinct texts.now }
-    requires few { length texts.now < 2 ^ 32 }
-    ensures { result ≡ code_of texts.now name.now }
+fn search_slots(
+    slots: &[Slot],
+    name_keys: &NameKeys,
+    name_list: &NameList,
+    name: &[u8],
+) -> Option<usize>
+    requires found { AreFound slots.now name_keys.now.overflow name_list.now }
+    requires name_keys { AreNameKeys name_keys.now name_list.now }
+    requires distinct { AreDistinct name_list.now }
+    requires few { length name_list.now < 2 ^ 32 }
+    ensures { result ≡ code_of name_list.now name.now }
 {
     let key = key(name);
     let half = half(key);
     for step in 0..max_steps(slots.len()) {
         let slot = probe(slots, key, step);
         if slot.code == NO_NAME {
-            return search_overflow(&name_keys.overflow, texts, name);
+            return search_overflow(&name_keys.overflow, name_list, name);
         }
-        if slot.half == half && is_name(name_keys, texts, slot.code, key, name) {
+        if slot.half == half && is_name(name_keys, name_list, slot.code, key, name) {
             return Some(slot.code as usize);
         }
     }
-    search_overflow(&name_keys.overflow, texts, name)
+    search_overflow(&name_keys.overflow, name_list, name)
 }
 
 /// Returns whether the slot is free and the overflow is empty. If so, a name for which this slot is
@@ -168,42 +178,42 @@ fn is_absent(slot: Slot, name_keys: &NameKeys) -> bool
     slot.code == NO_NAME && name_keys.overflow.is_empty()
 }
 
-/// Returns the code of a name in the overflow, or `None` if it is not there. Compares the text,
+/// Returns the code of a name in the overflow, or `None` if it is not there. Compares the name,
 /// because after a failed `add` the overflow may have a name that is not in the list.
-fn search_overflow(overflow: &Overflow, texts: &Texts, name: &[u8]) -> Option<usize>
-    requires { AreDistinct texts.now }
-    ensures some { IfSome result (λ n. code_of texts.now name.now ≡ Some n) }
-    ensures none { result ≡ None → (k : ℕ) → k < length texts.now → name_at texts.now k ≡ name.now → code_in_overflow overflow.now name.now ≢ Some k }
+fn search_overflow(overflow: &Overflow, name_list: &NameList, name: &[u8]) -> Option<usize>
+    requires { AreDistinct name_list.now }
+    ensures some { IfSome result (λ n. code_of name_list.now name.now ≡ Some n) }
+    ensures none { result ≡ None → (k : ℕ) → k < length name_list.now → name_at name_list.now k ≡ name.now → code_in_overflow overflow.now name.now ≢ Some k }
 {
     if overflow.is_empty() {
         return None;
     }
     match overflow.get(name) {
-        Some(code) if is_text(texts, code, name) => Some(code as usize),
+        Some(code) if has_name_at(name_list, code, name) => Some(code as usize),
         _ => None,
     }
 }
 
 /// Returns whether a code is that of the name with this key. For a short name the key decides.
-fn is_name(name_keys: &NameKeys, texts: &Texts, code: u32, key: u64, name: &[u8]) -> bool
-    requires name_keys { AreNameKeys name_keys.now texts.now }
+fn is_name(name_keys: &NameKeys, name_list: &NameList, code: u32, key: u64, name: &[u8]) -> bool
+    requires name_keys { AreNameKeys name_keys.now name_list.now }
     requires key { key ≡ key_of name.now }
     requires not_overflow { key ≢ IN_OVERFLOW }
-    ensures yes { result ≡ true → (code < length texts.now) × (name_at texts.now code ≡ name.now) }
-    ensures no { result ≡ false → code < length texts.now → name_at texts.now code ≡ name.now → ⊥ }
+    ensures yes { result ≡ true → (code < length name_list.now) × (name_at name_list.now code ≡ name.now) }
+    ensures no { result ≡ false → code < length name_list.now → name_at name_list.now code ≡ name.now → ⊥ }
 {
-    if name.len() < LEAST_HASHED_LEN && name_keys.has(texts, code, key) {
+    if name.len() < LEAST_HASHED_LEN && name_keys.has(name_list, code, key) {
         return true;
     }
-    is_text(texts, code, name)
+    has_name_at(name_list, code, name)
 }
 
-/// Returns whether the text of a code is the name.
-fn is_text(texts: &Texts, code: u32, name: &[u8]) -> bool
-    ensures yes { result ≡ true → (code < length texts.now) × (name_at texts.now code ≡ name.now) }
-    ensures no { result ≡ false → code < length texts.now → name_at texts.now code ≡ name.now → ⊥ }
+/// Returns whether the list has the name at a code.
+fn has_name_at(name_list: &NameList, code: u32, name: &[u8]) -> bool
+    ensures yes { result ≡ true → (code < length name_list.now) × (name_at name_list.now code ≡ name.now) }
+    ensures no { result ≡ false → code < length name_list.now → name_at name_list.now code ≡ name.now → ⊥ }
 {
-    (code as usize) < texts.len() && texts.get(code as usize) == name
+    (code as usize) < name_list.len() && name_list.get(code as usize) == name
 }
 
 /// Returns the index of the first free slot for this key, or `None` if the steps meet none.
@@ -218,44 +228,44 @@ pub(crate) fn free_slot_index(slots: &[Slot], key: u64) -> Option<usize>
     None
 }
 
-/// Makes new slots for the texts, with capacity for as many further ones, or for `more` if that is
-/// greater. A text in the overflow stays there.
+/// Makes new slots for the names, with capacity for as many further ones, or for `more` if that is
+/// greater. A name in the overflow stays there.
 pub(crate) fn build_slots(
     alloc: Global,
-    texts: &Texts,
+    name_list: &NameList,
     name_keys: &mut NameKeys,
     more: usize,
 ) -> Result<Vec<Slot>, AllocError>
-    requires few { length texts.now < 2 ^ 32 }
-    requires distinct { AreDistinct texts.now }
-    requires name_keys { AreNameKeys name_keys.old texts.now }
-    ensures name_keys { AreNameKeys name_keys.new texts.now }
+    requires few { length name_list.now < 2 ^ 32 }
+    requires distinct { AreDistinct name_list.now }
+    requires name_keys { AreNameKeys name_keys.old name_list.now }
+    ensures name_keys { AreNameKeys name_keys.new name_list.now }
     ensures overflow_grows { OverflowGrows name_keys.old name_keys.new }
-    ensures reachable { IfOk result (λ slots. AreReachable (length texts.now) slots.items name_keys.new texts.now) }
+    ensures reachable { IfOk result (λ slots. AreReachable (length name_list.now) slots.items name_keys.new name_list.now) }
 {
-    let mut slots = free_slots(alloc, slots_for(texts.len(), more))?;
-    for code in 0..texts.len() {
-        insert_or_overflow(alloc, &mut slots, texts, name_keys, code)?;
+    let mut slots = free_slots(alloc, slots_for(name_list.len(), more))?;
+    for code in 0..name_list.len() {
+        insert_or_overflow(alloc, &mut slots, name_list, name_keys, code)?;
     }
     Ok(slots)
 }
 
-/// Finds a slot for a text, or puts it into the overflow.
+/// Finds a slot for the name of a code, or puts the name into the overflow.
 fn insert_or_overflow(
     alloc: Global,
     slots: &mut Vec<Slot>,
-    texts: &Texts,
+    name_list: &NameList,
     name_keys: &mut NameKeys,
     code: usize,
 ) -> Result<(), AllocError>
-    requires code { code < length texts.now }
-    requires few { length texts.now < 2 ^ 32 }
-    requires distinct { AreDistinct texts.now }
-    requires name_keys { AreNameKeys name_keys.old texts.now }
-    requires reachable { AreReachable code slots.old.items name_keys.old texts.now }
-    ensures name_keys { AreNameKeys name_keys.new texts.now }
+    requires code { code < length name_list.now }
+    requires few { length name_list.now < 2 ^ 32 }
+    requires distinct { AreDistinct name_list.now }
+    requires name_keys { AreNameKeys name_keys.old name_list.now }
+    requires reachable { AreReachable code slots.old.items name_keys.old name_list.now }
+    ensures name_keys { AreNameKeys name_keys.new name_list.now }
     ensures overflow_grows { OverflowGrows name_keys.old name_keys.new }
-    ensures reachable { OnOk result (AreReachable (code + 1) slots.new.items name_keys.new texts.now) }
+    ensures reachable { OnOk result (AreReachable (code + 1) slots.new.items name_keys.new name_list.now) }
 {
     let key = name_keys.keys[code];
     if key == IN_OVERFLOW {
@@ -266,7 +276,7 @@ fn insert_or_overflow(
             slots[at] = make_slot(key, code as u32);
             Ok(())
         }
-        None => name_keys.put_in_overflow(alloc, code, texts.get(code)),
+        None => name_keys.put_in_overflow(alloc, code, name_list.get(code)),
     }
 }
 
@@ -280,10 +290,12 @@ fn free_slots(alloc: Global, count: usize) -> Result<Vec<Slot>, AllocError>
     Ok(slots)
 }
 
-/// Returns the length of a table of which seven eighths are enough for `count` texts and as many
+/// Returns the length of a table of which seven eighths are enough for `count` names and as many
 /// further ones, or `more` if that is greater.
 fn slots_for(count: usize, more: usize) -> usize {
-    let texts = count.saturating_add(count.max(more));
-    let wanted = texts.saturating_add(texts.div_ceil(7)).max(FIRST_SLOTS);
+    let name_count = count.saturating_add(count.max(more));
+    let wanted = name_count
+        .saturating_add(name_count.div_ceil(7))
+        .max(FIRST_SLOTS);
     wanted.checked_next_power_of_two().unwrap_or(wanted)
 }

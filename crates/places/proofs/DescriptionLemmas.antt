@@ -1,5 +1,5 @@
 -- The walk over the runs of a text finds the description of each statement.
-use Rattle.places.proofs.Words.{◌≡◌, ℕ, suc, ◌<◌, ◌≤◌, Bool, true, false, not, ◌&&◌, ◌||◌, cond, List, [], ◌∷◌, ◌++◌, length, drop, flat_map, Option, Some, None, codes, refl, sym, ◌∙◌, ap, arith, append_assoc, length-append, list_all, and_parts, and_from, both_ways, append-nil, map-append, length-map, length-drop, list_all-append, Span, Name, name_eq, runs, word, is_symbol, is_label, opener, closer, is_plain, AllPlain, Part, part_spans, IsPart, AreParts, SplitsInto, words, runs_after, name_same, Stmt, Open, Close, Const, Var, Disj, Float, Ess, Axiom, Prove, Database, is_shaped, AreShaped, are_symbols, has_two, stmt_tokens, tokens_of, Reads, symbols_of, WalkState, Inside, Outside, ends_statement, contents, comments_before, comments_in, comments_of, first_of, statement_comments, AreDescriptions, at_start, state_after_run, description_of_begun_statement, walk_over}
+use Rattle.places.proofs.Words.{◌≡◌, ℕ, suc, ◌<◌, ◌≤◌, Bool, true, false, not, ◌&&◌, ◌||◌, cond, List, [], ◌∷◌, ◌++◌, length, drop, flat_map, Option, Some, None, codes, refl, sym, ◌∙◌, ap, arith, append_assoc, length-append, list_all, and_parts, and_from, both_ways, append-nil, map-append, length-map, length-drop, list_all-append, Span, Name, name_eq, runs, word, is_symbol, is_label, opener, closer, is_plain, AllPlain, CommentAndTokens, all_spans, IsCommentAndTokens, AreCommentsAndTokens, SplitsInto, words, runs_after, name_same, Stmt, Open, Close, Const, Var, Disj, Float, Ess, Axiom, Prove, Database, is_shaped, AreShaped, are_symbols, has_two, stmt_tokens, tokens_of, Reads, symbols_of, WalkState, Inside, Outside, ends_statement, contents, comments_before, comments_in, comments_of, first_of, statement_comments, AreDescriptions, at_start, state_after_run, description_of_begun_statement, walk_over}
 use Rattle.places.proofs.TokenSpanLemmas.{symbol_goes_on, label_goes_on}
 
 -- ---- the loop
@@ -78,16 +78,16 @@ module _ (text : List ℕ) where
       ap (λ b. walk_over text (cond b (Outside (Some (record { start = start; end = p.start })) begins) (Inside start begins)) (inside ++ (end ∷ rest))) other
       ∙ inside_walk inside rest end start begins both.1 closes
 
-  abbrev outer : List Part → List Span
-  outer ps = flat_map (λ (p : Part). p.after) ps
+  abbrev outer : List CommentAndTokens → List Span
+  outer ps = flat_map (λ (p : CommentAndTokens). p.after) ps
 
   -- comments, with the tokens after each
-  parts_walk : (ps : List Part) → AreParts text ps → (last : Option Span) (begins : Bool)
-      → walk_over text (Outside last begins) (flat_map part_spans ps) ≡ picked begins (words text (outer ps)) (flat_map comments_in ps)
+  parts_walk : (ps : List CommentAndTokens) → AreCommentsAndTokens text ps → (last : Option Span) (begins : Bool)
+      → walk_over text (Outside last begins) (flat_map all_spans ps) ≡ picked begins (words text (outer ps)) (flat_map comments_in ps)
   parts_walk [] are last begins = refl
   parts_walk (p ∷ ps) are last begins =
-      let part : IsPart text p = are.0 in
-      let rest : List Span = flat_map part_spans ps in
+      let part : IsCommentAndTokens text p = are.0 in
+      let rest : List Span = flat_map all_spans ps in
       let w : Name = word text p.begin in
       let opens : name_eq w opener ≡ true = ap (λ v. name_eq v opener) part.begins ∙ name_same opener in
       let whole : (p.inside ++ p.end ∷ p.after) ++ rest ≡ p.inside ++ (p.end ∷ (p.after ++ rest)) = append_assoc p.inside (p.end ∷ p.after) rest in
@@ -104,7 +104,7 @@ module _ (text : List ℕ) where
   text_walk : (tokens : List Span) (split : SplitsInto text (runs text) tokens)
       → walk_over text at_start (runs text) ≡ picked true (words text tokens) (comments_of split.first split.parts)
   text_walk tokens split =
-      let all = plain_walk split.first (flat_map part_spans split.parts) (words text (outer split.parts)) (flat_map comments_in split.parts) split.plain (parts_walk split.parts split.comments) None true in
+      let all = plain_walk split.first (flat_map all_spans split.parts) (words text (outer split.parts)) (flat_map comments_in split.parts) split.plain (parts_walk split.parts split.comments) None true in
       let joined : words text tokens ≡ words text split.first ++ words text (outer split.parts) = ap (words text) split.outside ∙ map-append (word text) split.first (outer split.parts) in
       ap (walk_over text at_start) split.whole ∙ (all ∙ ap (λ ws. picked true ws (comments_of split.first split.parts)) (sym joined))
 
@@ -114,18 +114,18 @@ count_before : (comment : Option Span) (tokens : List Span) → length (comments
 count_before comment [] = refl
 count_before comment (t ∷ tokens) = ap suc (count_before None tokens)
 
-count_in : (ps : List Part) → length (flat_map comments_in ps) ≡ length (flat_map (λ (p : Part). p.after) ps)
+count_in : (ps : List CommentAndTokens) → length (flat_map comments_in ps) ≡ length (flat_map (λ (p : CommentAndTokens). p.after) ps)
 count_in [] = refl
 count_in (p ∷ ps) =
     let one = count_before (Some (contents p)) p.after in
     let more = count_in ps in
-    omega (arith, one, more, length-append (comments_in p) (flat_map comments_in ps), length-append p.after (flat_map (λ (q : Part). q.after) ps))
+    omega (arith, one, more, length-append (comments_in p) (flat_map comments_in ps), length-append p.after (flat_map (λ (q : CommentAndTokens). q.after) ps))
 
-count_of : (first : List Span) (ps : List Part) → length (comments_of first ps) ≡ length (first ++ flat_map (λ (p : Part). p.after) ps)
+count_of : (first : List Span) (ps : List CommentAndTokens) → length (comments_of first ps) ≡ length (first ++ flat_map (λ (p : CommentAndTokens). p.after) ps)
 count_of first ps =
     let one = count_before None first in
     let more = count_in ps in
-    omega (arith, one, more, length-append (comments_before None first) (flat_map comments_in ps), length-append first (flat_map (λ (p : Part). p.after) ps))
+    omega (arith, one, more, length-append (comments_before None first) (flat_map comments_in ps), length-append first (flat_map (λ (p : CommentAndTokens). p.after) ps))
 
 -- ---- the first tokens of statements
 

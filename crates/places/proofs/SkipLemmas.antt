@@ -1,5 +1,5 @@
 -- A walk that can skip passes over runs that do not begin with `$`.
-use Rattle.places.proofs.Words.{◌≡◌, ℕ, zero, suc, ◌+◌, ◌-◌, ◌<◌, ◌≤◌, Bool, true, false, cond, List, [], ◌∷◌, ◌++◌, length, take, drop, Some, None, refl, ◌∙◌, ap, arith, eqb, get_or, sym, drop-drop, get_or-drop, get_or-take, length-drop, take-append-drop, Span, Name, is_white, name_eq, runs_from, starts_white, with_byte, word, runs_after, closer, opener, WalkState, Inside, Outside, ends_statement, CanSkip, SkipsRuns, walk_over}
+use Rattle.places.proofs.Words.{◌≡◌, ℕ, zero, suc, ◌+◌, ◌-◌, ◌<◌, ◌≤◌, Bool, true, false, cond, List, [], ◌∷◌, ◌++◌, length, take, drop, Some, None, refl, ◌∙◌, ap, arith, eqb, get_or, sym, drop-drop, get_or-drop, get_or-take, length-drop, take-append-drop, Span, Name, is_white, name_eq, runs_from, is_empty_or_starts_white, with_byte, word, runs_after, closer, opener, WalkState, Inside, Outside, ends_statement, CanSkip, SkipsRuns, walk_over}
 use Rattle.std.proofs.lemmas.List.{length-take}
 
 -- ---- words that do not begin with `$`
@@ -94,7 +94,7 @@ module _ (text : List ℕ) (walk : WalkState) (skips : CanSkip walk) where
   NoDollar low high = (k : ℕ) → low ≤ k → k < high → get_or text k 0 ≡ 36 → ⊥
 
   begins_shown : (at c : ℕ) (bytes : List ℕ) → is_white c ≡ false → BeginsAt at (runs_from at (c ∷ bytes))
-  begins_shown at c bytes e = rw e (begins_with at (starts_white bytes) (runs_from (at + 1) bytes))
+  begins_shown at c bytes e = rw e (begins_with at (is_empty_or_starts_white bytes) (runs_from (at + 1) bytes))
 
   -- one more byte in front
   pass_step : (at b c : ℕ) (front rest : List ℕ) (t : Bool) → is_white b ≡ t → NoDollar at (at + length (b ∷ c ∷ front))

@@ -3,9 +3,9 @@ pub use Rattle.memchr.proofs.lemmas.CallerLemmas.{length-places}
 pub use Rattle.memchr.specs.Find.{is_byte}
 pub use Rattle.mm_lex.proofs.NameLemmas.{name_same}
 pub use Rattle.mm_lex.proofs.TokensLemmas.{AreTokens-unique}
-pub use Rattle.mm_lex.specs.Alphabet.{Name, has_byte, is_label, is_symbol, is_white, name_eq, runs, runs_from, starts_white, with_byte, word}
+pub use Rattle.mm_lex.specs.Alphabet.{Name, has_byte, is_label, is_symbol, is_white, name_eq, runs, runs_from, is_empty_or_starts_white, with_byte, word}
 pub use Rattle.mm_lex.specs.Comments.{runs_after}
-pub use Rattle.mm_lex.specs.Tokens.{AllPlain, AreParts, AreTokens, SplitsInto, IsPart, Part, closer, is_plain, opener, part_spans, words}
+pub use Rattle.mm_lex.specs.Tokens.{AllPlain, AreCommentsAndTokens, AreTokens, SplitsInto, IsCommentAndTokens, CommentAndTokens, closer, is_plain, opener, all_spans, words}
 pub use Rattle.mm_lex.specs.declared.span.Span.{Span}
 pub use Rattle.mm_read.proofs.StatementsLemmas.{label_plain, plain_is_no_key, symbol_plain, symbols_of}
 pub use Rattle.mm_read.specs.Reads.{Reads}

@@ -6,11 +6,11 @@
 use Rattle.std.specs.Prelude.{◌≡◌, ℕ, List, [], ◌∷◌, ◌++◌, length, drop, flat_map, Option, Some, None}
 use Rattle.mm_lex.specs.declared.span.Span.{Span}
 use Rattle.mm_lex.specs.Alphabet.{runs}
-use Rattle.mm_lex.specs.Tokens.{Part, SplitsInto}
+use Rattle.mm_lex.specs.Tokens.{CommentAndTokens, SplitsInto}
 use Rattle.mm_read.specs.Statements.{Database, stmt_tokens}
 
 -- the span of the contents of a comment, between its delimiters
-abbrev pub contents : Part → Span
+abbrev pub contents : CommentAndTokens → Span
 contents p = record { start = p.begin.end; end = p.end.start }
 
 -- the comment right before each of these tokens: `comment` for the first of these tokens, none for
@@ -20,11 +20,11 @@ comments_before comment [] = []
 comments_before comment (t ∷ tokens) = comment ∷ comments_before None tokens
 
 -- the comment right before each of the tokens that follow a comment
-abbrev pub comments_in : Part → List (Option Span)
+abbrev pub comments_in : CommentAndTokens → List (Option Span)
 comments_in p = comments_before (Some (contents p)) p.after
 
 -- the comment right before each token of a text
-abbrev pub comments_of : List Span → List Part → List (Option Span)
+abbrev pub comments_of : List Span → List CommentAndTokens → List (Option Span)
 comments_of first parts = comments_before None first ++ flat_map comments_in parts
 
 -- the first element of a list, or none if it is empty

@@ -4,7 +4,7 @@ use Rattle.std.specs.declared.alloc.Global.{Global}
 use Rattle.std.proofs.Common.{refl, sym, ◌∙◌, ap, subst}
 use Rattle.std.proofs.Math.Bool.{or-true}
 use Rattle.std.proofs.lemmas.List.{take-append-drop}
-use Rattle.mm_lex.specs.Alphabet.{is_white, starts_white}
+use Rattle.mm_lex.specs.Alphabet.{is_white, is_empty_or_starts_white}
 use Rattle.mm_read.specs.declared.stmt.Stmt.{Stmt}
 use Rattle.mm_read.specs.Statements.{Database}
 use Rattle.mm_read.specs.Reads.{Reads}
@@ -14,7 +14,7 @@ use Rattle.read_pool.specs.Cut.{IsCut}
 use Rattle.read_pool.specs.Concatenation.{IsConcatenation}
 
 -- no word continues into a text that starts white
-white_joins : (text other : List ℕ) → starts_white other ≡ true → joins_no_words text other ≡ true
+white_joins : (text other : List ℕ) → is_empty_or_starts_white other ≡ true → joins_no_words text other ≡ true
 white_joins [] other white = refl
 white_joins (b ∷ []) other white = ap (λ t. is_white b || t) white ∙ or-true (is_white b)
 white_joins (b ∷ c ∷ text) other white = white_joins (c ∷ text) other white
@@ -26,7 +26,7 @@ module _ (text front back : List ℕ) (at : ℕ) (cut : IsCut text at) (begins :
 
   -- no word continues from the first part into the second
   no_word_joined : joins_no_words front back ≡ true
-  no_word_joined = white_joins front back (ap starts_white ends ∙ cut.1)
+  no_word_joined = white_joins front back (ap is_empty_or_starts_white ends ∙ cut.1)
 
   module _ (first second : Option (Vec Stmt Global)) (one : IfSome first (λ S. Reads front S.items)) (other : IfSome second (λ S. Reads back S.items)) where
     -- if both parts can be read, the text reads as the statements of the first and then those of the second

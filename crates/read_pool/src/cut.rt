@@ -1,6 +1,6 @@
 //! Finds cuts of a text: offsets at which it may be cut in two.
 ghost use Rattle.std.specs.Prelude.{◌+◌, ◌<◌, ◌≤◌, drop, length, IfSome, IsTrue};
-ghost use Rattle.mm_lex.specs.Alphabet.{starts_white};
+ghost use Rattle.mm_lex.specs.Alphabet.{is_empty_or_starts_white};
 ghost use Rattle.read_pool.specs.Cut.{IsCut};
 
 /// The least average length of the parts of a text, and also the length that is searched for a cut,

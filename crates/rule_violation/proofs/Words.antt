@@ -6,7 +6,7 @@ pub use Rattle.mm_read.specs.declared.stmt.Stmt.{Stmt}
 pub use Rattle.mm_read.specs.declared.stmt.Stmt.TheVariants.{Axiom, Close, Const, Disj, Ess, Float, Open, Prove, Var}
 pub use Rattle.names.proofs.AddedNames.{has_name-append}
 pub use Rattle.names.proofs.CodesLemmas.{code-name, first-named, has-at, name_eq-comm, rest-named, unknown-number}
-pub use Rattle.names.specs.Codes.{AreDistinct, AreNamed, code_of, name_at}
+pub use Rattle.names.specs.Codes.{AreDistinct, HaveCodes, code_of, name_at}
 pub use Rattle.rule_violation.specs.Marks.{is_fault_if_absent, marked}
 pub use Rattle.rule_violation.specs.Search.{IsActiveAt, PassesAt, closed_blocks, closed_blocks_from, has_fault, has_name_in}
 pub use Rattle.rule_violation.specs.Violations.{HoldsAt, IsLabelConflict, IsRepeated, IsSymbolViolation, IsTwice, IsViolation, typed_expr}

@@ -3,7 +3,7 @@
 ghost use Rattle.std.specs.Prelude.{◌≡◌, ℕ, ◌+◌, ◌==◌, ◌&&◌, Some, None, [], IfOk, MatchOption, length, map, false, true, Bool};
 ghost use Rattle.std.specs.List.{list_any};
 ghost use Rattle.mm_lex.specs.Alphabet.{Name, has_name, name_eq};
-ghost use Rattle.names.specs.Codes.{AreNamed};
+ghost use Rattle.names.specs.Codes.{HaveCodes};
 ghost use Rattle.scope.specs.Active.{active, label_of, has_label, constants, variables, is_float_of};
 ghost use Rattle.rule_violation.specs.Marks.{marked};
 ghost use Rattle.rule_violation.specs.Search.{has_name_in};
@@ -16,11 +16,11 @@ use std::alloc::{AllocError, Global};
 
 /// Returns a table of the distinct words.
 pub(crate) fn name_table(alloc: Global, words: &Words) -> Result<NameTable, AllocError>
-    ensures { IfOk result (λ names. AreNamed names words.now) }
+    ensures { IfOk result (λ names. HaveCodes names words.now) }
 {
     let mut names = NameTable::new(alloc);
     for word in words.iter() {
-        names.code(alloc, word)?;
+        names.find_or_add(alloc, word)?;
     }
     Ok(names)
 }

@@ -2,7 +2,7 @@
 ghost use Rattle.std.specs.Prelude.{◌≡◌, ℕ, Bool, ◌||◌, false, true, IfOk, MatchOption, map, replicate, length};
 ghost use Rattle.std.specs.List.{list_any};
 ghost use Rattle.mm_lex.specs.Alphabet.{Name};
-ghost use Rattle.names.specs.Codes.{AreNamed};
+ghost use Rattle.names.specs.Codes.{HaveCodes};
 ghost use Rattle.scope.specs.Active.{is_constant, is_variable};
 ghost use Rattle.scope.specs.Legal.{all_different};
 ghost use Rattle.rule_violation.specs.Marks.{is_fault_if_absent};
@@ -103,7 +103,7 @@ fn first_marked<'a>(
     words: &'a Words,
 ) -> Option<(usize, &'a [u8])>
     requires count { length marks.now ≡ length names.now }
-    requires named { AreNamed names.now words.now }
+    requires named { HaveCodes names.now words.now }
     ensures { (test : Name → Bool) → marks.now ≡ map test names.now
         → MatchOption result (list_any test words.entry.now ≡ false) (λ r. IsNamePassingAt words.entry.now test r.0 r.1.now) }
 {
@@ -149,7 +149,7 @@ pub(crate) fn first_repeated(
     let mut names = NameTable::new(alloc);
     for word in words.iter() {
         let index = names.len();
-        let first = names.code(alloc, word)?;
+        let first = names.find_or_add(alloc, word)?;
         if first < index {
             return Ok(Some(RuleViolation::Twice {
                 first,

@@ -1,7 +1,7 @@
 //! The next run of a text.
 ghost use Rattle.std.specs.Prelude.{◌≡◌, ◌≤◌, [], ◌∷◌, not, length, MatchOption, IfSome};
 ghost use Rattle.std.specs.List.{position, position_or_len};
-ghost use Rattle.mm_lex.specs.Alphabet.{is_white, IsRunAt};
+ghost use Rattle.mm_lex.specs.Alphabet.{is_white, IsPartOfRun};
 ghost use Rattle.mm_lex.specs.Comments.{runs_after};
 
 use mm_lex::Span;
@@ -14,7 +14,7 @@ pub fn next_run(text: &[u8], at: usize) -> Option<Span>
     requires { at ≤ length text.now }
     ensures run { MatchOption result (runs_after text.now at ≡ [])
         (λ s. runs_after text.now at ≡ s ∷ runs_after text.now s.end) }
-    ensures is_run { IfSome result (λ s. IsRunAt text.now s) }
+    ensures is_run { IfSome result (λ s. IsPartOfRun text.now s) }
     ensures later { IfSome result (λ s. at ≤ s.start) }
 {
     let (_, rest) = text.split_at(at);

@@ -1,5 +1,5 @@
 -- The state of the rules after a legal statement of each kind.
-use Rattle.scope.proofs.Words.{◌≡◌, ℕ, ◌+◌, ◌<◌, ◌==◌, Bool, true, false, not, ◌&&◌, ◌||◌, List, [], ◌∷◌, ◌++◌, cond, nat_lt, length, None, is_some, refl, Result, Ok, Err, OnOk, is_err, list_any, list_all, ◌∙◌, ap, sym, subst, true≢false, arith, append-nil, not-true, and_parts, ltb-true, Name, name_eq, has_name, Stmt, Open, Close, Const, Var, Disj, Float, Ess, Axiom, Prove, Database, bare, has_float, active_variables, typed_variables, all_different, broken_rule, are_numbers_distinct, name_at, decode, with_names, codes_or_len, code_or_len, AreNamed, AreCodes, AreDistinct, Declared, kind_in, with_kind, with_kinds, IsRulesState, IsPlain, can_push, symbols_of, AreNumbers, StackHeights, NameKind, with_names-more, codes_or_len-more, has-with_names, same_name, code-at, found-number}
+use Rattle.scope.proofs.Words.{◌≡◌, ℕ, ◌+◌, ◌<◌, ◌==◌, Bool, true, false, not, ◌&&◌, ◌||◌, List, [], ◌∷◌, ◌++◌, cond, nat_lt, length, None, is_some, refl, Result, Ok, Err, OnOk, is_err, list_any, list_all, ◌∙◌, ap, sym, subst, true≢false, arith, append-nil, not-true, and_parts, ltb-true, Name, name_eq, has_name, Stmt, Open, Close, Const, Var, Disj, Float, Ess, Axiom, Prove, Database, bare, has_float, active_variables, typed_variables, all_different, broken_rule, are_numbers_distinct, name_at, decode, with_names, codes_or_len, code_or_len, HaveCodes, AreCodes, AreDistinct, Declared, kind_in, with_kind, with_kinds, IsRulesState, IsPlain, can_push, symbols_of, AreNumbers, StackHeights, NameKind, with_names-more, codes_or_len-more, has-with_names, same_name, code-at, found-number}
 use Rattle.std.proofs.lemmas.List.{append_assoc}
 use Rattle.scope.proofs.NamesLemmas.{symbols_of-append, symbols-distinct, active-named}
 use Rattle.scope.proofs.SortsLemmas.{numbers-has, is_variable-active, has_float-typed}
@@ -31,7 +31,7 @@ plus_zero : (n : ℕ) → n + 0 ≡ n
 plus_zero n = omega arith
 
 -- each name of the empty list is among the names
-no_names : (names : List Name) → AreNamed names []
+no_names : (names : List Name) → HaveCodes names []
 no_names names x h = absurd (true≢false (sym h))
 
 -- numbers that decode to some names are the numbers of these names
@@ -114,7 +114,7 @@ module _ (S M : Database) (vs ts : List ℕ) (n : ℕ) (blocks : List StackHeigh
   accept-plain s m is =
       let N : List Name = symbols_of (S ++ s ∷ []) in
       same-kept refl (ap (λ xs. vs ++ codes_or_len N xs) is.no_variables ∙ append-nil vs) (ap (λ xs. ts ++ codes_or_len N xs) is.untyped ∙ append-nil ts) refl refl
-      (kept-more S M s vs ts n m blocks mark is.no_close is.no_open (subst (λ (xs : List Name). AreNamed N xs) (sym is.untyped) (no_names N)) (is.added_is (1 + length S)) k)
+      (kept-more S M s vs ts n m blocks mark is.no_close is.no_open (subst (λ (xs : List Name). HaveCodes N xs) (sym is.untyped) (no_names N)) (is.added_is (1 + length S)) k)
 
 pub bare-plain : (s : Stmt) (m : ℕ) → IsPlain s m → IsPlain (bare s) m
 bare-plain (Prove label expr proof) m is = record { no_open = refl; no_close = refl; no_variables = refl; untyped = refl; added_is = λ at. is.added_is at }

@@ -1,5 +1,5 @@
 -- The mark, the return to it, and what the rules say of the names to be declared.
-use Rattle.scope.proofs.Words.{◌≡◌, ℕ, ◌+◌, ◌==◌, Bool, true, false, not, ◌||◌, ◌&&◌, List, [], ◌∷◌, ◌++◌, length, take, Option, Some, None, is_some, refl, list_any, list_all, flat_map, ◌∙◌, ap, sym, arith, true≢false, or-false, append-nil, map-append, take-map, take_at, nil_from_length, flat_map-append, nat_tests, and_parts, or_parts, not-true, Name, name_eq, has_name, Stmt, Database, stays_open, active_from, active, is_closed, variables, typed_by, was_label, was_symbol, is_constant, is_variable, all_different, codes_or_len, code_or_len, AreNamed, symbols_of, as_frame_statement, frame_statements_of, FrameStatement, Declared, kind_in, MatchesKinds, is_some_label, is_some_constant, heights_of, blocks_of, can_push, IsRulesState, StackHeights, NameKind, codes_or_len-more, has_name-append, name_same, same_name}
+use Rattle.scope.proofs.Words.{◌≡◌, ℕ, ◌+◌, ◌==◌, Bool, true, false, not, ◌||◌, ◌&&◌, List, [], ◌∷◌, ◌++◌, length, take, Option, Some, None, is_some, refl, list_any, list_all, flat_map, ◌∙◌, ap, sym, arith, true≢false, or-false, append-nil, map-append, take-map, take_at, nil_from_length, flat_map-append, nat_tests, and_parts, or_parts, not-true, Name, name_eq, has_name, Stmt, Database, stays_open, active_from, active, is_closed, variables, typed_by, was_label, was_symbol, is_constant, is_variable, all_different, codes_or_len, code_or_len, HaveCodes, symbols_of, as_frame_statement, frame_statements_of, FrameStatement, Declared, kind_in, MatchesKinds, is_some_label, is_some_constant, heights_of, blocks_of, can_push, IsRulesState, StackHeights, NameKind, codes_or_len-more, has_name-append, name_same, same_name}
 use Rattle.scope.proofs.ActiveLemmas.{active_from-later, below-deficit, no_deficit, deficit, deficit-append, left_open}
 use Rattle.scope.proofs.BlocksLemmas.{length-blocks, closed-left}
 use Rattle.scope.proofs.NamesLemmas.{symbols_of-later, active-named}
@@ -24,7 +24,7 @@ kept-mark S M vs ts n blocks mark heights closed height k = record {
   };
 }
 
-stack-back : (f : ℕ × Stmt → List Name) (S M T : Database) (stack : List ℕ) → S ≡ M ++ T → stays_open 0 T ≡ true → AreNamed (symbols_of M) (flat_map f (active M))
+stack-back : (f : ℕ × Stmt → List Name) (S M T : Database) (stack : List ℕ) → S ≡ M ++ T → stays_open 0 T ≡ true → HaveCodes (symbols_of M) (flat_map f (active M))
     → stack ≡ codes_or_len (symbols_of S) (flat_map f (active S)) → take (length (flat_map f (active M))) stack ≡ codes_or_len (symbols_of M) (flat_map f (active M))
 stack-back f S M T stack e below known is =
     let more = symbols_of-later M T in
@@ -116,7 +116,7 @@ apart_from w x ws h n = by (name_eq x w) refl
     by false e = refl
 
 -- names that are distinct and are not on the stack can be pushed
-pub can_push-names : (names active ws : List Name) → AreNamed names ws → all_different ws ≡ true → ((x : Name) → has_name x ws ≡ true → has_name x active ≡ false)
+pub can_push-names : (names active ws : List Name) → HaveCodes names ws → all_different ws ≡ true → ((x : Name) → has_name x ws ≡ true → has_name x active ≡ false)
     → can_push (codes_or_len names active) (codes_or_len names ws) ≡ true
 can_push-names names active [] known differ apart = refl
 can_push-names names active (w ∷ ws) known differ apart =

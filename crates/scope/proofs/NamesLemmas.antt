@@ -1,5 +1,5 @@
 -- The symbols and the labels of a list of statements, and names with kinds.
-use Rattle.scope.proofs.Words.{◌≡◌, ℕ, ◌+◌, Bool, true, false, cond, ◌||◌, List, [], ◌∷◌, ◌++◌, Option, Some, None, is_some, refl, flat_map, sym, ◌∙◌, ap, true≢false, ◌⊎◌, inl, inr, append_assoc, append-nil, or_left, or_right, Name, name_eq, has_name, Stmt, Open, Close, Const, Var, Disj, Float, Ess, Axiom, Prove, Database, label_of, variables, was_variable, active_from, active_variables, stays_open, with_names, AreNamed, AreDistinct, distinct-with_names, symbols_declared_by, symbols_from, symbols_of, prepend_option, labels_of, Declared, declared_names, kind_in, with_kind, with_kinds, NameKind, same_name, or_cases, has_name-append, with_names-more, has-more, has-with_names}
+use Rattle.scope.proofs.Words.{◌≡◌, ℕ, ◌+◌, Bool, true, false, cond, ◌||◌, List, [], ◌∷◌, ◌++◌, Option, Some, None, is_some, refl, flat_map, sym, ◌∙◌, ap, true≢false, ◌⊎◌, inl, inr, append_assoc, append-nil, or_left, or_right, Name, name_eq, has_name, Stmt, Open, Close, Const, Var, Disj, Float, Ess, Axiom, Prove, Database, label_of, variables, was_variable, active_from, active_variables, stays_open, with_names, HaveCodes, AreDistinct, distinct-with_names, symbols_declared_by, symbols_from, symbols_of, prepend_option, labels_of, Declared, declared_names, kind_in, with_kind, with_kinds, NameKind, same_name, or_cases, has_name-append, with_names-more, has-more, has-with_names}
 
 -- ---- symbols are only added at the end
 
@@ -80,7 +80,7 @@ was-named names (s ∷ S) x h = elim (or_cases (has_name x (variables s)) (was_v
 ]
 
 -- the active variables are declared symbols
-pub active-named : (S : Database) → AreNamed (symbols_of S) (active_variables S)
+pub active-named : (S : Database) → HaveCodes (symbols_of S) (active_variables S)
 active-named S x h = was-named [] S x (active-was 1 S x h)
 
 -- ---- names with kinds

@@ -1,5 +1,5 @@
 -- The stacks of a scope after a statement that opens or closes no block, after a `${` and after a `$}`.
-use Rattle.scope.proofs.Words.{◌≡◌, ℕ, zero, suc, ◌+◌, ◌≤◌, Bool, true, false, cond, ◌||◌, nat_lt, List, [], ◌∷◌, ◌++◌, length, take, refl, flat_map, ◌∙◌, ap, sym, arith, append_assoc, true≢false, length-append, append-nil, map-append, take-map, same_from_push, flat_map-append, nat_tests, eqb-true, Name, has_name, Stmt, Open, Close, Database, stays_open, active_from, active, is_open, is_close, is_closed, count, variables, typed_by, codes_or_len, code_or_len, AreNamed, as_frame_statement, frame_statements_of, symbols_of, heights_of, blocks_from, blocks_of, IsRulesState, IsMarked, StackHeights, has_open, before_open, codes_or_len-more, has-more, has_name-append}
+use Rattle.scope.proofs.Words.{◌≡◌, ℕ, zero, suc, ◌+◌, ◌≤◌, Bool, true, false, cond, ◌||◌, nat_lt, List, [], ◌∷◌, ◌++◌, length, take, refl, flat_map, ◌∙◌, ap, sym, arith, append_assoc, true≢false, length-append, append-nil, map-append, take-map, same_from_push, flat_map-append, nat_tests, eqb-true, Name, has_name, Stmt, Open, Close, Database, stays_open, active_from, active, is_open, is_close, is_closed, count, variables, typed_by, codes_or_len, code_or_len, HaveCodes, as_frame_statement, frame_statements_of, symbols_of, heights_of, blocks_from, blocks_of, IsRulesState, IsMarked, StackHeights, has_open, before_open, codes_or_len-more, has-more, has_name-append}
 use Rattle.scope.proofs.ActiveLemmas.{active_from-append, active_from-close, stays_open-append, flat_map-taken, from_open, split_open, below-deficit, no_deficit, deficit-close, left_open, count-left_open, count-append, none-left}
 use Rattle.scope.proofs.BlocksLemmas.{blocks_from-append, blocks-close}
 use Rattle.scope.proofs.NamesLemmas.{symbols_of-later, symbols_of-append, active-named}
@@ -12,7 +12,7 @@ flat_map-more f S s h =
     ap (flat_map f) (active_from-append 1 S s h)
     ∙ (flat_map-append f (active S) ((1 + length S, s) ∷ []) ∙ ap (λ r. flat_map f (active S) ++ r) (append-nil (f (1 + length S, s))))
 
-stack-more : (f : ℕ × Stmt → List Name) (S : Database) (s : Stmt) (stack : List ℕ) → is_close s ≡ false → AreNamed (symbols_of S) (flat_map f (active S))
+stack-more : (f : ℕ × Stmt → List Name) (S : Database) (s : Stmt) (stack : List ℕ) → is_close s ≡ false → HaveCodes (symbols_of S) (flat_map f (active S))
     → stack ≡ codes_or_len (symbols_of S) (flat_map f (active S))
     → stack ++ codes_or_len (symbols_of (S ++ s ∷ [])) (f (1 + length S, s)) ≡ codes_or_len (symbols_of (S ++ s ∷ [])) (flat_map f (active (S ++ s ∷ [])))
 stack-more f S s stack h known is =
@@ -22,8 +22,8 @@ stack-more f S s stack h known is =
     ∙ (sym (map-append (code_or_len (symbols_of (S ++ s ∷ []))) (flat_map f (active S)) (f (1 + length S, s)))
     ∙ ap (codes_or_len (symbols_of (S ++ s ∷ []))) (sym (flat_map-more f S s h)))
 
-known-more : (f : ℕ × Stmt → List Name) (S : Database) (s : Stmt) → is_close s ≡ false → AreNamed (symbols_of S) (flat_map f (active S)) → AreNamed (symbols_of (S ++ s ∷ [])) (f (1 + length S, s))
-    → AreNamed (symbols_of (S ++ s ∷ [])) (flat_map f (active (S ++ s ∷ [])))
+known-more : (f : ℕ × Stmt → List Name) (S : Database) (s : Stmt) → is_close s ≡ false → HaveCodes (symbols_of S) (flat_map f (active S)) → HaveCodes (symbols_of (S ++ s ∷ [])) (f (1 + length S, s))
+    → HaveCodes (symbols_of (S ++ s ∷ [])) (flat_map f (active (S ++ s ∷ [])))
 known-more f S s h old new x has =
     let more = symbols_of-later S (s ∷ []) in
     by (has_name x (flat_map f (active S))) refl (sym (has_name-append x (flat_map f (active S)) (f (1 + length S, s))) ∙ (ap (has_name x) (sym (flat_map-more f S s h)) ∙ has))
@@ -45,7 +45,7 @@ pub frame_statements-more : (S : Database) (s : Stmt) → is_close s ≡ false �
 frame_statements-more S s h = flat_map-more (λ p. as_frame_statement p.0 p.1) S s h
 
 pub kept-more : (S M : Database) (s : Stmt) (vs ts : List ℕ) (n m : ℕ) (blocks : List StackHeights) (mark : StackHeights) → is_close s ≡ false → is_open s ≡ false
-    → AreNamed (symbols_of (S ++ s ∷ [])) (typed_by s) → length (as_frame_statement (1 + length S) s) ≡ m
+    → HaveCodes (symbols_of (S ++ s ∷ [])) (typed_by s) → length (as_frame_statement (1 + length S) s) ≡ m
     → IsRulesState S M vs ts n blocks mark
     → IsRulesState (S ++ s ∷ []) M (vs ++ codes_or_len (symbols_of (S ++ s ∷ [])) (variables s)) (ts ++ codes_or_len (symbols_of (S ++ s ∷ [])) (typed_by s)) (n + m) blocks mark
 kept-more S M s vs ts n m blocks mark shut plain known stand k = record {
@@ -122,7 +122,7 @@ later-close S M T e closed below all some =
       ap (count is_close) e ∙ count-append is_close M T,
     )
 
-known-close : (f : ℕ × Stmt → List Name) (S : Database) → f (1 + length S, Close) ≡ [] → AreNamed (symbols_of S) (flat_map f (active S)) → AreNamed (symbols_of (S ++ Close ∷ [])) (flat_map f (active (S ++ Close ∷ [])))
+known-close : (f : ℕ × Stmt → List Name) (S : Database) → f (1 + length S, Close) ≡ [] → HaveCodes (symbols_of S) (flat_map f (active S)) → HaveCodes (symbols_of (S ++ Close ∷ [])) (flat_map f (active (S ++ Close ∷ [])))
 known-close f S none known x h =
     ap (has_name x) (symbols_of-append S Close)
     ∙ known x (ap (has_name x) (ap (flat_map f) (split_open (active S)) ∙ flat_map-append f (before_open (active S)) (from_open (active S)))

@@ -7,7 +7,7 @@ pub use Rattle.mm_read.specs.declared.stmt.Stmt.TheVariants.{Axiom, Close, Const
 pub use Rattle.names.proofs.AddedNames.{has-more, has-with_names, has_name-append, code_or_len-same, codes_or_len-more, or_cases, with_names-more}
 pub use Rattle.names.proofs.CodesLemmas.{added-name, code-at, code-first, code-name, found-number, name_eq-comm, name_same, same_name, unknown-number}
 pub use Rattle.names.proofs.DistinctLemmas.{distinct-with_names, name_at-more}
-pub use Rattle.names.specs.Codes.{AreCodes, AreDistinct, AreNamed, code_of, decode, name_at, code_or_len, codes_or_len, with_name, with_names}
+pub use Rattle.names.specs.Codes.{AreCodes, AreDistinct, HaveCodes, code_of, decode, name_at, code_or_len, codes_or_len, with_name, with_names}
 pub use Rattle.scope.specs.Accepted.{Accepted}
 pub use Rattle.scope.specs.Active.{active, active_from, active_variables, bare, bares, constants, count, has_float, has_label, is_active, is_close, is_closed, is_constant, is_float_of, is_open, is_variable, label_of, stays_open, stmt_at, typed_by, typed_variables, variables, was_label, was_symbol, was_variable}
 pub use Rattle.scope.specs.Declares.{IsRecordedBy, MayDeclare, declared_with}

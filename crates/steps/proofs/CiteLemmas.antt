@@ -123,7 +123,7 @@ module _ (S : Database) (at : ℕ) (names : List Name) (legal : AreLegal S names
     a_step = record { position = a; taken = top n d.stack.items }
 
     hypotheses-count : n ≡ length (hypotheses (before S a) s)
-    hypotheses-count = (required-lengths S names (hypotheses (before S a) s) c.typecodes.now c.hypotheses cited.required).1
+    hypotheses-count = (required-lengths S names (hypotheses (before S a) s) c.typecodes.now c.hypotheses cited.numbered_hypotheses).1
 
     record Instance : Type 0 where
       images : Images
@@ -188,7 +188,7 @@ module _ (S : Database) (at : ℕ) (names : List Name) (legal : AreLegal S names
         let es = map (codes_in d) (top n d.stack.items) in
         let len : length es ≡ length c.hypotheses = length-map (top n d.stack.items) (codes_in d) ∙ length-top n d.stack.items many in
         apply-below names ρ c.conclusion.now
-        (read-over S names a s legal.distinct bound c.typecodes.now c.hypotheses cited.required es len ρ read (codes-named S at names rows' (top n d.stack.items) is.rows (in_rows (top n d.stack.items) low_top)))
+        (read-over S names a s legal.distinct bound c.typecodes.now c.hypotheses cited.numbered_hypotheses es len ρ read (codes-named S at names rows' (top n d.stack.items) is.rows (in_rows (top n d.stack.items) low_top)))
         cited.conclusion_below
 
     makes-step : table.Makes S at label d.stack.items (below n d.stack.items) a_step
@@ -214,8 +214,8 @@ module _ (S : Database) (at : ℕ) (names : List Name) (legal : AreLegal S names
     assertion-done new gives = subst (IsRecorded S at names d label new) (sym run.3) (done' new gives)
 
     pub typecodes-count : length c.typecodes.now ≡ n
-    typecodes-count = let l = required-lengths S names (hypotheses (before S a) s) c.typecodes.now c.hypotheses cited.required in l.0 ∙ sym l.1
+    typecodes-count = let l = required-lengths S names (hypotheses (before S a) s) c.typecodes.now c.hypotheses cited.numbered_hypotheses in l.0 ∙ sym l.1
 
     -- no two of the mandatory `$f` have the same variable
     pub different : AreDifferent c.hypotheses
-    different = required-different S names a s c.typecodes.now c.hypotheses bound cited.required
+    different = required-different S names a s c.typecodes.now c.hypotheses bound cited.numbered_hypotheses

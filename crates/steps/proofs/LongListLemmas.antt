@@ -23,24 +23,24 @@ at-end ls l position same = record {
 -- the list made of the parts of an assertion is that of the assertion
 pub made-of : (S : Database) (names : List Name) (a : ℕ) (s : Stmt) (c : AssertionView) (l : ListedHypotheses) → IsViewOf S names a s c → AreMadeOf a c l → AreListsOf S names l s
 made-of S names a s c l is made = record {
-  hypotheses_of = rw (made.at, made.typecodes_same, made.hypotheses_same) is.required;
+  hypotheses_of = rw (made.at, made.typecodes_same, made.hypotheses_same) is.numbered_hypotheses;
   groups = c.groups;
   are_groups = rw made.at is.groups;
   below_names = is.groups_below;
 }
 
 pub whole-parts : (S : Database) (names : List Name) (a : ℕ) (s : Stmt) (c : AssertionView) → IsViewOf S names a s c → HasPartsOf S names a s c
-whole-parts S names a s c is = (c.groups, record { required = is.required; conclusion = is.conclusion; conclusion_below = is.conclusion_below; groups = is.groups; groups_below = is.groups_below })
+whole-parts S names a s c is = (c.groups, record { numbered_hypotheses = is.numbered_hypotheses; conclusion = is.conclusion; conclusion_below = is.conclusion_below; groups = is.groups; groups_below = is.groups_below })
 
 -- a view of a list that is kept has the parts of the assertion
 pub kept-parts : (S : Database) (names : List Name) (ls : List ListedHypotheses) (i a : ℕ) (l : ListedHypotheses) (c : AssertionView) → AreKept S names ls → IsAt ls i a → slice_get ls i ≡ Some l → (s : Stmt) → stmt_at S a ≡ Some s
-    → c.typecodes.now ≡ l.typecodes → c.hypotheses ≡ l.required → decode names c.conclusion.now ≡ expr_of s → AreBelow (length names) c.conclusion.now → HasPartsOf S names a s c
-kept-parts S names ls i a l c kept at here s stands typecodes required same below =
+    → c.typecodes.now ≡ l.typecodes → c.hypotheses ≡ l.numbered_hypotheses → decode names c.conclusion.now ≡ expr_of s → AreBelow (length names) c.conclusion.now → HasPartsOf S names a s c
+kept-parts S names ls i a l c kept at here s stands typecodes numbered_hypotheses same below =
     let there = at.there l here in
     let are = kept-at S names ls i l kept here s (ap (stmt_at S) there ∙ stands) in (
       are.groups,
       record {
-        required = rw (← there, typecodes, required) are.hypotheses_of;
+        numbered_hypotheses = rw (← there, typecodes, numbered_hypotheses) are.hypotheses_of;
         conclusion = same;
         conclusion_below = below;
         groups = subst (λ b. map (decode names) are.groups ≡ mandatory_groups (before S b) s) there are.are_groups;

@@ -84,12 +84,12 @@ module _ (S : Database) (at : ℕ) (names : List Name) (rows : List Row) (row : 
       ∙ ap (λ p. length (hypotheses (before S p) s)) (sym is))))
 
   pub asks-all : (s : Stmt) (typecodes : List ℕ) (hs : List Hypothesis) → HasAssertion S position s → AreNumberedHypotheses S names (hypotheses (before S position) s) typecodes hs → length row.step.taken ≡ length hs
-  asks-all s typecodes hs has required = takes-all s has follows ∙ sym (required-lengths S names (hypotheses (before S position) s) typecodes hs required).1
+  asks-all s typecodes hs has numbered_hypotheses = takes-all s has follows ∙ sym (required-lengths S names (hypotheses (before S position) s) typecodes hs numbered_hypotheses).1
 
   pub essential-by : (s : Stmt) (typecodes : List ℕ) (hs : List Hypothesis) → HasAssertion S position s → AreNumberedHypotheses S names (hypotheses (before S position) s) typecodes hs → essential_of S row.step ≡ taken_by hs row.step.taken
-  essential-by s typecodes hs has required =
+  essential-by s typecodes hs has numbered_hypotheses =
       ap (λ p. for_premises S (mandatory S p (stmt_at S p)) row.step.taken) (sym is)
-      ∙ (ap (λ o. for_premises S (mandatory S position o) row.step.taken) has.0 ∙ premises-by S names (hypotheses (before S position) s) typecodes hs row.step.taken required)
+      ∙ (ap (λ o. for_premises S (mandatory S position o) row.step.taken) has.0 ∙ premises-by S names (hypotheses (before S position) s) typecodes hs row.step.taken numbered_hypotheses)
 
   -- a step that cites a hypothesis takes no step for a `$e`
   takes-none : (s : Stmt) → IsHypothesis S at position s → Follows S at names rows row → [] ≡ essential_of S row.step

@@ -53,7 +53,7 @@ fn premises_of(
     let position = table.position(place);
     match frames.meaning(at, position) {
         Meaning::Assertion => {
-            let few = frames.kept_view(position);
+            let few = frames.whole_view(position);
             let index = lists.index_of(frames, position, few.is_some())?;
             let cited = lists.view_at(frames, position, few, index);
             premises_among(alloc, &cited.hypotheses, table.taken(place))

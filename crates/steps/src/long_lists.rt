@@ -1,5 +1,5 @@
 //! The mandatory hypotheses of assertions with long lists, listed once for each assertion of a table. An assertion has long
-//! lists if `Frames::kept_view` returns `None` for it.
+//! lists if `Frames::whole_view` returns `None` for it.
 ghost use Rattle.std.specs.Prelude.{◌≡◌, [], false, map, is_some, Some, IfOk, IfSome, OnOk};
 ghost use Rattle.mm_read.specs.declared.stmt.Stmt.{Stmt as Statement};
 ghost use Rattle.scope.specs.Active.{stmt_at};
@@ -22,7 +22,7 @@ pub struct HypothesisList {
     /// The typecode of each hypothesis.
     typecodes: Vec<u32>,
     /// Each hypothesis as one number: the variable of a `$f`, or the position of a `$e`.
-    required: Vec<u32>,
+    numbered_hypotheses: Vec<u32>,
 }
 
 impl Model for HypothesisList {
@@ -32,7 +32,7 @@ impl Model for HypothesisList {
 
     ghost Value = { ListedHypotheses };
 
-    ghost view = { λ a. record { position = a.position; typecodes = a.typecodes.items; required = map decoded_hypothesis a.required.items } };
+    ghost view = { λ a. record { position = a.position; typecodes = a.typecodes.items; numbered_hypotheses = map decoded_hypothesis a.numbered_hypotheses.items } };
 }
 
 impl HypothesisList {
@@ -48,24 +48,24 @@ impl HypothesisList {
     {
         let mut typecodes = Vec::new(alloc);
         typecodes.extend_from_slice(cited.typecodes)?;
-        let mut required = Vec::new(alloc);
-        copy_hypotheses(&cited.hypotheses, &mut required)?;
+        let mut numbered_hypotheses = Vec::new(alloc);
+        copy_hypotheses(&cited.hypotheses, &mut numbered_hypotheses)?;
         Ok(HypothesisList {
             position,
             typecodes,
-            required,
+            numbered_hypotheses,
         })
     }
 
     /// Returns a view of the assertion with this expression, without its groups of disjoint variables.
     fn view<'a>(&'a self, conclusion: &'a [u32]) -> AssertionView<'a>
         ensures typecodes { result.typecodes.now ≡ self.now.typecodes }
-        ensures required { result.hypotheses ≡ self.now.required }
+        ensures numbered_hypotheses { result.hypotheses ≡ self.now.numbered_hypotheses }
         ensures conclusion { result.conclusion.now ≡ conclusion.now }
     {
         AssertionView {
             typecodes: &self.typecodes,
-            hypotheses: Hypotheses::new(&self.required),
+            hypotheses: Hypotheses::new(&self.numbered_hypotheses),
             conclusion,
             groups: Groups::new(&[], &[]),
         }
@@ -73,12 +73,15 @@ impl HypothesisList {
 }
 
 /// Appends the hypotheses, each as one number.
-fn copy_hypotheses(hypotheses: &Hypotheses<'_>, required: &mut Vec<u32>) -> Result<(), AllocError>
-    requires { required.old.items ≡ [] }
-    ensures { OnOk result (map decoded_hypothesis required.new.items ≡ hypotheses.now) }
+fn copy_hypotheses(
+    hypotheses: &Hypotheses<'_>,
+    numbered_hypotheses: &mut Vec<u32>,
+) -> Result<(), AllocError>
+    requires { numbered_hypotheses.old.items ≡ [] }
+    ensures { OnOk result (map decoded_hypothesis numbered_hypotheses.new.items ≡ hypotheses.now) }
 {
     for index in 0..hypotheses.len() {
-        required.push(number_of(hypotheses.get(index))?)?;
+        numbered_hypotheses.push(number_of(hypotheses.get(index))?)?;
     }
     Ok(())
 }

@@ -64,7 +64,7 @@ fn cite(
     match frames.meaning(at, position) {
         Meaning::Hypothesis(expr) => cite_hypothesis(alloc, draft, position, expr),
         Meaning::Assertion => {
-            let few = frames.kept_view(position);
+            let few = frames.whole_view(position);
             let index = lists.index_of(frames, position, few.is_some())?;
             let cited = lists.view_at(frames, position, few, index);
             cite_parts(alloc, draft, position, &cited, frames.places(position))

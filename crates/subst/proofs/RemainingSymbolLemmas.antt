@@ -11,7 +11,7 @@ use Rattle.std.proofs.lemmas.List.Folds.{list_any_more}
 use Rattle.std.proofs.lemmas.Nat.{mod-mul-add}
 use Rattle.names.proofs.CodesLemmas.{list_any-map}
 use Rattle.entries.specs.Stored.Keys.{index_of, key_of}
-use Rattle.entries.specs.SymbolPlaces.{is_symbol}
+use Rattle.entries.specs.SymbolPlaces.{equals_symbol}
 use Rattle.subst.specs.declared.remaining_symbols.TheConstants.{KEY_BASE}
 use Rattle.frame.proofs.VariablePlaceLemmas.{any-in, in-any}
 use Rattle.frame.specs.Substitution.{CodeImages}
@@ -186,7 +186,7 @@ read-more f is k old o h done at =
 -- ---- the symbols that were listed
 
 -- one more symbol
-pub among-more : (symbols : List ℕ) (k : ℕ) (o : Option ℕ) → k < length symbols → is_among (take (k + 1) symbols) o ≡ (is_among (take k symbols) o || is_symbol (get_or symbols k 0) o)
+pub among-more : (symbols : List ℕ) (k : ℕ) (o : Option ℕ) → k < length symbols → is_among (take (k + 1) symbols) o ≡ (is_among (take k symbols) o || equals_symbol (get_or symbols k 0) o)
 among-more symbols k None l = refl
 among-more symbols k (Some x) l = list_any_more (λ s. nat_eq x s) symbols k 0 l
 

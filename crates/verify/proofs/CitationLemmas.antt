@@ -27,7 +27,7 @@ module _ (S : Database) (names : List Name) (at a : ℕ) (s : Stmt) (c : Asserti
   meets : (old : Results ℕ) (σ : Images) (b : List Expr) (f : Expr) → AreNamed names old
       → IsInstance S at a s σ → map (decode names) old.stack ≡ b ++ premises S a s σ → f ≡ applied σ (expr_of s) → Meets S names at a c old.stack f
   meets old σ b f an fits whole gives =
-      let lp : length (premises S a s σ) ≡ n = length-premises S a s σ ∙ sym (required-lengths S names _ c.typecodes.now c.hypotheses is.required).1 in
+      let lp : length (premises S a s σ) ≡ n = length-premises S a s σ ∙ sym (required-lengths S names _ c.typecodes.now c.hypotheses is.numbered_hypotheses).1 in
       let ls = ap length whole in
       let la = length-append b (premises S a s σ) in
       let lm = length-map old.stack (decode names) in
@@ -39,11 +39,11 @@ module _ (S : Database) (names : List Name) (at a : ℕ) (s : Stmt) (c : Asserti
       let low = all-drop (length names) (length old.stack - n) old.stack an.stack_named in
       record {
         many = many;
-        typed = premise-typed S names a s legal.distinct bound c.typecodes.now c.hypotheses is.required es count low σ fits.of_variables (sym cut);
-        fits = λ ρ read. fits-agree S names a s legal.distinct bound c.typecodes.now c.hypotheses is.required es count low σ fits.of_variables (sym cut) ρ read;
+        typed = premise-typed S names a s legal.distinct bound c.typecodes.now c.hypotheses is.numbered_hypotheses es count low σ fits.of_variables (sym cut);
+        fits = λ ρ read. fits-agree S names a s legal.distinct bound c.typecodes.now c.hypotheses is.numbered_hypotheses es count low σ fits.of_variables (sym cut) ρ read;
         disjoint = λ ρ read. is.groups (before S at) (images_of_names names ρ)
-            ∙ (disjoint-agrees S names a s legal.distinct bound c.typecodes.now c.hypotheses is.required es count low σ fits.of_variables (sym cut) ρ read (before S at) ∙ fits.disjoint);
-        gives = λ ρ read. gives ∙ (conclusion-agrees S names a s legal.distinct bound c.typecodes.now c.hypotheses is.required es count low σ fits.of_variables (sym cut) ρ read ∙ sym (conclusion-named ρ));
+            ∙ (disjoint-agrees S names a s legal.distinct bound c.typecodes.now c.hypotheses is.numbered_hypotheses es count low σ fits.of_variables (sym cut) ρ read (before S at) ∙ fits.disjoint);
+        gives = λ ρ read. gives ∙ (conclusion-agrees S names a s legal.distinct bound c.typecodes.now c.hypotheses is.numbered_hypotheses es count low σ fits.of_variables (sym cut) ρ read ∙ sym (conclusion-named ρ));
       }
 
   -- each step by the label cites this assertion, so the conditions hold
@@ -69,21 +69,21 @@ module _ (S : Database) (names : List Name) (at a : ℕ) (s : Stmt) (c : Asserti
       let count = length-top n old.stack many in
       let low = all-drop (length names) (length old.stack - n) old.stack an.stack_named in
       let τ = only (is_variable (before S a)) (images_of_names names ρ) in
-      let prem : premises S a s τ ≡ map (decode names) es = premises-read S names a s legal.distinct bound c.typecodes.now c.hypotheses is.required es count ρ read fits in
+      let prem : premises S a s τ ≡ map (decode names) es = premises-read S names a s legal.distinct bound c.typecodes.now c.hypotheses is.numbered_hypotheses es count ρ read fits in
       let away : are_groups_disjoint (before S at) τ (mandatory_groups (before S a) s) ≡ true
-      = disjoint-τ S names a s legal.distinct bound c.typecodes.now c.hypotheses is.required es count ρ read (before S at) (mandatory_groups (before S a) s) ∙ (sym (is.groups (before S at) (images_of_names names ρ)) ∙ disjoint) in
+      = disjoint-τ S names a s legal.distinct bound c.typecodes.now c.hypotheses is.numbered_hypotheses es count ρ read (before S at) (mandatory_groups (before S a) s) ∙ (sym (is.groups (before S at) (images_of_names names ρ)) ∙ disjoint) in
       let whole : map (decode names) old.stack ≡ map (decode names) (below n old.stack) ++ premises S a s τ
       = ap (map (decode names)) (halves n old.stack) ∙ (map-append (decode names) (below n old.stack) es ∙ ap (λ v. map (decode names) (below n old.stack) ++ v) (sym prem)) in
-      let gives : decode names e ≡ applied τ (expr_of s) = conclusion-named ρ ∙ sym (apply-τ S names a s legal.distinct bound c.typecodes.now c.hypotheses is.required es count ρ read (expr_of s)) in (
+      let gives : decode names e ≡ applied τ (expr_of s) = conclusion-named ρ ∙ sym (apply-τ S names a s legal.distinct bound c.typecodes.now c.hypotheses is.numbered_hypotheses es count ρ read (expr_of s)) in (
         (
           map (decode names) (below n old.stack),
           decode names e,
           of_assertion a s τ carries
-              (record { earlier = earlier; stands = has.0; assertion = has.1; of_variables = of_variables S names a s legal.distinct bound c.typecodes.now c.hypotheses is.required es count ρ read; disjoint = away }) whole gives,
+              (record { earlier = earlier; stands = has.0; assertion = has.1; of_variables = of_variables S names a s legal.distinct bound c.typecodes.now c.hypotheses is.numbered_hypotheses es count ρ read; disjoint = away }) whole gives,
           ap (named names) adds ∙ named-result names old (below n old.stack) e,
         ),
         subst (AreNamed names) (sym adds) (result-named names old (below n old.stack) e an (all-take (length names) (length old.stack - n) old.stack an.stack_named)
-            (apply-below names ρ c.conclusion.now (read-over S names a s legal.distinct bound c.typecodes.now c.hypotheses is.required es count ρ read low) is.conclusion_below)),
+            (apply-below names ρ c.conclusion.now (read-over S names a s legal.distinct bound c.typecodes.now c.hypotheses is.numbered_hypotheses es count ρ read low) is.conclusion_below)),
       )
   goes-assertion false old new label ρ an carries has earlier many read fits disjoint heavy = λ next p.
       let m = meets-step old label p.0 p.1 an carries has p.2 in
@@ -102,7 +102,7 @@ module _ (t : ProofContext) (a : ℕ) (about : Numbered) (old : Results ℕ) (ma
 
   pub over-read : (ρ : CodeImages) → count ≤ length old.stack → AreRead c.typecodes.now c.hypotheses (top count old.stack) ρ → AreOver t.frames.now.names ρ
   over-read ρ many read =
-      read-over t.frames.now.statements t.frames.now.names a may.assertion.0 may.ready.legal.distinct (may.ready.legal.bound a may.assertion.0 may.assertion.1) c.typecodes.now c.hypotheses (cited may.assertion.0 may.assertion.1.0).required
+      read-over t.frames.now.statements t.frames.now.names a may.assertion.0 may.ready.legal.distinct (may.ready.legal.bound a may.assertion.0 may.assertion.1) c.typecodes.now c.hypotheses (cited may.assertion.0 may.assertion.1.0).numbered_hypotheses
       (top count old.stack) (length-top count old.stack many) ρ read (all-drop (length t.frames.now.names) (length old.stack - count) old.stack may.named.stack_named)
 
   pub has-cited : (ok : Bool) (new : Results ℕ) (ρ : CodeImages) → count ≤ length old.stack → AreRead c.typecodes.now c.hypotheses (top count old.stack) ρ

@@ -118,13 +118,13 @@ passes-at p (g ∷ gs) h = elim (or_cases (p g) (list_any p gs) h) [
   | inr rest ↦ let r = passes-at p gs rest in record { index = suc r.index; group = r.group; stands = r.stands; passes = r.passes }
 ]
 
-module _ (S : Database) (names : List Name) (a : ℕ) (s : Stmt) (typecodes : List ℕ) (hs : List Hypothesis) (required : AreNumberedHypotheses S names (hypotheses (before S a) s) typecodes hs) where
+module _ (S : Database) (names : List Name) (a : ℕ) (s : Stmt) (typecodes : List ℕ) (hs : List Hypothesis) (numbered_hypotheses : AreNumberedHypotheses S names (hypotheses (before S a) s) typecodes hs) where
   -- the variable of a mandatory `$f` has a number
   float-numbered : (x : Name) → HasFloat S (hypotheses (before S a) s) x → HasNumber names x
   float-numbered x f =
-      let at = required-at S names (hypotheses (before S a) s) typecodes hs f.place required (slice_get_within (hypotheses (before S a) s) f.place f.position f.listed) in
+      let at = required-at S names (hypotheses (before S a) s) typecodes hs f.place numbered_hypotheses (slice_get_within (hypotheses (before S a) s) f.place f.position f.listed) in
       let one : at.position ≡ f.position = some-same at.listed f.listed in
-      let r = float-number S names at.position at.typecode at.hypothesis f.label f.constant x at.required (ap (stmt_at S) one ∙ f.stands) in
+      let r = float-number S names at.position at.typecode at.hypothesis f.label f.constant x at.numbered_hypotheses (ap (stmt_at S) one ∙ f.stands) in
       (r.0, r.2, r.3)
 
   module _ (bound : IsBound S a s) (gs : List (List ℕ)) (low : AllBelow (length names) gs)
@@ -158,10 +158,10 @@ module _ (S : Database) (names : List Name) (a : ℕ) (s : Stmt) (typecodes : Li
 
 pub cited_pairs : (S : Database) (names : List Name) (a : ℕ) (s : Stmt) (c : AssertionView) → IsBound S a s → IsCited S names a s c → IsCitedBy S names a s c
 cited_pairs S names a s c bound is = record {
-  required = is.required;
+  numbered_hypotheses = is.numbered_hypotheses;
   conclusion = is.conclusion;
   conclusion_below = is.conclusion_below;
-  groups = pairs-say S names a s c.typecodes.now c.hypotheses is.required bound c.groups is.groups_below is.pairs;
+  groups = pairs-say S names a s c.typecodes.now c.hypotheses is.numbered_hypotheses bound c.groups is.groups_below is.pairs;
   groups_below = is.groups_below;
 }
 

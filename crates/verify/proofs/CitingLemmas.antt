@@ -26,7 +26,7 @@ typecodes_counted names [] h = absurd (omega (arith, h))
 typecodes_counted names (x ∷ e) h = refl
 
 module _ (S : Database) (names : List Name) (a : ℕ) (s : Stmt) (distinct : AreDistinct names) (bound : IsBound S a s)
-    (typecodes : List ℕ) (hs : List Hypothesis) (required : AreNumberedHypotheses S names (hypotheses (before S a) s) typecodes hs) (rs : List (List ℕ)) (count : length rs ≡ length hs) where
+    (typecodes : List ℕ) (hs : List Hypothesis) (numbered_hypotheses : AreNumberedHypotheses S names (hypotheses (before S a) s) typecodes hs) (rs : List (List ℕ)) (count : length rs ≡ length hs) where
   abbrev V : Name → Bool
   V = is_variable (before S a)
 
@@ -35,11 +35,11 @@ module _ (S : Database) (names : List Name) (a : ℕ) (s : Stmt) (distinct : Are
 
   -- there are as many typecodes, and as many hypotheses, as positions
   lens : (length typecodes ≡ length ps) × (length hs ≡ length ps)
-  lens = required-lengths S names ps typecodes hs required
+  lens = required-lengths S names ps typecodes hs numbered_hypotheses
 
   -- the hypothesis at an index, with its position and its typecode
   at : (k : ℕ) → k < length rs → At S names ps typecodes hs k
-  at k h = required-at S names ps typecodes hs k required (let l = lens.1 in omega (arith, h, l, count))
+  at k h = required-at S names ps typecodes hs k numbered_hypotheses (let l = lens.1 in omega (arith, h, l, count))
 
   -- each hypothesis of the assertion has a result
   within : (k : ℕ) (h : Hypothesis) → slice_get hs k ≡ Some h → k < length rs
@@ -71,7 +71,7 @@ module _ (S : Database) (names : List Name) (a : ℕ) (s : Stmt) (distinct : Are
             image-named names ρ y n e
             ∙ (ap (decode names) (read.own n (λ k is.
             (let d = at k (within k (Float n) is) in
-            let f = float-at S names d.position d.typecode n (subst (IsNumberedHypothesis S names d.position d.typecode) (some-same d.kind is) d.required) in
+            let f = float-at S names d.position d.typecode n (subst (IsNumberedHypothesis S names d.position d.typecode) (some-same d.kind is) d.numbered_hypotheses) in
             let v : V f.variable ≡ true = bound.variable k d.position f.label f.constant f.variable d.listed f.stands in
             true≢false (sym v ∙ (ap V (sym f.named ∙ c.1) ∙ none)))))
             ∙ ap (λ z. z ∷ []) c.1)
@@ -113,14 +113,14 @@ module _ (S : Database) (names : List Name) (a : ℕ) (s : Stmt) (distinct : Are
     -- if each `$e` matches its result, the results are the hypotheses under these images
     module _ (fits : HypothesesMatch S N hs (map (decode names) rs)) where
       one-premise : (k : ℕ) → k < length rs → (d : At S names ps typecodes hs k) → applied τ (expr_at S d.position) ≡ decode names (get_or rs k [])
-      one-premise k less d = by d.hypothesis d.kind d.required
+      one-premise k less d = by d.hypothesis d.kind d.numbered_hypotheses
         where
           by : (h : Hypothesis) → slice_get hs k ≡ Some h → IsNumberedHypothesis S names d.position d.typecode h → applied τ (expr_at S d.position) ≡ decode names (get_or rs k [])
-          by (Essential q) kind required =
-              let f = essential-at S names d.position d.typecode q required in
+          by (Essential q) kind numbered_hypotheses =
+              let f = essential-at S names d.position d.typecode q numbered_hypotheses in
               apply-τ (expr_at S d.position) ∙ (ap (λ p. applied N (expr_at S p)) (sym f.same) ∙ (sym (fits.each k (Essential q) kind) ∙ get-decode names rs k))
-          by (Float x) kind required =
-              let f = float-at S names d.position d.typecode x required in
+          by (Float x) kind numbered_hypotheses =
+              let f = float-at S names d.position d.typecode x numbered_hypotheses in
               let fixed : V f.constant ≡ false = bound.first k d.position (stmt.Float f.label f.constant f.variable) d.listed f.stands in
               let typed = read.typed k x kind in
               let typecode : typecode_of (get_or rs k []) ≡ d.typecode = typed.first ∙ get_or_from_slice_get typecodes k d.typecode 0 d.first in
@@ -149,9 +149,9 @@ module _ (S : Database) (names : List Name) (a : ℕ) (s : Stmt) (distinct : Are
     fixed y none = image-fixed V σ y of_vars none
 
     -- the result for a `$f` is its typecode followed by the image of its variable
-    float-premise : (k : ℕ) (d : At S names ps typecodes hs k) (x : ℕ) → (required : IsNumberedHypothesis S names d.position d.typecode (Float x)) → let f = float-at S names d.position d.typecode x required in decode names (get_or rs k []) ≡ f.constant ∷ image σ f.variable
-    float-premise k d x required =
-        let f = float-at S names d.position d.typecode x required in
+    float-premise : (k : ℕ) (d : At S names ps typecodes hs k) (x : ℕ) → (numbered_hypotheses : IsNumberedHypothesis S names d.position d.typecode (Float x)) → let f = float-at S names d.position d.typecode x numbered_hypotheses in decode names (get_or rs k []) ≡ f.constant ∷ image σ f.variable
+    float-premise k d x numbered_hypotheses =
+        let f = float-at S names d.position d.typecode x numbered_hypotheses in
         let fix : V f.constant ≡ false = bound.first k d.position (stmt.Float f.label f.constant f.variable) d.listed f.stands in
         premise-at k d.position d.listed
         ∙ (ap (applied σ) (expr-stands d.position (stmt.Float f.label f.constant f.variable) f.stands)
@@ -161,14 +161,14 @@ module _ (S : Database) (names : List Name) (a : ℕ) (s : Stmt) (distinct : Are
     premise-some : (k x : ℕ) → slice_get hs k ≡ Some (Float x) → get_or rs k [] ≡ [] → ⊥
     premise-some k x kind none =
         let d = at k (within k (Float x) kind) in
-        let required' = subst (IsNumberedHypothesis S names d.position d.typecode) (some-same d.kind kind) d.required in
-        let f = float-at S names d.position d.typecode x required' in
-        let e : [] ≡ f.constant ∷ image σ f.variable = ap (decode names) (sym none) ∙ float-premise k d x required' in cc
+        let numbered_hypotheses' = subst (IsNumberedHypothesis S names d.position d.typecode) (some-same d.kind kind) d.numbered_hypotheses in
+        let f = float-at S names d.position d.typecode x numbered_hypotheses' in
+        let e : [] ≡ f.constant ∷ image σ f.variable = ap (decode names) (sym none) ∙ float-premise k d x numbered_hypotheses' in cc
 
     one-typecode : (k : ℕ) → (d : At S names ps typecodes hs k) → typecode_of (get_or rs k []) ≡ d.typecode
-    one-typecode k d = by (expr_of d.required.stmt) d.required.first (get_or rs k []) (all-at (length names) k rs low)
-        (bound.first k d.position d.required.stmt d.listed d.required.stands)
-        (premise-at k d.position d.listed ∙ ap (applied σ) (expr-stands d.position d.required.stmt d.required.stands))
+    one-typecode k d = by (expr_of d.numbered_hypotheses.stmt) d.numbered_hypotheses.first (get_or rs k []) (all-at (length names) k rs low)
+        (bound.first k d.position d.numbered_hypotheses.stmt d.listed d.numbered_hypotheses.stands)
+        (premise-at k d.position d.listed ∙ ap (applied σ) (expr-stands d.position d.numbered_hypotheses.stmt d.numbered_hypotheses.stands))
       where
         by : (e : Expr) → IsTypecode names d.typecode e → (r : List ℕ) → AreBelow (length names) r → IsFirstFixed (before S a) e → decode names r ≡ applied σ e → typecode_of r ≡ d.typecode
         by [] first [] b fix same = sym first
@@ -193,10 +193,10 @@ module _ (S : Database) (names : List Name) (a : ℕ) (s : Stmt) (distinct : Are
       float-agrees : (k x : ℕ) (v : Name) → slice_get hs k ≡ Some (Float x) → x < length names → name_at names x ≡ v → image (images_of_names names ρ) v ≡ image σ v
       float-agrees k x v kind lows named =
           let d = at k (within k (Float x) kind) in
-          let required' = subst (IsNumberedHypothesis S names d.position d.typecode) (some-same d.kind kind) d.required in
-          let f = float-at S names d.position d.typecode x required' in
+          let numbered_hypotheses' = subst (IsNumberedHypothesis S names d.position d.typecode) (some-same d.kind kind) d.numbered_hypotheses in
+          let f = float-at S names d.position d.typecode x numbered_hypotheses' in
           image-float ρ read k x v kind lows named
-          ∙ (sym (drop-decode names (get_or rs k [])) ∙ (ap (drop 1) (float-premise k d x required') ∙ ap (image σ) (sym f.named ∙ named)))
+          ∙ (sym (drop-decode names (get_or rs k [])) ∙ (ap (drop 1) (float-premise k d x numbered_hypotheses') ∙ ap (image σ) (sym f.named ∙ named)))
 
       -- a symbol has the same image under both if it is no variable or is the variable of some `$f`
       agrees : (y : Name) → (V y ≡ true → HasFloat S ps y) → image (images_of_names names ρ) y ≡ image σ y
@@ -206,7 +206,7 @@ module _ (S : Database) (names : List Name) (a : ℕ) (s : Stmt) (distinct : Are
           float f =
               let d = at f.place (let l = lens.1 in let m = slice_get_within ps f.place f.position f.listed in omega (arith, l, m, count)) in
               let same : d.position ≡ f.position = some-same d.listed f.listed in
-              let x = float-number S names d.position d.typecode d.hypothesis f.label f.constant y d.required (ap (stmt_at S) same ∙ f.stands) in
+              let x = float-number S names d.position d.typecode d.hypothesis f.label f.constant y d.numbered_hypotheses (ap (stmt_at S) same ∙ f.stands) in
               float-agrees f.place x.0 y (d.kind ∙ ap Some x.1) x.2 x.3
 
           by : (b : Bool) → V y ≡ b → image (images_of_names names ρ) y ≡ image σ y
@@ -220,7 +220,7 @@ module _ (S : Database) (names : List Name) (a : ℕ) (s : Stmt) (distinct : Are
           one k (Float x) kind = tt
           one k (Essential q) kind =
               let d = at k (within k (Essential q) kind) in
-              let f = essential-at S names d.position d.typecode q (subst (IsNumberedHypothesis S names d.position d.typecode) (some-same d.kind kind) d.required) in
+              let f = essential-at S names d.position d.typecode q (subst (IsNumberedHypothesis S names d.position d.typecode) (some-same d.kind kind) d.numbered_hypotheses) in
               get-decode names rs k
               ∙ (premise-at k d.position d.listed
               ∙ (ap (applied σ) (expr-stands d.position (stmt.Ess f.label f.expr) f.stands)

@@ -111,9 +111,9 @@ group-appended places new a b s group e from to h k =
 
 -- ---- one more hypothesis, as a number
 
-pub told-more : (required new : List ℕ) (hs : List Hypothesis) (i n : ℕ) (h : Hypothesis) → map decoded_hypothesis required ≡ take i hs → new ≡ required ++ n ∷ [] → slice_get hs i ≡ Some h → decoded_hypothesis n ≡ h → map decoded_hypothesis new ≡ take (i + 1) hs
-told-more required new hs i n h front k here same =
-    ap (map decoded_hypothesis) k ∙ (map-append decoded_hypothesis required (n ∷ []) ∙ (ap (λ l. l ++ decoded_hypothesis n ∷ []) front
+pub told-more : (numbered_hypotheses new : List ℕ) (hs : List Hypothesis) (i n : ℕ) (h : Hypothesis) → map decoded_hypothesis numbered_hypotheses ≡ take i hs → new ≡ numbered_hypotheses ++ n ∷ [] → slice_get hs i ≡ Some h → decoded_hypothesis n ≡ h → map decoded_hypothesis new ≡ take (i + 1) hs
+told-more numbered_hypotheses new hs i n h front k here same =
+    ap (map decoded_hypothesis) k ∙ (map-append decoded_hypothesis numbered_hypotheses (n ∷ []) ∙ (ap (λ l. l ++ decoded_hypothesis n ∷ []) front
     ∙ (ap (λ (x : Hypothesis). take i hs ++ x ∷ []) (same ∙ sym (get_or_from_slice_get hs i h h here)) ∙ sym (take_more hs i h (slice_get_within hs i h here)))))
 
 -- ---- one more element
@@ -173,24 +173,24 @@ at-end ls l position same = record {
 
 pub made-of : (S : Database) (names : List Name) (a : ℕ) (s : Stmt) (c : AssertionView) (l : CitationLists) → IsCitedBy S names a s c → AreMadeOf a c l → AreListsOf S names l s
 made-of S names a s c l is made = record {
-  hypotheses_of = rw (made.at, made.typecodes_same, made.hypotheses_same) is.required;
+  hypotheses_of = rw (made.at, made.typecodes_same, made.hypotheses_same) is.numbered_hypotheses;
   disjoint = λ D σ. made.same names D σ ∙ (is.groups D σ ∙ ap (λ (b : ℕ). are_groups_disjoint D σ (mandatory_groups (before S b) s)) (sym made.at));
   below_names = made.below (length names) is.groups_below;
 }
 
 pub cited-plain : (S : Database) (names : List Name) (a : ℕ) (s : Stmt) (c : AssertionView) → IsViewOf S names a s c → IsCitedBy S names a s c
 cited-plain S names a s c is = record {
-  required = is.required;
+  numbered_hypotheses = is.numbered_hypotheses;
   conclusion = is.conclusion;
   conclusion_below = is.conclusion_below;
   groups = λ D σ. ap (are_groups_disjoint D σ) is.groups;
   groups_below = is.groups_below;
 }
 
-pub cited-kept : (S : Database) (names : List Name) (a : ℕ) (s : Stmt) (l : CitationLists) (c : AssertionView) → AreListsOf S names l s → l.position ≡ a → c.typecodes.now ≡ l.typecodes → c.hypotheses ≡ l.required → c.groups ≡ l.groups
+pub cited-kept : (S : Database) (names : List Name) (a : ℕ) (s : Stmt) (l : CitationLists) (c : AssertionView) → AreListsOf S names l s → l.position ≡ a → c.typecodes.now ≡ l.typecodes → c.hypotheses ≡ l.numbered_hypotheses → c.groups ≡ l.groups
     → decode names c.conclusion.now ≡ expr_of s → AreBelow (length names) c.conclusion.now → IsCitedBy S names a s c
-cited-kept S names a s l c are at typecodes required groups same below = record {
-  required = rw (← at, typecodes, required) are.hypotheses_of;
+cited-kept S names a s l c are at typecodes numbered_hypotheses groups same below = record {
+  numbered_hypotheses = rw (← at, typecodes, numbered_hypotheses) are.hypotheses_of;
   conclusion = same;
   conclusion_below = below;
   groups = λ D σ. ap (λ gs. are_groups_disjoint D σ (map (decode names) gs)) groups ∙ (are.disjoint D σ ∙ ap (λ (b : ℕ). are_groups_disjoint D σ (mandatory_groups (before S b) s)) at);

@@ -81,7 +81,7 @@ essential S names a s hs stands those k position h =
     let size = (required-lengths S names ps r.0 hs r.1).1 in
     let within = slice_get_within hs k (Essential position) h in
     let at = required-at S names ps r.0 hs k r.1 (omega (arith, within, size)) in
-    let e = essential-at S names at.position at.typecode position (subst (IsNumberedHypothesis S names at.position at.typecode) (some-same at.kind h) at.required) in
+    let e = essential-at S names at.position at.typecode position (subst (IsNumberedHypothesis S names at.position at.typecode) (some-same at.kind h) at.numbered_hypotheses) in
     record { label = e.label; expr = e.expr; here = at.listed ∙ ap Some (sym e.same); there = ap (stmt_at S) e.same ∙ e.stands }
 
 -- ---- what is left
@@ -123,7 +123,7 @@ module _ (S : Database) (names : List Name) (a : ℕ) (s : Stmt) (hs : List Hypo
             let r = those s stands in
             let at = required-at S names ps r.0 hs f.place r.1 (slice_get_within ps f.place f.position f.listed) in
             let one : at.position ≡ f.position = some-same at.listed f.listed in
-            let n = float-number S names at.position at.typecode at.hypothesis f.label f.constant name at.required (ap (stmt_at S) one ∙ f.stands) in
+            let n = float-number S names at.position at.typecode at.hypothesis f.label f.constant name at.numbered_hypotheses (ap (stmt_at S) one ∙ f.stands) in
             let x-is : n.0 ≡ x = name_at-injective names n.0 x distinct n.2 low n.3 in
             (f.place, at.kind ∙ ap Some (n.1 ∙ ap Float x-is))
 
@@ -152,7 +152,7 @@ float-low S names ps typecodes hs k x r h =
     let size = (required-lengths S names ps typecodes hs r).1 in
     let within = slice_get_within hs k (Float x) h in
     let at = required-at S names ps typecodes hs k r (omega (arith, within, size)) in
-    (float-at S names at.position at.typecode x (subst (IsNumberedHypothesis S names at.position at.typecode) (some-same at.kind h) at.required)).below
+    (float-at S names at.position at.typecode x (subst (IsNumberedHypothesis S names at.position at.typecode) (some-same at.kind h) at.numbered_hypotheses)).below
 
 pub listed-kept : (S : Database) (names : List Name) (a x : ℕ) (old new : List ℕ) → IsListed S names a x old → ((n : ℕ) → In n old → In n new) → IsListed S names a x new
 listed-kept S names a x old new l kept s at q m = let r = l s at q m in (r.0, kept (key_of q x) r.1)

@@ -11,7 +11,7 @@ pub record At (S : Database) (names : List Name) (ps typecodes : List ℕ) (hs :
   pub listed : slice_get ps k ≡ Some position
   pub first : slice_get typecodes k ≡ Some typecode
   pub kind : slice_get hs k ≡ Some hypothesis
-  pub required : IsNumberedHypothesis S names position typecode hypothesis
+  pub numbered_hypotheses : IsNumberedHypothesis S names position typecode hypothesis
 
 module _ (S : Database) (names : List Name) where
   pub required-lengths : (ps typecodes : List ℕ) (hs : List Hypothesis) → AreNumberedHypotheses S names ps typecodes hs → (length typecodes ≡ length ps) × (length hs ≡ length ps)
@@ -21,10 +21,10 @@ module _ (S : Database) (names : List Name) where
 
   pub required-at : (ps typecodes : List ℕ) (hs : List Hypothesis) (k : ℕ) → AreNumberedHypotheses S names ps typecodes hs → k < length ps → At S names ps typecodes hs k
   required-at [] typecodes hs k a h = absurd (omega (arith, h))
-  required-at (p ∷ ps) (c ∷ typecodes) (x ∷ hs) zero a h = record { position = p; typecode = c; hypothesis = x; listed = refl; first = refl; kind = refl; required = a.0 }
+  required-at (p ∷ ps) (c ∷ typecodes) (x ∷ hs) zero a h = record { position = p; typecode = c; hypothesis = x; listed = refl; first = refl; kind = refl; numbered_hypotheses = a.0 }
   required-at (p ∷ ps) (c ∷ typecodes) (x ∷ hs) (suc k) a h =
       let r = required-at ps typecodes hs k a.1 (omega (arith, h)) in
-      record { position = r.position; typecode = r.typecode; hypothesis = r.hypothesis; listed = r.listed; first = r.first; kind = r.kind; required = r.required }
+      record { position = r.position; typecode = r.typecode; hypothesis = r.hypothesis; listed = r.listed; first = r.first; kind = r.kind; numbered_hypotheses = r.numbered_hypotheses }
   required-at ps typecodes hs k a h = absurd a
 
   -- the statement at the position of a `$f`, and that at the position of a `$e`
@@ -81,17 +81,17 @@ module _ (S : Database) (names : List Name) where
 
   -- the mandatory `$f` are of different variables
   pub required-different : (a : ℕ) (s : Stmt) (typecodes : List ℕ) (hs : List Hypothesis) → IsBound S a s → AreNumberedHypotheses S names (hypotheses (before S a) s) typecodes hs → AreDifferent hs
-  required-different a s typecodes hs bound required = record { each = λ j k x p q. one j k x p q }
+  required-different a s typecodes hs bound numbered_hypotheses = record { each = λ j k x p q. one j k x p q }
     where
       one : (j k x : ℕ) → slice_get hs j ≡ Some (Float x) → slice_get hs k ≡ Some (Float x) → j ≡ k
       one j k x p q =
-          let lens = required-lengths (hypotheses (before S a) s) typecodes hs required in
+          let lens = required-lengths (hypotheses (before S a) s) typecodes hs numbered_hypotheses in
           let jn = slice_get_within hs j (Float x) p in
           let kn = slice_get_within hs k (Float x) q in
-          let ja = required-at (hypotheses (before S a) s) typecodes hs j required (let l = lens.1 in omega (arith, jn, l)) in
-          let ka = required-at (hypotheses (before S a) s) typecodes hs k required (let l = lens.1 in omega (arith, kn, l)) in
-          let f = float-at ja.position ja.typecode x (subst (IsNumberedHypothesis S names ja.position ja.typecode) (some-same ja.kind p) ja.required) in
-          let g = float-at ka.position ka.typecode x (subst (IsNumberedHypothesis S names ka.position ka.typecode) (some-same ka.kind q) ka.required) in
+          let ja = required-at (hypotheses (before S a) s) typecodes hs j numbered_hypotheses (let l = lens.1 in omega (arith, jn, l)) in
+          let ka = required-at (hypotheses (before S a) s) typecodes hs k numbered_hypotheses (let l = lens.1 in omega (arith, kn, l)) in
+          let f = float-at ja.position ja.typecode x (subst (IsNumberedHypothesis S names ja.position ja.typecode) (some-same ja.kind p) ja.numbered_hypotheses) in
+          let g = float-at ka.position ka.typecode x (subst (IsNumberedHypothesis S names ka.position ka.typecode) (some-same ka.kind q) ka.numbered_hypotheses) in
           bound.once j k ja.position ka.position f.label f.constant g.label g.constant f.variable ja.listed ka.listed f.stands
           (g.stands ∙ ap (λ v. Some (stmt.Float g.label g.constant v)) (sym g.named ∙ f.named))
 

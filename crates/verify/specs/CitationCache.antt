@@ -22,7 +22,7 @@ AreSameCondition gs hs = (names : List Name) (D : Database) (σ : Images) → ar
 
 -- the view is right for citations of the assertion s at a
 pub record IsCitedBy (S : Database) (names : List Name) (a : ℕ) (s : Stmt) (c : AssertionView) : Type 0 where
-  pub required : AreNumberedHypotheses S names (hypotheses (before S a) s) c.typecodes.now c.hypotheses
+  pub numbered_hypotheses : AreNumberedHypotheses S names (hypotheses (before S a) s) c.typecodes.now c.hypotheses
   pub conclusion : decode names c.conclusion.now ≡ expr_of s
   pub conclusion_below : AreBelow (length names) c.conclusion.now
   pub groups : (D : Database) (σ : Images) → are_groups_disjoint D σ (map (decode names) c.groups) ≡ are_groups_disjoint D σ (mandatory_groups (before S a) s)
@@ -34,20 +34,20 @@ pub record IsCitedBy (S : Database) (names : List Name) (a : ℕ) (s : Stmt) (c 
 pub record CitationLists : Type 0 where
   pub position : ℕ
   pub typecodes : List ℕ
-  pub required : List Hypothesis
+  pub numbered_hypotheses : List Hypothesis
   pub groups : List (List ℕ)
 
 -- the lists were made from this view
 pub record AreMadeOf (position : ℕ) (c : AssertionView) (l : CitationLists) : Type 0 where
   pub at : l.position ≡ position
   pub typecodes_same : l.typecodes ≡ c.typecodes.now
-  pub hypotheses_same : l.required ≡ c.hypotheses
+  pub hypotheses_same : l.numbered_hypotheses ≡ c.hypotheses
   pub same : AreSameCondition l.groups c.groups
   pub below : (n : ℕ) → AllBelow n c.groups → AllBelow n l.groups
 
 -- the lists are right for citations of the assertion s at their position
 pub record AreListsOf (S : Database) (names : List Name) (l : CitationLists) (s : Stmt) : Type 0 where
-  pub hypotheses_of : AreNumberedHypotheses S names (hypotheses (before S l.position) s) l.typecodes l.required
+  pub hypotheses_of : AreNumberedHypotheses S names (hypotheses (before S l.position) s) l.typecodes l.numbered_hypotheses
   pub disjoint : (D : Database) (σ : Images) → are_groups_disjoint D σ (map (decode names) l.groups) ≡ are_groups_disjoint D σ (mandatory_groups (before S l.position) s)
   pub below_names : AllBelow (length names) l.groups
 

@@ -207,7 +207,7 @@ fn cite(
     ensures about { buffers.new.results.about ≡ context.now.pairs }
     ensures kept { IsCacheFor context.now.frames.now.statements context.now.frames.now.names buffers.new.kept }
 {
-    let Some(cited) = context.frames.kept_view(position) else {
+    let Some(cited) = context.frames.whole_view(position) else {
         return cite_long(context, position, buffers);
     };
     let remaining = &mut buffers.remaining;

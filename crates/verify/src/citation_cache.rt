@@ -43,7 +43,7 @@ pub struct AssertionLists {
     /// The typecode of each hypothesis.
     typecodes: Vec<u32>,
     /// Each hypothesis, encoded as one number.
-    required: Vec<u32>,
+    numbered_hypotheses: Vec<u32>,
     /// The variables of the lists, one list after another.
     grouped_variables: Vec<u32>,
     /// The range of each list in `grouped_variables`.
@@ -58,7 +58,7 @@ impl Model for AssertionLists {
 
     ghost Value = { CitationLists };
 
-    ghost view = { λ a. record { position = a.position; typecodes = a.typecodes.items; required = map decoded_hypothesis a.required.items; groups = cut a.grouped_variables.items a.groups.items } };
+    ghost view = { λ a. record { position = a.position; typecodes = a.typecodes.items; numbered_hypotheses = map decoded_hypothesis a.numbered_hypotheses.items; groups = cut a.grouped_variables.items a.groups.items } };
 
     ghost invariant = { λ a. AreSpansIn (length a.grouped_variables.items) a.groups.items };
 }
@@ -78,8 +78,8 @@ impl AssertionLists {
     {
         let mut typecodes = Vec::new(alloc);
         typecodes.extend_from_slice(cited.typecodes)?;
-        let mut required = Vec::new(alloc);
-        copy_hypotheses(&cited.hypotheses, &mut required)?;
+        let mut numbered_hypotheses = Vec::new(alloc);
+        copy_hypotheses(&cited.hypotheses, &mut numbered_hypotheses)?;
         pairs.begin(&cited.hypotheses)?;
         let mut grouped_variables = Vec::new(alloc);
         let mut groups = Vec::new(alloc);
@@ -87,7 +87,7 @@ impl AssertionLists {
         Ok(AssertionLists {
             position,
             typecodes,
-            required,
+            numbered_hypotheses,
             grouped_variables,
             groups,
         })
@@ -96,13 +96,13 @@ impl AssertionLists {
     /// Returns a view of the assertion, given its expression, for a citation.
     pub fn as_view<'a>(&'a self, conclusion: &'a [u32]) -> AssertionView<'a>
         ensures typecodes { result.typecodes.now ≡ self.now.typecodes }
-        ensures required { result.hypotheses ≡ self.now.required }
+        ensures numbered_hypotheses { result.hypotheses ≡ self.now.numbered_hypotheses }
         ensures conclusion { result.conclusion.now ≡ conclusion.now }
         ensures groups { result.groups ≡ self.now.groups }
     {
         AssertionView {
             typecodes: &self.typecodes,
-            hypotheses: Hypotheses::new(&self.required),
+            hypotheses: Hypotheses::new(&self.numbered_hypotheses),
             conclusion,
             groups: Groups::new(&self.groups, &self.grouped_variables),
         }
@@ -119,12 +119,15 @@ impl AssertionLists {
 }
 
 /// Appends the hypotheses, each encoded as one number.
-fn copy_hypotheses(hypotheses: &Hypotheses<'_>, required: &mut Vec<u32>) -> Result<(), AllocError>
-    requires { required.old.items ≡ [] }
-    ensures { OnOk result (map decoded_hypothesis required.new.items ≡ hypotheses.now) }
+fn copy_hypotheses(
+    hypotheses: &Hypotheses<'_>,
+    numbered_hypotheses: &mut Vec<u32>,
+) -> Result<(), AllocError>
+    requires { numbered_hypotheses.old.items ≡ [] }
+    ensures { OnOk result (map decoded_hypothesis numbered_hypotheses.new.items ≡ hypotheses.now) }
 {
     for index in 0..hypotheses.len() {
-        required.push(number_of(hypotheses.get(index))?)?;
+        numbered_hypotheses.push(number_of(hypotheses.get(index))?)?;
     }
     Ok(())
 }

@@ -243,7 +243,7 @@ impl Results {
         requires leading { AreLeadingFloats hypotheses.now leading_count }
         requires legal { AreLegal frames.now.statements frames.now.names }
         requires assertion { (s : Statement) × HasAssertion frames.now.statements cited s }
-        requires required { AreHypothesesOf frames.now.statements frames.now.names cited hypotheses.now }
+        requires numbered_hypotheses { AreHypothesesOf frames.now.statements frames.now.names cited hypotheses.now }
         requires present { ArePresent frames.now.statements hypotheses.now }
         requires count { length hypotheses.now ≤ length self.now.results.stack }
         requires over { AreOver frames.now.names self.now.images }
@@ -283,7 +283,7 @@ impl Results {
     ) -> bool
         requires legal { AreLegal frames.now.statements frames.now.names }
         requires assertion { (s : Statement) × HasAssertion frames.now.statements cited s }
-        requires required { AreHypothesesOf frames.now.statements frames.now.names cited hypotheses.now }
+        requires numbered_hypotheses { AreHypothesesOf frames.now.statements frames.now.names cited hypotheses.now }
         requires present { ArePresent frames.now.statements hypotheses.now }
         requires count { length hypotheses.now ≤ length self.now.results.stack }
         requires over { AreOver frames.now.names self.now.images }
@@ -495,7 +495,7 @@ fn list_symbols(
     remaining: &mut Remaining,
 ) -> Result<(), AllocError>
     requires assertion { (s : Statement) × HasAssertion frames.now.statements cited s }
-    requires required { AreHypothesesOf frames.now.statements frames.now.names cited hypotheses.now }
+    requires numbered_hypotheses { AreHypothesesOf frames.now.statements frames.now.names cited hypotheses.now }
     ensures { OnOk result ((symbols : List ℕ) → AreListed frames.now.statements frames.now.names cited hypotheses.now (images_at symbols images.now) remaining.new.keys) }
 {
     remaining.clear_listed();

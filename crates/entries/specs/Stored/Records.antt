@@ -21,7 +21,7 @@ use Rattle.entries.specs.Stored.Spans.{cut, AreSpansIn}
 abbrev pub layout_of_counts : ℕ → ℕ → ℕ → ℕ → ℕ → Layout
 layout_of_counts from h s g p = record {
   typecodes = from;
-  required = from + h;
+  numbered_hypotheses = from + h;
   symbols = from + h + h;
   hypotheses = from + h + h + s;
   grouped_variables = from + h + h + s + h;
@@ -45,7 +45,7 @@ has_parts p = nat_lt 0 (length p.hypotheses.now + length p.groups.now)
 
 -- the numbers that a statement is stored as
 abbrev pub numbers_of : Bool → AssertionParts → List ℕ
-numbers_of true p = ((((counts_of p ++ p.typecodes.now) ++ p.required.now) ++ p.symbols.now) ++ p.hypotheses.now) ++ p.grouped_variables.now
+numbers_of true p = ((((counts_of p ++ p.typecodes.now) ++ p.numbered_hypotheses.now) ++ p.symbols.now) ++ p.hypotheses.now) ++ p.grouped_variables.now
 numbers_of false p = p.symbols.now
 
 abbrev pub record_by : Kind → Bool → Bool → ℕ → ℕ → StatementRecord
@@ -59,15 +59,15 @@ pub record Body : Type 0 where
 
 -- the statement that is stored as this record, these numbers in this layout, and these groups
 abbrev pub body_by : StatementRecord → List ℕ → List BufferPart → Layout → Body
-body_by r numbers spans at = record {
+body_by r numbers spans layout = record {
   kind = r.kind;
-  symbols = slice_range numbers at.symbols at.hypotheses;
+  symbols = slice_range numbers layout.symbols layout.hypotheses;
   assertion = record {
     whole = r.whole;
-    hypotheses = slice_range numbers at.hypotheses at.grouped_variables;
-    required = map decoded_hypothesis (slice_range numbers at.required at.symbols);
-    typecodes = slice_range numbers at.typecodes at.required;
-    groups = cut (slice_range numbers at.grouped_variables at.end) spans;
+    hypotheses = slice_range numbers layout.hypotheses layout.grouped_variables;
+    numbered_hypotheses = map decoded_hypothesis (slice_range numbers layout.numbered_hypotheses layout.symbols);
+    typecodes = slice_range numbers layout.typecodes layout.numbered_hypotheses;
+    groups = cut (slice_range numbers layout.grouped_variables layout.end) spans;
   };
 }
 
@@ -114,10 +114,10 @@ pub record IsPlaced (numbers : List ℕ) (r : StatementRecord) (next : Option St
   pub whole : (layout_in r.has_parts (numbers_by numbers r next)).end ≡ length (numbers_by numbers r next)
 
 -- a statement's groups are as many as its layout says, and parts of its grouped variables
-pub record IsGrouped (groups : List BufferPart) (r : StatementRecord) (next : Option StatementRecord) (at : Layout) : Type 0 where
-  pub count : r.groups_from + at.group_count ≡ groups_by groups next
+pub record IsGrouped (groups : List BufferPart) (r : StatementRecord) (next : Option StatementRecord) (layout : Layout) : Type 0 where
+  pub count : r.groups_from + layout.group_count ≡ groups_by groups next
   pub end : groups_by groups next ≤ length groups
-  pub spans : AreSpansIn (at.end - at.grouped_variables) (spans_by groups r next)
+  pub spans : AreSpansIn (layout.end - layout.grouped_variables) (spans_by groups r next)
 
 -- the buffers have the numbers and the groups of the statement where its record says
 pub record IsKept (numbers : List ℕ) (groups : List BufferPart) (r : StatementRecord) (next : Option StatementRecord) : Type 0 where
@@ -136,16 +136,16 @@ pub record ArePacked (numbers : List ℕ) (groups : List BufferPart) (rs : List 
 -- ---- one statement as it is read
 
 -- the parts follow one another
-pub record IsOrdered (at : Layout) : Type 0 where
-  pub typecodes : at.typecodes ≤ at.required
-  pub required : at.required ≤ at.symbols
-  pub symbols : at.symbols ≤ at.hypotheses
-  pub hypotheses : at.hypotheses ≤ at.grouped_variables
-  pub grouped_variables : at.grouped_variables ≤ at.end
+pub record IsOrdered (layout : Layout) : Type 0 where
+  pub typecodes : layout.typecodes ≤ layout.numbered_hypotheses
+  pub numbered_hypotheses : layout.numbered_hypotheses ≤ layout.symbols
+  pub symbols : layout.symbols ≤ layout.hypotheses
+  pub hypotheses : layout.hypotheses ≤ layout.grouped_variables
+  pub grouped_variables : layout.grouped_variables ≤ layout.end
 
 -- `s` is the stored form of the entry found
 pub record IsStored (found : Option Entry) (s : Stored) : Type 0 where
-  pub ordered : IsOrdered s.at
-  pub whole : s.at.end ≡ length s.numbers.now
-  pub grouped : AreSpansIn (s.at.end - s.at.grouped_variables) s.groups.now
-  pub entry : found ≡ Some (with_state_before (body_by s.kept s.numbers.now s.groups.now s.at) s.before)
+  pub ordered : IsOrdered s.layout
+  pub whole : s.layout.end ≡ length s.numbers.now
+  pub grouped : AreSpansIn (s.layout.end - s.layout.grouped_variables) s.groups.now
+  pub entry : found ≡ Some (with_state_before (body_by s.statement_record s.numbers.now s.groups.now s.layout) s.before)

@@ -51,18 +51,18 @@ abbrev pub typecode_at : List Entry → ℕ → ℕ
 typecode_at es p = typecode_of (symbols_at es p)
 
 -- the hypothesis at a position: the variable of a `$f`, or the position of a `$e`
-abbrev pub required_by : ℕ → Kind → List ℕ → Hypothesis
-required_by p Float codes = hypothesis.Float (get_or codes 1 0)
-required_by p kind codes = hypothesis.Essential p
+abbrev pub hypothesis_by : ℕ → Kind → List ℕ → Hypothesis
+hypothesis_by p Float codes = hypothesis.Float (get_or codes 1 0)
+hypothesis_by p kind codes = hypothesis.Essential p
 
 -- the hypothesis that is this entry
-abbrev pub option_required : ℕ → Option Entry → Hypothesis
-option_required p None = hypothesis.Essential p
-option_required p (Some e) = required_by p e.kind e.symbols
+abbrev pub entry_hypothesis : ℕ → Option Entry → Hypothesis
+entry_hypothesis p None = hypothesis.Essential p
+entry_hypothesis p (Some e) = hypothesis_by p e.kind e.symbols
 
 -- the hypothesis at a position
-abbrev pub required_at : List Entry → ℕ → Hypothesis
-required_at es p = option_required p (slice_get es (p - 1))
+abbrev pub hypothesis_at : List Entry → ℕ → Hypothesis
+hypothesis_at es p = entry_hypothesis p (slice_get es (p - 1))
 
 -- the statement is a `$f` of a symbol of the expression
 abbrev pub is_float_in : Expr → Stmt → Bool
@@ -80,9 +80,9 @@ kept_with whole S s = if whole then hypotheses S s else floats_in S (expr_of s)
 -- the statement s, which follows the statements S, is kept with the parts d
 pub record IsKeptAs (es : List Entry) (S : Database) (s : Stmt) (d : Assertion) : Type 0 where
   pub hypotheses_kept : d.hypotheses ≡ kept_with d.whole S s
-  pub required_kept : d.required ≡ map (required_at es) d.hypotheses
+  pub numbered_kept : d.numbered_hypotheses ≡ map (hypothesis_at es) d.hypotheses
   pub typecodes_kept : d.typecodes ≡ map (typecode_at es) d.hypotheses
-  pub groups_kept : d.whole ≡ true → d.groups ≡ groups_by d.required (map (λ q. symbols_at es q.0) (actives is_disj S))
+  pub groups_kept : d.whole ≡ true → d.groups ≡ groups_by d.numbered_hypotheses (map (λ q. symbols_at es q.0) (actives is_disj S))
   pub own_kept : is_essential s ≡ true → d.whole ≡ false
 
 -- statements of the kind are kept with hypotheses

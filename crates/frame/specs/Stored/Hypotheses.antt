@@ -5,7 +5,7 @@ use Rattle.std.specs.Prelude.{◌≡◌, ℕ, ◌+◌, ◌-◌, ◌≤◌, ◌==
 use Rattle.frame.specs.Words.{Database, is_active, is_essential, Kind, Float, Ess, Entry, Assertion, list_any, Ascends}
 use Rattle.frame.specs.LastActive.{actives, is_disj}
 use Rattle.frame.specs.Stored.EntryMeanings.{floats, last_where}
-use Rattle.frame.specs.Stored.AssertionParts.{symbols_at, groups_by, typecode_at, required_at}
+use Rattle.frame.specs.Stored.AssertionParts.{symbols_at, groups_by, typecode_at, hypothesis_at}
 
 -- ---- lists of positions
 
@@ -90,9 +90,9 @@ AreHypotheses es (p ∷ ps) = ((e : Entry) × (1 ≤ p) × (slice_get es (p - 1)
 -- the parts have the hypotheses as numbers and their typecodes; if they are whole, they also have
 -- the groups of disjoint variables by the `$d` that are active after S
 pub record AreDescribed (es : List Entry) (S : Database) (d : Assertion) : Type 0 where
-  pub required_made : d.required ≡ map (required_at es) d.hypotheses
+  pub numbered_made : d.numbered_hypotheses ≡ map (hypothesis_at es) d.hypotheses
   pub typecodes_made : d.typecodes ≡ map (typecode_at es) d.hypotheses
-  pub groups_made : d.whole ≡ true → d.groups ≡ groups_by d.required (map (λ q. symbols_at es q.0) (actives is_disj S))
+  pub groups_made : d.whole ≡ true → d.groups ≡ groups_by d.numbered_hypotheses (map (λ q. symbols_at es q.0) (actives is_disj S))
 
 -- the parts of an assertion after the statements S, with these mandatory hypotheses, are whole
 pub record IsFilledFrom (es : List Entry) (S : Database) (ps : List ℕ) (d : Assertion) : Type 0 where

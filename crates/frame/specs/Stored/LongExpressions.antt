@@ -7,7 +7,7 @@ use Rattle.frame.specs.Words.{All, Entry, ArePlacesOf, SymbolGroups, without_flo
 
 -- there is a statement at the index, these are the places of its symbols, and its constants are those without a `$f`
 abbrev pub IsLongIn : List Entry → ℕ × SymbolGroups → Type 0
-IsLongIn es p = (e : Entry) × (slice_get es p.0 ≡ Some e) × ArePlacesOf e.symbols p.1 × (p.1.constants ≡ without_float e.assertion.required p.1.symbols)
+IsLongIn es p = (e : Entry) × (slice_get es p.0 ≡ Some e) × ArePlacesOf e.symbols p.1 × (p.1.constants ≡ without_float e.assertion.numbered_hypotheses p.1.symbols)
 
 -- this holds for all places that are stored
 pub record AreLongIn (es : List Entry) (long : List (ℕ × SymbolGroups)) : Type 0 where

@@ -8,7 +8,7 @@ use Rattle.frame.specs.AssertionView.{has_both}
 use Rattle.frame.specs.Below.{AllBelow}
 use Rattle.frame.specs.declared.pair_facts.Walked.{Walked}
 use Rattle.frame.specs.declared.storage.Storage.{Storage}
-use Rattle.frame.specs.Stored.AssertionParts.{required_at, typecode_at, is_typed}
+use Rattle.frame.specs.Stored.AssertionParts.{hypothesis_at, typecode_at, is_typed}
 use Rattle.frame.specs.Stored.EntryMeanings.{names_in, statements_of}
 use Rattle.frame.specs.Stored.Hypotheses.{IsFilledFrom}
 use Rattle.frame.specs.Stored.PairSearch.{IsRowOf, are_pair}
@@ -50,13 +50,13 @@ are_among vs u v = list_any (λ c. c == u) vs && list_any (λ c. c == v) vs
 -- the hypotheses, as they are described, are the same
 pub record HasSameHypotheses (old new : Assertion) : Type 0 where
   pub hypotheses : new.hypotheses ≡ old.hypotheses
-  pub required : new.required ≡ old.required
+  pub numbered_hypotheses : new.numbered_hypotheses ≡ old.numbered_hypotheses
   pub typecodes : new.typecodes ≡ old.typecodes
 
 -- the pairs of disjoint variables that pass the test were added to the groups
 pub record HasPairs (k : Storage) (at : ℕ) (test : ℕ → ℕ → Bool) (old new : Assertion) : Type 0 where
   pub hypotheses : new.hypotheses ≡ old.hypotheses
-  pub required : new.required ≡ old.required
+  pub numbered_hypotheses : new.numbered_hypotheses ≡ old.numbered_hypotheses
   pub typecodes : new.typecodes ≡ old.typecodes
   pub pairs : (u v : ℕ) → u < length (names_in k) → v < length (names_in k) → (u == v) ≡ false
       → list_any (has_both u v) new.groups ≡ (list_any (has_both u v) old.groups || (are_pair k at u v && test u v))
@@ -65,10 +65,10 @@ pub record HasPairs (k : Storage) (at : ℕ) (test : ℕ → ℕ → Bool) (old 
 -- the parts have these hypotheses, and a group for each two of their variables that are disjoint
 pub record IsFilledByPairs (k : Storage) (at : ℕ) (ps : List ℕ) (d : Assertion) : Type 0 where
   pub same : d.hypotheses ≡ ps
-  pub required_made : d.required ≡ map (required_at k.entries) ps
+  pub numbered_made : d.numbered_hypotheses ≡ map (hypothesis_at k.entries) ps
   pub typecodes_made : d.typecodes ≡ map (typecode_at k.entries) ps
   pub pairs : (u v : ℕ) → u < length (names_in k) → v < length (names_in k) → (u == v) ≡ false
-      → list_any (has_both u v) d.groups ≡ (are_pair k at u v && is_typed d.required u && is_typed d.required v)
+      → list_any (has_both u v) d.groups ≡ (are_pair k at u v && is_typed d.numbered_hypotheses u && is_typed d.numbered_hypotheses v)
   pub below : AllBelow (length (names_in k)) d.groups
 
 -- the parts have these hypotheses, and groups by the active `$d` or by pairs

@@ -59,6 +59,6 @@ IsKeptOf k s d = IsKeptAs k.entries (statements_of k) s d
 
 -- the parts found for the statement s; each hypothesis has its number and its typecode
 pub record ArePartsFor (k : Storage) (s : Stmt) (d : Assertion) : Type 0 where
-  pub paired : length d.required ≡ length d.hypotheses
+  pub paired : length d.numbered_hypotheses ≡ length d.hypotheses
   pub typecodes_counted : length d.typecodes ≡ length d.hypotheses
   pub kept : has_parts (kind_of s) ≡ true → IsKeptOf k s d

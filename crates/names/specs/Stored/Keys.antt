@@ -28,8 +28,8 @@ abbrev pub key_bytes : Name → List ℕ
 key_bytes x = if nat_lt (length x) 4 then first_middle_last x else first_four_last_three x
 
 -- the eight bytes from an index on
-abbrev pub eight : Name → ℕ → List ℕ
-eight x at =
+abbrev pub eight_bytes_from : Name → ℕ → List ℕ
+eight_bytes_from x at =
     get_or x at 0 ∷ get_or x (at + 1) 0 ∷ get_or x (at + 2) 0 ∷ get_or x (at + 3) 0
     ∷ get_or x (at + 4) 0 ∷ get_or x (at + 5) 0 ∷ get_or x (at + 6) 0 ∷ get_or x (at + 7) 0 ∷ []
 
@@ -44,12 +44,12 @@ mixed hash bytes = scrambled ((hash + bytes) % 2 ^ 64)
 -- the length of a name, mixed with its first n blocks of eight bytes
 abbrev pub mixed_front : Name → ℕ → ℕ
 mixed_front x zero = length x
-mixed_front x (suc n) = mixed (mixed_front x n) (digits (eight x (8 * n)))
+mixed_front x (suc n) = mixed (mixed_front x n) (digits (eight_bytes_from x (8 * n)))
 
 -- the length of a name, mixed with all its blocks but the last, and with its last eight bytes; the
 -- result is at least `LEAST_HASH`, above the keys of short names
 unfoldable pub hash_of : Name → ℕ
-hash_of x = mixed (mixed_front x ((length x - 1) / 8)) (digits (eight x (length x - 8))) % LEAST_HASH + LEAST_HASH
+hash_of x = mixed (mixed_front x ((length x - 1) / 8)) (digits (eight_bytes_from x (length x - 8))) % LEAST_HASH + LEAST_HASH
 
 -- the key of a name: its bytes and its length if it is short, else its hash
 abbrev pub key_of : Name → ℕ

@@ -23,19 +23,19 @@ abbrev pub slot_index_of : ℕ → ℕ → ℕ → ℕ
 slot_index_of key step len = bit_and ((scrambled key + step * (step + 1) / 2) % 2 ^ 64) (len - 1)
 
 -- s is the slot that this step of the search for a key probes
-abbrev pub slot_at : List Slot → ℕ → ℕ → Slot → Type 0
-slot_at slots key step s = slice_get slots (slot_index_of key step (length slots)) ≡ Some s
+abbrev pub IsProbedSlot : List Slot → ℕ → ℕ → Slot → Type 0
+IsProbedSlot slots key step s = slice_get slots (slot_index_of key step (length slots)) ≡ Some s
 
 -- the slot that a step probes is taken
 abbrev pub IsTaken : List Slot → ℕ → ℕ → Type 0
-IsTaken slots key step = (s : Slot) → slot_at slots key step s → s.code ≢ NO_NAME
+IsTaken slots key step = (s : Slot) → IsProbedSlot slots key step s → s.code ≢ NO_NAME
 
 -- the steps of a key reach the slot of this code before any free slot
 pub record IsReachable (slots : List Slot) (key code : ℕ) : Type 0 where
   pub step : ℕ
   pub within : step < length slots
   pub near : step < MAX_PROBES
-  pub there : slot_at slots key step (slot_of key code)
+  pub there : IsProbedSlot slots key step (slot_of key code)
   pub before : (i : ℕ) → i < step → IsTaken slots key i
 
 -- all slots are free
@@ -82,4 +82,4 @@ pub record IsFree (slots : List Slot) (key at : ℕ) : Type 0 where
 
 -- the slot that a step probes is taken by another name
 abbrev pub IsPassed : List Slot → List Name → Name → ℕ → ℕ → Type 0
-IsPassed slots names name key step = (s : Slot) → slot_at slots key step s → (s.code ≢ NO_NAME) × (s.half ≡ half_of key → s.code < length names → name_at names s.code ≢ name)
+IsPassed slots names name key step = (s : Slot) → IsProbedSlot slots key step s → (s.code ≢ NO_NAME) × (s.half ≡ half_of key → s.code < length names → name_at names s.code ≢ name)

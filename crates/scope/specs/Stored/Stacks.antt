@@ -4,7 +4,7 @@
 -- `Active` counts the `${` and `$}`; here each field of the code is defined as a function of the
 -- statements.
 use Rattle.std.specs.Prelude.{◌≡◌, ℕ, ◌≤◌, Bool, true, false, not, ◌&&◌, ◌==◌, List, [], ◌∷◌, ◌++◌, length, take, if◌then◌else◌}
-use Rattle.scope.specs.Words.{flat_map, list_any, Stmt, Database, codes_or_len, AreNamed}
+use Rattle.scope.specs.Words.{flat_map, list_any, Stmt, Database, codes_or_len, HaveCodes}
 use Rattle.scope.specs.Active.{active, stays_open, is_open, is_close, is_closed, variables, typed_by, active_variables, typed_variables}
 use Rattle.scope.specs.Kinds.{Declared, IsNumberingOf}
 use Rattle.scope.specs.FrameStatement.{as_frame_statement, frame_statements_of}
@@ -45,13 +45,13 @@ pub record IsMarked (S M : Database) (mark : StackHeights) : Type 0 where
   pub later : (T : Database) × (S ≡ M ++ T) × (stays_open 0 T ≡ true)
   pub closed : is_closed M ≡ true
   pub heights : mark ≡ heights_of (active M)
-  pub typed_known : AreNamed (symbols_of M) (typed_variables M)
+  pub typed_known : HaveCodes (symbols_of M) (typed_variables M)
 
 -- these are the fields of `Rules` after the statements S, of which M are marked
 pub record IsRulesState (S M : Database) (variable_stack typed_stack : List ℕ) (frame_statement_count : ℕ) (blocks : List StackHeights) (mark : StackHeights) : Type 0 where
   pub variables_are : variable_stack ≡ codes_or_len (symbols_of S) (active_variables S)
   pub typed_are : typed_stack ≡ codes_or_len (symbols_of S) (typed_variables S)
-  pub typed_known : AreNamed (symbols_of S) (typed_variables S)
+  pub typed_known : HaveCodes (symbols_of S) (typed_variables S)
   pub frame_statement_count_is : frame_statement_count ≡ length (frame_statements_of S)
   pub blocks_are : blocks ≡ blocks_of S
   pub never_closes_unopened : stays_open 0 S ≡ true

@@ -20,17 +20,17 @@ HasPartsOf S names a s c = (groups : List (List ℕ)) × IsViewOf S names a s (w
 pub record ListedHypotheses : Type 0 where
   pub position : ℕ
   pub typecodes : List ℕ
-  pub required : List Hypothesis
+  pub numbered_hypotheses : List Hypothesis
 
 -- the list was copied from this view
 pub record AreMadeOf (position : ℕ) (c : AssertionView) (l : ListedHypotheses) : Type 0 where
   pub at : l.position ≡ position
   pub typecodes_same : l.typecodes ≡ c.typecodes.now
-  pub hypotheses_same : l.required ≡ c.hypotheses
+  pub hypotheses_same : l.numbered_hypotheses ≡ c.hypotheses
 
 -- the list has the hypotheses of the assertion s at its position, whose groups of disjoint variables have symbol numbers
 pub record AreListsOf (S : Database) (names : List Name) (l : ListedHypotheses) (s : Stmt) : Type 0 where
-  pub hypotheses_of : AreNumberedHypotheses S names (hypotheses (before S l.position) s) l.typecodes l.required
+  pub hypotheses_of : AreNumberedHypotheses S names (hypotheses (before S l.position) s) l.typecodes l.numbered_hypotheses
   pub groups : List (List ℕ)
   pub are_groups : map (decode names) groups ≡ mandatory_groups (before S l.position) s
   pub below_names : AllBelow (length names) groups

@@ -19,7 +19,7 @@ expr-expr-requires c =
     let d : Hypothesis = Float 0 in
     let same = c.requires.mandatory s e in
     let inside : c.loop-k.k < length ps = let count = c.requires.count s e in omega (arith, count, c.loop-k-test.true) in
-    let required = required-at S c.args.frames.now.names ps c.args.cited.now.typecodes.now c.args.cited.now.hypotheses c.loop-k.k d cited.required inside in
+    let required = required-at S c.args.frames.now.names ps c.args.cited.now.typecodes.now c.args.cited.now.hypotheses c.loop-k.k d cited.numbered_hypotheses inside in
     subst (λ xs. (1 ≤ get_or xs c.loop-k.k 0) × (get_or xs c.loop-k.k 0 ≤ length S)) (sym same) (stands-within S (get_or ps c.loop-k.k 0) required.stmt required.stands)
 
 pub get-requires : goal.get-requires
@@ -27,7 +27,7 @@ get-requires c =
     let s = c.requires.assertion.0 in let e = c.requires.assertion.1.0 in
     let S = c.args.frames.now.statements in let cited = c.requires.cited s e in
     let same = ap length (c.requires.mandatory s e) in
-    let count = required-kinds S c.args.frames.now.names (hypotheses (before S c.args.cited_at) s) c.args.cited.now.typecodes.now c.args.cited.now.hypotheses cited.required in
+    let count = required-kinds S c.args.frames.now.names (hypotheses (before S c.args.cited_at) s) c.args.cited.now.typecodes.now c.args.cited.now.hypotheses cited.numbered_hypotheses in
     let all = c.requires.count s e in omega (arith, all, count, c.loop-k-test.true)
 
 pub bounds-cited-k : goal.bounds-cited-k
@@ -35,7 +35,7 @@ bounds-cited-k c =
     let s = c.requires.assertion.0 in let e = c.requires.assertion.1.0 in
     let S = c.args.frames.now.statements in let cited = c.requires.cited s e in
     let same = ap length (c.requires.mandatory s e) in
-    let count = required-typecodes S c.args.frames.now.names (hypotheses (before S c.args.cited_at) s) c.args.cited.now.typecodes.now c.args.cited.now.hypotheses cited.required in
+    let count = required-typecodes S c.args.frames.now.names (hypotheses (before S c.args.cited_at) s) c.args.cited.now.typecodes.now c.args.cited.now.hypotheses cited.numbered_hypotheses in
     let all = c.requires.count s e in omega (arith, all, count, c.loop-k-test.true)
 
 pub loop-k-preserved : goal.loop-k-preserved
@@ -46,7 +46,7 @@ loop-k-preserved c =
     let same = c.requires.mandatory s e in
     let d : Hypothesis = Float 0 in
     let within : c.loop-k.k < length hyps = let count = c.requires.count s e in let long = ap length same in omega (arith, count, long, c.loop-k-test.true) in
-    let all = subst (λ ps. AreNumberedHypotheses S names ps c.args.cited.now.typecodes.now c.args.cited.now.hypotheses) (sym same) cited.required in
+    let all = subst (λ ps. AreNumberedHypotheses S names ps c.args.cited.now.typecodes.now c.args.cited.now.hypotheses) (sym same) cited.numbered_hypotheses in
     let required = required-at S names hyps c.args.cited.now.typecodes.now c.args.cited.now.hypotheses c.loop-k.k d all within in
     let σ = code_images c.args.images.now in
     let is = required_is S names c.requires.legal.distinct σ (c.requires.read s e).1 (get_or hyps c.loop-k.k 0) required.stmt required.stands
@@ -62,7 +62,7 @@ returns-then-not-agrees c s e =
     let same = c.requires.mandatory s e in
     let d : Hypothesis = Float 0 in
     let within : c.loop-k.k < length hyps = let count = c.requires.count s e in let long = ap length same in omega (arith, count, long, c.loop-k-test.true) in
-    let all = subst (λ ps. AreNumberedHypotheses S names ps c.args.cited.now.typecodes.now c.args.cited.now.hypotheses) (sym same) cited.required in
+    let all = subst (λ ps. AreNumberedHypotheses S names ps c.args.cited.now.typecodes.now c.args.cited.now.hypotheses) (sym same) cited.numbered_hypotheses in
     let kind = c.get.result in
     let required = subst (IsNumberedHypothesis S names (get_or hyps c.loop-k.k 0) (get_or c.args.cited.now.typecodes.now c.loop-k.k 0)) (get_or_from_slice_get c.args.cited.now.hypotheses c.loop-k.k kind d c.get.ensures)
     (required-at S names hyps c.args.cited.now.typecodes.now c.args.cited.now.hypotheses c.loop-k.k d all within) in

@@ -8,7 +8,7 @@ pub read_images-requires : goal.read_images-requires
 read_images-requires c =
     let s = c.requires.assertion.0 in let e = c.requires.assertion.1.0 in
     let S = c.args.frames.now.statements in let cited = c.requires.cited s e in
-    required-kinds S c.args.frames.now.names (hypotheses (before S c.args.cited_at) s) c.args.cited.now.typecodes.now c.args.cited.now.hypotheses cited.required ∙ sym (c.requires.count s e)
+    required-kinds S c.args.frames.now.names (hypotheses (before S c.args.cited_at) s) c.args.cited.now.typecodes.now c.args.cited.now.hypotheses cited.numbered_hypotheses ∙ sym (c.requires.count s e)
 
 pub first_mismatch-requires-clause-images : goal.first_mismatch-requires-clause-images
 first_mismatch-requires-clause-images c =
@@ -31,7 +31,7 @@ first_mismatch-requires-clause-read c s e =
     let ps = hypotheses (before S c.args.cited_at) s in
     let fact = c.in_ok-images.ensures.read in
     let is = fact in
-    let are = images_are S names ps c.args.cited.now.typecodes.now c.args.cited.now.hypotheses (codes c.args.results.now) cited.required in
+    let are = images_are S names ps c.args.cited.now.typecodes.now c.args.cited.now.hypotheses (codes c.args.results.now) cited.numbered_hypotheses in
     (ap (named_images names) is ∙ (are.0 ∙ ap (images_read S ps) (named-codes names c.args.results.now)), subst (λ σ. AreVariables (length names) σ) (sym is) are.1)
 
 pub find_violation-requires-clause-variables : goal.find_violation-requires-clause-variables
@@ -40,7 +40,7 @@ find_violation-requires-clause-variables c =
     let S = c.args.frames.now.statements in let names = c.args.frames.now.names in let cited = c.requires.cited s e in
     let ps = hypotheses (before S c.args.cited_at) s in
     let is = c.in_ok-images.ensures.read in
-    let are = images_are S names ps c.args.cited.now.typecodes.now c.args.cited.now.hypotheses (codes c.args.results.now) cited.required in
+    let are = images_are S names ps c.args.cited.now.typecodes.now c.args.cited.now.hypotheses (codes c.args.results.now) cited.numbered_hypotheses in
     subst (λ ns. AreVariables (length ns) (code_images c.in_ok-images.images)) (sym c.active_pairs-pairs.ensures.names) (subst (λ σ. AreVariables (length names) σ) (sym is) are.1)
 
 pub find_violation-requires-clause-distinct : goal.find_violation-requires-clause-distinct
@@ -57,7 +57,7 @@ returns-in-Some-violation c s e =
     let rs = named_expressions names c.args.results.now in
     let ps = hypotheses (before S c.args.cited_at) s in
     let is = c.in_ok-images.ensures.read in
-    let are = images_are S names ps c.args.cited.now.typecodes.now c.args.cited.now.hypotheses (codes c.args.results.now) cited.required in
+    let are = images_are S names ps c.args.cited.now.typecodes.now c.args.cited.now.hypotheses (codes c.args.results.now) cited.numbered_hypotheses in
     let pn = c.active_pairs-pairs.ensures.names in
     let images = ap (λ ns. named_images ns (code_images c.in_ok-images.images)) pn ∙ (ap (named_images names) is ∙ (are.0 ∙ ap (images_read S ps) (named-codes names c.args.results.now))) in
     let groups = ap (λ ns. map (decode ns) c.args.cited.now.groups) pn ∙ cited.groups in
@@ -68,7 +68,7 @@ returns c s e =
     let S = c.args.frames.now.statements in let names = c.args.frames.now.names in let cited = c.requires.cited s e in
     let ps = hypotheses (before S c.args.cited_at) s in
     let is = c.in_ok-images.ensures.read in
-    let are = images_are S names ps c.args.cited.now.typecodes.now c.args.cited.now.hypotheses (codes c.args.results.now) cited.required in
+    let are = images_are S names ps c.args.cited.now.typecodes.now c.args.cited.now.hypotheses (codes c.args.results.now) cited.numbered_hypotheses in
     let pn = c.active_pairs-pairs.ensures.names in
     let read = are.0 ∙ ap (images_read S ps) (named-codes names c.args.results.now) in
     let images = ap (λ ns. named_images ns (code_images c.in_ok-images.images)) pn ∙ (ap (named_images names) is ∙ read) in

@@ -21,7 +21,7 @@ returns-then-search_by_facts-clause-pairs c =
     let turn = pair-turn k c.args.at c.args.pair.x c.args.pair.y (sought (goal.at.returns-then-search_by_facts-clause-pairs c).Else-x-y) in
     let a = c.add_pair.ensures in
     ok-weaker c.add_pair.result _ _
-    (λ groups. pairs-added k c.args.at c.args.pair.x c.args.pair.y c.args.buffers.now c.add_pair.new.self turn (sym c.search_by_facts.ensures.found ∙ c.if-search_by_facts.true) c.requires.below.0 c.requires.below.1 a.hypotheses a.required a.typecodes groups)
+    (λ groups. pairs-added k c.args.at c.args.pair.x c.args.pair.y c.args.buffers.now c.add_pair.new.self turn (sym c.search_by_facts.ensures.found ∙ c.if-search_by_facts.true) c.requires.below.0 c.requires.below.1 a.hypotheses a.numbered_hypotheses a.typecodes groups)
     a.groups
 
 pub returns-else-search_by_facts-clause-pairs : goal.returns-else-search_by_facts-clause-pairs

@@ -1,4 +1,4 @@
-use Rattle.frame.proofs.Words.{◌≡◌, map, false, required_at, typecode_at, kept_with, ◌∙◌, ap, sym, subst, length, false≢true, refl, decode, floats_in, names_in, labels_in, statements_of, AreHypotheses}
+use Rattle.frame.proofs.Words.{◌≡◌, map, false, hypothesis_at, typecode_at, kept_with, ◌∙◌, ap, sym, subst, length, false≢true, refl, decode, floats_in, names_in, labels_in, statements_of, AreHypotheses}
 use Rattle.frame.proofs.AssertionLemmas.{floats-are, ok-both, parts-for}
 use Rattle.frame.proofs.CollectedLemmas.{found-floats}
 use Rattle.frame.proofs.DeclaredSymbolLemmas.{stored-distinct}
@@ -19,10 +19,10 @@ pub returns : goal.returns
 returns c = λ s is.
     let k = c.args.storage.now in
     let partial : c.buffers.inside.whole ≡ false = ap (λ v. v.whole) (c.buffers.view_is ∙ c.clear.ensures) in
-    ok-both c.encode_hypotheses.result (λ required typecodes. parts-for k s _ (record {
+    ok-both c.encode_hypotheses.result (λ numbered_hypotheses typecodes. parts-for k s _ (record {
       hypotheses_kept = own (goal.at.returns c).In_ok-find_floats ∙ (ap (floats_in (statements_of k)) is ∙ ap (λ b. kept_with b (statements_of k) s) (sym partial));
-      required_kept = required ∙ ap (map (required_at k.entries)) c.deref.ensures.value;
+      numbered_kept = numbered_hypotheses ∙ ap (map (hypothesis_at k.entries)) c.deref.ensures.value;
       typecodes_kept = typecodes ∙ ap (map (typecode_at k.entries)) c.deref.ensures.value;
       groups_kept = λ whole. absurd (false≢true (sym partial ∙ whole));
       own_kept = λ e. partial;
-    })) c.encode_hypotheses.ensures.required c.encode_hypotheses.ensures.typecodes
+    })) c.encode_hypotheses.ensures.numbered_hypotheses c.encode_hypotheses.ensures.typecodes

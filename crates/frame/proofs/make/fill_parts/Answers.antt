@@ -1,4 +1,4 @@
-use Rattle.frame.proofs.Words.{◌≡◌, map, false, required_at, typecode_at, kept_with, ◌∙◌, ◌+◌, ◌-◌, ap, sym, subst, arith, refl, length, take, take_all, length-map, false≢true, ℕ, List, Option, decode, with_names, bare, expr_of, AreRecorded, symbols_declared_by, symbols_in, AreBelow, floats_in, has_parts, names_in, labels_in, statements_of, stmt_of, AreFloats, AreCollected, AreHypotheses, hypotheses, IsFilledFrom}
+use Rattle.frame.proofs.Words.{◌≡◌, map, false, hypothesis_at, typecode_at, kept_with, ◌∙◌, ◌+◌, ◌-◌, ap, sym, subst, arith, refl, length, take, take_all, length-map, false≢true, ℕ, List, Option, decode, with_names, bare, expr_of, AreRecorded, symbols_declared_by, symbols_in, AreBelow, floats_in, has_parts, names_in, labels_in, statements_of, stmt_of, AreFloats, AreCollected, AreHypotheses, hypotheses, IsFilledFrom}
 use Rattle.frame.proofs.AssertionLemmas.{hypotheses-are, floats-are, ok-both, filled-kept, parts-for}
 use Rattle.frame.proofs.CollectLemmas.{collected-from}
 use Rattle.frame.proofs.CollectedLemmas.{collected-hypotheses, found-floats}
@@ -42,13 +42,13 @@ returns-then-is_essential c =
     let s = bare c.args.stmt.now in
     let list = c.find_floats.new.list.items in
     let partial : c.buffers.inside.whole ≡ false = ap (λ v. v.whole) (c.buffers.view_is ∙ c.clear.ensures) in
-    ok-both c.encode_hypotheses.result (λ required typecodes. parts-for k s _ (record {
+    ok-both c.encode_hypotheses.result (λ numbered_hypotheses typecodes. parts-for k s _ (record {
       hypotheses_kept = own w list c.in_ok-find_floats.ensures ∙ (ap (floats_in (statements_of k)) (found w).1 ∙ ap (λ b. kept_with b (statements_of k) s) (sym partial));
-      required_kept = required ∙ ap (map (required_at k.entries)) c.deref.ensures.value;
+      numbered_kept = numbered_hypotheses ∙ ap (map (hypothesis_at k.entries)) c.deref.ensures.value;
       typecodes_kept = typecodes ∙ ap (map (typecode_at k.entries)) c.deref.ensures.value;
       groups_kept = λ whole. absurd (false≢true (sym partial ∙ whole));
       own_kept = λ e. partial;
-    })) c.encode_hypotheses.ensures.required c.encode_hypotheses.ensures.typecodes
+    })) c.encode_hypotheses.ensures.numbered_hypotheses c.encode_hypotheses.ensures.typecodes
 
 pub fill_from_hypotheses-requires-clause-hypotheses : goal.fill_from_hypotheses-requires-clause-hypotheses
 fill_from_hypotheses-requires-clause-hypotheses c =

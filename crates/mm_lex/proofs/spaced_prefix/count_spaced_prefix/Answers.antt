@@ -6,18 +6,18 @@ pub returns-then-count-lt-LANES-clause-count : goal.returns-then-count-lt-LANES-
 returns-then-count-lt-LANES-clause-count c =
     let text = c.args.text.now in
     let at = c.loop-at.at in
-    let counted = c.count_in_lanes-count.ensures.count ∙ ap (lanes_count 16) (take_rest text at) in
+    let counted = c.count_prefix_in_lanes-count.ensures.count ∙ ap (lanes_count 16) (take_rest text at) in
     let room : at + 16 < length text = omega (arith, c.loop-at-test.true, c.loop-at.invariant.0) in
-    sym (prefix_ends text at room c.loop-at.invariant.1 c.count_in_lanes-count.result counted c.if-count-lt-LANES.true)
+    sym (prefix_ends text at room c.loop-at.invariant.1 c.count_prefix_in_lanes-count.result counted c.if-count-lt-LANES.true)
 
 pub loop-at-preserved : goal.loop-at-preserved
 loop-at-preserved c =
     let text = c.args.text.now in
     let at = c.loop-at.at in
-    let count = c.count_in_lanes-count.result in
-    let counted = c.count_in_lanes-count.ensures.count ∙ ap (lanes_count 16) (take_rest text at) in
+    let count = c.count_prefix_in_lanes-count.result in
+    let counted = c.count_prefix_in_lanes-count.ensures.count ∙ ap (lanes_count 16) (take_rest text at) in
     let room : at + 16 < length text = omega (arith, c.loop-at-test.true, c.loop-at.invariant.0) in
-    let all : count ≡ 16 = omega (arith, c.count_in_lanes-count.ensures.within, c.if-count-lt-LANES.false) in
+    let all : count ≡ 16 = omega (arith, c.count_prefix_in_lanes-count.ensures.within, c.if-count-lt-LANES.false) in
     let inside : at + 16 ≤ length text = omega (arith, room) in (
       inside,
       subst (λ n. spaced_prefix_len text ≡ at + n + spaced_prefix_len (drop (at + n) text)) all

@@ -1,4 +1,4 @@
-use Rattle.mm_lex.proofs.Prelude.{sym, refl, subst, [], err_from_is_err_and, AreAfter, IsTokenAfter, IsNextToken}
+use Rattle.mm_lex.proofs.Prelude.{sym, refl, subst, [], err_from_is_err_and, AreTokensAfter, IsTokenAfter, IsNextToken}
 use Rattle.mm_lex.proofs.BetweenLemmas.{fails_after, stops_fail}
 use Rattle.mm_lex.proofs.ListLemmas.{adds_on, adds_word, ends_with, ends_text}
 use Rattle.mm_lex.proofs.symbol_list.symbols.Goals as goal
@@ -23,5 +23,5 @@ loop-words-preserved c =
 pub returns-clause-end : goal.returns-clause-end
 returns-clause-end c =
     let text = c.args.text.now in
-    let none : AreAfter text c.loop-words.at [] = subst (IsNextToken text c.loop-words.at) c.in_default.is c.in_ok-span.ensures.next in
+    let none : AreTokensAfter text c.loop-words.at [] = subst (IsNextToken text c.loop-words.at) c.in_default.is c.in_ok-span.ensures.next in
     ends_text c.loop-words.invariant none

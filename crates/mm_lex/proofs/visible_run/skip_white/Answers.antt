@@ -11,7 +11,7 @@ returns-clause-runs c =
     let blanks = c.count_white.ensures.count ∙ ap (position_or_len is_shown) (take_rest c.args.text.now c.args.at) in
     skip_white c.args.text.now c.args.at c.count_white.result c.requires.place blanks
 
-pub returns-clause-shown : goal.returns-clause-shown
-returns-clause-shown c = λ inside.
+pub returns-clause-not_white : goal.returns-clause-not_white
+returns-clause-not_white c = λ inside.
     let blanks = c.count_white.ensures.count ∙ ap (position_or_len is_shown) (take_rest c.args.text.now c.args.at) in
     shown_after c.args.text.now c.args.at c.count_white.result c.requires.place blanks inside

@@ -1,4 +1,4 @@
-use Rattle.mm_lex.proofs.Prelude.{refl, arith, subst, [], ◌∷◌, ◌++◌, length-append, append-nil, err_from_is_err_and, word, AreAfter, IsTokenAfter, IsNextToken}
+use Rattle.mm_lex.proofs.Prelude.{refl, arith, subst, [], ◌∷◌, ◌++◌, length-append, append-nil, err_from_is_err_and, word, AreTokensAfter, IsTokenAfter, IsNextToken}
 use Rattle.mm_lex.proofs.BetweenLemmas.{between_none, between_on, after_on, after_as, stops_after}
 use Rattle.mm_lex.proofs.walk.count_tokens.Goals as goal
 
@@ -22,5 +22,5 @@ pub returns-clause-count : goal.returns-clause-count
 returns-clause-count c =
     let text = c.args.text.now in
     let so = c.loop-span.invariant in
-    let none : AreAfter text c.loop-span.from [] = subst (IsNextToken text c.loop-span.from) c.in_default.is c.in_ok-span.ensures.next in
+    let none : AreTokensAfter text c.loop-span.from [] = subst (IsNextToken text c.loop-span.from) c.in_default.is c.in_ok-span.ensures.next in
     (so.0, after_as c.args.at (append-nil so.0) (after_on so.1 none), so.2)

@@ -1,4 +1,4 @@
-use Rattle.mm_read.proofs.Words.{◌∙◌, ap, sym, refl, subst, [], name_eq, AreAfter, IsTokenAfter, IsNextToken}
+use Rattle.mm_read.proofs.Words.{◌∙◌, ap, sym, refl, subst, [], name_eq, AreTokensAfter, IsTokenAfter, IsNextToken}
 use Rattle.mm_read.proofs.PartLemmas.{starts_none, starts_other}
 use Rattle.mm_read.proofs.part.expect_token.Goals as goal
 
@@ -14,5 +14,5 @@ pub returns-in_default-clause-fault : goal.returns-in_default-clause-fault
 returns-in_default-clause-fault c =
     let text = c.args.text.now in
     let at = c.args.at in
-    let none : AreAfter text at [] = subst (IsNextToken text at) c.in_default.is c.in_ok-span.ensures.next in
+    let none : AreTokensAfter text at [] = subst (IsNextToken text at) c.in_default.is c.in_ok-span.ensures.next in
     (refl, starts_none at (λ w. name_eq w c.args.end.now) none)

@@ -1,4 +1,4 @@
-use Rattle.mm_read.proofs.Words.{◌∙◌, ap, sym, refl, subst, [], is_symbol, AreAfter, IsTokenAfter, IsNextToken}
+use Rattle.mm_read.proofs.Words.{◌∙◌, ap, sym, refl, subst, [], is_symbol, AreTokensAfter, IsTokenAfter, IsNextToken}
 use Rattle.mm_read.proofs.PartLemmas.{starts_none, starts_other}
 use Rattle.mm_read.proofs.part.next_symbol.Goals as goal
 use Rattle.mm_read.proofs.part.next_symbol.Goals.{in-Some+else-is_symbol, in_default}
@@ -15,7 +15,7 @@ returns-clause-fault c =
       )
       | in_default w ↦ (
         refl,
-        let none : AreAfter text at [] = subst (IsNextToken text at) w.in_default.is c.in_ok-span.ensures.next in
+        let none : AreTokensAfter text at [] = subst (IsNextToken text at) w.in_default.is c.in_ok-span.ensures.next in
             starts_none at is_symbol none,
       )
     ]

@@ -1,7 +1,7 @@
-use Rattle.mm_read.proofs.Words.{◌≡◌, ◌∙◌, ap, sym, arith, subst, inl, inr, ◌+◌, ◌≤◌, length, leb-false, name_eq, AreAfter, EndsSymbols, IsListEnd, HasBrokenList}
+use Rattle.mm_read.proofs.Words.{◌≡◌, ◌∙◌, ap, sym, arith, subst, inl, inr, ◌+◌, ◌≤◌, length, leb-false, name_eq, AreTokensAfter, EndsSymbols, IsListAndEnd, HasBrokenList}
 use Rattle.mm_read.proofs.PartLemmas.{stops_at_end, stops_otherwise, list_few}
 use Rattle.mm_read.proofs.part.symbols_until.Goals as goal
-use Rattle.mm_read.proofs.part.symbols_until.Goals.{in-Some+else-eq, else-eq-via-then-eq+else-has_least, else-eq-via-else-eq, in_default}
+use Rattle.mm_read.proofs.part.symbols_until.Goals.{in-Some+else-eq, else-eq-via-then-eq+else-has_at_least, else-eq-via-else-eq, in_default}
 
 pub returns-clause-fault : goal.returns-clause-fault
 returns-clause-fault c =
@@ -15,13 +15,13 @@ returns-clause-fault c =
     (elim c.match-stop.branch [
       | in-Some+else-eq w ↦
           let s = w.in-Some.span in
-          let ends : EndsSymbols text at ws s = subst (IsListEnd text at ws) w.in-Some.is c.in_ok-words.ensures.end in
+          let ends : EndsSymbols text at ws s = subst (IsListAndEnd text at ws) w.in-Some.is c.in_ok-words.ensures.end in
           elim w.else-eq.branch [
-            | else-eq-via-then-eq+else-has_least v ↦ stops_otherwise at ws c.in_ok-words.ensures.symbols number least end s ends (inl (leb-false least (length ws) (sym v.if-has_least.ensures)))
+            | else-eq-via-then-eq+else-has_at_least v ↦ stops_otherwise at ws c.in_ok-words.ensures.symbols number least end s ends (inl (leb-false least (length ws) (sym v.if-has_at_least.ensures)))
             | else-eq-via-else-eq v ↦ stops_otherwise at ws c.in_ok-words.ensures.symbols number least end s ends (inr (ap (λ w. name_eq w end) (sym w.token_bytes.ensures) ∙ sym v.if-eq.ensures))
           ]
       | in_default w ↦
-          let none : AreAfter text at ws = subst (IsListEnd text at ws) w.in_default.is c.in_ok-words.ensures.end in
+          let none : AreTokensAfter text at ws = subst (IsListAndEnd text at ws) w.in_default.is c.in_ok-words.ensures.end in
           stops_at_end at ws c.in_ok-words.ensures.symbols number least end c.requires.place none
     ])
 

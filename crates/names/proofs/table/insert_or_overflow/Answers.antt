@@ -8,7 +8,7 @@ returns-then-key-eq-IN_OVERFLOW-clause-reachable c =
     let a = c.args.name_keys.now in
     let n = c.args.code in
     let t = (c.requires.name_keys n c.requires.code).there in
-    reachable-passed c.args.slots.now.items a c.args.texts.now n (sym (get_or_read a.keys.items n c.index-key.result.now t c.index-key.ensures 0) ∙ c.if-key-eq-IN_OVERFLOW.true) c.requires.reachable
+    reachable-passed c.args.slots.now.items a c.args.name_list.now n (sym (get_or_read a.keys.items n c.index-key.result.now t c.index-key.ensures 0) ∙ c.if-key-eq-IN_OVERFLOW.true) c.requires.reachable
 
 pub returns-in-Some-clause-reachable : goal.returns-in-Some-clause-reachable
 returns-in-Some-clause-reachable c =
@@ -20,14 +20,14 @@ returns-in-Some-clause-reachable c =
     let lt = c.requires.code in
     let few = c.requires.few in
     let free : IsFree c.args.slots.now.items key c.in-Some.at = subst (λ s. IsFree s key c.in-Some.at) c.as_slice.ensures.value c.in-Some.ensures in
-    subst (λ s. AreReachable (n + 1) (slice_set c.args.slots.now.items c.in-Some.at s) a c.args.texts.now) (sym c.make_slot.ensures)
-    (put-reachable c.args.slots.now.items a c.args.texts.now key c.in-Some.at n (is ∙ k.key (λ z. c.if-key-eq-IN_OVERFLOW.false (is ∙ z))) (omega (arith, lt, few)) c.requires.reachable free)
+    subst (λ s. AreReachable (n + 1) (slice_set c.args.slots.now.items c.in-Some.at s) a c.args.name_list.now) (sym c.make_slot.ensures)
+    (put-reachable c.args.slots.now.items a c.args.name_list.now key c.in-Some.at n (is ∙ k.key (λ z. c.if-key-eq-IN_OVERFLOW.false (is ∙ z))) (omega (arith, lt, few)) c.requires.reachable free)
 
 pub returns-in-None-clause-name_keys : goal.returns-in-None-clause-name_keys
 returns-in-None-clause-name_keys c =
     let a = c.args.name_keys.now in
     let b = c.put_in_overflow.new.self in
-    let names = c.args.texts.now in
+    let names = c.args.name_list.now in
     let n = c.args.code in
     let key = c.index-key.result.now in
     let k = c.requires.name_keys n c.requires.code in
@@ -42,7 +42,7 @@ pub returns-in-None-clause-reachable : goal.returns-in-None-clause-reachable
 returns-in-None-clause-reachable c =
     let n = c.args.code in
     let k = c.requires.name_keys n c.requires.code in
-    on-ok c.put_in_overflow.result _ _ c.put_in_overflow.ensures.keys (λ keys. reachable-overflow c.args.slots.now.items c.args.name_keys.now c.put_in_overflow.new.self c.args.texts.now n keys k.there c.requires.reachable)
+    on-ok c.put_in_overflow.result _ _ c.put_in_overflow.ensures.keys (λ keys. reachable-overflow c.args.slots.now.items c.args.name_keys.now c.put_in_overflow.new.self c.args.name_list.now n keys k.there c.requires.reachable)
 
 pub returns-in-None-clause-overflow_grows : goal.returns-in-None-clause-overflow_grows
 returns-in-None-clause-overflow_grows c =

@@ -3,5 +3,5 @@ use Rattle.names.proofs.table.search_overflow.Goals as goal
 
 pub returns-in-Some-clause-some : goal.returns-in-Some-clause-some
 returns-in-Some-clause-some c =
-    let p = c.is_text.ensures.yes c.if-is_text.true in
-    code-at c.args.texts.now c.args.name.now c.in-Some.code c.requires p.0 p.1
+    let p = c.has_name_at.ensures.yes c.if-has_name_at.true in
+    code-at c.args.name_list.now c.args.name.now c.in-Some.code c.requires p.0 p.1

@@ -10,7 +10,7 @@ premises_among-requires c =
     let cited = (c.view_at-cited.ensures m.0 m.1.0).1 in
     ap length c.taken.ensures
     ∙ asks-all S c.args.at c.args.frames.now.names rows (get_or rows c.args.place no_row) (follows-at S c.args.at c.args.frames.now.names rows c.args.place c.requires.rows c.requires.place) c.position-position.result c.position-position.ensures
-    m.0 _ _ m.1 cited.required
+    m.0 _ _ m.1 cited.numbered_hypotheses
 
 pub unreachable-requires : goal.unreachable-requires
 unreachable-requires c =
@@ -37,5 +37,5 @@ returns-in_ok-index-in-Assertion-clause-premises c =
     IfOk-weaker c.premises_among.result (λ list. list.items ≡ taken_by hs c.taken.result.now) _
     (λ list e. e ∙ (ap (taken_by hs) c.taken.ensures
     ∙ sym (essential-by S c.args.at c.args.frames.now.names rows (get_or rows c.args.place no_row) (follows-at S c.args.at c.args.frames.now.names rows c.args.place c.requires.rows c.requires.place) c.position-position.result c.position-position.ensures
-    m.0 _ hs m.1 cited.required)))
+    m.0 _ hs m.1 cited.numbered_hypotheses)))
     c.premises_among.ensures

@@ -3,7 +3,7 @@ use Rattle.std.specs.List.{list_any}
 use Rattle.std.specs.Prelude.{◌==◌, ◌||◌, Bool, true, false, Option, None, Some, []}
 use Rattle.std.proofs.Common.{refl}
 use Rattle.std.proofs.lemmas.List.Folds.{list_any-append}
-use Rattle.entries.specs.SymbolPlaces.{is_symbol}
+use Rattle.entries.specs.SymbolPlaces.{equals_symbol}
 use Rattle.subst.specs.RemainingSymbols.{is_among}
 use Rattle.subst.proofs.RemainingSymbolLemmas.{among-more}
 use Rattle.subst.proofs.remaining_symbols.add_groups.Goals as goal
@@ -29,7 +29,7 @@ loop-symbol-preserved c = λ expr places i.
     ∙ (list_any-append (λ j. i == j) l.indexes.items c.group-group.result.now
     ∙ (ap (λ b. b || list_any (λ j. i == j) c.group-group.result.now) (l.invariant expr places i)
     ∙ (ap (λ b. (list_any (λ j. i == j) c.args.indexes.now.items || is_among (take l.symbol-index symbols) o) || b) (c.group-group.ensures expr places i)
-    ∙ (or-or (list_any (λ j. i == j) c.args.indexes.now.items) (is_among (take l.symbol-index symbols) o) (is_symbol (get_or symbols l.symbol-index 0) o)
+    ∙ (or-or (list_any (λ j. i == j) c.args.indexes.now.items) (is_among (take l.symbol-index symbols) o) (equals_symbol (get_or symbols l.symbol-index 0) o)
     ∙ ap (λ b. list_any (λ j. i == j) c.args.indexes.now.items || b) (sym (among-more symbols l.symbol-index o (omega arith)))))))
 
 pub returns : goal.returns

@@ -20,16 +20,16 @@ adds-as : (ok : Bool) (old old' new : Results ℕ) (m n : ℕ) (e : List ℕ) �
 adds-as ok old old' new m n e same count h = subst (λ (v : Results ℕ). Adds ok v new (below n v.stack) e) same (subst (λ k. Adds ok old new (below k old.stack) e) count h)
 
 pub read_images-requires-clause-same : goal.read_images-requires-clause-same
-read_images-requires-clause-same c = let l = required-lengths _ _ _ _ _ (c.requires.cited c.requires.may.assertion.0 c.requires.may.assertion.1.0).required in l.0 ∙ sym l.1
+read_images-requires-clause-same c = let l = required-lengths _ _ _ _ _ (c.requires.cited c.requires.may.assertion.0 c.requires.may.assertion.1.0).numbered_hypotheses in l.0 ∙ sym l.1
 
 pub read_images-requires-clause-different : goal.read_images-requires-clause-different
-read_images-requires-clause-different c = required-different _ _ _ c.requires.may.assertion.0 _ _ (c.requires.may.ready.legal.bound _ c.requires.may.assertion.0 c.requires.may.assertion.1) (c.requires.cited c.requires.may.assertion.0 c.requires.may.assertion.1.0).required
+read_images-requires-clause-different c = required-different _ _ _ c.requires.may.assertion.0 _ _ (c.requires.may.ready.legal.bound _ c.requires.may.assertion.0 c.requires.may.assertion.1) (c.requires.cited c.requires.may.assertion.0 c.requires.may.assertion.1.0).numbered_hypotheses
 
-pub hypotheses_match-requires-clause-required : goal.hypotheses_match-requires-clause-required
-hypotheses_match-requires-clause-required c = λ s at. (c.args.cited.now.typecodes.now, (c.requires.cited s at).required)
+pub hypotheses_match-requires-clause-numbered_hypotheses : goal.hypotheses_match-requires-clause-numbered_hypotheses
+hypotheses_match-requires-clause-numbered_hypotheses c = λ s at. (c.args.cited.now.typecodes.now, (c.requires.cited s at).numbered_hypotheses)
 
 pub hypotheses_match-requires-clause-present : goal.hypotheses_match-requires-clause-present
-hypotheses_match-requires-clause-present c = required-standing _ _ _ _ _ (c.requires.cited c.requires.may.assertion.0 c.requires.may.assertion.1.0).required
+hypotheses_match-requires-clause-present c = required-standing _ _ _ _ _ (c.requires.cited c.requires.may.assertion.0 c.requires.may.assertion.1.0).numbered_hypotheses
 
 pub hypotheses_match-requires-clause-over : goal.hypotheses_match-requires-clause-over
 hypotheses_match-requires-clause-over c = over-read _ _ _ _ c.requires.may c.args.cited.now c.requires.cited c.read_images.new.self.images (let h = c.if-count-len.false in omega (arith, h, c.len.ensures)) (reads-as _ true _ _ _ _ (ap is_some c.in-Some.is) c.in_ok-leading_count.ensures.read)

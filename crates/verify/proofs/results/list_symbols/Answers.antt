@@ -5,7 +5,7 @@ use Rattle.verify.proofs.results.list_symbols.Goals as goal
 
 pub list_hypothesis-requires-clause-named : goal.list_hypothesis-requires-clause-named
 list_hypothesis-requires-clause-named c = λ x is.
-    let r = c.requires.required c.requires.assertion.0 c.requires.assertion.1.0 in
+    let r = c.requires.numbered_hypotheses c.requires.assertion.0 c.requires.assertion.1.0 in
     float-low c.args.frames.now.statements c.args.frames.now.names _ r.0 c.args.hypotheses.now c.loop-k.k x r.1 (c.get.ensures ∙ ap Some is)
 
 pub loop-k-preserved : goal.loop-k-preserved

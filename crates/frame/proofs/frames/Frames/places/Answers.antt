@@ -31,6 +31,6 @@ returns-then-has_label-clause-constants c = λ s h essential.
     let is = is-entry (names_in k) (labels_in k) k.entries c.args.at e s c.requires.0 g (rw (← c.self.view_is) at h) in
     let named = entry-expr (names_in k) (labels_in k) e (sym c.has_label.ensures ∙ c.if-has_label.true) (two-of (length (names_in k)) (length (labels_in k)) k.entries c.self.invariant.stored.kept.coded (c.args.at - 1) e g) ∙ ap expr_of is in
     rw (← c.self.view_is)
-    (some-map c.places.result (λ r. ArePlacesOf e.symbols r.now × (r.now.constants ≡ without_float e.assertion.required r.now.symbols)) (λ r. HasConstants (take (c.args.at - 1) (statements_of k)) (names_in k) (expr_of s) r.now.constants)
+    (some-map c.places.result (λ r. ArePlacesOf e.symbols r.now × (r.now.constants ≡ without_float e.assertion.numbered_hypotheses r.now.symbols)) (λ r. HasConstants (take (c.args.at - 1) (statements_of k)) (names_in k) (expr_of s) r.now.constants)
     (λ r p. subst (λ x. HasConstants (take (c.args.at - 1) (statements_of k)) (names_in k) x r.now.constants) named (constants-are k c.self.invariant.stored (c.args.at - 1) e r.now g (essential-kind (names_in k) (labels_in k) e (ap is_essential is ∙ essential)) p.0 p.1))
     (some-both c.places.result _ _ (c.places.ensures.places e g) (c.places.ensures.constants e g)))

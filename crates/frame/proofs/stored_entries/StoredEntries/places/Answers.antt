@@ -10,5 +10,5 @@ returns-clause-places c = λ e stands.
 
 pub returns-clause-constants : goal.returns-clause-constants
 returns-clause-constants c = λ e stands.
-    some-map c.get.result (λ r. lookup (nat_eq c.args.index) c.self.inside.long ≡ Some r.now) (λ r. r.now.constants ≡ without_float e.assertion.required r.now.symbols)
+    some-map c.get.result (λ r. lookup (nat_eq c.args.index) c.self.inside.long ≡ Some r.now) (λ r. r.now.constants ≡ without_float e.assertion.numbered_hypotheses r.now.symbols)
     (λ r found. found-constants c.self.inside.list c.args.index c.self.inside.long r.now e c.self.invariant found (rw (← c.self.view_is) at stands)) c.get.ensures.some

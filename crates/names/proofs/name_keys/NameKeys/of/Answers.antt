@@ -5,7 +5,7 @@ use Rattle.names.proofs.name_keys.NameKeys.of.Goals as goal
 
 pub loop-code-preserved : goal.loop-code-preserved
 loop-code-preserved c =
-    let names = c.args.texts.now in
+    let names = c.args.name_list.now in
     let i = c.loop-code.code in
     let lt : i < length names = search rules in
     let l = length-take-le i names (omega (arith, lt)) in
@@ -20,6 +20,6 @@ loop-code-preserved c =
 
 pub returns : goal.returns
 returns c =
-    let names = c.args.texts.now in
+    let names = c.args.name_list.now in
     let all : take c.loop-code.code names ≡ names = take_all c.loop-code.code names (search rules) in
     subst (AreNameKeys c.loop-code.name_keys) all c.loop-code.invariant.1

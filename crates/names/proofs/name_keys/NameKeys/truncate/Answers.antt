@@ -5,7 +5,7 @@ use Rattle.names.proofs.name_keys.NameKeys.truncate.Goals.{then-index-eq-IN_OVER
 
 pub loop-code-preserved : goal.loop-code-preserved
 loop-code-preserved c =
-    let names = c.args.texts.now in
+    let names = c.args.name_list.now in
     let i = c.loop-code.code in
     let lt : i < length names = search rules in
     let P : NameKeys → Type 0 = λ s. (s.keys ≡ c.args.self.now.keys) × ((k : ℕ) → k < c.args.len → code_in_overflow s.overflow (name_at names k) ≡ code_in_overflow c.args.self.now.overflow (name_at names k)) in

@@ -16,5 +16,5 @@ returns-in-None c = λ s stands.
     let lists = c.args.self.now.lists.items in
     let at = c.requires.index (ap is_some c.in-None.is) in
     let here = slice_get-get_or lists c.args.index c.index.result.now at.within ∙ ap Some (sym c.index.ensures) in
-    kept-parts c.args.frames.now.statements c.args.frames.now.names lists c.args.index c.args.position c.index.result.now c.view.result c.requires.kept at here s stands c.view.ensures.typecodes c.view.ensures.required
+    kept-parts c.args.frames.now.statements c.args.frames.now.names lists c.args.index c.args.position c.index.result.now c.view.result c.requires.kept at here s stands c.view.ensures.typecodes c.view.ensures.numbered_hypotheses
     (rw c.view.ensures.conclusion (c.expr.ensures.same s stands)) (rw c.view.ensures.conclusion c.expr.ensures.codes)

@@ -25,7 +25,7 @@ pub essential_matches-matched-requires-clause-place : goal.essential_matches-mat
 essential_matches-matched-requires-clause-place c = (seen_place c.self.inside.symbols c.self.inside.stack.items c.deref.result.now c.args.self.now.results.stack (c.len.result - c.len-2.result) c.len-2.result c.loop-k.k _ c.deref.ensures.value (ap (λ v. v.results.stack) c.self.view_is) (omega (arith, c.len.ensures)) (omega (arith, c.requires.count, c.len-2.ensures)) (let w = slice_get_within c.args.hypotheses.now c.loop-k.k c.get.result c.get.ensures in omega (arith, w, c.len-2.ensures)) c.self.invariant.kept.stack_within).0
 
 found : (c : In-Essential) → IsEssential c.args.frames.now.statements (hypotheses (before c.args.frames.now.statements c.args.cited) c.requires.assertion.0) c.loop-k.k c.in-Essential.position
-found c = essential c.args.frames.now.statements c.args.frames.now.names c.args.cited c.requires.assertion.0 c.args.hypotheses.now c.requires.assertion.1.0 c.requires.required c.loop-k.k c.in-Essential.position (c.get.ensures ∙ ap Some c.in-Essential.is)
+found c = essential c.args.frames.now.statements c.args.frames.now.names c.args.cited c.requires.assertion.0 c.args.hypotheses.now c.requires.assertion.1.0 c.requires.numbered_hypotheses c.loop-k.k c.in-Essential.position (c.get.ensures ∙ ap Some c.in-Essential.is)
 
 pub essential_matches-matched-requires-clause-stands : goal.essential_matches-matched-requires-clause-stands
 essential_matches-matched-requires-clause-stands c =
@@ -39,7 +39,7 @@ pub essential_matches-matched-requires-clause-same : goal.essential_matches-matc
 essential_matches-matched-requires-clause-same c = λ t left l.
     let s = c.requires.assertion.0 in
     let S = c.args.frames.now.statements in
-    left-same S c.args.frames.now.names c.args.cited s c.args.hypotheses.now (images_at c.self.inside.symbols c.self.inside.images) c.loop-k.remaining.keys (c.requires.legal.bound c.args.cited s c.requires.assertion.1) c.requires.legal.distinct c.requires.assertion.1.0 c.requires.required
+    left-same S c.args.frames.now.names c.args.cited s c.args.hypotheses.now (images_at c.self.inside.symbols c.self.inside.images) c.loop-k.remaining.keys (c.requires.legal.bound c.args.cited s c.requires.assertion.1) c.requires.legal.distinct c.requires.assertion.1.0 c.requires.numbered_hypotheses
     (subst (λ σ. AreListed S c.args.frames.now.names c.args.cited c.args.hypotheses.now σ c.loop-k.remaining.keys) (sym (ap (λ v. v.images) c.self.view_is)) (c.loop-k.invariant.are_listed t))
     c.loop-k.k c.in-Essential.position c.expr-expr.result.now left (c.get.ensures ∙ ap Some c.in-Essential.is) c.expr-expr.ensures.codes c.expr-expr.ensures.same l
 

@@ -1,8 +1,0 @@
-use Rattle.std.proofs.Common.{ap, arith, length}
-use Rattle.names.proofs.TextsLemmas.{texts_from-length}
-use Rattle.names.proofs.texts.Texts.get.Goals as goal
-
-pub part-requires-clause-index : goal.part-requires-clause-index
-part-requires-clause-index c =
-    let l = texts_from-length c.self.inside.bytes.items 0 c.self.inside.ends.items in
-    omega (arith, c.requires, l, ap length c.self.view_is, ap length c.as_slice-2.ensures.value)
