@@ -4,7 +4,7 @@ ghost use Rattle.mm_read.specs.declared.stmt.Stmt.{Stmt as Statement};
 ghost use Rattle.frame.specs.Below.{AllBelow};
 ghost use Rattle.frame.specs.FrameOf.{HasAssertion, hypotheses};
 ghost use Rattle.frame.specs.AssertionView.{IsViewOf};
-ghost use Rattle.frame.specs.AtPosition.{AreLegal};
+ghost use Rattle.frame.specs.AtPosition.{HasLegalProperties};
 ghost use Rattle.explain.specs.Stored.Vectors.{AreSymbols, AreImages, CountIs, codes, named_expressions};
 ghost use Rattle.explain.specs.CitationFaults.{IsFaultOfResult, IsMismatchFault, NumberedResultsMatch, AreImagesOfResults};
 ghost use Rattle.scope.specs.Active.{before, stmt_at};
@@ -82,7 +82,7 @@ fn assertion_view_fault(
     cited: &AssertionView<'_>,
     results: &Results,
 ) -> Result<Fault, AllocError>
-    requires legal { AreLegal frames.now.statements frames.now.names }
+    requires legal { HasLegalProperties frames.now.statements frames.now.names }
     requires position { (1 ≤ at) × (at ≤ length frames.now.statements) }
     requires earlier { a < at }
     requires assertion { (s : Statement) × HasAssertion frames.now.statements a s }
@@ -138,7 +138,7 @@ fn results_fault(
     cited: &AssertionView<'_>,
     results: &[&[u32]],
 ) -> Result<Option<Fault>, AllocError>
-    requires legal { AreLegal frames.now.statements frames.now.names }
+    requires legal { HasLegalProperties frames.now.statements frames.now.names }
     requires position { (1 ≤ at) × (at ≤ length frames.now.statements) }
     requires earlier { a < at }
     requires assertion { (s : Statement) × HasAssertion frames.now.statements a s }
@@ -182,7 +182,7 @@ fn first_mismatch(
     results: &[&[u32]],
     images: &Images<'_>,
 ) -> Result<Option<Fault>, AllocError>
-    requires legal { AreLegal frames.now.statements frames.now.names }
+    requires legal { HasLegalProperties frames.now.statements frames.now.names }
     requires assertion { (s : Statement) × HasAssertion frames.now.statements a s }
     requires mandatory { (s : Statement) → stmt_at frames.now.statements a ≡ Some s → mandatory.now ≡ hypotheses (before frames.now.statements a) s }
     requires cited { (s : Statement) → stmt_at frames.now.statements a ≡ Some s → IsViewOf frames.now.statements frames.now.names a s cited.now }

@@ -1,6 +1,6 @@
 -- Lists that have the mandatory pairs of an assertion: the groups of its frame, or a list of two for each pair.
-use Rattle.frame.proofs.Words.{◌≡◌, ◌∙◌, ap, sym, subst, arith, refl, true≢false, inl, inr, or_cases, or_right, ℕ, zero, suc, ◌+◌, ◌-◌, ◌<◌, ◌==◌, nat_eq, Bool, true, false, not, ◌&&◌, ◌||◌, or-false, and-false, and-or_distrib_left, List, [], ◌∷◌, ◌++◌, length, map, take, get_or, list_any, list_any_more, list_any-append, list_any-map, Name, name_eq, has_name, name_at, AreDistinct, Stmt, Database, before, decode, expr_of, is_assertion, hypotheses, is_mandatory, mandatory_groups, AreBelow, AllBelow, AreNumberedHypotheses, AreListsOf, IsKeptAs, is_typed, groups_by, symbols_at, required_at, required_by, option_required, typecode_at, is_typed_by, AreHypotheses, AreNumbered, HasTwo, Kind, Float, AreSearched, slice_get_within, ◌⊎◌, actives, is_disj, Assertion, AssertionView, Entry, Storage, AreStored, names_in, labels_in, statements_of, are_pair, IsFilledFrom}
-use Rattle.frame.specs.AssertionView.{AreCitingListsOf, AreMandatoryPairs, IsCited, has_both}
+use Rattle.frame.proofs.Words.{◌≡◌, ◌∙◌, ap, sym, subst, arith, refl, true≢false, inl, inr, or_cases, or_right, ℕ, zero, suc, ◌+◌, ◌-◌, ◌<◌, ◌==◌, nat_eq, Bool, true, false, not, ◌&&◌, ◌||◌, or-false, and-false, and-or_distrib_left, List, [], ◌∷◌, ◌++◌, length, map, take, get_or, list_any, list_any_more, list_any-append, list_any-map, Name, name_eq, has_name, name_at, AreDistinct, Stmt, Database, before, decode, expr_of, is_assertion, hypotheses, is_mandatory, mandatory_groups, AreBelow, AllBelow, AreNumberedHypotheses, AreListsOf, IsKeptAs, is_typed, groups_by, symbols_at, hypothesis_at, hypothesis_by, option_hypothesis, typecode_at, is_typed_by, AreHypotheses, AreNumbered, HasTwoSymbolsIfFloat, Kind, Float, AreSearched, slice_get_within, ◌⊎◌, actives, is_disj, Assertion, AssertionView, Entry, Storage, AreStored, names_in, labels_in, statements_of, are_pair, IsFilledFrom}
+use Rattle.frame.specs.AssertionView.{AreCitingListsOf, AreMandatoryPairs, IsCitingView, has_both}
 use Rattle.frame.specs.Stored.PairLists.{HasPairs, HasSameHypotheses, IsFilledByPairs, IsFilledForCitation, IsSearchPosition, are_among, is_beside}
 use Rattle.frame.proofs.AssertionLemmas.{filled-kept}
 use Rattle.frame.proofs.AssertionViewLemmas.{IsThere}
@@ -203,7 +203,7 @@ module _ (k : Storage) (at : ℕ) where
   pub sought-at : (x y : ℕ) → IsSearchPosition k at → x < length (names_in k) → y < length (names_in k) → (x == y) ≡ false → AreSearched k at x y
   sought-at x y p first second differ = record { stored = p.stored; distinct = p.distinct; above = p.above; within = p.within; first = first; second = second; differ = differ }
 
-  pub by-pairs : (ps vs : List ℕ) (old new : Assertion) → HasPairs k at (are_among vs) old new → old.groups ≡ [] → old.hypotheses ≡ ps → old.required ≡ map (required_at k.entries) ps
+  pub by-pairs : (ps vs : List ℕ) (old new : Assertion) → HasPairs k at (are_among vs) old new → old.groups ≡ [] → old.hypotheses ≡ ps → old.required ≡ map (hypothesis_at k.entries) ps
       → old.typecodes ≡ map (typecode_at k.entries) ps → ((c : ℕ) → list_any (λ n. n == c) vs ≡ is_typed old.required c) → IsFilledByPairs k at ps new
   by-pairs ps vs old new h none hs rs ts typed = record {
     same = h.hypotheses ∙ hs;
@@ -224,14 +224,14 @@ module _ (k : Storage) (at : ℕ) where
 
   -- the groups were found before the hypotheses were described
   pub described-pairs : (ps vs : List ℕ) (old mid new : Assertion) → HasPairs k at (are_among vs) old mid → old.groups ≡ [] → old.hypotheses ≡ ps → new.hypotheses ≡ mid.hypotheses → new.groups ≡ mid.groups
-      → new.required ≡ map (required_at k.entries) mid.hypotheses → new.typecodes ≡ map (typecode_at k.entries) mid.hypotheses
-      → ((c : ℕ) → list_any (λ n. n == c) vs ≡ is_typed (map (required_at k.entries) ps) c) → IsFilledByPairs k at ps new
+      → new.required ≡ map (hypothesis_at k.entries) mid.hypotheses → new.typecodes ≡ map (typecode_at k.entries) mid.hypotheses
+      → ((c : ℕ) → list_any (λ n. n == c) vs ≡ is_typed (map (hypothesis_at k.entries) ps) c) → IsFilledByPairs k at ps new
   described-pairs ps vs old mid new h none hs same groups rs ts typed =
       let whole : mid.hypotheses ≡ ps = h.hypotheses ∙ hs in
-      let start : Assertion = record { whole = new.whole; hypotheses = ps; required = map (required_at k.entries) ps; typecodes = map (typecode_at k.entries) ps; groups = [] } in
+      let start : Assertion = record { whole = new.whole; hypotheses = ps; required = map (hypothesis_at k.entries) ps; typecodes = map (typecode_at k.entries) ps; groups = [] } in
       let found : HasPairs k at (are_among vs) start new = record {
         hypotheses = same ∙ whole;
-        required = rs ∙ ap (map (required_at k.entries)) whole;
+        required = rs ∙ ap (map (hypothesis_at k.entries)) whole;
         typecodes = ts ∙ ap (map (typecode_at k.entries)) whole;
         pairs = λ u v first second differ.
             ap (list_any (has_both u v)) groups
@@ -245,25 +245,25 @@ module _ (k : Storage) (at : ℕ) where
 
 -- ---- the variables of the hypotheses
 
-variable-below : (n c p : ℕ) (kind : Kind) (codes : List ℕ) → AreBelow n codes → HasTwo kind codes → is_typed_by c (required_by p kind codes) ≡ true → c < n
+variable-below : (n c p : ℕ) (kind : Kind) (codes : List ℕ) → AreBelow n codes → HasTwoSymbolsIfFloat kind codes → is_typed_by c (hypothesis_by p kind codes) ≡ true → c < n
 variable-below n c p Float [] b two e = absurd (omega (arith, two))
 variable-below n c p Float (x ∷ []) b two e = absurd (omega (arith, two))
 variable-below n c p Float (x ∷ y ∷ codes) b two e = let same : c ≡ y = grind (arith, e) in let low = b.1.0 in omega (arith, same, low)
 variable-below n c p kind codes b two e = cc
 
-typed-below : (n m c : ℕ) (es : List Entry) (ps : List ℕ) → AreNumbered n m es → AreHypotheses es ps → is_typed (map (required_at es) ps) c ≡ true → c < n
+typed-below : (n m c : ℕ) (es : List Entry) (ps : List ℕ) → AreNumbered n m es → AreHypotheses es ps → is_typed (map (hypothesis_at es) ps) c ≡ true → c < n
 typed-below n m c es [] a h e = cc
-typed-below n m c es (p ∷ ps) a h e = by (or_cases (is_typed_by c (required_at es p)) _ e) (λ r. typed-below n m c es ps a h.1 r)
+typed-below n m c es (p ∷ ps) a h e = by (or_cases (is_typed_by c (hypothesis_at es p)) _ e) (λ r. typed-below n m c es ps a h.1 r)
   where
-    by : (is_typed_by c (required_at es p) ≡ true) ⊎ (is_typed (map (required_at es) ps) c ≡ true) → (is_typed (map (required_at es) ps) c ≡ true → c < n) → c < n
+    by : (is_typed_by c (hypothesis_at es p) ≡ true) ⊎ (is_typed (map (hypothesis_at es) ps) c ≡ true) → (is_typed (map (hypothesis_at es) ps) c ≡ true → c < n) → c < n
     by (inl here) later =
         let x = h.0.0 in
         let g = h.0.2 in
         let b = numbered-at n m es (p - 1) x a g in
-        variable-below n c p x.kind x.symbols b.0 b.1 (ap (λ o. is_typed_by c (option_required p o)) (sym g) ∙ here)
+        variable-below n c p x.kind x.symbols b.0 b.1 (ap (λ o. is_typed_by c (option_hypothesis p o)) (sym g) ∙ here)
     by (inr there) later = later there
 
-pub all-below : (n m : ℕ) (es : List Entry) (ps vs : List ℕ) → AreNumbered n m es → AreHypotheses es ps → ((c : ℕ) → list_any (λ v. v == c) vs ≡ is_typed (map (required_at es) ps) c) → AreBelow n vs
+pub all-below : (n m : ℕ) (es : List Entry) (ps vs : List ℕ) → AreNumbered n m es → AreHypotheses es ps → ((c : ℕ) → list_any (λ v. v == c) vs ≡ is_typed (map (hypothesis_at es) ps) c) → AreBelow n vs
 all-below n m es ps vs a h typed = each vs (λ c e. typed-below n m c es ps a h (sym (typed c) ∙ e))
   where
     each : (vs : List ℕ) → ((c : ℕ) → list_any (λ v. v == c) vs ≡ true → c < n) → AreBelow n vs
@@ -273,10 +273,10 @@ all-below n m es ps vs a h typed = each vs (λ c e. typed-below n m c es ps a h 
         (h v (ap (λ t. t || list_any (λ w. w == v) vs) same), each vs (λ c e. h c (or_right (nat_eq v c) (list_any (λ w. w == c) vs) e)))
 
 -- the variables of the first i hypotheses, and that of the next one
-pub typed-more : (es : List Entry) (ps : List ℕ) (i c : ℕ) → i < length ps → is_typed (map (required_at es) (take (i + 1) ps)) c ≡ (is_typed (map (required_at es) (take i ps)) c || is_typed_by c (required_at es (get_or ps i 0)))
+pub typed-more : (es : List Entry) (ps : List ℕ) (i c : ℕ) → i < length ps → is_typed (map (hypothesis_at es) (take (i + 1) ps)) c ≡ (is_typed (map (hypothesis_at es) (take i ps)) c || is_typed_by c (hypothesis_at es (get_or ps i 0)))
 typed-more es ps i c lt =
-    sym (list_any-map (required_at es) (is_typed_by c) (take (i + 1) ps))
-    ∙ (list_any_more (λ p. is_typed_by c (required_at es p)) ps i 0 lt ∙ ap (λ b. b || is_typed_by c (required_at es (get_or ps i 0))) (list_any-map (required_at es) (is_typed_by c) (take i ps)))
+    sym (list_any-map (hypothesis_at es) (is_typed_by c) (take (i + 1) ps))
+    ∙ (list_any_more (λ p. is_typed_by c (hypothesis_at es p)) ps i 0 lt ∙ ap (λ b. b || is_typed_by c (hypothesis_at es (get_or ps i 0))) (list_any-map (hypothesis_at es) (is_typed_by c) (take i ps)))
 
 -- ---- an assertion of the storage
 
@@ -304,7 +304,7 @@ module _ (k : Storage) (a i : ℕ) (s : Stmt) (e : Entry) (stored : AreStored k)
     is_whole = refl;
     same = p.same;
     described = record {
-      required_made = p.required_made ∙ ap (map (required_at k.entries)) (sym p.same);
+      required_made = p.required_made ∙ ap (map (hypothesis_at k.entries)) (sym p.same);
       typecodes_made = p.typecodes_made ∙ ap (map (typecode_at k.entries)) (sym p.same);
       groups_made = λ w. refl;
     };
@@ -334,7 +334,7 @@ module _ (k : Storage) (a i : ℕ) (s : Stmt) (e : Entry) (stored : AreStored k)
 
 -- the assertion can be cited by a view of these lists and its expression
 pub lists-cite : (S : Database) (names : List Name) (a : ℕ) (s : Stmt) (d : Assertion) (codes : List ℕ) → AreCitingListsOf S names a d s → decode names codes ≡ expr_of s → AreBelow (length names) codes
-    → (c : AssertionView) → c.typecodes.now ≡ d.typecodes → c.hypotheses ≡ d.required → c.conclusion.now ≡ codes → c.groups ≡ d.groups → IsCited S names a s c
+    → (c : AssertionView) → c.typecodes.now ≡ d.typecodes → c.hypotheses ≡ d.required → c.conclusion.now ≡ codes → c.groups ≡ d.groups → IsCitingView S names a s c
 lists-cite S names a s d codes l stand low c p q k g = record {
   required = subst (λ hs. AreNumberedHypotheses S names (hypotheses (before S a) s) hs c.hypotheses) (sym p) (subst (AreNumberedHypotheses S names (hypotheses (before S a) s) d.typecodes) (sym q) l.required);
   conclusion = ap (decode names) k ∙ stand;

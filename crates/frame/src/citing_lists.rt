@@ -3,7 +3,7 @@ ghost use Rattle.std.specs.Prelude.{◌≡◌, ◌==◌, ◌≤◌, ◌<◌, ◌
 ghost use Rattle.std.specs.List.{list_any};
 ghost use Rattle.frame.specs.Below.{AreBelow};
 ghost use Rattle.frame.specs.PairFacts.{AreFacts};
-ghost use Rattle.frame.specs.Stored.AssertionParts.{is_typed, is_typed_by, required_at, typecode_at};
+ghost use Rattle.frame.specs.Stored.AssertionParts.{is_typed, is_typed_by, hypothesis_at, typecode_at};
 ghost use Rattle.frame.specs.Stored.EntryMeanings.{names_in, numbered, statements_of};
 ghost use Rattle.frame.specs.Stored.Hypotheses.{AreHypotheses};
 ghost use Rattle.frame.specs.Stored.PairLists.{HasPairs, HasSameHypotheses, IsFilledForCitation, IsSearchPosition, are_among, is_beside};
@@ -11,7 +11,7 @@ ghost use Rattle.frame.specs.Stored.Whole.{AreStored};
 
 use crate::at_position::last_active_at;
 use crate::frame_buffers::FrameBuffers;
-use crate::make::{encode_hypotheses, fill_from_hypotheses, hypothesis};
+use crate::assertion_parts::{encode_hypotheses, fill_from_hypotheses, hypothesis};
 use crate::pair_facts::{PairFacts, SoughtPair, search_by_facts};
 use crate::storage::Storage;
 use entries::Hypothesis;
@@ -58,7 +58,7 @@ pub fn fill_citing_lists(
 fn variables(alloc: Global, storage: &Storage, hypotheses: &[u32]) -> Result<Vec<u32>, AllocError>
     requires stored { AreStored storage.now }
     requires hypotheses { AreHypotheses storage.now.entries hypotheses.now }
-    ensures { IfOk result (λ list. (c : ℕ) → list_any (λ n. n == c) list.items ≡ is_typed (map (required_at storage.now.entries) hypotheses.now) c) }
+    ensures { IfOk result (λ list. (c : ℕ) → list_any (λ n. n == c) list.items ≡ is_typed (map (hypothesis_at storage.now.entries) hypotheses.now) c) }
 {
     let mut list = Vec::new(alloc);
     list.reserve(hypotheses.len())?;
@@ -105,8 +105,8 @@ fn sought_pair(x: u32, others: &[u32], index: usize, counts: &[usize]) -> Sought
     SoughtPair {
         x,
         y: others[index],
-        with_x: count_at(counts, others.len()),
-        with_y: count_at(counts, index),
+        count_x: count_at(counts, others.len()),
+        count_y: count_at(counts, index),
     }
 }
 
@@ -145,20 +145,20 @@ fn find_pairs(
     ensures same { IfOk result (λ all. HasSameHypotheses buffers.old buffers.new) }
     ensures none { IfOk result (λ all. all ≡ false → buffers.new.groups ≡ []) }
 {
-    let mut most = first_budget(variables);
-    if !has_more_symbols(storage, at, most) {
+    let mut budget = first_budget(variables);
+    if !has_more_symbols(storage, at, budget) {
         return Ok(false);
     }
     let counts = counts(alloc, storage, at, variables)?;
     facts.make_room();
     for _ in 0..MAX_TRIES {
-        facts.set_budget(most);
+        facts.set_budget(budget);
         if add_pairs(storage, kept, at, facts, buffers, variables, &counts)? {
             return Ok(true);
         }
         buffers.clear_groups();
-        most = most.saturating_mul(4);
-        if !has_more_symbols(storage, at, most) {
+        budget = budget.saturating_mul(4);
+        if !has_more_symbols(storage, at, budget) {
             return Ok(false);
         }
     }
@@ -199,13 +199,13 @@ fn encode_all_hypotheses(storage: &Storage, buffers: &mut FrameBuffers) -> Resul
     requires undescribed { (buffers.old.required ≡ []) × (buffers.old.typecodes ≡ []) }
     ensures hypotheses { buffers.new.hypotheses ≡ buffers.old.hypotheses }
     ensures groups { buffers.new.groups ≡ buffers.old.groups }
-    ensures required { OnOk result (buffers.new.required ≡ map (required_at storage.now.entries) buffers.old.hypotheses) }
+    ensures required { OnOk result (buffers.new.required ≡ map (hypothesis_at storage.now.entries) buffers.old.hypotheses) }
     ensures typecodes { OnOk result (buffers.new.typecodes ≡ map (typecode_at storage.now.entries) buffers.old.hypotheses) }
 {
     encode_hypotheses(
         storage,
         &buffers.hypotheses,
-        &mut buffers.required,
+        &mut buffers.hypothesis_numbers,
         &mut buffers.typecodes,
     )
 }

@@ -6,7 +6,7 @@ ghost use Rattle.entries.specs.Stored.Spans.{Extends};
 ghost use Rattle.frame.specs.Words.{Database, Entry};
 ghost use Rattle.frame.specs.Stored.EntryMeanings.{statements_of};
 ghost use Rattle.frame.specs.Stored.EssentialSets.{AreEssentialSets, IsSetFromEssentials};
-ghost use Rattle.frame.specs.Stored.Hypotheses.{AreWith, HasMore, In};
+ghost use Rattle.frame.specs.Stored.Hypotheses.{AreWithEssentials, HasMore, In};
 ghost use Rattle.frame.specs.Stored.KeptSets.{AreAmong, kept_set};
 ghost use Rattle.frame.specs.Stored.Whole.{AreStored};
 
@@ -61,11 +61,11 @@ impl EssentialSets {
     ///
     /// Errors: an allocation fails. Cost: n log n for n of them; if they are few, a walk over the
     /// `$e`.
-    pub fn add(&self, storage: &Storage, at: usize, list: &mut Vec<u32>) -> Result<(), AllocError>
+    pub fn append_hypotheses(&self, storage: &Storage, at: usize, list: &mut Vec<u32>) -> Result<(), AllocError>
         requires stored { AreStored storage.now }
         requires sets { AreEssentialSets self.now storage.now.entries (statements_of storage.now) }
         requires place { (1 ≤ at) × (at ≤ length (statements_of storage.now) + 1) }
-        ensures { OnOk result (AreWith storage.now.entries (take (at - 1) (statements_of storage.now)) list.old.items list.new.items) }
+        ensures { OnOk result (AreWithEssentials storage.now.entries (take (at - 1) (statements_of storage.now)) list.old.items list.new.items) }
     {
         let set = self.set(last_active_at(storage, at).essential);
         if set == 0 {

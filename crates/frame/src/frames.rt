@@ -1,13 +1,13 @@
 //! The statements of a database by position.
 ghost use Rattle.std.specs.Prelude.{◌≡◌, ◌≤◌, ◌<◌, [], true, IfOk, length, Some, option_map, OnOk, IfSome};
-ghost use Rattle.{mm_read.specs.declared.stmt.Stmt.Stmt as Statement, names.specs.Codes.name_at, names.specs.Codes.decode, scope.specs.Active.before, scope.specs.Active.stmt_at, scope.specs.Active.label_of, scope.specs.Active.expr_of, frame.specs.AtPosition.IsPosition, frame.specs.AtPosition.ArePositions, frame.specs.AtPosition.AreLegal, frame.specs.AtPosition.IsMeaning, frame.specs.FrameOf.HasAssertion, frame.specs.FrameOf.hypotheses, frame.specs.AssertionView.AreBuffersOf, frame.specs.AssertionView.AreCitingLists, frame.specs.AssertionView.IsCited, frame.specs.AssertionView.IsViewOf, frame.specs.PairFacts.AreFacts, frame.specs.ExprPlaces.AreExprPlaces, frame.specs.Below.AreBelow, frame.specs.LongEssentials.HasConstants, frame.specs.LongEssentials.long_essentials, scope.specs.Active.is_essential};
+ghost use Rattle.{mm_read.specs.declared.stmt.Stmt.Stmt as Statement, names.specs.Codes.name_at, names.specs.Codes.decode, scope.specs.Active.before, scope.specs.Active.stmt_at, scope.specs.Active.label_of, scope.specs.Active.expr_of, frame.specs.AtPosition.IsPosition, frame.specs.AtPosition.ArePositions, frame.specs.AtPosition.HasLegalProperties, frame.specs.AtPosition.IsMeaning, frame.specs.FrameOf.HasAssertion, frame.specs.FrameOf.hypotheses, frame.specs.AssertionView.AreBuffersOf, frame.specs.AssertionView.AreCitingLists, frame.specs.AssertionView.IsCitingView, frame.specs.AssertionView.IsViewOf, frame.specs.PairFacts.AreFacts, frame.specs.ExprPlaces.AreExprPlaces, frame.specs.Below.AreBelow, frame.specs.LongEssentials.HasConstants, frame.specs.LongEssentials.long_essentials, scope.specs.Active.is_essential};
 
 use crate::at_position::{is_active_at, last_active_at};
 use crate::citing_lists::fill_citing_lists;
 use crate::essential_sets::EssentialSets;
 use crate::frame_buffers::FrameBuffers;
 use crate::kept_facts::KeptFacts;
-use crate::make::fill_from_hypotheses;
+use crate::assertion_parts::fill_from_hypotheses;
 use crate::mandatory_view::{MandatoryView, missing};
 use crate::meaning::Meaning;
 use crate::pair_facts::PairFacts;
@@ -122,7 +122,7 @@ impl Frames {
     /// Errors: an allocation fails. Cost: that of looking each label up.
     pub fn positions(&self, labels: &Words) -> Result<Vec<Option<usize>>, AllocError>
         ensures found { IfOk result (λ positions. ArePositions self.now.statements labels.now positions.items) }
-        ensures legal { AreLegal self.now.statements self.now.names }
+        ensures legal { HasLegalProperties self.now.statements self.now.names }
     {
         let mut positions = Vec::new(self.alloc);
         for label in labels.iter() {
@@ -208,7 +208,7 @@ impl Frames {
         requires { (1 ≤ at) × (at ≤ length self.now.statements) }
         ensures statements { result.statements ≡ before self.now.statements at }
         ensures names { result.names ≡ self.now.names }
-        ensures legal { AreLegal self.now.statements self.now.names }
+        ensures legal { HasLegalProperties self.now.statements self.now.names }
     {
         Pairs {
             storage: &self.storage,
@@ -256,7 +256,7 @@ impl Frames {
     {
         AssertionView {
             typecodes: &frame_buffers.typecodes,
-            hypotheses: Hypotheses::new(&frame_buffers.required),
+            hypotheses: Hypotheses::new(&frame_buffers.hypothesis_numbers),
             conclusion: self.expr(a),
             groups: Groups::new(&frame_buffers.groups, &frame_buffers.grouped_variables),
         }
@@ -300,11 +300,11 @@ impl Frames {
     pub fn citing_view<'a>(&'a self, a: usize, buffers: &'a FrameBuffers) -> AssertionView<'a>
         requires assertion { (s : Statement) × HasAssertion self.now.statements a s }
         requires lists { AreCitingLists self.now.statements self.now.names a buffers.now }
-        ensures { (s : Statement) → stmt_at self.now.statements a ≡ Some s → IsCited self.now.statements self.now.names a s result }
+        ensures { (s : Statement) → stmt_at self.now.statements a ≡ Some s → IsCitingView self.now.statements self.now.names a s result }
     {
         AssertionView {
             typecodes: &buffers.typecodes,
-            hypotheses: Hypotheses::new(&buffers.required),
+            hypotheses: Hypotheses::new(&buffers.hypothesis_numbers),
             conclusion: self.expr(a),
             groups: Groups::new(&buffers.groups, &buffers.grouped_variables),
         }
@@ -319,13 +319,13 @@ impl Frames {
         requires assertion { (s : Statement) × HasAssertion self.now.statements a s }
         requires empty { list.old.items ≡ [] }
         ensures listed { (s : Statement) → stmt_at self.now.statements a ≡ Some s → OnOk result (list.new.items ≡ hypotheses (before self.now.statements a) s) }
-        ensures legal { AreLegal self.now.statements self.now.names }
+        ensures legal { HasLegalProperties self.now.statements self.now.names }
     {
         list.extend_from_slice(self.storage.entries.hypotheses(a - 1))?;
         if self.storage.entries.is_whole(a - 1) {
             Ok(())
         } else {
-            self.essential_sets.add(&self.storage, a, list)
+            self.essential_sets.append_hypotheses(&self.storage, a, list)
         }
     }
 

@@ -8,8 +8,8 @@
 //! counts from 1, an index from 0.
 //!
 //! Reading order: `storage`, `stored_entries`, `shape`, `frame_buffers`; `symbol_numbers`,
-//! `at_position`, `stacks`, `declare`, `mandatory`, `kept_sets`, `essential_sets`, `make`, `extend`
-//! (appending and truncating); `meaning`, `frames`, `mandatory_view`, `row`, `long_searches`,
+//! `at_position`, `stacks`, `declare`, `mandatory`, `kept_sets`, `essential_sets`, `assertion_parts`, `extend`
+//! (appending and truncating); `meaning`, `frames`, `mandatory_view`, `disjoints_with`, `long_searches`,
 //! `pair_memo`, `fact_slots`, `pair_facts`, `kept_facts`, `repeated_searches`, `pairs`,
 //! `active_disjoint`, `citing_lists` (queries); `assertion`, `one_frame`; `laws`.
 #![tactic(auto)]
@@ -28,7 +28,7 @@ mod kept_facts;
 mod kept_sets;
 mod laws;
 mod long_searches;
-mod make;
+mod assertion_parts;
 mod mandatory;
 mod mandatory_view;
 mod meaning;
@@ -37,7 +37,7 @@ mod pair_facts;
 mod pair_memo;
 mod pairs;
 mod repeated_searches;
-mod row;
+mod disjoints_with;
 mod shape;
 mod stacks;
 mod storage;
@@ -54,6 +54,6 @@ pub use one_frame::frame;
 pub use pair_facts::{PairFact, PairFacts};
 pub use pair_memo::PairMemo;
 pub use pairs::Pairs;
-pub use row::Row;
+pub use disjoints_with::DisjointsWith;
 pub use shape::is_assertion;
 pub use stored_entries::LONG_EXPRESSION;

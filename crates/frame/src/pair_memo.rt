@@ -2,7 +2,7 @@
 ghost use Rattle.std.specs.Prelude.{◌≡◌, true};
 ghost use Rattle.frame.specs.PairFacts.{AreFacts};
 ghost use Rattle.frame.specs.Stored.EntryMeanings.{numbered};
-ghost use Rattle.frame.specs.Stored.PairSearch.{AreSearched, IsLeft, are_pair};
+ghost use Rattle.frame.specs.Stored.PairSearch.{AreSearched, AreRemaining, are_pair};
 
 use crate::at_position::is_active_at;
 use crate::long_searches::{LongSearch, LongSearches};
@@ -82,23 +82,23 @@ pub fn search(
     facts: &PairFacts,
     at: usize,
     memo: &mut PairMemo,
-    mut left: PositionStack<'_>,
+    mut remaining: PositionStack<'_>,
     x: u32,
     y: u32,
 ) -> bool
-    requires left { IsLeft storage.now at x y left }
+    requires remaining { AreRemaining storage.now at x y remaining }
     requires facts { AreFacts (numbered storage.now) facts.now }
     ensures { result ≡ are_pair storage.now at x y }
 {
     for _ in 0..MAX_BEFORE_MEMO {
-        let Some(position) = left.pop() else {
+        let Some(position) = remaining.pop() else {
             return false;
         };
         if has_symbol(storage, position, y) {
             return true;
         }
     }
-    search_on(storage, facts, at, memo, left, x, y)
+    search_on(storage, facts, at, memo, remaining, x, y)
 }
 
 /// Continues a search after its first `MAX_BEFORE_MEMO` `$d`: first by the memo, then through the other `$d`.
@@ -109,11 +109,11 @@ fn search_on(
     facts: &PairFacts,
     at: usize,
     memo: &mut PairMemo,
-    mut left: PositionStack<'_>,
+    mut remaining: PositionStack<'_>,
     x: u32,
     y: u32,
 ) -> bool
-    requires left { IsLeft storage.now at x y left }
+    requires remaining { AreRemaining storage.now at x y remaining }
     requires facts { AreFacts (numbered storage.now) facts.now }
     ensures { result ≡ are_pair storage.now at x y }
 {
@@ -121,13 +121,13 @@ fn search_on(
     if has_both(storage, at, known, x, y) {
         return true;
     }
-    let height = left.len();
-    while let Some(position) = left.pop() {
+    let height = remaining.len();
+    while let Some(position) = remaining.pop() {
         if has_symbol(storage, position, y) {
             memo.record(x, y, position);
             return true;
         }
-        let below = left.len();
+        let below = remaining.len();
         // This `$d` is counted; the first `MAX_BEFORE_MEMO` are not.
         let passed = height.saturating_sub(below);
         if is_looked_up(passed, below) {

@@ -12,8 +12,8 @@ use Rattle.scope.specs.Active.{bares, before, stmt_at, is_assertion}
 use Rattle.frame.specs.FrameOf.{hypotheses, mandatory_groups}
 
 -- a label, a keyword and symbols
-abbrev pub labelled : Name → List ℕ → List ℕ → List ℕ
-labelled label keyword symbols = label ++ keyword ++ symbols
+abbrev pub three_joined : Name → List ℕ → List ℕ → List ℕ
+three_joined label keyword symbols = label ++ keyword ++ symbols
 
 -- the number of a proof's tokens, and the end of the line
 abbrev pub proof_note : List Name → List ℕ
@@ -21,10 +21,10 @@ proof_note proof = codes " (proof of " ++ decimal (length proof) ++ codes " toke
 
 -- the line of a statement that has a label, without its proof
 abbrev pub statement_line : Stmt → List ℕ
-statement_line (Float label constant variable) = labelled label (codes " $f ") constant ++ labelled (codes " ") variable (codes "\n")
-statement_line (Ess label expr) = labelled label (codes " $e ") (spaced expr) ++ codes "\n"
-statement_line (Axiom label expr) = labelled label (codes " $a ") (spaced expr) ++ codes "\n"
-statement_line (Prove label expr proof) = labelled label (codes " $p ") (spaced expr) ++ proof_note proof
+statement_line (Float label constant variable) = three_joined label (codes " $f ") constant ++ three_joined (codes " ") variable (codes "\n")
+statement_line (Ess label expr) = three_joined label (codes " $e ") (spaced expr) ++ codes "\n"
+statement_line (Axiom label expr) = three_joined label (codes " $a ") (spaced expr) ++ codes "\n"
+statement_line (Prove label expr proof) = three_joined label (codes " $p ") (spaced expr) ++ proof_note proof
 statement_line s = []
 
 -- the line of a statement, if there is one

@@ -41,13 +41,13 @@ fn push_hypotheses(
         ≡ text.old.items ++ flat_map (line_at statements.now) positions.now) }
 {
     for position in positions {
-        push_at(text, statements, *position as usize)?;
+        push_statement_at(text, statements, *position as usize)?;
     }
     Ok(())
 }
 
 /// Appends the statement at a position, if there is one.
-fn push_at(text: &mut Vec<u8>, statements: &[Stmt], position: usize) -> Result<(), AllocError>
+fn push_statement_at(text: &mut Vec<u8>, statements: &[Stmt], position: usize) -> Result<(), AllocError>
     ensures { OnOk result (text.new.items ≡ text.old.items ++ line_at statements.now position) }
 {
     if position == 0 || position > statements.len() {

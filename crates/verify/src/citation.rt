@@ -1,7 +1,7 @@
 //! Runs one item of a proof.
 
 ghost use Rattle.std.specs.Prelude.{◌≡◌, ◌++◌, List, Some, IfOk, map, option_map};
-ghost use Rattle.frame.specs.AtPosition.{AreLegal};
+ghost use Rattle.frame.specs.AtPosition.{HasLegalProperties};
 ghost use Rattle.frame.specs.FrameOf.{HasAssertion};
 ghost use Rattle.mm_lex.specs.Alphabet.{Name};
 ghost use Rattle.mm_read.specs.declared.stmt.Stmt.{Stmt as Statement};
@@ -139,7 +139,7 @@ fn kept_index(
     kept: &mut CitationCache,
 ) -> Result<usize, AllocError>
     requires assertion { (s : Statement) × HasAssertion claim.now.frames.now.statements position s }
-    requires legal { AreLegal claim.now.frames.now.statements claim.now.frames.now.names }
+    requires legal { HasLegalProperties claim.now.frames.now.statements claim.now.frames.now.names }
     requires kept { IsCacheFor claim.now.frames.now.statements claim.now.frames.now.names kept.old }
     ensures kept { IsCacheFor claim.now.frames.now.statements claim.now.frames.now.names kept.new }
     ensures index { IfOk result (λ i. IsAt kept.new.lists i position) }

@@ -37,32 +37,32 @@ abbrev pub symbols_at : List Entry → ℕ → List ℕ
 symbols_at es p = option_symbols (slice_get es (p - 1))
 
 -- the list has two or more items
-abbrev pub has_two : {A : Type 0} → List A → Bool
-has_two [] = false
-has_two (x ∷ []) = false
-has_two (x ∷ y ∷ xs) = true
+abbrev pub has_two_or_more_items : {A : Type 0} → List A → Bool
+has_two_or_more_items [] = false
+has_two_or_more_items (x ∷ []) = false
+has_two_or_more_items (x ∷ y ∷ xs) = true
 
 -- for each list its numbers that are variables of the `$f`, if these are two or more
 abbrev pub groups_by : List Hypothesis → List (List ℕ) → List (List ℕ)
-groups_by hs lists = filter has_two (map (typed hs) lists)
+groups_by hs lists = filter has_two_or_more_items (map (typed hs) lists)
 
 -- the typecode of the statement at a position
 abbrev pub typecode_at : List Entry → ℕ → ℕ
 typecode_at es p = typecode_of (symbols_at es p)
 
 -- the hypothesis at a position: the variable of a `$f`, or the position of a `$e`
-abbrev pub required_by : ℕ → Kind → List ℕ → Hypothesis
-required_by p Float codes = hypothesis.Float (get_or codes 1 0)
-required_by p kind codes = hypothesis.Essential p
+abbrev pub hypothesis_by : ℕ → Kind → List ℕ → Hypothesis
+hypothesis_by p Float codes = hypothesis.Float (get_or codes 1 0)
+hypothesis_by p kind codes = hypothesis.Essential p
 
 -- the hypothesis that is this entry
-abbrev pub option_required : ℕ → Option Entry → Hypothesis
-option_required p None = hypothesis.Essential p
-option_required p (Some e) = required_by p e.kind e.symbols
+abbrev pub option_hypothesis : ℕ → Option Entry → Hypothesis
+option_hypothesis p None = hypothesis.Essential p
+option_hypothesis p (Some e) = hypothesis_by p e.kind e.symbols
 
 -- the hypothesis at a position
-abbrev pub required_at : List Entry → ℕ → Hypothesis
-required_at es p = option_required p (slice_get es (p - 1))
+abbrev pub hypothesis_at : List Entry → ℕ → Hypothesis
+hypothesis_at es p = option_hypothesis p (slice_get es (p - 1))
 
 -- the statement is a `$f` of a symbol of the expression
 abbrev pub is_float_in : Expr → Stmt → Bool
@@ -80,7 +80,7 @@ kept_with whole S s = if whole then hypotheses S s else floats_in S (expr_of s)
 -- the statement s, which follows the statements S, is kept with the parts d
 pub record IsKeptAs (es : List Entry) (S : Database) (s : Stmt) (d : Assertion) : Type 0 where
   pub hypotheses_kept : d.hypotheses ≡ kept_with d.whole S s
-  pub required_kept : d.required ≡ map (required_at es) d.hypotheses
+  pub required_kept : d.required ≡ map (hypothesis_at es) d.hypotheses
   pub typecodes_kept : d.typecodes ≡ map (typecode_at es) d.hypotheses
   pub groups_kept : d.whole ≡ true → d.groups ≡ groups_by d.required (map (λ q. symbols_at es q.0) (actives is_disj S))
   pub own_kept : is_essential s ≡ true → d.whole ≡ false

@@ -1,10 +1,10 @@
-use Rattle.frame.proofs.Words.{◌≡◌, ◌==◌, ◌∙◌, ℕ, ap, sym, subst, arith, inl, inr, length, map, list_any, is_typed, required_at, names_in, labels_in, AreBelow, IsFilledFrom, statements_of, take, ◌-◌, ok-weaker, refl, Result, Ok, Err, OnOk}
+use Rattle.frame.proofs.Words.{◌≡◌, ◌==◌, ◌∙◌, ℕ, ap, sym, subst, arith, inl, inr, length, map, list_any, is_typed, hypothesis_at, names_in, labels_in, AreBelow, IsFilledFrom, statements_of, take, ◌-◌, ok-weaker, refl, Result, Ok, Err, OnOk}
 use Rattle.frame.proofs.CitingListLemmas.{all-below, described-pairs}
 use Rattle.frame.proofs.citing_lists.fill_citing_lists.Goals as goal
 use Rattle.frame.proofs.citing_lists.fill_citing_lists.Goals.{In_ok-variables}
 
-typed : (c : In_ok-variables) (d : ℕ) → list_any (λ n. n == d) c.in_ok-variables.variables.items ≡ is_typed (map (required_at c.args.storage.now.entries) c.args.buffers.now.hypotheses) d
-typed c = subst (λ ps. (d : ℕ) → list_any (λ n. n == d) c.in_ok-variables.variables.items ≡ is_typed (map (required_at c.args.storage.now.entries) ps) d) (c.deref.ensures.value ∙ ap (λ v. v.hypotheses) c.buffers.view_is) c.in_ok-variables.ensures
+typed : (c : In_ok-variables) (d : ℕ) → list_any (λ n. n == d) c.in_ok-variables.variables.items ≡ is_typed (map (hypothesis_at c.args.storage.now.entries) c.args.buffers.now.hypotheses) d
+typed c = subst (λ ps. (d : ℕ) → list_any (λ n. n == d) c.in_ok-variables.variables.items ≡ is_typed (map (hypothesis_at c.args.storage.now.entries) ps) d) (c.deref.ensures.value ∙ ap (λ v. v.hypotheses) c.buffers.view_is) c.in_ok-variables.ensures
 
 pub find_pairs-requires-clause-below : goal.find_pairs-requires-clause-below
 find_pairs-requires-clause-below c =
