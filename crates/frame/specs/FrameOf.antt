@@ -26,7 +26,7 @@ hypotheses S s = map (λ p. p.0) (filter (λ p. is_hypothesis S s p.1) (active S
 abbrev pub together : List (List Name) → Name → Name → Bool
 together lists x y = not (name_eq x y) && list_any (λ names. has_name x names && has_name y names) lists
 
--- the whole lists of the active `$d`, also with variables that are not mandatory
+-- the list of the variables of each active `$d`, mandatory or not; an empty list for each other active statement
 abbrev pub active_disjoint_lists : Database → List (List Name)
 active_disjoint_lists S = map (λ p. disjoint_names p.1) (active S)
 

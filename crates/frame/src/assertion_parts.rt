@@ -112,9 +112,9 @@ fn add_group(
     Ok(())
 }
 
-/// Appends, for the positions in `buffers` of the mandatory hypotheses of an assertion at `at`,
-/// each hypothesis as one number, its typecode, and the groups: for each active `$d` its mandatory
-/// variables, if they are two or more.
+/// Appends the other parts of an assertion at `at` to `buffers`, which has the positions of its
+/// mandatory hypotheses: each hypothesis as one number, its typecode, and the groups (for each active
+/// `$d` its mandatory variables, if they are two or more).
 ///
 /// Errors: an allocation fails. Cost: the hypotheses, and the symbols of the active `$d`.
 pub fn fill_from_hypotheses(
@@ -134,7 +134,10 @@ pub fn fill_from_hypotheses(
         &mut buffers.hypothesis_numbers,
         &mut buffers.typecodes,
     )?;
-    record_variables(&Hypotheses::new(&buffers.hypothesis_numbers), &mut buffers.recorded)?;
+    record_variables(
+        &Hypotheses::new(&buffers.hypothesis_numbers),
+        &mut buffers.recorded,
+    )?;
     let mut last = last_active_at(storage, at).disjoint;
     while last != 0 {
         let entry = storage.entries.entry(last as usize - 1);

@@ -9,9 +9,9 @@ ghost use Rattle.frame.specs.Stored.Hypotheses.{AreHypotheses};
 ghost use Rattle.frame.specs.Stored.PairLists.{HasPairs, HasSameHypotheses, IsFilledForCitation, IsSearchPosition, are_among, is_beside};
 ghost use Rattle.frame.specs.Stored.Whole.{AreStored};
 
+use crate::assertion_parts::{encode_hypotheses, fill_from_hypotheses, hypothesis};
 use crate::at_position::last_active_at;
 use crate::frame_buffers::FrameBuffers;
-use crate::assertion_parts::{encode_hypotheses, fill_from_hypotheses, hypothesis};
 use crate::pair_facts::{PairFacts, SoughtPair, search_by_facts};
 use crate::storage::Storage;
 use entries::Hypothesis;
@@ -23,9 +23,9 @@ const PAIR_COST: usize = 2;
 /// The largest number of attempts to search for all pairs, each up to four times as long as the one before it.
 const MAX_TRIES: usize = 16;
 
-/// Appends, for the positions in `buffers` of the mandatory hypotheses of an assertion at `at`,
-/// each hypothesis as one number, its typecode, and groups that have exactly the pairs of disjoint
-/// variables: one group for each pair if that costs less, else one for each `$d`.
+/// Appends the other parts of an assertion at `at` to `buffers`, which has the positions of its
+/// mandatory hypotheses: each hypothesis as one number, its typecode, and groups that have exactly its
+/// mandatory pairs: one group for each pair if that costs less, else one for each `$d`.
 ///
 /// Errors: an allocation fails.
 pub fn fill_citing_lists(
@@ -123,7 +123,7 @@ fn count_at(counts: &[usize], index: usize) -> usize {
 ///
 /// All searches together may pass a budget of `$d`. When it is spent, it is made four times as
 /// large. If the active `$d` have more symbols than the new budget, all pairs are searched for
-/// again, which the recorded facts make shorter; else `false` is returned.
+/// again, which the recorded facts make shorter, at most `MAX_TRIES` times; else `false` is returned.
 ///
 /// Errors: an allocation fails. Cost: at most a constant times that of the cheaper of the two.
 fn find_pairs(

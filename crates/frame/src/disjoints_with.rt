@@ -10,7 +10,8 @@ use crate::storage::Storage;
 use entries::PositionStack;
 use std::marker::Model;
 
-/// The active `$d` that have a variable, from the last one back. Contracts see the list of their symbols.
+/// The active `$d` that have a variable, from the last one back. Contracts see the list of symbols of
+/// each.
 #[derive(Drop)]
 pub struct DisjointsWith<'a> {
     storage: &'a Storage,
@@ -34,7 +35,7 @@ impl<'a> Model for DisjointsWith<'a> {
 }
 
 impl<'a> DisjointsWith<'a> {
-    /// Creates the row of the `$d` at these positions.
+    /// Returns the `$d` at these positions.
     pub(crate) fn new(storage: &'a Storage, stack: PositionStack<'a>) -> DisjointsWith<'a>
         requires stored { AreStored storage.now }
         requires disjoints { AreOfKind is_disj (statements_of storage.now) stack }
@@ -43,8 +44,7 @@ impl<'a> DisjointsWith<'a> {
         DisjointsWith { storage, stack }
     }
 
-    /// Returns the symbols of the last `$d` of the row and removes it from the row, or returns
-    /// `None` if the row is empty.
+    /// Removes the last `$d` that is left and returns its symbols, or returns `None` if none is left.
     ///
     /// Cost: three look-ups.
     pub fn next(&mut self) -> Option<&'a [u32]>

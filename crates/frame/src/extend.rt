@@ -3,13 +3,13 @@ ghost use Rattle.std.specs.Prelude.{true, ◌≡◌, ◌++◌, ◌∷◌, [], So
 ghost use Rattle.frame.specs.Stored.EssentialSets.{AreFrames};
 ghost use Rattle.{names.specs.Codes.with_names, scope.specs.Active.bare, scope.specs.Legal.IsLegal, scope.specs.Legal.broken_rule, scope.specs.Stored.SymbolNumbers.AreRecorded, scope.specs.Symbols.AreVariableNumbers, scope.specs.Symbols.symbols_after, scope.specs.Symbols.symbols_by, scope.specs.Symbols.symbols_in, scope.specs.Symbols.symbols_of, entries.specs.Entries.Entry, entries.specs.Histories.AreKeptUntil, entries.specs.Histories.AreSame, entries.specs.Stored.Spans.Extends, frame.specs.Stored.Whole.AreStored, frame.specs.Stored.Counts.HasMoreAtEnd, frame.specs.Stored.EntryMeanings.labels_in, frame.specs.Stored.EntryMeanings.names_in, frame.specs.Stored.EntryMeanings.statements_of};
 
+use crate::assertion_parts::fill_parts;
 use crate::declare::{
     declare, declare_next, declared, last_active_after, record_end, record_replaced, remove_entries,
 };
 use crate::essential_sets::EssentialSets;
 use crate::frame_buffers::FrameBuffers;
 use crate::frames::Frames;
-use crate::assertion_parts::fill_parts;
 use crate::shape::kind;
 use crate::stacks::{NextStatement, record_active};
 use crate::storage::Storage;

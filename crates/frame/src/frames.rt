@@ -2,12 +2,12 @@
 ghost use Rattle.std.specs.Prelude.{◌≡◌, ◌≤◌, ◌<◌, [], true, IfOk, length, Some, option_map, OnOk, IfSome};
 ghost use Rattle.{mm_read.specs.declared.stmt.Stmt.Stmt as Statement, names.specs.Codes.name_at, names.specs.Codes.decode, scope.specs.Active.before, scope.specs.Active.stmt_at, scope.specs.Active.label_of, scope.specs.Active.expr_of, frame.specs.AtPosition.IsPosition, frame.specs.AtPosition.ArePositions, frame.specs.AtPosition.HasLegalProperties, frame.specs.AtPosition.IsMeaning, frame.specs.FrameOf.HasAssertion, frame.specs.FrameOf.hypotheses, frame.specs.AssertionView.AreBuffersOf, frame.specs.AssertionView.AreCitingLists, frame.specs.AssertionView.IsCitingView, frame.specs.AssertionView.IsViewOf, frame.specs.PairFacts.AreFacts, frame.specs.ExprPlaces.AreExprPlaces, frame.specs.Below.AreBelow, frame.specs.LongEssentials.HasConstants, frame.specs.LongEssentials.long_essentials, scope.specs.Active.is_essential};
 
+use crate::assertion_parts::fill_from_hypotheses;
 use crate::at_position::{is_active_at, last_active_at};
 use crate::citing_lists::fill_citing_lists;
 use crate::essential_sets::EssentialSets;
 use crate::frame_buffers::FrameBuffers;
 use crate::kept_facts::KeptFacts;
-use crate::assertion_parts::fill_from_hypotheses;
 use crate::mandatory_view::{MandatoryView, missing};
 use crate::meaning::Meaning;
 use crate::pair_facts::PairFacts;
@@ -24,8 +24,8 @@ use scope::{Numbering, SymbolNumbers};
 use std::alloc::{AllocError, Global};
 use std::marker::Model;
 
-/// The largest number of mandatory hypotheses, brought along by the active `$e`, that
-/// `mandatory_view` leaves to a list.
+/// The largest number of mandatory hypotheses brought along by the active `$e` for which
+/// `mandatory_view` returns `None`.
 const MAX_WITHOUT_VIEW: usize = 64;
 
 /// The statements of a database by position, counted from 1, without their proofs, with their
@@ -38,7 +38,8 @@ pub struct Frames {
     pub(crate) alloc: Global,
     /// The statements.
     pub(crate) storage: Storage,
-    /// For each `$e`, the mandatory hypotheses that it and the active `$e` before it bring along, as a set.
+    /// For a `$e`, the set of the mandatory hypotheses that the active `$e` up to it bring along, if
+    /// they are many.
     pub(crate) essential_sets: EssentialSets,
     /// Facts about pairs of variables, which stay true as statements are added.
     pub(crate) kept_facts: KeptFacts,
@@ -165,8 +166,8 @@ impl Frames {
         }
     }
 
-    /// Returns the mandatory `$e` of the assertion at a position that have `LONG_EXPRESSION`
-    /// symbols or more, one of which is x: their positions, from the last one back.
+    /// Returns the positions of those mandatory `$e` of the assertion at a position that have x and
+    /// at least `LONG_EXPRESSION` symbols, from the last one back.
     ///
     /// Cost: a binary search.
     pub fn long_essentials(&self, x: u32, a: usize) -> PositionStack<'_>
@@ -177,7 +178,7 @@ impl Frames {
         self.storage.essentials.stack(x, a)
     }
 
-    /// Returns the meaning at `at` of a citation of the statement at `i`.
+    /// Returns what a citation of the statement at `i` means at `at`.
     ///
     /// Cost: a constant.
     #[inline(always)]
@@ -313,8 +314,8 @@ impl Frames {
     /// Appends the positions of the mandatory hypotheses of the assertion at a position, in order,
     /// to an empty list.
     ///
-    /// Errors: an allocation fails. Cost: their number; if they are not kept whole, n log n for n
-    /// of them, or a walk over the active `$e` if they are few.
+    /// Errors: an allocation fails. Cost: their number, if all are kept with the assertion; else n log
+    /// n for n of them, or a walk over the active `$e` if these bring along few.
     pub fn mandatory(&self, a: usize, list: &mut Vec<u32>) -> Result<(), AllocError>
         requires assertion { (s : Statement) × HasAssertion self.now.statements a s }
         requires empty { list.old.items ≡ [] }
@@ -325,7 +326,8 @@ impl Frames {
         if self.storage.entries.is_whole(a - 1) {
             Ok(())
         } else {
-            self.essential_sets.append_hypotheses(&self.storage, a, list)
+            self.essential_sets
+                .append_hypotheses(&self.storage, a, list)
         }
     }
 

@@ -25,8 +25,8 @@ const MAX_UNRECORDED: usize = 16;
 /// their answers are kept with the statements.
 pub(crate) const MAX_UNLISTED: usize = 256;
 
-/// A search looks up a fact at each of its first `MAX_UNRECORDED` `$d`, and at each `$d` that has a multiple of this many
-/// `$d` left, itself included.
+/// After its first `MAX_UNRECORDED` `$d`, a search looks up a fact at each `$d` that has a multiple of
+/// this many `$d` left, itself included.
 const STRIDE: usize = 64;
 
 /// A fact: whether two variables both occur in a `$d` that is active right after the `$d` at a
@@ -272,7 +272,8 @@ pub fn search_by_facts(
     }
 }
 
-/// Returns whether the `$d` of x are searched, and not those of y, given how many each has: the same for either order.
+/// Returns whether the `$d` of x are searched, not those of y, given how many each has. The choice does
+/// not depend on the order of the two.
 pub(crate) fn searches_x(count_x: usize, count_y: usize, x: u32, y: u32) -> bool {
     count_x < count_y || (count_x == count_y && x <= y)
 }
@@ -296,8 +297,8 @@ pub(crate) fn search_disjoints_with(
     facts.spend(search_end.passed);
     facts.record_search(search_end.passed, LongSearch { at, x, y });
     if search_end.passed > MAX_UNRECORDED {
-        let disjoints = storage.disjoints.stack(x, at);
-        record_passed(storage, facts, disjoints, x, y, search_end);
+        let with_x = storage.disjoints.stack(x, at);
+        record_passed(storage, facts, with_x, x, y, search_end);
     }
     search_end.found
 }
@@ -316,21 +317,21 @@ fn walk(
     storage: &Storage,
     kept: &PairFacts,
     facts: &PairFacts,
-    mut disjoints: PositionStack<'_>,
+    mut with_x: PositionStack<'_>,
     x: u32,
     y: u32,
 ) -> SearchEnd
-    requires sought { IsSearchedIn storage.now x y disjoints }
+    requires sought { IsSearchedIn storage.now x y with_x }
     requires kept { AreFacts (numbered storage.now) kept.now }
     requires facts { AreFacts (numbered storage.now) facts.now }
-    ensures { AreAnswered storage.now y disjoints.entry result }
+    ensures { AreAnswered storage.now y with_x.entry result }
 {
-    let height = disjoints.len();
+    let height = with_x.len();
     for passed in 0..height {
-        let Some(position) = disjoints.pop() else {
+        let Some(position) = with_x.pop() else {
             unreachable!();
         };
-        if is_looked_up(passed, disjoints.len()) {
+        if is_looked_up(passed, with_x.len()) {
             if let Some(fact) = known_in(facts, kept, position, x, y) {
                 return SearchEnd {
                     passed,
@@ -372,21 +373,21 @@ fn known_in(
 fn record_passed(
     storage: &Storage,
     facts: &mut PairFacts,
-    mut disjoints: PositionStack<'_>,
+    mut with_x: PositionStack<'_>,
     x: u32,
     y: u32,
     search_end: SearchEnd,
 )
-    requires sought { IsSearchedIn storage.now x y disjoints }
-    requires answered { AreAnswered storage.now y disjoints search_end }
+    requires sought { IsSearchedIn storage.now x y with_x }
+    requires answered { AreAnswered storage.now y with_x search_end }
     requires facts { AreFacts (numbered storage.now) facts.old }
     ensures { AreFacts (numbered storage.now) facts.new }
 {
     let found = search_end.found;
-    let top = disjoints.len();
+    let top = with_x.len();
     for passed in 0..search_end.passed {
-        let height = disjoints.len();
-        let Some(position) = disjoints.pop() else {
+        let height = with_x.len();
+        let Some(position) = with_x.pop() else {
             return;
         };
         if is_recorded(top, height) {

@@ -19,9 +19,8 @@ const MAX_PAIRS: usize = 65_536;
 /// The number of `$d` that a search goes through before it looks the pair up in the memo.
 const MAX_BEFORE_MEMO: usize = 16;
 
-/// The positions of the `$d` in which long searches found pairs of variables. Also the first 64 of
-/// the other long searches, which found none or were ended by a fact, and passed more than 256 `$d`
-/// after the first 16.
+/// The positions of the `$d` in which long searches found pairs of variables. Also the first 64
+/// searches that found no `$d` themselves and passed more than 256 after the first 16.
 ///
 /// A position only says where to look first, so one memo serves at all positions and for all
 /// databases.
@@ -71,7 +70,7 @@ fn key(x: u32, y: u32) -> u64 {
     (x.min(y) as u64) << 32 | x.max(y) as u64
 }
 
-/// Returns whether two variables are disjoint, given the `$d` that are left to search, all of which
+/// Returns whether two variables are disjoint, given the `$d` that remain to be searched, all of which
 /// have the first variable.
 ///
 /// Cost: the number of these `$d`, times a binary search; less in two cases. If the memo has an

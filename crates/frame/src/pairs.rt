@@ -3,9 +3,9 @@ ghost use Rattle.std.specs.Prelude.{◌≡◌, ◌==◌, ◌&&◌, ◌||◌, ◌
 ghost use Rattle.{std.specs.List.list_any, mm_lex.specs.Alphabet.Name, names.specs.Codes.name_at, names.specs.Codes.code_of, scope.specs.Active.is_variable, frame.specs.Below.AllBelow, frame.specs.Below.AreBelow, frame.specs.FrameOf.is_pair, frame.specs.LastActive.is_disj, frame.specs.ListsOfPairs.AreListsOfPairs, frame.specs.Stored.EntryMeanings.statements_of, frame.specs.Stored.Stacks.AreOfKind, frame.specs.Stored.Stacks.IsOfKind, frame.specs.Stored.Stacks.has_code, frame.specs.Stored.Whole.AreStored};
 
 use crate::at_position::last_active_at;
+use crate::disjoints_with::DisjointsWith;
 use crate::pair_facts::{PairFacts, searches_x};
 use crate::pair_memo::{PairMemo, search};
-use crate::disjoints_with::DisjointsWith;
 use crate::storage::Storage;
 use crate::symbol_numbers::symbol_number;
 use entries::PositionStack;

@@ -11,9 +11,9 @@ use Rattle.names.specs.Codes.{name_at}
 use Rattle.scope.specs.Active.{bares, before, stmt_at, is_assertion}
 use Rattle.frame.specs.FrameOf.{hypotheses, mandatory_groups}
 
--- a label, a keyword and symbols
+-- three texts, one after another
 abbrev pub three_joined : Name → List ℕ → List ℕ → List ℕ
-three_joined label keyword symbols = label ++ keyword ++ symbols
+three_joined first second third = first ++ second ++ third
 
 -- the number of a proof's tokens, and the end of the line
 abbrev pub proof_note : List Name → List ℕ
@@ -39,7 +39,7 @@ line_at S position = line_if (stmt_at S position)
 abbrev pub after_space : Name → List ℕ
 after_space name = codes " " ++ name
 
--- a list of disjoint variables, as a `$d`
+-- a list of disjoint variables, as the line of a `$d`
 abbrev pub group_line : List Name → List ℕ
 group_line group = codes "$d" ++ flat_map after_space group ++ codes "\n"
 

@@ -38,19 +38,19 @@ pub(crate) fn push_statement(text: &mut Vec<u8>, statement: &Stmt) -> Result<(),
     }
 }
 
-/// Appends a label, a keyword and symbols.
+/// Appends three texts.
 fn push_three(
     text: &mut Vec<u8>,
-    label: &[u8],
-    keyword: &[u8],
-    symbols: &[u8],
+    first: &[u8],
+    second: &[u8],
+    third: &[u8],
 ) -> Result<(), AllocError>
     ensures { OnOk result (text.new.items
-        ≡ text.old.items ++ three_joined label.now keyword.now symbols.now) }
+        ≡ text.old.items ++ three_joined first.now second.now third.now) }
 {
-    text.extend_from_slice(label)?;
-    text.extend_from_slice(keyword)?;
-    text.extend_from_slice(symbols)
+    text.extend_from_slice(first)?;
+    text.extend_from_slice(second)?;
+    text.extend_from_slice(third)
 }
 
 /// Appends the number of a proof's tokens, and ends the line.

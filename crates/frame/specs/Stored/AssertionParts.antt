@@ -23,7 +23,7 @@ is_typed hs c = list_any (is_typed_by c) hs
 abbrev pub typed : List Hypothesis → List ℕ → List ℕ
 typed hs codes = filter (is_typed hs) codes
 
--- the numbers that are in the list ns
+-- those of the numbers that are in the list ns
 abbrev pub recorded_in : List ℕ → List ℕ → List ℕ
 recorded_in ns codes = filter (λ c. list_any (λ n. n == c) ns) codes
 

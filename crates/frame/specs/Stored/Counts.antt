@@ -21,7 +21,7 @@ abbrev pub HasTwoSymbolsIfFloat : Kind → List ℕ → Type 0
 HasTwoSymbolsIfFloat Float codes = length codes ≡ 2
 HasTwoSymbolsIfFloat kind codes = Unit {0}
 
--- the symbols of the entries are below n, and the labels below m
+-- the symbols of the entries are below n, and the labels below m; each `$f` has two symbols
 abbrev pub AreNumbered : ℕ → ℕ → List Entry → Type 0
 AreNumbered n m [] = Unit {0}
 AreNumbered n m (e ∷ es) = AreBelow n e.symbols × IsLabelBelow e.kind e.label_count m × AreNumbered n m es × HasTwoSymbolsIfFloat e.kind e.symbols

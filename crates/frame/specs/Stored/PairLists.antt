@@ -17,7 +17,7 @@ use Rattle.frame.specs.Stored.Whole.{AreStored}
 
 -- ---- the search for a pair, with known facts
 
--- x and y are variables that are searched for, and the row is that of the `$d` that have x
+-- y is searched for in the active `$d` that have x
 pub record IsSearchedIn (k : Storage) (x y : ℕ) (disjoints : List ℕ) : Type 0 where
   pub stored : AreStored k
   pub distinct : AreDistinct (names_in k)
@@ -26,7 +26,7 @@ pub record IsSearchedIn (k : Storage) (x y : ℕ) (disjoints : List ℕ) : Type 
   pub differ : (x == y) ≡ false
   pub with_x : AreDisjointsWith k x disjoints
 
--- the answer of the search holds for the whole row, and for what is left of it after each of the passed `$d`
+-- the answer of the search holds for all these `$d`, and for those that are left after each passed one
 abbrev pub AreAnswered : Storage → ℕ → List ℕ → SearchEnd → Type 0
 AreAnswered k y disjoints search_end = (i : ℕ) → i ≤ search_end.passed → list_any (has_code k.entries y) (drop i disjoints) ≡ search_end.found
 

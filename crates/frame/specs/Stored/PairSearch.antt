@@ -31,7 +31,7 @@ pub record AreDisjointsWith (k : Storage) (x : ℕ) (disjoints : List ℕ) : Typ
   pub within : count ≤ length (statements_of k)
   pub are : disjoints ≡ positions_with k.entries x (actives is_disj (take count (statements_of k)))
 
--- x and y are a pair exactly if one of the `$d` that are left, which have x, has y
+-- x and y are a pair exactly if one of the remaining `$d`, all of which have x, has y
 pub record AreRemaining (k : Storage) (at x y : ℕ) (remaining : List ℕ) : Type 0 where
   pub sought : AreSearched k at x y
   pub of_kind : AreOfKind is_disj (statements_of k) remaining

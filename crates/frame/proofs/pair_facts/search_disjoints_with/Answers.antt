@@ -8,7 +8,7 @@ pub walk-search_end-requires-clause-sought : goal.walk-search_end-requires-claus
 walk-search_end-requires-clause-sought c = sought-row c.args.storage.now c.args.at c.args.x c.args.y c.stack.result c.requires.sought c.stack.ensures
 
 pub record_passed-requires-clause-sought : goal.record_passed-requires-clause-sought
-record_passed-requires-clause-sought c = sought-row c.args.storage.now c.args.at c.args.x c.args.y c.stack-disjoints.result c.requires.sought c.stack-disjoints.ensures
+record_passed-requires-clause-sought c = sought-row c.args.storage.now c.args.at c.args.x c.args.y c.stack-with_x.result c.requires.sought c.stack-with_x.ensures
 
 pub returns-then-search_end-gt-MAX_UNRECORDED-clause-found : goal.returns-then-search_end-gt-MAX_UNRECORDED-clause-found
 returns-then-search_end-gt-MAX_UNRECORDED-clause-found c = sym (c.walk-search_end.ensures 0 (omega arith)) ∙ row-answer c.args.storage.now c.args.at c.args.x c.args.y c.stack.result c.requires.sought c.stack.ensures
