@@ -1,5 +1,5 @@
 -- The groups of a frame have exactly the mandatory pairs.
-use Rattle.frame.proofs.Words.{list_any, sym, ◌∙◌, ap, arith, ◌≡◌, Bool, true, false, not, ◌&&◌, ◌||◌, List, [], ◌∷◌, map, filter, refl, and_comm, or-false, and_parts, both_ways, Name, name_eq, has_name, name_same, same_name, active_disjoint_lists, has_two_or_more, is_mandatory, any-filter_same, GroupsArePairs}
+use Rattle.frame.proofs.Words.{list_any, sym, ◌∙◌, ap, arith, ◌≡◌, Bool, true, false, not, ◌&&◌, ◌||◌, List, [], ◌∷◌, map, filter, refl, and_comm, or-false, and_parts, both_ways, Name, name_eq, has_name, name_same, same_name, active_disjoint_lists, has_two_or_more, is_mandatory, any-filter_same, GroupsHaveMandatoryPairs}
 
 -- a name is in the filtered list exactly if it is in the list and passes
 pub has-filter : (m : Name → Bool) (x : Name) (l : List Name) → has_name x (filter m l) ≡ (has_name x l && m x)
@@ -24,7 +24,7 @@ any-map m x y (l ∷ ls) = rw (has-filter m x l, has-filter m y l, any-map m x y
     shuffle : (a b c d r : Bool) → (((a && c) && (b && d)) || ((r && c) && d)) ≡ ((((a && b) || r) && c) && d)
     shuffle a b c d r = grind arith
 
-pub groups-pairs : GroupsArePairs
+pub groups-pairs : GroupsHaveMandatoryPairs
 groups-pairs S s x y = by (name_eq x y) refl
   where
     m : Name → Bool

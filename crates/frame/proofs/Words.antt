@@ -29,7 +29,7 @@ pub use Rattle.frame.specs.Disjoint.{are_disjoint, is_pair_disjoint, is_symbol_d
 pub use Rattle.frame.specs.ExprPlaces.{AreExprPlaces}
 pub use Rattle.frame.specs.FrameOf.{HasAssertion, frame_of, active_disjoint_lists, hypotheses, is_hypothesis, is_mandatory, is_pair, is_used, mandatory_groups, has_two_or_more}
 pub use Rattle.frame.specs.LastActive.{actives, actives_from, is_disj, is_var, last_active_of, last_active_of_kind, last_position}
-pub use Rattle.frame.specs.Laws.{GroupsArePairs}
+pub use Rattle.frame.specs.Laws.{GroupsHaveMandatoryPairs}
 pub use Rattle.frame.specs.ListsOfPairs.{AreListsOfPairs, have_both}
 pub use Rattle.frame.specs.Parts.{FrameParts, Numbered}
 pub use Rattle.frame.specs.Stored.AssertionParts.{IsKeptAs, floats_in, groups_by, has_parts, has_two_or_more_items, is_float_in, is_typed, is_typed_by, kept_with, option_hypothesis, option_symbols, recorded_in, hypothesis_at, hypothesis_by, symbols_at, typecode_at, typed}

@@ -331,7 +331,7 @@ impl Frames {
         }
     }
 
-    /// Returns the mandatory hypotheses of the assertion at a position without making a list of them, or `None` if the active
+    /// Returns the mandatory hypotheses of the assertion at a position without a list of all of them, or `None` if the active
     /// `$e` bring along at most 64 of them or the parts of the assertion are kept whole.
     ///
     /// Errors: an allocation fails. Cost: the `$f` of the assertion's own variables, times a logarithm.

@@ -48,7 +48,7 @@ pub use assertion::Frame;
 pub use disjoints_with::DisjointsWith;
 pub use frame_buffers::FrameBuffers;
 pub use frames::Frames;
-pub use laws::groups_are_pairs;
+pub use laws::groups_have_mandatory_pairs;
 pub use mandatory_view::MandatoryView;
 pub use meaning::Meaning;
 pub use one_frame::frame;
