@@ -165,6 +165,6 @@ cited_pairs S names a s c bound is = record {
   groups_below = is.groups_below;
 }
 
--- an assertion among legal statements is bound (`IsWellTyped`)
+-- an assertion among legal statements is well typed (`IsWellTyped`)
 pub bound_at : (S : Database) (names : List Name) (a : ℕ) (s t : Stmt) → HasLegalProperties S names → HasAssertion S a t → stmt_at S a ≡ Some s → IsWellTyped S a s
 bound_at S names a s t legal has stands = legal.well_typed a s (subst (HasAssertion S a) (some-same has.0 stands) has)
