@@ -1,5 +1,5 @@
 -- A statement is kept with the parts that were found, also after entries are appended or removed.
-use Rattle.frame.proofs.Words.{Result, Ok, Err, OnOk, sym, ◌∙◌, ap, subst, arith, inl, inr, ◌≡◌, ℕ, ◌-◌, ◌≤◌, Bool, true, false, List, [], ◌∷◌, ◌++◌, length, map, filter, take, slice_get, Some, refl, take-append_seam, take-map, take_all, Name, Stmt, Expr, Database, active, expr_of, is_essential, name_at, decode, hypotheses, is_hypothesis, actives, is_disj, is_hypothesis_kind, typecode_of, Kind, Float, Ess, Entry, Assertion, take-get, stmt_by, stmt_of, In, AreHypotheses, IsFilledFrom, is_hypothesis_entry, ArePartsFor, IsKeptAs, IsKeptOf, Storage, length-map, kept_with, is_float_in, floats_in, hypothesis_at, option_hypothesis, typecode_at, symbols_at, option_symbols, groups_by, map-map}
+use Rattle.frame.proofs.Words.{Result, Ok, Err, OnOk, sym, ◌∙◌, ap, subst, arith, inl, inr, ◌≡◌, ℕ, ◌-◌, ◌≤◌, Bool, true, false, List, [], ◌∷◌, ◌++◌, length, map, filter, take, slice_get, Some, refl, take-append_seam, take-map, take_all, Name, Stmt, Expr, Database, active, expr_of, is_essential, name_at, decode, hypotheses, is_hypothesis, actives, is_disj, is_hypothesis_kind, typecode_of, Kind, Float, Ess, Entry, Assertion, take-get, stmt_by, stmt_of, In, AreHypotheses, IsFilledFrom, is_hypothesis_entry, ArePartsFor, IsKeptAs, IsKeptOf, Storage, length-map, kept_with, is_float_in, floats_in, hypothesis_at, entry_hypothesis, typecode_at, symbols_at, option_symbols, groups_by, map-map}
 use Rattle.mm_read.specs.declared.stmt.Stmt.TheVariants as stmt
 use Rattle.frame.proofs.ActivePositions.{active-members}
 use Rattle.frame.proofs.LegalAfter.{stands-at}
@@ -68,7 +68,7 @@ pub kept-moved : (names labels : List Name) (es fs : List Entry) (i : ℕ) (s : 
     → IsKeptAs es (take i (map (stmt_of names labels) es)) s d → IsKeptAs fs (take i (map (stmt_of names labels) es)) s d
 kept-moved names labels es fs i s d same k = record {
   hypotheses_kept = k.hypotheses_kept;
-  required_kept = k.required_kept ∙ alike (hypothesis_at es) (hypothesis_at fs) d.hypotheses (λ p j. ap (option_hypothesis p) (agree p j));
+  required_kept = k.required_kept ∙ alike (hypothesis_at es) (hypothesis_at fs) d.hypotheses (λ p j. ap (entry_hypothesis p) (agree p j));
   typecodes_kept = k.typecodes_kept ∙ alike (typecode_at es) (typecode_at fs) d.hypotheses (λ p j. ap (λ o. typecode_of (option_symbols o)) (agree p j));
   groups_kept = λ w. k.groups_kept w ∙ ap (groups_by d.required) symbols;
   own_kept = k.own_kept;

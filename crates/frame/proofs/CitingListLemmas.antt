@@ -1,5 +1,5 @@
 -- Lists that have the mandatory pairs of an assertion: the groups of its frame, or a list of two for each pair.
-use Rattle.frame.proofs.Words.{◌≡◌, ◌∙◌, ap, sym, subst, arith, refl, true≢false, inl, inr, or_cases, or_right, ℕ, zero, suc, ◌+◌, ◌-◌, ◌<◌, ◌==◌, nat_eq, Bool, true, false, not, ◌&&◌, ◌||◌, or-false, and-false, and-or_distrib_left, List, [], ◌∷◌, ◌++◌, length, map, take, get_or, list_any, list_any_more, list_any-append, list_any-map, Name, name_eq, has_name, name_at, AreDistinct, Stmt, Database, before, decode, expr_of, is_assertion, hypotheses, is_mandatory, mandatory_groups, AreBelow, AllBelow, AreNumberedHypotheses, AreListsOf, IsKeptAs, is_typed, groups_by, symbols_at, hypothesis_at, hypothesis_by, option_hypothesis, typecode_at, is_typed_by, AreHypotheses, AreNumbered, HasTwoSymbolsIfFloat, Kind, Float, AreSearched, slice_get_within, ◌⊎◌, actives, is_disj, Assertion, AssertionView, Entry, Storage, AreStored, names_in, labels_in, statements_of, are_pair, IsFilledFrom}
+use Rattle.frame.proofs.Words.{◌≡◌, ◌∙◌, ap, sym, subst, arith, refl, true≢false, inl, inr, or_cases, or_right, ℕ, zero, suc, ◌+◌, ◌-◌, ◌<◌, ◌==◌, nat_eq, Bool, true, false, not, ◌&&◌, ◌||◌, or-false, and-false, and-or_distrib_left, List, [], ◌∷◌, ◌++◌, length, map, take, get_or, list_any, list_any_more, list_any-append, list_any-map, Name, name_eq, has_name, name_at, AreDistinct, Stmt, Database, before, decode, expr_of, is_assertion, hypotheses, is_mandatory, mandatory_groups, AreBelow, AllBelow, AreNumberedHypotheses, AreListsOf, IsKeptAs, is_typed, groups_by, symbols_at, hypothesis_at, hypothesis_by, entry_hypothesis, typecode_at, is_typed_by, AreHypotheses, AreNumbered, HasTwoSymbolsIfFloat, Kind, Float, AreSearched, slice_get_within, ◌⊎◌, actives, is_disj, Assertion, AssertionView, Entry, Storage, AreStored, names_in, labels_in, statements_of, are_pair, IsFilledFrom}
 use Rattle.frame.specs.AssertionView.{AreCitingListsOf, AreMandatoryPairs, IsCitingView, has_both}
 use Rattle.frame.specs.Stored.PairLists.{HasPairs, HasSameHypotheses, IsFilledByPairs, IsFilledForCitation, IsSearchPosition, are_among, is_beside}
 use Rattle.frame.proofs.AssertionLemmas.{filled-kept}
@@ -260,7 +260,7 @@ typed-below n m c es (p ∷ ps) a h e = by (or_cases (is_typed_by c (hypothesis_
         let x = h.0.0 in
         let g = h.0.2 in
         let b = numbered-at n m es (p - 1) x a g in
-        variable-below n c p x.kind x.symbols b.0 b.1 (ap (λ o. is_typed_by c (option_hypothesis p o)) (sym g) ∙ here)
+        variable-below n c p x.kind x.symbols b.0 b.1 (ap (λ o. is_typed_by c (entry_hypothesis p o)) (sym g) ∙ here)
     by (inr there) later = later there
 
 pub all-below : (n m : ℕ) (es : List Entry) (ps vs : List ℕ) → AreNumbered n m es → AreHypotheses es ps → ((c : ℕ) → list_any (λ v. v == c) vs ≡ is_typed (map (hypothesis_at es) ps) c) → AreBelow n vs

@@ -1,5 +1,5 @@
 -- The parts that are kept with an assertion describe it.
-use Rattle.frame.proofs.Words.{In, is_float_with, is_typed_by, list_any, list_any-map, sym, ◌∙◌, ap, subst, arith, append_assoc, length-append, ◌≡◌, ℕ, suc, ◌+◌, ◌-◌, ◌<◌, ◌≤◌, Bool, true, false, cond, List, [], ◌∷◌, ◌++◌, length, map, filter, slice_get, Option, Some, None, refl, Name, Stmt, Database, stmt_at, before, stays_open, active_from, expr_of, disjoint_names, is_assertion, IsLegal, name_at, decode, AreDistinct, is_mandatory, is_hypothesis, hypotheses, has_two_or_more, AreBelow, AllBelow, typecode_of, IsTypecode, IsStatementOf, IsNumberedHypothesis, AreNumberedHypotheses, AreListsOf, IsViewOf, AssertionView, Kind, Disj, Entry, Assertion, actives, actives_from, is_disj, stmt_by, stmt_of, AreAllLegal, AreNumbered, HasTwoSymbolsIfFloat, is_typed, typed, symbols_at, option_symbols, has_two_or_more_items, groups_by, typecode_at, hypothesis_by, option_hypothesis, hypothesis_at, kept_with, IsKeptAs, take-get, Hypothesis}
+use Rattle.frame.proofs.Words.{In, is_float_with, is_typed_by, list_any, list_any-map, sym, ◌∙◌, ap, subst, arith, append_assoc, length-append, ◌≡◌, ℕ, suc, ◌+◌, ◌-◌, ◌<◌, ◌≤◌, Bool, true, false, cond, List, [], ◌∷◌, ◌++◌, length, map, filter, slice_get, Option, Some, None, refl, Name, Stmt, Database, stmt_at, before, stays_open, active_from, expr_of, disjoint_names, is_assertion, IsLegal, name_at, decode, AreDistinct, is_mandatory, is_hypothesis, hypotheses, has_two_or_more, AreBelow, AllBelow, typecode_of, IsTypecode, IsStatementOf, IsNumberedHypothesis, AreNumberedHypotheses, AreListsOf, IsViewOf, AssertionView, Kind, Disj, Entry, Assertion, actives, actives_from, is_disj, stmt_by, stmt_of, AreAllLegal, AreNumbered, HasTwoSymbolsIfFloat, is_typed, typed, symbols_at, option_symbols, has_two_or_more_items, groups_by, typecode_at, hypothesis_by, entry_hypothesis, hypothesis_at, kept_with, IsKeptAs, take-get, Hypothesis}
 use Rattle.frame.proofs.LegalAfter.{stands-at}
 use Rattle.frame.proofs.LegalLabels.{AllKept}
 use Rattle.frame.proofs.VariablePlaceLemmas.{any-in, in-any, mandatory-float}
@@ -74,7 +74,7 @@ module _ (es : List Entry) (names labels : List Name) (m a : ℕ) (e : Entry) (d
         stmt = h.stmt;
         stands = ap (stmt_at all) h.at ∙ x.stands_at;
         first = subst (λ o. IsTypecode names (typecode_of (option_symbols o)) (expr_of h.stmt)) (sym x.found) (subst (λ t. IsTypecode names (typecode_of x.entry.symbols) (expr_of t)) (sym x.same) k.0);
-        is = subst (λ o. IsStatementOf names p h.stmt (option_hypothesis p o)) (sym x.found) (subst (λ t. IsStatementOf names p t (hypothesis_by p x.entry.kind x.entry.symbols)) (sym x.same) k.1);
+        is = subst (λ o. IsStatementOf names p h.stmt (entry_hypothesis p o)) (sym x.found) (subst (λ t. IsStatementOf names p t (hypothesis_by p x.entry.kind x.entry.symbols)) (sym x.same) k.1);
       }
 
   all-required : (ps : List ℕ) → AreHyps front_of own ps → AreNumberedHypotheses all names ps (map (typecode_at es) ps) (map (hypothesis_at es) ps)
@@ -100,7 +100,7 @@ module _ (es : List Entry) (names labels : List Name) (m a : ℕ) (e : Entry) (d
           let r = any-in (λ p. is_typed_by c (hypothesis_at es p)) d.hypotheses h in
           let a = active-members front_of (is_hypothesis front_of own) r.0 [] front_of 1 refl refl (subst (In r.0) hyps-are r.1) in
           let x = entry-at r.0 a.front a.stmt a.rest a.whole a.at in
-          let passes : is_float_with c x.entry ≡ true = sym (code-floats c r.0 x.entry.kind x.entry.symbols x.two) ∙ (ap (λ o. is_typed_by c (option_hypothesis r.0 o)) (sym x.found) ∙ r.2) in
+          let passes : is_float_with c x.entry ≡ true = sym (code-floats c r.0 x.entry.kind x.entry.symbols x.two) ∙ (ap (λ o. is_typed_by c (entry_hypothesis r.0 o)) (sym x.found) ∙ r.2) in
           let y = floats-is names c x.entry (name_at labels x.entry.label_count) passes in
           ap (is_hypothesis front_of own) (sym (x.same ∙ y.1)) ∙ a.passes
 
@@ -109,7 +109,7 @@ module _ (es : List Entry) (names labels : List Name) (m a : ℕ) (e : Entry) (d
           let f = mandatory-float front_of own (name_at names c) front-legal own-legal asserts m in
           let x = entry-at (suc (length f.front)) f.front (Float f.label f.constant (name_at names c)) f.rest f.whole refl in
           in-any (λ p. is_typed_by c (hypothesis_at es p)) d.hypotheses (suc (length f.front)) (subst (In (suc (length f.front))) (sym hyps-are) f.listed)
-          (ap (λ o. is_typed_by c (option_hypothesis (suc (length f.front)) o)) x.found ∙ (code-floats c (suc (length f.front)) x.entry.kind x.entry.symbols x.two
+          (ap (λ o. is_typed_by c (entry_hypothesis (suc (length f.front)) o)) x.found ∙ (code-floats c (suc (length f.front)) x.entry.kind x.entry.symbols x.two
           ∙ is-floats names c x.entry (name_at labels x.entry.label_count) f.constant f.label distinct x.codes x.two low (sym x.same)))
 
   typed-stands : (codes : List ℕ) → AreBelow (length names) codes → decode names (typed places codes) ≡ filter (is_mandatory front_of own) (decode names codes)

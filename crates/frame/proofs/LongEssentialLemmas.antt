@@ -5,7 +5,7 @@ use Rattle.std.proofs.lemmas.List.{reverse-append}
 use Rattle.std.proofs.lemmas.Map.Views.{any-filter_same}
 use Rattle.std.proofs.lemmas.List.Folds.{list_any_at}
 use Rattle.entries.proofs.SymbolPlacesLemmas.{group-of}
-use Rattle.frame.proofs.Words.{◌≡◌, ◌∙◌, ap, sym, subst, arith, refl, and-false, inl, inr, ℕ, zero, suc, ◌+◌, ◌-◌, ◌<◌, Bool, true, false, cond, not, ◌||◌, ◌&&◌, nat_eq, nat_le, List, [], ◌∷◌, ◌++◌, length, length-map, map, filter, take, take-append-drop, drop, take-get, slice_get, slice_get_within, Option, Some, None, IfSome, list_any, list_any-map, append_assoc, length-append, cases_Bool, eqb-true, true≢false, append-nil, has_parts, false_from_ne_true, Name, has_name, name_at, decode, Stmt, Database, stays_open, active_from, active, stmt_at, before, expr_of, is_essential, is_variable, is_hypothesis, HasAssertion, Kind, Ess, Float, Entry, Hypothesis, Storage, stmt_by, stmt_of, names_in, labels_in, statements_of, AreStored, kept_with, is_typed, is_typed_by, hypothesis_at, option_hypothesis, history, stack_at, has_code, having_after, long_codes, long_entry, without_float, SymbolGroups, ArePlacesOf, In}
+use Rattle.frame.proofs.Words.{◌≡◌, ◌∙◌, ap, sym, subst, arith, refl, and-false, inl, inr, ℕ, zero, suc, ◌+◌, ◌-◌, ◌<◌, Bool, true, false, cond, not, ◌||◌, ◌&&◌, nat_eq, nat_le, List, [], ◌∷◌, ◌++◌, length, length-map, map, filter, take, take-append-drop, drop, take-get, slice_get, slice_get_within, Option, Some, None, IfSome, list_any, list_any-map, append_assoc, length-append, cases_Bool, eqb-true, true≢false, append-nil, has_parts, false_from_ne_true, Name, has_name, name_at, decode, Stmt, Database, stays_open, active_from, active, stmt_at, before, expr_of, is_essential, is_variable, is_hypothesis, HasAssertion, Kind, Ess, Float, Entry, Hypothesis, Storage, stmt_by, stmt_of, names_in, labels_in, statements_of, AreStored, kept_with, is_typed, is_typed_by, hypothesis_at, entry_hypothesis, history, stack_at, has_code, having_after, long_codes, long_entry, without_float, SymbolGroups, ArePlacesOf, In}
 use Rattle.entries.specs.SymbolPlaces as entry
 use Rattle.entries.specs.declared.assertion_view.Hypothesis.TheVariants as hypothesis
 use Rattle.frame.specs.LongEssentials.{is_long_with, is_one_long_with, long_essentials, HasConstants}
@@ -137,7 +137,7 @@ module _ (k : Storage) (stored : AreStored k) where
       let b = map-back (stmt_of N (labels_in k)) k.entries (length a.front) a.stmt (take-get i (length a.front) S a.stmt there).1 in
       let n = numbered-at (length N) (length (labels_in k)) k.entries (length a.front) b.0 stored.kept.coded b.1 in
       let found : slice_get k.entries (r.0 - 1) ≡ Some b.0 = ap (slice_get k.entries) (let at = a.at in omega (arith, at)) ∙ b.1 in
-      let passes : is_float_with c b.0 ≡ true = sym (code-floats c r.0 b.0.kind b.0.symbols n.1) ∙ (ap (λ o. is_typed_by c (option_hypothesis r.0 o)) (sym found) ∙ r.2) in
+      let passes : is_float_with c b.0 ≡ true = sym (code-floats c r.0 b.0.kind b.0.symbols n.1) ∙ (ap (λ o. is_typed_by c (entry_hypothesis r.0 o)) (sym found) ∙ r.2) in
       let y = floats-is N c b.0 (name_at (labels_in k) b.0.label_count) passes in
       (float-kinds T a.front (name_at (labels_in k) b.0.label_count) y.0 (name_at N c) a.rest (kept-front S i stored.kept.legal) (a.whole ∙ ap (λ t. a.front ++ t ∷ a.rest) (b.2 ∙ y.1)) a.stays).1
 

@@ -1,5 +1,5 @@
 -- The frame collected from the active statements is that of the definition.
-use Rattle.frame.proofs.Words.{list_any, flat_map, position_or_len, ◌∙◌, ap, sym, arith, inl, inr, ◌≡◌, ℕ, ◌<◌, ◌≤◌, Bool, true, false, cond, ◌&&◌, ◌||◌, List, [], ◌∷◌, ◌++◌, map, filter, length, refl, Some, None, is_some, nat_lt, or-false, cases_lt, Name, name_eq, has_name, Stmt, Database, Expr, active, disjoint_names, expr_of, is_essential, is_variable, name_at, code_of, has-at, same_name, lt-list_any, has_name-append, FrameParts, is_mandatory, is_hypothesis, hypotheses, active_disjoint_lists, mandatory_groups, has_two_or_more, AreMandatory, is_in_essential, is_needed, needed_positions, among, groups_among, fun_ext, as_frame_statement, frame_statements_of, FrameStatement}
+use Rattle.frame.proofs.Words.{list_any, flat_map, position_or_len, ◌∙◌, ap, sym, arith, inl, inr, ◌≡◌, ℕ, ◌<◌, ◌≤◌, Bool, true, false, cond, ◌&&◌, ◌||◌, List, [], ◌∷◌, ◌++◌, map, filter, length, refl, Some, None, is_some, nat_lt, or-false, cases_lt, Name, name_eq, has_name, Stmt, Database, Expr, active, disjoint_names, expr_of, is_essential, is_variable, name_at, code_of, has-at, same_name, lt-list_any, has_name-append, FrameParts, is_mandatory, is_hypothesis, hypotheses, active_disjoint_lists, mandatory_groups, has_two_or_more, AreMandatory, is_in_essential, is_needed, mandatory_positions, among, groups_among, fun_ext, as_frame_statement, frame_statements_of, FrameStatement}
 use Rattle.mm_read.specs.declared.stmt.Stmt.TheVariants.{Disj, Float, Ess}
 
 -- testing also for a name that is in the list changes nothing
@@ -35,7 +35,7 @@ recorded-start S s x =
 -- ---- the parts of the frame
 
 required-all : (S : Database) (s : Stmt) (used : List Name) → AreMandatory S s used → (es : List (ℕ × Stmt))
-    → needed_positions used (flat_map (λ p. as_frame_statement p.0 p.1) es) ≡ map (λ p. p.0) (filter (λ p. is_hypothesis S s p.1) es)
+    → mandatory_positions used (flat_map (λ p. as_frame_statement p.0 p.1) es) ≡ map (λ p. p.0) (filter (λ p. is_hypothesis S s p.1) es)
 required-all S s used m [] = refl
 required-all S s used m ((at, Float label constant variable) ∷ es) =
     rw (m variable) (by (is_mandatory S s variable) (filter (λ (e : FrameStatement). is_needed used e.stmt) (flat_map (λ p. as_frame_statement p.0 p.1) es)) (filter (λ (p : ℕ × Stmt). is_hypothesis S s p.1) es) (required-all S s used m es))
@@ -48,7 +48,7 @@ required-all S s used m ((at, Float label constant variable) ∷ es) =
 required-all S s used m ((at, Ess label expr) ∷ es) = ap (λ ps. at ∷ ps) (required-all S s used m es)
 required-all S s used m ((at, t) ∷ es) = required-all S s used m es
 
-pub required-hypotheses : (S : Database) (s : Stmt) (used : List Name) → AreMandatory S s used → needed_positions used (frame_statements_of S) ≡ hypotheses S s
+pub required-hypotheses : (S : Database) (s : Stmt) (used : List Name) → AreMandatory S s used → mandatory_positions used (frame_statements_of S) ≡ hypotheses S s
 required-hypotheses S s used m = required-all S s used m (active S)
 
 pub groups-mandatory : (S : Database) (s : Stmt) (used : List Name) → AreMandatory S s used → groups_among used (frame_statements_of S) ≡ mandatory_groups S s

@@ -32,7 +32,7 @@ pub use Rattle.frame.specs.LastActive.{actives, actives_from, is_disj, is_var, l
 pub use Rattle.frame.specs.Laws.{GroupsHaveMandatoryPairs}
 pub use Rattle.frame.specs.ListsOfPairs.{AreListsOfPairs, have_both}
 pub use Rattle.frame.specs.Parts.{FrameParts, Numbered}
-pub use Rattle.frame.specs.Stored.AssertionParts.{IsKeptAs, floats_in, groups_by, has_parts, has_two_or_more_items, is_float_in, is_typed, is_typed_by, kept_with, option_hypothesis, option_symbols, recorded_in, hypothesis_at, hypothesis_by, symbols_at, typecode_at, typed}
+pub use Rattle.frame.specs.Stored.AssertionParts.{IsKeptAs, floats_in, groups_by, has_parts, has_two_or_more_items, is_float_in, is_typed, is_typed_by, kept_with, entry_hypothesis, option_symbols, recorded_in, hypothesis_at, hypothesis_by, symbols_at, typecode_at, typed}
 pub use Rattle.frame.specs.Stored.Counts.{AreNumbered, AreUndeclared, AreUndeclaredAfter, HasMoreNames, HasRoom, HasTwoSymbolsIfFloat, HasMoreAtEnd, IsLabelBelow, IsPlain, KeepsCounts, kind_of, next_last_active, with_declared, with_entry, undeclared_symbol}
 pub use Rattle.frame.specs.Stored.Ends.{AreBlocks, AreEnds, AreBlockEnds, end_from, end_of, with_end}
 pub use Rattle.frame.specs.Stored.EntryMeanings.{AreAllLegal, AreGivenBy, declared_by, is_var_with, is_float_with, is_float_kind, is_var_kind, labels_in, last_from, last_of, last_where, names_in, option_position, positions_from, replaced_after, replaced_by, replaced_of, second_is, statements_of, stmt_by, stmt_of, last_declarations_of, with_last}
@@ -44,7 +44,7 @@ pub use Rattle.frame.specs.Stored.Labels.{is_labelled_kind}
 pub use Rattle.frame.specs.Stored.LongExpressions.{AreLongIn, IsLongIn}
 pub use Rattle.frame.specs.Stored.Merged.{AreMerged, AreMissing, with_each}
 pub use Rattle.frame.specs.Stored.Naming.{is_kind_of_symbol, naming_from, naming_of}
-pub use Rattle.frame.specs.Stored.OneFrame.{AreMandatory, among, is_needed, groups_among, is_in_essential, needed_positions}
+pub use Rattle.frame.specs.Stored.OneFrame.{AreMandatory, among, is_needed, groups_among, is_in_essential, mandatory_positions}
 pub use Rattle.frame.specs.Stored.PairSearch.{AreSearched, AreRemaining, are_pair}
 pub use Rattle.frame.specs.Stored.Stacks.{AreChangedBy, AreOfKind, AreStacks, IsNext, IsOfKind, KeepsUntil, codes_by, entries_by, has_code, positions_with, having_after, kind_test, last_by_kind, latest_of, long_codes, long_entry, opening, with_top}
 pub use Rattle.frame.specs.Stored.Whole.{AreKept, ArePartsFor, AreStored, IsEntryHeader, IsKeptOf, AreStacksOfStorage}

@@ -1,7 +1,7 @@
 //! Makes the parts that are kept with a statement: its hypotheses, each as one number, and its disjoint variables.
 ghost use Rattle.std.specs.Prelude.{◌≡◌, ℕ, List, ◌+◌, ◌-◌, ◌≤◌, ◌==◌, ◌||◌, ◌++◌, ◌∷◌, [], true, false, if◌then◌else◌, length, map, take, OnOk};
 ghost use Rattle.mm_read.specs.declared.stmt.Stmt.{Stmt as Statement};
-ghost use Rattle.{names.specs.Codes.decode, names.specs.Codes.with_names, scope.specs.Active.expr_of, scope.specs.Active.bare, scope.specs.Stored.SymbolNumbers.AreRecorded, scope.specs.Symbols.symbols_by, scope.specs.Symbols.symbols_in, entries.specs.Hypotheses.decoded_hypothesis, entries.specs.Stored.Spans.cut, entries.specs.Stored.Spans.AreSpansIn, frame.specs.Below.AreBelow, frame.specs.AssertionView.typecode_of, frame.specs.Stored.Whole.AreStored, frame.specs.Stored.Whole.ArePartsFor, frame.specs.Stored.Hypotheses.AreHypotheses, frame.specs.Stored.Hypotheses.IsFilledFrom, frame.specs.Stored.Counts.HasTwoSymbolsIfFloat, frame.specs.Stored.Counts.kind_of, frame.specs.Stored.AssertionParts.hypothesis_at, frame.specs.Stored.AssertionParts.hypothesis_by, frame.specs.Stored.AssertionParts.typecode_at, frame.specs.Stored.AssertionParts.has_two_or_more_items, frame.specs.Stored.AssertionParts.is_typed, frame.specs.Stored.AssertionParts.is_typed_by, frame.specs.Stored.AssertionParts.recorded_in, std.specs.List.list_any, frame.specs.Stored.AssertionParts.has_parts, frame.specs.Stored.EntryMeanings.names_in, frame.specs.Stored.EntryMeanings.statements_of, frame.specs.FrameOf.hypotheses, frame.specs.Stored.OneFrame.needed_positions};
+ghost use Rattle.{names.specs.Codes.decode, names.specs.Codes.with_names, scope.specs.Active.expr_of, scope.specs.Active.bare, scope.specs.Stored.SymbolNumbers.AreRecorded, scope.specs.Symbols.symbols_by, scope.specs.Symbols.symbols_in, entries.specs.Hypotheses.decoded_hypothesis, entries.specs.Stored.Spans.cut, entries.specs.Stored.Spans.AreSpansIn, frame.specs.Below.AreBelow, frame.specs.AssertionView.typecode_of, frame.specs.Stored.Whole.AreStored, frame.specs.Stored.Whole.ArePartsFor, frame.specs.Stored.Hypotheses.AreHypotheses, frame.specs.Stored.Hypotheses.IsFilledFrom, frame.specs.Stored.Counts.HasTwoSymbolsIfFloat, frame.specs.Stored.Counts.kind_of, frame.specs.Stored.AssertionParts.hypothesis_at, frame.specs.Stored.AssertionParts.hypothesis_by, frame.specs.Stored.AssertionParts.typecode_at, frame.specs.Stored.AssertionParts.has_two_or_more_items, frame.specs.Stored.AssertionParts.is_typed, frame.specs.Stored.AssertionParts.is_typed_by, frame.specs.Stored.AssertionParts.recorded_in, std.specs.List.list_any, frame.specs.Stored.AssertionParts.has_parts, frame.specs.Stored.EntryMeanings.names_in, frame.specs.Stored.EntryMeanings.statements_of, frame.specs.FrameOf.hypotheses, frame.specs.Stored.OneFrame.mandatory_positions};
 
 use crate::at_position::last_active_at;
 use crate::essential_sets::EssentialSets;
@@ -41,19 +41,19 @@ pub fn hypothesis(entry: EntryRef<'_>, position: u32) -> Hypothesis
 pub fn encode_hypotheses(
     storage: &Storage,
     hypotheses: &[u32],
-    hypothesis_numbers: &mut Vec<u32>,
+    numbered_hypotheses: &mut Vec<u32>,
     typecodes: &mut Vec<u32>,
 ) -> Result<(), AllocError>
     requires stored { AreStored storage.now }
     requires hypotheses { AreHypotheses storage.now.entries hypotheses.now }
-    requires no_numbers { map decoded_hypothesis hypothesis_numbers.old.items ≡ [] }
+    requires no_numbered_hypotheses { map decoded_hypothesis numbered_hypotheses.old.items ≡ [] }
     requires no_typecodes { typecodes.old.items ≡ [] }
-    ensures encoded { OnOk result (map decoded_hypothesis hypothesis_numbers.new.items ≡ map (hypothesis_at storage.now.entries) hypotheses.now) }
+    ensures encoded { OnOk result (map decoded_hypothesis numbered_hypotheses.new.items ≡ map (hypothesis_at storage.now.entries) hypotheses.now) }
     ensures typecodes { OnOk result (typecodes.new.items ≡ map (typecode_at storage.now.entries) hypotheses.now) }
 {
     for position in hypotheses {
         let entry = storage.entries.entry(*position as usize - 1);
-        hypothesis_numbers.push(number_of(hypothesis(entry, *position))?)?;
+        numbered_hypotheses.push(number_of(hypothesis(entry, *position))?)?;
         typecodes.push(typecode(entry.symbols))?;
     }
     Ok(())
@@ -131,11 +131,11 @@ pub fn fill_from_hypotheses(
     encode_hypotheses(
         storage,
         &buffers.hypotheses,
-        &mut buffers.hypothesis_numbers,
+        &mut buffers.numbered_hypotheses,
         &mut buffers.typecodes,
     )?;
     record_variables(
-        &Hypotheses::new(&buffers.hypothesis_numbers),
+        &Hypotheses::new(&buffers.numbered_hypotheses),
         &mut buffers.recorded,
     )?;
     let mut last = last_active_at(storage, at).disjoint;
@@ -187,7 +187,7 @@ pub fn fill_parts(
         return encode_hypotheses(
             storage,
             &buffers.hypotheses,
-            &mut buffers.hypothesis_numbers,
+            &mut buffers.numbered_hypotheses,
             &mut buffers.typecodes,
         );
     }
@@ -216,7 +216,7 @@ fn fill_own(storage: &Storage, buffers: &mut FrameBuffers, codes: &[u32]) -> Res
     encode_hypotheses(
         storage,
         &buffers.hypotheses,
-        &mut buffers.hypothesis_numbers,
+        &mut buffers.numbered_hypotheses,
         &mut buffers.typecodes,
     )
 }

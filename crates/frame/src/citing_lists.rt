@@ -205,7 +205,7 @@ fn encode_all_hypotheses(storage: &Storage, buffers: &mut FrameBuffers) -> Resul
     encode_hypotheses(
         storage,
         &buffers.hypotheses,
-        &mut buffers.hypothesis_numbers,
+        &mut buffers.numbered_hypotheses,
         &mut buffers.typecodes,
     )
 }

@@ -23,7 +23,7 @@ pub struct FrameBuffers {
     /// The positions of the hypotheses, in order.
     pub(crate) hypotheses: Vec<u32>,
     /// Each hypothesis as one number: the variable of a `$f`, or the position of a `$e`.
-    pub(crate) hypothesis_numbers: Vec<u32>,
+    pub(crate) numbered_hypotheses: Vec<u32>,
     /// The typecode of each hypothesis.
     pub(crate) typecodes: Vec<u32>,
     /// The variables whose images must be disjoint, one group after another.
@@ -38,7 +38,7 @@ impl Model for FrameBuffers {
 
     ghost Value = { Assertion };
 
-    ghost view = { λ a. record { whole = a.whole; hypotheses = a.hypotheses.items; required = map decoded_hypothesis a.hypothesis_numbers.items; typecodes = a.typecodes.items; groups = cut a.grouped_variables.items a.groups.items } };
+    ghost view = { λ a. record { whole = a.whole; hypotheses = a.hypotheses.items; required = map decoded_hypothesis a.numbered_hypotheses.items; typecodes = a.typecodes.items; groups = cut a.grouped_variables.items a.groups.items } };
 
     ghost invariant = { λ a. AreSpansIn (length a.grouped_variables.items) a.groups.items };
 }
@@ -50,7 +50,7 @@ impl FrameBuffers {
             whole: false,
             recorded: Stack::new(alloc),
             hypotheses: Vec::new(alloc),
-            hypothesis_numbers: Vec::new(alloc),
+            numbered_hypotheses: Vec::new(alloc),
             typecodes: Vec::new(alloc),
             grouped_variables: Vec::new(alloc),
             groups: Vec::new(alloc),
@@ -69,7 +69,7 @@ impl FrameBuffers {
             whole: self.whole,
             symbols,
             hypotheses: &self.hypotheses,
-            required: &self.hypothesis_numbers,
+            required: &self.numbered_hypotheses,
             typecodes: &self.typecodes,
             grouped_variables: &self.grouped_variables,
             groups: &self.groups,
@@ -118,7 +118,7 @@ impl FrameBuffers {
     {
         self.whole = false;
         self.hypotheses.clear();
-        self.hypothesis_numbers.clear();
+        self.numbered_hypotheses.clear();
         self.typecodes.clear();
         self.grouped_variables.clear();
         self.groups.clear();

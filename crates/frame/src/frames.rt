@@ -257,7 +257,7 @@ impl Frames {
     {
         AssertionView {
             typecodes: &frame_buffers.typecodes,
-            hypotheses: Hypotheses::new(&frame_buffers.hypothesis_numbers),
+            hypotheses: Hypotheses::new(&frame_buffers.numbered_hypotheses),
             conclusion: self.expr(a),
             groups: Groups::new(&frame_buffers.groups, &frame_buffers.grouped_variables),
         }
@@ -305,7 +305,7 @@ impl Frames {
     {
         AssertionView {
             typecodes: &buffers.typecodes,
-            hypotheses: Hypotheses::new(&buffers.hypothesis_numbers),
+            hypotheses: Hypotheses::new(&buffers.numbered_hypotheses),
             conclusion: self.expr(a),
             groups: Groups::new(&buffers.groups, &buffers.grouped_variables),
         }

@@ -1,6 +1,6 @@
 //! Collects the frame of one assertion from the active statements.
 ghost use Rattle.std.specs.Prelude.{◌≡◌, ◌||◌, IsTrue, OnOk, IfOk};
-ghost use Rattle.{mm_lex.specs.Alphabet.Name, mm_lex.specs.Alphabet.name_eq, mm_lex.specs.Alphabet.has_name, scope.specs.Active.is_assertion, scope.specs.Active.expr_of, frame.specs.FrameOf.frame_of, frame.specs.Stored.OneFrame.AreRecorded, frame.specs.Stored.OneFrame.AreMandatory, frame.specs.Stored.OneFrame.among, frame.specs.Stored.OneFrame.needed_positions, frame.specs.Stored.OneFrame.is_needed, frame.specs.Stored.OneFrame.groups_among};
+ghost use Rattle.{mm_lex.specs.Alphabet.Name, mm_lex.specs.Alphabet.name_eq, mm_lex.specs.Alphabet.has_name, scope.specs.Active.is_assertion, scope.specs.Active.expr_of, frame.specs.FrameOf.frame_of, frame.specs.Stored.OneFrame.AreRecorded, frame.specs.Stored.OneFrame.AreMandatory, frame.specs.Stored.OneFrame.among, frame.specs.Stored.OneFrame.mandatory_positions, frame.specs.Stored.OneFrame.is_needed, frame.specs.Stored.OneFrame.groups_among};
 
 use crate::assertion::Frame;
 use mm_lex::Words;
@@ -86,7 +86,7 @@ fn mandatory_hypotheses(
     frame_statements: &[FrameStatement],
     used: &NameTable,
 ) -> Result<SmallVec<usize, 8>, AllocError>
-    ensures { IfOk result (λ list. list.items ≡ needed_positions used.now frame_statements.now) }
+    ensures { IfOk result (λ list. list.items ≡ mandatory_positions used.now frame_statements.now) }
 {
     let mut list = SmallVec::new(alloc);
     for entry in frame_statements.iter() {

@@ -56,13 +56,13 @@ hypothesis_by p Float codes = hypothesis.Float (get_or codes 1 0)
 hypothesis_by p kind codes = hypothesis.Essential p
 
 -- the hypothesis that is this entry
-abbrev pub option_hypothesis : ℕ → Option Entry → Hypothesis
-option_hypothesis p None = hypothesis.Essential p
-option_hypothesis p (Some e) = hypothesis_by p e.kind e.symbols
+abbrev pub entry_hypothesis : ℕ → Option Entry → Hypothesis
+entry_hypothesis p None = hypothesis.Essential p
+entry_hypothesis p (Some e) = hypothesis_by p e.kind e.symbols
 
 -- the hypothesis at a position
 abbrev pub hypothesis_at : List Entry → ℕ → Hypothesis
-hypothesis_at es p = option_hypothesis p (slice_get es (p - 1))
+hypothesis_at es p = entry_hypothesis p (slice_get es (p - 1))
 
 -- the statement is a `$f` of a symbol of the expression
 abbrev pub is_float_in : Expr → Stmt → Bool

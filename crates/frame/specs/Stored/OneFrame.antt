@@ -24,8 +24,8 @@ is_needed used (Float label constant variable) = has_name variable used
 is_needed used other = false
 
 -- the positions of the mandatory hypotheses, given the used variables
-abbrev pub needed_positions : List Name → List FrameStatement → List ℕ
-needed_positions used frame_statements = map (λ e. e.at) (filter (λ e. is_needed used e.stmt) frame_statements)
+abbrev pub mandatory_positions : List Name → List FrameStatement → List ℕ
+mandatory_positions used frame_statements = map (λ e. e.at) (filter (λ e. is_needed used e.stmt) frame_statements)
 
 -- those of the names that are among the used variables
 abbrev pub among : List Name → List Name → List Name

@@ -3,6 +3,6 @@ use Rattle.frame.proofs.assertion_parts.encode_hypotheses.Given as goal
 
 abbrev pub invariant-loop-position : goal.invariant-loop-position
 invariant-loop-position l = record {
-  required : map decoded_hypothesis l.hypothesis_numbers.items ≡ map (hypothesis_at l.storage.entries) (take l.position-index l.hypotheses);
+  required : map decoded_hypothesis l.numbered_hypotheses.items ≡ map (hypothesis_at l.storage.entries) (take l.position-index l.hypotheses);
   typecodes : l.typecodes.items ≡ map (typecode_at l.storage.entries) (take l.position-index l.hypotheses);
 }

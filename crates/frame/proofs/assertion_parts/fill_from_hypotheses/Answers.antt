@@ -10,7 +10,7 @@ loop-last-init c =
     let f = walk-from k (c.args.at - 1) c.last_active_at-last.result disjoint_chain (omega (arith, n.0, n.1)) c.last_active_at-last.ensures in
     record {
       at = f.at;
-      found = groups-start k.entries (map decoded_hypothesis c.encode_hypotheses.new.hypothesis_numbers.items) _ _ _ (ap (λ v. v.groups) c.buffers.view_is ∙ c.requires.undescribed.2) f.same;
+      found = groups-start k.entries (map decoded_hypothesis c.encode_hypotheses.new.numbered_hypotheses.items) _ _ _ (ap (λ v. v.groups) c.buffers.view_is ∙ c.requires.undescribed.2) f.same;
       within = c.buffers.invariant;
       hypotheses = refl;
       recorded = refl;
@@ -26,7 +26,7 @@ loop-last-preserved c =
     let k = c.args.storage.now in
     let e = entry_from_ref c.entry-entry.result c.entry-entry.ensures.0 in
     let s = walk-step e disjoint_chain c.requires.stored c.loop-last.invariant.at c.loop-last-test.true c.entry-entry.ensures.1 in
-    let hs = map decoded_hypothesis c.encode_hypotheses.new.hypothesis_numbers.items in
+    let hs = map decoded_hypothesis c.encode_hypotheses.new.numbered_hypotheses.items in
     let all = actives is_disj (take (c.args.at - 1) (statements_of k)) in
     let rest = walked is_disj k c.entry-entry.result.before.last_active.disjoint in
     record {
@@ -51,7 +51,7 @@ returns c =
       described = record {
         required_made = ap (λ v. map decoded_hypothesis v.items) i.required ∙ (c.in_ok-encode_hypotheses.ensures.encoded ∙ ap (map (hypothesis_at k.entries)) (c.deref.ensures.value ∙ hypotheses));
         typecodes_made = ap (λ v. v.items) i.typecodes ∙ (c.in_ok-encode_hypotheses.ensures.typecodes ∙ ap (map (typecode_at k.entries)) (c.deref.ensures.value ∙ hypotheses));
-        groups_made = λ w. groups-end k.entries (map decoded_hypothesis c.encode_hypotheses.new.hypothesis_numbers.items) (actives is_disj S) (walked is_disj k c.loop-last.last) c.loop-last.buffers-inside.grouped_variables.items c.loop-last.buffers-inside.groups.items c.reverse.new.self.items i.found
+        groups_made = λ w. groups-end k.entries (map decoded_hypothesis c.encode_hypotheses.new.numbered_hypotheses.items) (actives is_disj S) (walked is_disj k c.loop-last.last) c.loop-last.buffers-inside.grouped_variables.items c.loop-last.buffers-inside.groups.items c.reverse.new.self.items i.found
             (ap (walked is_disj k) c.loop-last-test.false) c.reverse.ensures.items
             ∙ ap (λ vs. groups_by vs (map (λ q. symbols_at k.entries q.0) (actives is_disj S))) (ap (λ v. map decoded_hypothesis v.items) (sym i.required));
       };

@@ -1,4 +1,4 @@
-use Rattle.frame.proofs.Words.{◌≡◌, ◌==◌, ◌∙◌, ◌-◌, ◌||◌, ℕ, ap, sym, subst, arith, length, get_or, list_any, map, take, take_all, entry_from_ref, names_in, labels_in, is_typed, is_typed_by, option_hypothesis, hypothesis_at}
+use Rattle.frame.proofs.Words.{◌≡◌, ◌==◌, ◌∙◌, ◌-◌, ◌||◌, ℕ, ap, sym, subst, arith, length, get_or, list_any, map, take, take_all, entry_from_ref, names_in, labels_in, is_typed, is_typed_by, entry_hypothesis, hypothesis_at}
 use Rattle.frame.proofs.StoredReading.{two-of}
 use Rattle.frame.proofs.MakeLemmas.{hypothesis-at}
 use Rattle.frame.proofs.CitingListLemmas.{typed-more}
@@ -24,7 +24,7 @@ loop-position-preserved c = λ d.
     let i = c.loop-position.position-index in
     let p = get_or c.args.hypotheses.now i 0 in
     c.in_ok-add_variable.ensures d ∙ (ap (λ b. b || is_typed_by d c.hypothesis.result) (c.loop-position.invariant d)
-    ∙ (ap (λ h. is_typed (map (hypothesis_at k.entries) (take i c.args.hypotheses.now)) d || is_typed_by d h) (c.hypothesis.ensures ∙ ap (option_hypothesis p) (sym c.entry-entry.ensures.1))
+    ∙ (ap (λ h. is_typed (map (hypothesis_at k.entries) (take i c.args.hypotheses.now)) d || is_typed_by d h) (c.hypothesis.ensures ∙ ap (entry_hypothesis p) (sym c.entry-entry.ensures.1))
     ∙ sym (typed-more k.entries c.args.hypotheses.now i d (omega arith))))
 
 pub returns : goal.returns
