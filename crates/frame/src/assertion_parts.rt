@@ -48,7 +48,7 @@ pub fn encode_hypotheses(
     requires hypotheses { AreHypotheses storage.now.entries hypotheses.now }
     requires no_numbered_hypotheses { map decoded_hypothesis numbered_hypotheses.old.items ≡ [] }
     requires no_typecodes { typecodes.old.items ≡ [] }
-    ensures encoded { OnOk result (map decoded_hypothesis numbered_hypotheses.new.items ≡ map (hypothesis_at storage.now.entries) hypotheses.now) }
+    ensures numbered_hypotheses { OnOk result (map decoded_hypothesis numbered_hypotheses.new.items ≡ map (hypothesis_at storage.now.entries) hypotheses.now) }
     ensures typecodes { OnOk result (typecodes.new.items ≡ map (typecode_at storage.now.entries) hypotheses.now) }
 {
     for position in hypotheses {

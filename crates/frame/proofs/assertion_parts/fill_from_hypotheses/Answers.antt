@@ -49,7 +49,7 @@ returns c =
       is_whole = refl;
       same = ap (λ v. v.items) i.hypotheses ∙ ap (λ v. v.hypotheses) c.buffers.view_is;
       described = record {
-        required_made = ap (λ v. map decoded_hypothesis v.items) i.required ∙ (c.in_ok-encode_hypotheses.ensures.encoded ∙ ap (map (hypothesis_at k.entries)) (c.deref.ensures.value ∙ hypotheses));
+        required_made = ap (λ v. map decoded_hypothesis v.items) i.required ∙ (c.in_ok-encode_hypotheses.ensures.numbered_hypotheses ∙ ap (map (hypothesis_at k.entries)) (c.deref.ensures.value ∙ hypotheses));
         typecodes_made = ap (λ v. v.items) i.typecodes ∙ (c.in_ok-encode_hypotheses.ensures.typecodes ∙ ap (map (typecode_at k.entries)) (c.deref.ensures.value ∙ hypotheses));
         groups_made = λ w. groups-end k.entries (map decoded_hypothesis c.encode_hypotheses.new.numbered_hypotheses.items) (actives is_disj S) (walked is_disj k c.loop-last.last) c.loop-last.buffers-inside.grouped_variables.items c.loop-last.buffers-inside.groups.items c.reverse.new.self.items i.found
             (ap (walked is_disj k) c.loop-last-test.false) c.reverse.ensures.items

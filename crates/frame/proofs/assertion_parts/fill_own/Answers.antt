@@ -25,4 +25,4 @@ returns c = λ s is.
       typecodes_kept = typecodes ∙ ap (map (typecode_at k.entries)) c.deref.ensures.value;
       groups_kept = λ whole. absurd (false≢true (sym partial ∙ whole));
       own_kept = λ e. partial;
-    })) c.encode_hypotheses.ensures.encoded c.encode_hypotheses.ensures.typecodes
+    })) c.encode_hypotheses.ensures.numbered_hypotheses c.encode_hypotheses.ensures.typecodes
