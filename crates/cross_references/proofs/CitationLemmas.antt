@@ -1,5 +1,5 @@
 -- The statements that items cite, as a list of positions.
-use Rattle.cross_references.proofs.Words.{◌≡◌, ◌⊎◌, ℕ, zero, suc, ◌+◌, ◌-◌, ◌<◌, ◌≤◌, true, List, [], ◌∷◌, ◌++◌, length, take, get_or, filter_map, Option, Some, None, option_map, slice_get, cons_option, sym, ◌∙◌, ap, subst, refl, arith, inl, inr, append_assoc, cases_lt, get_or_past, take_more, filter_map-append, slice_get-map, ArePositions, HasLabelsOnce, IsPosition, Carries, In, AreThose, those-by, map-back, legal-labels, Good, IsProofOf, cited_position, HasItems, ItemsCite, Cites, position-is, legal-each, not-there, cites-of, cited-of, Name, Database, Stmt, Prove, item_of, items_of, Item, Cite, Recall, item-cite, item-recall, position_list, bares, is_provable, label_of, stmt_at}
+use Rattle.cross_references.proofs.Words.{◌≡◌, ◌⊎◌, ℕ, zero, suc, ◌+◌, ◌-◌, ◌<◌, ◌≤◌, true, List, [], ◌∷◌, ◌++◌, length, take, get_or, filter_map, Option, Some, None, option_map, slice_get, cons_option, sym, ◌∙◌, ap, subst, refl, arith, inl, inr, append_assoc, cases_lt, get_or_past, take_more, filter_map-append, slice_get-map, ArePositions, HasLabelsOnce, IsPosition, Carries, In, ListsExactly, those-by, map-back, legal-labels, Good, IsProofOf, cited_position, HasItems, ItemsCite, Cites, position-is, legal-each, not-there, cites-of, cited-of, Name, Database, Stmt, Prove, item_of, items_of, Item, Cite, Recall, item-cite, item-recall, position_list, bares, is_provable, label_of, stmt_at}
 
 -- ---- the positions of the statements that numbers cite
 
@@ -61,9 +61,9 @@ module _ (S : Database) (labels : List Name) (positions : List (Option ℕ)) (ar
       kept (Some p) i = inr i
 
   pub those-cited : (numbers : List ℕ) (items : List Item) (list : List ℕ) → items_of labels numbers ≡ items
-      → AreThose (λ p. In p (filter_map (cited_position positions) numbers)) list → AreThose (ItemsCite S items) list
+      → ListsExactly (λ p. In p (filter_map (cited_position positions) numbers)) list → ListsExactly (ItemsCite S items) list
   those-cited numbers items list same those =
-      subst (λ is. AreThose (ItemsCite S is) list) same (those-by those cites back)
+      subst (λ is. ListsExactly (ItemsCite S is) list) same (those-by those cites back)
     where
       cites : (a : ℕ) → In a (filter_map (cited_position positions) numbers) → ItemsCite S (items_of labels numbers) a
       cites a i =
@@ -83,14 +83,14 @@ proof-items S at position s label items good stands named p =
     let same : position ≡ at = legal-labels S (legal-each S good.legal) position at p.named.stmt s label p.named.carries (record { stands = stands; carried = named }) in
     subst (λ j. HasItems S j items) same p.written
 
-pub cited-those : (S F : Database) (same : F ≡ bares S) (at : ℕ) (items : List Item) (list : List ℕ) → HasItems S at items → AreThose (ItemsCite F items) list → AreThose (Cites S at) list
+pub cited-those : (S F : Database) (same : F ≡ bares S) (at : ℕ) (items : List Item) (list : List ℕ) → HasItems S at items → ListsExactly (ItemsCite F items) list → ListsExactly (Cites S at) list
 cited-those S F same at items list has those = those-by those (λ a c. cites-of S F same at items a has c) (λ a c. cited-of S F same at items a has c)
 
 not-prove : (s : Stmt) → ((label : Name) (expr proof : List Name) → s ≡ Prove label expr proof → ⊥) → is_provable s ≡ true → ⊥
 not-prove (Prove label expr proof) h t = h label expr proof refl
 not-prove s h t = cc
 
-pub cites-nothing : (S : Database) (at : ℕ) (s : Stmt) → stmt_at S at ≡ Some s → ((label : Name) (expr proof : List Name) → s ≡ Prove label expr proof → ⊥) → AreThose (Cites S at) []
+pub cites-nothing : (S : Database) (at : ℕ) (s : Stmt) → stmt_at S at ≡ Some s → ((label : Name) (expr proof : List Name) → s ≡ Prove label expr proof → ⊥) → ListsExactly (Cites S at) []
 cites-nothing S at s stands other = record {
   ascends = tt;
   all = λ p c. absurd (not-there S at s stands (not-prove s other) c.has.stmt c.has.provable);

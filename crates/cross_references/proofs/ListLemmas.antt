@@ -1,5 +1,5 @@
 -- Lists that positions are added to.
-use Rattle.cross_references.proofs.Words.{◌≡◌, ◌≢◌, ◌⊎◌, ◌↔◌, ℕ, zero, suc, ◌+◌, ◌-◌, ◌<◌, ◌≤◌, List, [], ◌∷◌, ◌++◌, length, take, get_or, slice_set, Some, slice_get, Result, Ok, Err, OnOk, sym, ◌∙◌, ap, subst, refl, arith, inl, inr, take_all, cases_eq, cases_lt, take_more, get_or_past, get_or-set_other, get_or-set_same, length-set, slice_get-get_or, Ascends, AreAbove, In, AreThose, HasMore, OfSome, in-place, place-in, last-in, last-out, those-by, Rises, IsIn, ArePositionsWhere, IsRoundTable}
+use Rattle.cross_references.proofs.Words.{◌≡◌, ◌≢◌, ◌⊎◌, ◌↔◌, ℕ, zero, suc, ◌+◌, ◌-◌, ◌<◌, ◌≤◌, List, [], ◌∷◌, ◌++◌, length, take, get_or, slice_set, Some, slice_get, Result, Ok, Err, OnOk, sym, ◌∙◌, ap, subst, refl, arith, inl, inr, take_all, cases_eq, cases_lt, take_more, get_or_past, get_or-set_other, get_or-set_same, length-set, slice_get-get_or, Ascends, AreAbove, In, ListsExactly, HasMore, HoldsForSome, in-place, place-in, last-in, last-out, those-by, Rises, IsIn, ArePositionsWhere, IsRoundTable}
 
 pub has-nothing : (P : ℕ → Type 0) (list : List ℕ) → ((p : ℕ) → P p → ⊥) → HasMore P list list
 has-nothing P list none = record { stays = λ p i. i; all = λ p q. absurd (none p q); only = λ p i. inl i }
@@ -42,32 +42,32 @@ pub has-all : (positions : List ℕ) (i : ℕ) (a b : List ℕ) → length posit
 has-all positions i a b h m = subst (λ (ps : List ℕ). HasMore (λ p. In p ps) a b) (take_all i positions h) m
 
 module _ (R : ℕ → ℕ → Type 0) (positions : List ℕ) (i : ℕ) where
-  pub some-more : (p : ℕ) → i < length positions → OfSome R (take (i + 1) positions) p → OfSome R (take i positions) p ⊎ R (get_or positions i 0) p
+  pub some-more : (p : ℕ) → i < length positions → HoldsForSome R (take (i + 1) positions) p → HoldsForSome R (take i positions) p ⊎ R (get_or positions i 0) p
   some-more p h is =
       elim (in-more positions i is.one h is.among) [
         | inl o ↦ inl (record { one = is.one; among = o; is = is.is })
         | inr e ↦ inr (subst (λ q. R q p) e is.is)
       ]
 
-  pub more-some : (p : ℕ) → i < length positions → OfSome R (take i positions) p ⊎ R (get_or positions i 0) p → OfSome R (take (i + 1) positions) p
+  pub more-some : (p : ℕ) → i < length positions → HoldsForSome R (take i positions) p ⊎ R (get_or positions i 0) p → HoldsForSome R (take (i + 1) positions) p
   more-some p h is =
       elim is [
         | inl o ↦ record { one = o.one; among = more-in positions i o.one h (inl o.among); is = o.is }
         | inr r ↦ record { one = get_or positions i 0; among = more-in positions i (get_or positions i 0) h (inr refl); is = r }
       ]
 
-  pub has-some-next : (a b c : List ℕ) → i < length positions → HasMore (OfSome R (take i positions)) a b → HasMore (R (get_or positions i 0)) b c → HasMore (OfSome R (take (i + 1) positions)) a c
+  pub has-some-next : (a b c : List ℕ) → i < length positions → HasMore (HoldsForSome R (take i positions)) a b → HasMore (R (get_or positions i 0)) b c → HasMore (HoldsForSome R (take (i + 1) positions)) a c
   has-some-next a b c h m n =
-      has-as (λ p. OfSome R (take i positions) p ⊎ R (get_or positions i 0) p) (OfSome R (take (i + 1) positions)) a c
+      has-as (λ p. HoldsForSome R (take i positions) p ⊎ R (get_or positions i 0) p) (HoldsForSome R (take (i + 1) positions)) a c
       (λ p q. more-some p h q) (λ p q. some-more p h q)
-      (has-both (OfSome R (take i positions)) (R (get_or positions i 0)) a b c m n)
+      (has-both (HoldsForSome R (take i positions)) (R (get_or positions i 0)) a b c m n)
 
 -- no number is among no positions
-pub some-none : (R : ℕ → ℕ → Type 0) (p : ℕ) → OfSome R [] p → ⊥
+pub some-none : (R : ℕ → ℕ → Type 0) (p : ℕ) → HoldsForSome R [] p → ⊥
 some-none R p is = absurd is.among
 
 -- the sorted list of all that was added to an empty list
-pub those-collected : (P : ℕ → Type 0) (none new list : List ℕ) → none ≡ [] → HasMore P none new → AreThose (λ p. In p new) list → AreThose P list
+pub those-collected : (P : ℕ → Type 0) (none new list : List ℕ) → none ≡ [] → HasMore P none new → ListsExactly (λ p. In p new) list → ListsExactly P list
 those-collected P none new list is h those =
     those-by those (λ p i. elim (h.only p i) [ inl o ↦ absurd (subst (In p) is o) | inr x ↦ x ]) (λ p x. h.all p x)
 
@@ -103,7 +103,7 @@ above-zero [] h = tt
 above-zero (p ∷ ps) h = (h p (inl refl), above-zero ps (λ q i. h q (inr i)))
 
 -- an ascending list of the positions above 0 with a property has the form of the contracts
-pub those-where : (P : ℕ → Type 0) (list : List ℕ) → AreThose P list → ((p : ℕ) → P p → 0 < p) → ArePositionsWhere P list
+pub those-where : (P : ℕ → Type 0) (list : List ℕ) → ListsExactly P list → ((p : ℕ) → P p → 0 < p) → ArePositionsWhere P list
 those-where P list those some = record {
   rising = rises-from 0 list (above-zero list (λ p i. some p (those.only p i))) those.ascends;
   holding = λ a. ((λ i. those.only a (place-in list i.0 a i.1)), λ p. in-place a list (those.all a p));
@@ -123,8 +123,8 @@ ascends-last (p ∷ ps) q asc below = (above-last ps asc.0, ascends-last ps q as
 pub in-at : (ps : List ℕ) (i : ℕ) → i < length ps → In (get_or ps i 0) ps
 in-at ps i h = place-in ps i (get_or ps i 0) (slice_get-get_or ps i 0 h)
 
-pub has-some-all : (R : ℕ → ℕ → Type 0) (positions : List ℕ) (i : ℕ) (a b : List ℕ) → length positions ≤ i → HasMore (OfSome R (take i positions)) a b → HasMore (OfSome R positions) a b
-has-some-all R positions i a b h m = subst (λ (ps : List ℕ). HasMore (OfSome R ps) a b) (take_all i positions h) m
+pub has-some-all : (R : ℕ → ℕ → Type 0) (positions : List ℕ) (i : ℕ) (a b : List ℕ) → length positions ≤ i → HasMore (HoldsForSome R (take i positions)) a b → HasMore (HoldsForSome R positions) a b
+has-some-all R positions i a b h m = subst (λ (ps : List ℕ). HasMore (HoldsForSome R ps) a b) (take_all i positions h) m
 
 pub on-ok : {T E A B : Type 0} (r : Result T E) → (A → B) → OnOk r A → OnOk r B
 on-ok (Ok v) f h = f h

@@ -1,5 +1,5 @@
 -- One step of the pass over the statements.
-use Rattle.cross_references.proofs.Words.{◌≡◌, ◌⊎◌, ◌↔◌, ℕ, zero, suc, ◌+◌, ◌-◌, ◌<◌, ◌≤◌, Bool, true, false, IsTrue, List, [], ◌∷◌, ◌++◌, length, map, take, drop, get_or, replicate, slice_set, Some, sym, ◌∙◌, ap, subst, refl, arith, inl, inr, take_all, length-append, append-nil, cases_eq, cases_lt, Vec, drop_all, get_or-map, map-append, map-set, get_or-set_other, get_or-set_same, get_or_append_left, get_or_past, length-map, length-set, length-replicate, Ascends, has_position, In, AreThose, HasMore, OfSome, last-in, last-out, those-by, in-has, has-in, Good, Cites, RestsOn, directly, through, Uses, IsAxiomAt, IsUser, is_axiom, cites-below, Database, Stmt, stmt_at, stands-within, ArePositionsWhere, AreListsOf, AreReferences, lists_of, AddsAxiom, AreWithin, AreExtendedAt, AreListsOfFirst}
+use Rattle.cross_references.proofs.Words.{◌≡◌, ◌⊎◌, ◌↔◌, ℕ, zero, suc, ◌+◌, ◌-◌, ◌<◌, ◌≤◌, Bool, true, false, IsTrue, List, [], ◌∷◌, ◌++◌, length, map, take, drop, get_or, replicate, slice_set, Some, sym, ◌∙◌, ap, subst, refl, arith, inl, inr, take_all, length-append, append-nil, cases_eq, cases_lt, Vec, drop_all, get_or-map, map-append, map-set, get_or-set_other, get_or-set_same, get_or_append_left, get_or_past, length-map, length-set, length-replicate, Ascends, has_position, In, ListsExactly, HasMore, HoldsForSome, last-in, last-out, those-by, in-has, has-in, Good, Cites, RestsOn, directly, through, Uses, IsAxiomAt, IsUser, is_axiom, cites-below, Database, Stmt, stmt_at, stands-within, ArePositionsWhere, AreListsOf, AreReferences, lists_of, AddsAxiom, AreWithin, AreExtendedAt, AreListsOfFirst}
 use Rattle.cross_references.proofs.ListLemmas.{has-as, has-both, in-more, more-in, next-apart, those-where, ascends-last}
 
 -- a statement that is cited is an earlier one
@@ -10,27 +10,27 @@ cites-within S n a good c =
     let less = cites-below S (suc n) a good c in
     (omega (arith, w.0), omega (arith, less))
 
-pub cited-within : (S : Database) (n : ℕ) (cited : List ℕ) → Good S → AreThose (Cites S (suc n)) cited → AreWithin n cited
+pub cited-within : (S : Database) (n : ℕ) (cited : List ℕ) → Good S → ListsExactly (Cites S (suc n)) cited → AreWithin n cited
 cited-within S n cited good those p i = cites-within S n p good (those.only p i)
 
 -- ---- the `$a` that the next statement rests on
 
-module _ (S : Database) (good : Good S) (n : ℕ) (axioms : List (List ℕ)) (cited : List ℕ) (those : AreThose (Cites S (suc n)) cited)
-    (are : (k : ℕ) → k < n → AreThose (Uses S (suc k)) (get_or axioms k [])) where
-  list-of : (c : ℕ) → Cites S (suc n) c → AreThose (Uses S c) (get_or axioms (c - 1) [])
+module _ (S : Database) (good : Good S) (n : ℕ) (axioms : List (List ℕ)) (cited : List ℕ) (those : ListsExactly (Cites S (suc n)) cited)
+    (are : (k : ℕ) → k < n → ListsExactly (Uses S (suc k)) (get_or axioms k [])) where
+  list-of : (c : ℕ) → Cites S (suc n) c → ListsExactly (Uses S c) (get_or axioms (c - 1) [])
   list-of c cites = by c (cites-within S n c good cites)
     where
-      by : (p : ℕ) → (0 < p) × (p ≤ n) → AreThose (Uses S p) (get_or axioms (p - 1) [])
+      by : (p : ℕ) → (0 < p) × (p ≤ n) → ListsExactly (Uses S p) (get_or axioms (p - 1) [])
       by zero w = absurd (let h = w.0 in omega (arith, h))
       by (suc k) w =
           let e : suc k - 1 ≡ k = omega arith in
-          subst (λ i. AreThose (Uses S (suc k)) (get_or axioms i [])) (sym e) (are k (let h = w.1 in omega (arith, h)))
+          subst (λ i. ListsExactly (Uses S (suc k)) (get_or axioms i [])) (sym e) (are k (let h = w.1 in omega (arith, h)))
 
-  uses-added : (a : ℕ) → RestsOn S (suc n) a → IsAxiomAt S a → OfSome (AddsAxiom S axioms) cited a
+  uses-added : (a : ℕ) → RestsOn S (suc n) a → IsAxiomAt S a → HoldsForSome (AddsAxiom S axioms) cited a
   uses-added a (directly c) ax = record { one = a; among = those.all a c; is = inl (ax, refl) }
   uses-added a (through {b = b} c r) ax = record { one = b; among = those.all b c; is = inr ((list-of b c).all a (r, ax)) }
 
-  added-uses : (a : ℕ) → OfSome (AddsAxiom S axioms) cited a → Uses S (suc n) a
+  added-uses : (a : ℕ) → HoldsForSome (AddsAxiom S axioms) cited a → Uses S (suc n) a
   added-uses a g =
       let c = those.only g.one g.among in
       elim g.is [
@@ -38,7 +38,7 @@ module _ (S : Database) (good : Good S) (n : ℕ) (axioms : List (List ℕ)) (ci
         | inr i ↦ (let u = (list-of g.one c).only a i in (through c u.0, u.1))
       ]
 
-  pub uses-those : (list : List ℕ) → AreThose (OfSome (AddsAxiom S axioms) cited) list → AreThose (Uses S (suc n)) list
+  pub uses-those : (list : List ℕ) → ListsExactly (HoldsForSome (AddsAxiom S axioms) cited) list → ListsExactly (Uses S (suc n)) list
   uses-those list given = those-by given added-uses (λ a u. uses-added a u.0 u.1)
 
 -- ---- the statements that cite
@@ -47,10 +47,10 @@ module _ (S : Database) (good : Good S) (n : ℕ) (axioms : List (List ℕ)) (ci
 abbrev pub CiteUpto : Database → ℕ → ℕ → ℕ → Type 0
 CiteUpto S n k j = (j ≤ n) × Cites S j (suc k)
 
-module _ (S : Database) (n k : ℕ) (old new : List ℕ) (are : AreThose (CiteUpto S n k) old) where
-  citing-more : new ≡ old ++ suc n ∷ [] → Cites S (suc n) (suc k) → AreThose (CiteUpto S (suc n) k) new
+module _ (S : Database) (n k : ℕ) (old new : List ℕ) (are : ListsExactly (CiteUpto S n k) old) where
+  citing-more : new ≡ old ++ suc n ∷ [] → Cites S (suc n) (suc k) → ListsExactly (CiteUpto S (suc n) k) new
   citing-more is c =
-      subst (AreThose (CiteUpto S (suc n) k)) (sym is) (record {
+      subst (ListsExactly (CiteUpto S (suc n) k)) (sym is) (record {
         ascends = ascends-last old (suc n) are.ascends (λ p i. let u = are.only p i in let h = u.0 in omega (arith, h));
         all = λ p u. last-in p (suc n) old (elim (cases_eq p (suc n)) [
           | inl e ↦ inl e
@@ -62,20 +62,20 @@ module _ (S : Database) (n k : ℕ) (old new : List ℕ) (are : AreThose (CiteUp
         ];
       })
 
-  citing-same : new ≡ old → (Cites S (suc n) (suc k) → ⊥) → AreThose (CiteUpto S (suc n) k) new
+  citing-same : new ≡ old → (Cites S (suc n) (suc k) → ⊥) → ListsExactly (CiteUpto S (suc n) k) new
   citing-same is none =
-      subst (AreThose (CiteUpto S (suc n) k)) (sym is) (those-by are
+      subst (ListsExactly (CiteUpto S (suc n) k)) (sym is) (those-by are
       (λ p u. let h = u.0 in (omega (arith, h), u.1))
       (λ p u. elim (cases_eq p (suc n)) [
         | inl e ↦ absurd (none (subst (λ j. Cites S j (suc k)) e u.1))
         | inr apart ↦ (let h = u.0 in omega (arith, h, apart), u.1)
       ]))
 
-citing-next : (S : Database) (n k : ℕ) (cited : List ℕ) (old new : List (List ℕ)) → AreThose (Cites S (suc n)) cited → AreExtendedAt (suc n) cited old new
-    → AreThose (CiteUpto S n k) (get_or old k []) → AreThose (CiteUpto S (suc n) k) (get_or new k [])
+citing-next : (S : Database) (n k : ℕ) (cited : List ℕ) (old new : List (List ℕ)) → ListsExactly (Cites S (suc n)) cited → AreExtendedAt (suc n) cited old new
+    → ListsExactly (CiteUpto S n k) (get_or old k []) → ListsExactly (CiteUpto S (suc n) k) (get_or new k [])
 citing-next S n k cited old new those have are = by (has_position (suc k) cited) refl
   where
-    by : (b : Bool) → has_position (suc k) cited ≡ b → AreThose (CiteUpto S (suc n) k) (get_or new k [])
+    by : (b : Bool) → has_position (suc k) cited ≡ b → ListsExactly (CiteUpto S (suc n) k) (get_or new k [])
     by true e =
         let i = has-in (suc k) cited e in
         citing-more S n k (get_or old k []) (get_or new k []) are (have.those k i) (those.only (suc k) i)
@@ -154,15 +154,15 @@ module _ (S : Database) where
     axioms_count = ap length none;
     cited_by_count = ap length empty ∙ length-replicate (length S) [];
     axioms_are = λ k h. absurd (omega (arith, h));
-    cited_by_are = λ k h. subst (AreThose (CiteUpto S 0 k)) (sym (ap (λ l. get_or l k []) empty ∙ no-list (length S) k)) (record {
+    cited_by_are = λ k h. subst (ListsExactly (CiteUpto S 0 k)) (sym (ap (λ l. get_or l k []) empty ∙ no-list (length S) k)) (record {
       ascends = tt;
       all = λ p u. absurd (let c = cites-some p (suc k) u.1 in let h = u.0 in let w = c.0 in omega (arith, h, w));
       only = λ p i. absurd i;
     });
   }
 
-  pub done-next : (n m : ℕ) (axioms cited_by new news : List (List ℕ)) (cited list : List ℕ) → Good S → m ≡ suc n → n < length S → AreThose (Cites S (suc n)) cited
-      → AreExtendedAt (suc n) cited cited_by news → AreThose (OfSome (AddsAxiom S axioms) cited) list → new ≡ axioms ++ list ∷ [] → AreListsOfFirst S n axioms cited_by → AreListsOfFirst S m new news
+  pub done-next : (n m : ℕ) (axioms cited_by new news : List (List ℕ)) (cited list : List ℕ) → Good S → m ≡ suc n → n < length S → ListsExactly (Cites S (suc n)) cited
+      → AreExtendedAt (suc n) cited cited_by news → ListsExactly (HoldsForSome (AddsAxiom S axioms) cited) list → new ≡ axioms ++ list ∷ [] → AreListsOfFirst S n axioms cited_by → AreListsOfFirst S m new news
   done-next n m axioms cited_by new news cited list good is h those have given more done =
       subst (λ q. AreListsOfFirst S q new news) (sym is) (subst (λ l. AreListsOfFirst S (suc n) l news) (sym more) (record {
         within = omega (arith, h);
@@ -172,20 +172,20 @@ module _ (S : Database) where
         cited_by_are = λ k w. citing-next S n k cited cited_by news those have (done.cited_by_are k w);
       }))
     where
-      own : AreThose (Uses S (suc n)) list
+      own : ListsExactly (Uses S (suc n)) list
       own = uses-those S good n axioms cited those done.axioms_are list given
 
       last : (xs : List (List ℕ)) → get_or (xs ++ list ∷ []) (length xs) [] ≡ list
       last [] = refl
       last (x ∷ xs) = last xs
 
-      axioms_next : (k : ℕ) → k < suc n → AreThose (Uses S (suc k)) (get_or (axioms ++ list ∷ []) k [])
+      axioms_next : (k : ℕ) → k < suc n → ListsExactly (Uses S (suc k)) (get_or (axioms ++ list ∷ []) k [])
       axioms_next k w = elim (cases_lt k n) [
-        | inl less ↦ subst (AreThose (Uses S (suc k))) (sym (get_or_append_left axioms (list ∷ []) [] k (let c = done.axioms_count in omega (arith, less, c)))) (done.axioms_are k less)
+        | inl less ↦ subst (ListsExactly (Uses S (suc k))) (sym (get_or_append_left axioms (list ∷ []) [] k (let c = done.axioms_count in omega (arith, less, c)))) (done.axioms_are k less)
         | inr least ↦ (
             let e : k ≡ n = omega (arith, w, least) in
-            subst (λ q. AreThose (Uses S (suc q)) (get_or (axioms ++ list ∷ []) q [])) (sym e)
-            (subst (AreThose (Uses S (suc n))) (sym (ap (λ q. get_or (axioms ++ list ∷ []) q []) (sym done.axioms_count) ∙ last axioms)) own))
+            subst (λ q. ListsExactly (Uses S (suc q)) (get_or (axioms ++ list ∷ []) q [])) (sym e)
+            (subst (ListsExactly (Uses S (suc n))) (sym (ap (λ q. get_or (axioms ++ list ∷ []) q []) (sym done.axioms_count) ∙ last axioms)) own))
       ]
 
   pub done-all : (n : ℕ) (axioms cited_by : List (List ℕ)) → length S ≤ n → AreListsOfFirst S n axioms cited_by → AreReferences S axioms cited_by
@@ -252,8 +252,8 @@ have-as at m ps qs lent old new same is all have =
     (subst (λ (l : List ℕ). AreExtendedAt m l (lists_of old) (lists_of new)) is
     (subst (λ (us : List (Vec ℕ)). AreExtendedAt m ps (lists_of us) (lists_of new)) all have))
 
-pub added-as : (S T : Database) (ps qs list : List ℕ) (lent axioms : List (Vec ℕ)) → T ≡ S → ps ≡ qs → lent ≡ axioms → AreThose (OfSome (AddsAxiom T (lists_of lent)) ps) list → AreThose (OfSome (AddsAxiom S (lists_of axioms)) qs) list
+pub added-as : (S T : Database) (ps qs list : List ℕ) (lent axioms : List (Vec ℕ)) → T ≡ S → ps ≡ qs → lent ≡ axioms → ListsExactly (HoldsForSome (AddsAxiom T (lists_of lent)) ps) list → ListsExactly (HoldsForSome (AddsAxiom S (lists_of axioms)) qs) list
 added-as S T ps qs list lent axioms same is all given =
-    subst (λ (U : Database). AreThose (OfSome (AddsAxiom U (lists_of axioms)) qs) list) same
-    (subst (λ (l : List ℕ). AreThose (OfSome (AddsAxiom T (lists_of axioms)) l) list) is
-    (subst (λ (us : List (Vec ℕ)). AreThose (OfSome (AddsAxiom T (lists_of us)) ps) list) all given))
+    subst (λ (U : Database). ListsExactly (HoldsForSome (AddsAxiom U (lists_of axioms)) qs) list) same
+    (subst (λ (l : List ℕ). ListsExactly (HoldsForSome (AddsAxiom T (lists_of axioms)) l) list) is
+    (subst (λ (us : List (Vec ℕ)). ListsExactly (HoldsForSome (AddsAxiom T (lists_of us)) ps) list) all given))

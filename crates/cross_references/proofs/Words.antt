@@ -9,7 +9,7 @@ pub use Rattle.frame.proofs.LegalLabels.{legal-labels}
 pub use Rattle.frame.proofs.MergedLemmas.{has-in, in-has}
 pub use Rattle.frame.specs.AtPosition.{ArePositions, HasLabelsOnce, IsPosition}
 pub use Rattle.frame.specs.Citations.{Carries}
-pub use Rattle.frame.specs.Stored.Hypotheses.{AreThose, HasMore, In, OfSome}
+pub use Rattle.frame.specs.Stored.Hypotheses.{ListsExactly, HasMore, In, HoldsForSome}
 pub use Rattle.library.proofs.CitationWalkLemmas.{cited-of, cites-below, cites-of}
 pub use Rattle.library.proofs.FrontLemmas.{stands_index}
 pub use Rattle.library.proofs.JoinedRulesLemmas.{legal-each}

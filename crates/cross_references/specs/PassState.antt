@@ -5,7 +5,7 @@ use Rattle.std.specs.Prelude.{◌≡◌, ◌⊎◌, ℕ, suc, ◌-◌, ◌<◌, 
 use Rattle.std.specs.Global.{Vec}
 use Rattle.mm_read.specs.Statements.{Database}
 use Rattle.library.specs.Uses.{Cites, Uses, IsAxiomAt}
-use Rattle.frame.specs.Stored.Hypotheses.{In, AreThose}
+use Rattle.frame.specs.Stored.Hypotheses.{In, ListsExactly}
 
 -- the elements of each of these vectors, as a list
 abbrev pub lists_of : List (Vec ℕ) → List (List ℕ)
@@ -43,5 +43,5 @@ pub record AreListsOfFirst (S : Database) (n : ℕ) (axioms cited_by : List (Lis
   pub within : n ≤ length S
   pub axioms_count : length axioms ≡ n
   pub cited_by_count : length cited_by ≡ length S
-  pub axioms_are : (k : ℕ) → k < n → AreThose (Uses S (suc k)) (get_or axioms k [])
-  pub cited_by_are : (k : ℕ) → k < length S → AreThose (λ j. (j ≤ n) × Cites S j (suc k)) (get_or cited_by k [])
+  pub axioms_are : (k : ℕ) → k < n → ListsExactly (Uses S (suc k)) (get_or axioms k [])
+  pub cited_by_are : (k : ℕ) → k < length S → ListsExactly (λ j. (j ≤ n) × Cites S j (suc k)) (get_or cited_by k [])

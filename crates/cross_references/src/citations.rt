@@ -2,7 +2,7 @@
 ghost use Rattle.std.specs.Prelude.{◌≡◌, suc, ◌<◌, ◌++◌, length, filter_map, IfOk, OnOk};
 ghost use Rattle.cross_references.specs.PassState.{position_list};
 ghost use Rattle.frame.specs.AtPosition.{HasLabelsOnce};
-ghost use Rattle.frame.specs.Stored.Hypotheses.{In, AreThose};
+ghost use Rattle.frame.specs.Stored.Hypotheses.{In, ListsExactly};
 ghost use Rattle.library.specs.UseMarks.{cited_position};
 ghost use Rattle.library.specs.Uses.{Cites, ItemsCite};
 
@@ -18,7 +18,7 @@ use std::alloc::{AllocError, Global};
 /// Errors: an allocation fails. Cost: the size of the proof, and that of sorting its citations.
 pub fn cited_at(alloc: Global, library: &Library, index: usize) -> Result<Vec<usize>, AllocError>
     requires { index < length library.now.replica.statements }
-    ensures { IfOk result (λ list. AreThose (Cites library.now.replica.statements (suc index)) list.items) }
+    ensures { IfOk result (λ list. ListsExactly (Cites library.now.replica.statements (suc index)) list.items) }
 {
     let Stmt::Prove { label, .. } = &library.statements()[index] else {
         return Ok(Vec::new(alloc));
@@ -33,7 +33,7 @@ pub fn cited_at(alloc: Global, library: &Library, index: usize) -> Result<Vec<us
 /// Returns the positions of the statements that the items cite, in ascending order, each once.
 fn cited_positions(alloc: Global, frames: &Frames, items: &Items) -> Result<Vec<usize>, AllocError>
     requires { HasLabelsOnce frames.now.statements }
-    ensures { IfOk result (λ list. AreThose (ItemsCite frames.now.statements items.now) list.items) }
+    ensures { IfOk result (λ list. ListsExactly (ItemsCite frames.now.statements items.now) list.items) }
 {
     let parts = items.parts();
     let positions = frames.positions(parts.labels)?;
@@ -78,7 +78,7 @@ fn cited_position(positions: &[Option<usize>], number: u32) -> Option<usize>
 
 /// Sorts positions in ascending order and removes repetitions.
 pub fn sort_dedup(list: &mut Vec<usize>)
-    ensures { AreThose (λ p. In p list.old.items) list.new.items }
+    ensures { ListsExactly (λ p. In p list.old.items) list.new.items }
 {
     list.sort_unstable();
     list.dedup();

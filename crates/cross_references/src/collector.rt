@@ -1,6 +1,6 @@
 //! Collects positions in rounds; `ordered` returns those of a round, each once.
 ghost use Rattle.std.specs.Prelude.{◌≡◌, [], true, get_or, slice_set, IfOk, OnOk};
-ghost use Rattle.frame.specs.Stored.Hypotheses.{In, AreThose, HasMore};
+ghost use Rattle.frame.specs.Stored.Hypotheses.{In, ListsExactly, HasMore};
 
 use crate::citations::sort_dedup;
 use std::alloc::{AllocError, Global};
@@ -77,7 +77,7 @@ impl Collector {
 
     /// Returns the positions collected in this round in ascending order, each once.
     pub fn ordered(&self) -> Result<Vec<usize>, AllocError>
-        ensures { IfOk result (λ list. AreThose (λ p. In p self.now) list.items) }
+        ensures { IfOk result (λ list. ListsExactly (λ p. In p self.now) list.items) }
     {
         let mut list = Vec::from_slice(self.alloc, self.list.as_slice())?;
         sort_dedup(&mut list);

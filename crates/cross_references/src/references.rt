@@ -1,7 +1,7 @@
 //! The cross references of a library.
 ghost use Rattle.std.specs.Prelude.{◌≡◌, ◌+◌, ◌-◌, ◌≤◌, ◌<◌, ◌++◌, ◌∷◌, [], length, get_or, replicate, slice_set, IsTrue, IfOk, OnOk};
 ghost use Rattle.entries.specs.PositionSets.{Ascends};
-ghost use Rattle.frame.specs.Stored.Hypotheses.{AreThose, HasMore, OfSome};
+ghost use Rattle.frame.specs.Stored.Hypotheses.{ListsExactly, HasMore, HoldsForSome};
 ghost use Rattle.library.specs.Good.{Good};
 ghost use Rattle.library.specs.Uses.{Cites, Uses, is_axiom};
 ghost use Rattle.cross_references.specs.References.{AreReferences};
@@ -102,7 +102,7 @@ fn axioms_of_cited(
 ) -> Result<Vec<usize>, AllocError>
     requires axioms { AreWithin (length axioms.now) cited.now }
     requires statements { length axioms.now ≤ length statements.now }
-    ensures { IfOk result (λ list. AreThose (OfSome (AddsAxiom statements.now (lists_of axioms.now)) cited.now) list.items) }
+    ensures { IfOk result (λ list. ListsExactly (HoldsForSome (AddsAxiom statements.now (lists_of axioms.now)) cited.now) list.items) }
 {
     collector.begin_round()?;
     for position in cited {

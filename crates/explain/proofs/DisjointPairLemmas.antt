@@ -1,5 +1,5 @@
 -- Pairs of variables whose images are disjoint.
-use Rattle.explain.proofs.Words.{◌≡◌, ℕ, zero, suc, Bool, true, false, not, ◌&&◌, ◌||◌, if◌then◌else◌, List, [], ◌∷◌, ◌++◌, sym, ◌∙◌, ap, subst, Some, slice_get, ◌⊎◌, inl, inr, refl, list_any, and_comm, Name, name_eq, has_name, Expr, Database, name_at, name_eq-comm, Images, image, are_disjoint, is_pair, groups, disjoint-from, pair_at, VariablePair, IsDisjointPair, AreDisjointPairs, IsPairOf, IsPairAt}
+use Rattle.explain.proofs.Words.{◌≡◌, ℕ, zero, suc, Bool, true, false, not, ◌&&◌, ◌||◌, if◌then◌else◌, List, [], ◌∷◌, ◌++◌, sym, ◌∙◌, ap, subst, Some, slice_get, ◌⊎◌, inl, inr, refl, list_any, and_comm, Name, name_eq, has_name, Expr, Database, name_at, name_eq-comm, Images, image, are_disjoint, is_pair, active_disjoint_lists, disjoint-from, pair_at, VariablePair, IsDisjointPair, AreDisjointPairs, IsPairOf, IsPairAt}
 
 any-same : {A : Type 0} (p q : A → Bool) (xs : List A) → ((x : A) → p x ≡ q x) → list_any p xs ≡ list_any q xs
 any-same p q [] h = refl
@@ -8,8 +8,8 @@ any-same p q (x ∷ xs) h = ap (λ b. b || list_any p xs) (h x) ∙ ap (λ b. q 
 -- a pair has no order
 pair-swap : (S : Database) (x y : Name) → is_pair S x y ≡ is_pair S y x
 pair-swap S x y =
-    ap (λ b. not b && list_any (λ names. has_name x names && has_name y names) (groups S)) (name_eq-comm x y)
-    ∙ ap (λ b. not (name_eq y x) && b) (any-same (λ names. has_name x names && has_name y names) (λ names. has_name y names && has_name x names) (groups S) (λ names. and_comm (has_name x names) (has_name y names)))
+    ap (λ b. not b && list_any (λ names. has_name x names && has_name y names) (active_disjoint_lists S)) (name_eq-comm x y)
+    ∙ ap (λ b. not (name_eq y x) && b) (any-same (λ names. has_name x names && has_name y names) (λ names. has_name y names && has_name x names) (active_disjoint_lists S) (λ names. and_comm (has_name x names) (has_name y names)))
 
 disjoint-swap : (S : Database) (e f : Expr) → are_disjoint S e f ≡ true → are_disjoint S f e ≡ true
 disjoint-swap S e f h = disjoint-from S f e (λ u v p q in_f in_e. pair-swap S u v ∙ pair_at S e f h v u q p in_e in_f)

@@ -31,7 +31,7 @@ pub use Rattle.frame.specs.AtPosition.{ArePositions, IsPosition}
 pub use Rattle.frame.specs.Below.{AllBelow, AreBelow}
 pub use Rattle.frame.specs.Citations.{Carries, IsHypothesis, expr_at, option_expr}
 pub use Rattle.frame.specs.Disjoint.{are_disjoint, are_groups_disjoint, is_group_disjoint}
-pub use Rattle.frame.specs.FrameOf.{HasAssertion, groups, hypotheses, is_pair}
+pub use Rattle.frame.specs.FrameOf.{HasAssertion, active_disjoint_lists, hypotheses, is_pair}
 pub use Rattle.frame.specs.Substitution.{CodeImages, Images, apply, code_apply, code_image, image}
 pub use Rattle.mm_lex.specs.Alphabet.{Name, has_name, is_empty, is_label, name_eq}
 pub use Rattle.mm_read.specs.Statements.{Database, Expr}

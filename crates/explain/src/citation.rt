@@ -4,7 +4,7 @@ ghost use Rattle.mm_read.specs.declared.stmt.Stmt.{Stmt as Statement};
 ghost use Rattle.frame.specs.Below.{AllBelow};
 ghost use Rattle.frame.specs.FrameOf.{HasAssertion, hypotheses};
 ghost use Rattle.frame.specs.AssertionView.{IsViewOf};
-ghost use Rattle.frame.specs.AtPosition.{AreLegal};
+ghost use Rattle.frame.specs.AtPosition.{HasLegalProperties};
 ghost use Rattle.explain.specs.Stored.CodeSlices.{AreSymbols, AreImages, HasHypothesisCount, codes, named_expressions};
 ghost use Rattle.explain.specs.CitationFaults.{IsFaultOfResult, IsMismatchFault, NumberedResultsMatch, AreImagesOfResults};
 ghost use Rattle.scope.specs.Active.{before, stmt_at};
@@ -90,7 +90,7 @@ fn assertion_view_fault(
     cited: &AssertionView<'_>,
     results: &Results,
 ) -> Result<ItemFault, AllocError>
-    requires legal { AreLegal frames.now.statements frames.now.names }
+    requires legal { HasLegalProperties frames.now.statements frames.now.names }
     requires position { (1 ≤ at) × (at ≤ length frames.now.statements) }
     requires earlier { cited_at < at }
     requires assertion { (s : Statement) × HasAssertion frames.now.statements cited_at s }
@@ -154,7 +154,7 @@ fn results_fault(
     cited: &AssertionView<'_>,
     results: &[&[u32]],
 ) -> Result<Option<ItemFault>, AllocError>
-    requires legal { AreLegal frames.now.statements frames.now.names }
+    requires legal { HasLegalProperties frames.now.statements frames.now.names }
     requires position { (1 ≤ at) × (at ≤ length frames.now.statements) }
     requires earlier { cited_at < at }
     requires assertion { (s : Statement) × HasAssertion frames.now.statements cited_at s }
@@ -200,7 +200,7 @@ fn first_mismatch(
     results: &[&[u32]],
     images: &Images<'_>,
 ) -> Result<Option<ItemFault>, AllocError>
-    requires legal { AreLegal frames.now.statements frames.now.names }
+    requires legal { HasLegalProperties frames.now.statements frames.now.names }
     requires assertion { (s : Statement) × HasAssertion frames.now.statements cited_at s }
     requires mandatory { (s : Statement) → stmt_at frames.now.statements cited_at ≡ Some s → mandatory.now ≡ hypotheses (before frames.now.statements cited_at) s }
     requires cited { (s : Statement) → stmt_at frames.now.statements cited_at ≡ Some s → IsViewOf frames.now.statements frames.now.names cited_at s cited.now }

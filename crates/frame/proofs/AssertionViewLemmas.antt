@@ -1,9 +1,9 @@
 -- Reading an assertion that is stored, and its parts by numbers.
-use Rattle.frame.proofs.Words.{sym, ◌∙◌, ap, subst, arith, ◌≡◌, ℕ, zero, suc, ◌+◌, ◌-◌, true, List, length, take, slice_get, Some, refl, Name, Stmt, expr_of, is_assertion, name_at, decode, HasAssertion, AssertionView, Entry, Assertion, IsWholeView, Kind, Axiom, Prove, Storage, AreBelow, AreListsOf, IsViewOf, IsBound, AreLegal, names_in, labels_in, stmt_by, stmt_of, statements_of, AreStored, IsKeptAs, has_parts}
+use Rattle.frame.proofs.Words.{sym, ◌∙◌, ap, subst, arith, ◌≡◌, ℕ, zero, suc, ◌+◌, ◌-◌, true, List, length, take, slice_get, Some, refl, Name, Stmt, expr_of, is_assertion, name_at, decode, HasAssertion, AssertionView, Entry, Assertion, IsWholeView, Kind, Axiom, Prove, Storage, AreBelow, AreListsOf, IsViewOf, IsWellTyped, HasLegalProperties, names_in, labels_in, stmt_by, stmt_of, statements_of, AreStored, IsKeptAs, has_parts}
 use Rattle.frame.proofs.DeclaredSymbolLemmas.{stored-distinct}
 use Rattle.frame.proofs.FoundByNumber.{map-back, own-expr, numbered-at}
 use Rattle.frame.proofs.KeptStatementLemmas.{kept-lists, lists-cited}
-use Rattle.frame.proofs.BoundLemmas.{bound, bound-single}
+use Rattle.frame.proofs.WellTypedLemmas.{bound, bound-single}
 use Rattle.frame.proofs.LegalLabels.{legal-labels}
 
 parts-kind : (names labels : List Name) (e : Entry) → is_assertion (stmt_of names labels e) ≡ true → has_parts e.kind ≡ true
@@ -60,12 +60,12 @@ there-cited k a i s e c stored asserts t w =
     let x = there-expr k a i s e stored asserts t in
     lists-cited (statements_of k) (names_in k) a s e.assertion e.symbols (there-lists k a i s e e.assertion stored asserts t t.kept w.whole) x.0 x.1 c w.typecodes w.hypotheses w.conclusion w.groups
 
-pub all-legal : (k : Storage) → AreStored k → AreLegal (statements_of k) (names_in k)
+pub all-legal : (k : Storage) → AreStored k → HasLegalProperties (statements_of k) (names_in k)
 all-legal k stored =
-    let each : (a : ℕ) (s : Stmt) → HasAssertion (statements_of k) a s → IsBound (statements_of k) a s = λ a s h. bound (statements_of k) a s stored.kept.legal h in
+    let each : (a : ℕ) (s : Stmt) → HasAssertion (statements_of k) a s → IsWellTyped (statements_of k) a s = λ a s h. bound (statements_of k) a s stored.kept.legal h in
     record {
       once = legal-labels (statements_of k) stored.kept.legal;
       single = λ at. bound-single (statements_of k) at each;
-      bound = each;
+      well_typed = each;
       distinct = stored-distinct k stored;
     }

@@ -1,6 +1,6 @@
 -- Lists that have the mandatory pairs of an assertion: the groups of its frame, or a list of two for each pair.
-use Rattle.frame.proofs.Words.{◌≡◌, ◌∙◌, ap, sym, subst, arith, refl, true≢false, inl, inr, or_cases, or_right, ℕ, zero, suc, ◌+◌, ◌-◌, ◌<◌, ◌==◌, nat_eq, Bool, true, false, not, ◌&&◌, ◌||◌, or-false, and-false, and-or_distrib_left, List, [], ◌∷◌, ◌++◌, length, map, take, get_or, list_any, list_any_more, list_any-append, list_any-map, Name, name_eq, has_name, name_at, AreDistinct, Stmt, Database, before, decode, expr_of, is_assertion, hypotheses, is_mandatory, mandatory_groups, AreBelow, AllBelow, AreNumberedHypotheses, AreListsOf, IsKeptAs, is_typed, groups_by, symbols_at, hypothesis_at, hypothesis_by, entry_hypothesis, typecode_at, is_typed_by, AreHypotheses, AreNumbered, HasTwo, Kind, Float, AreSearched, slice_get_within, ◌⊎◌, actives, is_disj, Assertion, AssertionView, Entry, Storage, AreStored, names_in, labels_in, statements_of, are_pair, IsFilledFrom}
-use Rattle.frame.specs.AssertionView.{AreCitingListsOf, AreMandatoryPairs, IsCited, has_both}
+use Rattle.frame.proofs.Words.{◌≡◌, ◌∙◌, ap, sym, subst, arith, refl, true≢false, inl, inr, or_cases, or_right, ℕ, zero, suc, ◌+◌, ◌-◌, ◌<◌, ◌==◌, nat_eq, Bool, true, false, not, ◌&&◌, ◌||◌, or-false, and-false, and-or_distrib_left, List, [], ◌∷◌, ◌++◌, length, map, take, get_or, list_any, list_any_more, list_any-append, list_any-map, Name, name_eq, has_name, name_at, AreDistinct, Stmt, Database, before, decode, expr_of, is_assertion, hypotheses, is_mandatory, mandatory_groups, AreBelow, AllBelow, AreNumberedHypotheses, AreListsOf, IsKeptAs, is_typed, groups_by, symbols_at, hypothesis_at, hypothesis_by, entry_hypothesis, typecode_at, is_typed_by, AreHypotheses, AreNumbered, HasTwoSymbolsIfFloat, Kind, Float, AreSearched, slice_get_within, ◌⊎◌, actives, is_disj, Assertion, AssertionView, Entry, Storage, AreStored, names_in, labels_in, statements_of, are_pair, IsFilledFrom}
+use Rattle.frame.specs.AssertionView.{AreCitingListsOf, AreMandatoryPairs, IsCitingView, has_both}
 use Rattle.frame.specs.Stored.PairLists.{HasPairs, HasSameHypotheses, IsFilledByPairs, IsFilledForCitation, IsSearchPosition, are_among, is_beside}
 use Rattle.frame.proofs.AssertionLemmas.{filled-kept}
 use Rattle.frame.proofs.AssertionViewLemmas.{IsThere}
@@ -245,7 +245,7 @@ module _ (k : Storage) (at : ℕ) where
 
 -- ---- the variables of the hypotheses
 
-variable-below : (n c p : ℕ) (kind : Kind) (codes : List ℕ) → AreBelow n codes → HasTwo kind codes → is_typed_by c (hypothesis_by p kind codes) ≡ true → c < n
+variable-below : (n c p : ℕ) (kind : Kind) (codes : List ℕ) → AreBelow n codes → HasTwoSymbolsIfFloat kind codes → is_typed_by c (hypothesis_by p kind codes) ≡ true → c < n
 variable-below n c p Float [] b two e = absurd (omega (arith, two))
 variable-below n c p Float (x ∷ []) b two e = absurd (omega (arith, two))
 variable-below n c p Float (x ∷ y ∷ codes) b two e = let same : c ≡ y = grind (arith, e) in let low = b.1.0 in omega (arith, same, low)
@@ -334,7 +334,7 @@ module _ (k : Storage) (a i : ℕ) (s : Stmt) (e : Entry) (stored : AreStored k)
 
 -- the assertion can be cited by a view of these lists and its expression
 pub lists-cite : (S : Database) (names : List Name) (a : ℕ) (s : Stmt) (d : Assertion) (codes : List ℕ) → AreCitingListsOf S names a d s → decode names codes ≡ expr_of s → AreBelow (length names) codes
-    → (c : AssertionView) → c.typecodes.now ≡ d.typecodes → c.hypotheses ≡ d.numbered_hypotheses → c.conclusion.now ≡ codes → c.groups ≡ d.groups → IsCited S names a s c
+    → (c : AssertionView) → c.typecodes.now ≡ d.typecodes → c.hypotheses ≡ d.numbered_hypotheses → c.conclusion.now ≡ codes → c.groups ≡ d.groups → IsCitingView S names a s c
 lists-cite S names a s d codes l stand low c p q k g = record {
   numbered_hypotheses = subst (λ hs. AreNumberedHypotheses S names (hypotheses (before S a) s) hs c.hypotheses) (sym p) (subst (AreNumberedHypotheses S names (hypotheses (before S a) s) d.typecodes) (sym q) l.numbered_hypotheses);
   conclusion = ap (decode names) k ∙ stand;

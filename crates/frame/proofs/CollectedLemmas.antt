@@ -1,5 +1,5 @@
 -- The positions collected are those of the mandatory hypotheses, in order.
-use Rattle.frame.proofs.Words.{take_all, take-take, sym, ◌∙◌, ap, subst, arith, inl, inr, ⊎_elim, append_assoc, ◌≡◌, ℕ, suc, ◌+◌, ◌-◌, ◌<◌, true, ◌&&◌, ◌⊎◌, List, [], ◌∷◌, ◌++◌, length, map, take, drop, slice_get, Some, refl, take-append_seam, or_left, and_parts, and_from, both_ways, slice_get_within, ⊎_map, length-map, Name, has_name, Stmt, Database, stays_open, is_active, expr_of, is_essential, is_variable, is_float_of, name_at, decode, AreDistinct, is_used, is_hypothesis, hypotheses, AreBelow, Entry, stmt_of, floats, last_from, last_where, AreNumbered, In, IsFloatOf, SomeFloat, IsFromEssentials, AreFloats, AreWith, AreCollected, kept_at, option_kept, is_float_in, floats_in, take-get}
+use Rattle.frame.proofs.Words.{take_all, take-take, sym, ◌∙◌, ap, subst, arith, inl, inr, ⊎_elim, append_assoc, ◌≡◌, ℕ, suc, ◌+◌, ◌-◌, ◌<◌, true, ◌&&◌, ◌⊎◌, List, [], ◌∷◌, ◌++◌, length, map, take, drop, slice_get, Some, refl, take-append_seam, or_left, and_parts, and_from, both_ways, slice_get_within, ⊎_map, length-map, Name, has_name, Stmt, Database, stays_open, is_active, expr_of, is_essential, is_variable, is_float_of, name_at, decode, AreDistinct, is_used, is_hypothesis, hypotheses, AreBelow, Entry, stmt_of, is_float_with, last_from, last_where, AreNumbered, In, IsFloatOf, IsFloatOfSome, IsFromEssentials, AreFloats, AreWithEssentials, AreCollected, kept_at, option_kept, is_float_in, floats_in, take-get}
 use Rattle.frame.proofs.LastActiveLemmas.{cut-here, length-cut}
 use Rattle.mm_read.specs.declared.stmt.Stmt.TheVariants as stmt
 use Rattle.frame.proofs.LegalLabels.{AllKept}
@@ -96,7 +96,7 @@ module _ (es : List Entry) (names labels : List Name) (i : ℕ) (all : AllKept (
       ]
 
   -- the `$f` of the assertion's own variables, the active `$e` and the hypotheses kept with these are the mandatory hypotheses
-  pub buffered-hypotheses : (list : List ℕ) → AreWith es S (floats_in S (expr_of s)) list → list ≡ hypotheses S s
+  pub buffered-hypotheses : (list : List ℕ) → AreWithEssentials es S (floats_in S (expr_of s)) list → list ≡ hypotheses S s
   buffered-hypotheses list w =
       same-lists list (hypotheses S s) w.ascends (ascends-active (is_hypothesis S s) 1 S).1 (λ p i. given-hyp p (w.only p i)) (λ p i. w.all p (hyp-given p i))
 
@@ -107,7 +107,7 @@ module _ (es : List Entry) (names labels : List Name) (m : ℕ) (S : Database)
   -- an active `$f` of a number is the last `$f` of that number
   is-float : (p c : ℕ) (A B : Database) (u l x : Name) → S ≡ A ++ stmt.Float u l x ∷ B → p ≡ suc (length A) → stays_open 0 B ≡ true → c < length names → name_at names c ≡ x → IsFloatOf es S c p
   is-float p c A B u l x named at_p stays small e =
-      record { last = by (last-is (floats c) 0 1 es); some = λ z. omega (arith, at_p, z); stands = ap (λ n. is_active S n (length S + 1)) at_p ∙ rest-active S A (stmt.Float u l x) B named stays }
+      record { last = by (last-is (is_float_with c) 0 1 es); some = λ z. omega (arith, at_p, z); stands = ap (λ n. is_active S n (length S + 1)) at_p ∙ rest-active S A (stmt.Float u l x) B named stays }
     where
       t : Stmt
       t = stmt.Float u l (name_at names c)
@@ -118,26 +118,26 @@ module _ (es : List Entry) (names labels : List Name) (m : ℕ) (S : Database)
       own : (d : Entry) × (slice_get es (length A) ≡ Some d) × (t ≡ stmt_of names labels d)
       own = map-back (stmt_of names labels) es (length A) t (ap (λ w. slice_get w (length A)) (sym whole ∙ cut) ∙ stands-at A t B)
 
-      passes : floats c own.0 ≡ true
+      passes : is_float_with c own.0 ≡ true
       passes = let n = numbered-at (length names) m es (length A) own.0 numbered own.1 in is-floats names c own.0 (name_at labels own.0.label_count) l u distinct n.0 n.1 small (sym own.2)
 
-      by : (NoneOf (floats c) es × (last_from (floats c) 0 1 es ≡ 0)) ⊎ LastAt (floats c) 1 es (last_from (floats c) 0 1 es) → p ≡ last_where (floats c) es
-      by (inl n) = absurd (both_ways (floats c own.0) (n.0.fails (length A) own.0 own.1) passes)
+      by : (NoneOf (is_float_with c) es × (last_from (is_float_with c) 0 1 es ≡ 0)) ⊎ LastAt (is_float_with c) 1 es (last_from (is_float_with c) 0 1 es) → p ≡ last_where (is_float_with c) es
+      by (inl n) = absurd (both_ways (is_float_with c own.0) (n.0.fails (length A) own.0 own.1) passes)
       by (inr k) =
           let y = floats-is names c k.entry (name_at labels k.entry.label_count) k.passes in
           let there : slice_get S k.place ≡ Some (stmt.Float (name_at labels k.entry.label_count) y.0 (name_at names c))
           = ap (λ w. slice_get w k.place) whole ∙ (map-at (stmt_of names labels) es k.place k.entry k.found ∙ ap Some y.1) in
           let not-before : length A < k.place → ⊥ = one-float S A u l (name_at names c) B k.place (name_at labels k.entry.label_count) y.0 all cut stays there in
-          let not-after : k.place < length A → ⊥ = λ lt. both_ways (floats c own.0) (k.last (length A) own.0 lt own.1) passes in
+          let not-after : k.place < length A → ⊥ = λ lt. both_ways (is_float_with c own.0) (k.last (length A) own.0 lt own.1) passes in
           let is = k.is in
-          let e : p ≡ last_from (floats c) 0 1 es = omega (arith, at_p, is, not-before, not-after) in e
+          let e : p ≡ last_from (is_float_with c) 0 1 es = omega (arith, at_p, is, not-before, not-after) in e
 
   -- ---- the `$f` of the symbols of an expression
 
   module _ (codes : List ℕ) (low : AreBelow (length names) codes) where
-    found-float : (p : ℕ) → SomeFloat es S codes p → In p (floats_in S (decode names codes))
+    found-float : (p : ℕ) → IsFloatOfSome es S codes p → In p (floats_in S (decode names codes))
     found-float p f =
-        let r = last-some (floats f.one) es p f.is.last f.is.some in
+        let r = last-some (is_float_with f.one) es p f.is.last f.is.some in
         let place : p ≡ suc r.place = (let is = r.is in omega (arith, is)) in
         let x = r.entry in
         let k = floats-is names f.one x (name_at labels x.label_count) r.passes in
@@ -146,7 +146,7 @@ module _ (es : List Entry) (names labels : List Name) (m : ℕ) (S : Database)
         let stays = sym (active-end S r.place (slice_get_within S r.place t there)) ∙ (ap (λ n. is_active S n (length S + 1)) (sym place) ∙ f.is.stands) in
         members S (is_float_in (decode names codes)) p (take r.place S) t (drop (suc r.place) S) (cut-here S r.place t there) (omega (arith, length-cut S r.place t there, place)) stays (has-code names codes f.one f.among)
 
-    float-found : (p : ℕ) → In p (floats_in S (decode names codes)) → SomeFloat es S codes p
+    float-found : (p : ℕ) → In p (floats_in S (decode names codes)) → IsFloatOfSome es S codes p
     float-found p i =
         let h = active-members S (is_float_in (decode names codes)) p [] S 1 refl refl i in
         let f = float-in-kind (decode names codes) h.stmt h.passes in
@@ -164,7 +164,7 @@ module _ (es : List Entry) (names labels : List Name) (m : ℕ) (S : Database)
   collected-hypotheses s codes low same kept list l =
       let full = map (stmt_of names labels) es in
       let e : S ≡ take (length es) full = whole ∙ sym (take_all (length es) full (omega (arith, length-map es (stmt_of names labels)))) in
-      let w : AreWith es S (floats_in S (expr_of s)) list
+      let w : AreWithEssentials es S (floats_in S (expr_of s)) list
       = those-by l (λ p. ⊎_map (λ f. subst (λ x. In p (floats_in S x)) same (found-float codes low p f)) (λ g. g)) (λ p. ⊎_map (λ j. float-found codes low p (subst (λ x. In p (floats_in S x)) (sym same) j)) (λ g. g)) in
       buffered-hypotheses es names labels (length es) (subst AllKept whole all) (λ k x h is. kept k x h is ∙ ap (λ D. floats_in (take k D) (expr_of (stmt_of names labels x))) whole) s list
-      (subst (λ D. AreWith es D (floats_in D (expr_of s)) list) e w) ∙ ap (λ D. hypotheses D s) (sym e)
+      (subst (λ D. AreWithEssentials es D (floats_in D (expr_of s)) list) e w) ∙ ap (λ D. hypotheses D s) (sym e)

@@ -1,5 +1,5 @@
 -- The storage after it is cut to its first statements, and after added statements are removed again.
-use Rattle.frame.proofs.Words.{sym, ◌∙◌, ap, subst, arith, take-take, ◌≡◌, ℕ, ◌+◌, ◌<◌, ◌≤◌, true, List, length, map, take, drop, slice_get, Some, refl, suc, [], ◌∷◌, Option, None, length-take-le, take-map, take-append-drop, take_at, length-map, Name, Database, IsNumberingOf, Declared, declared_symbols, declared_labels, stays_open, label_of, symbols_of, labels_of, prepend_option, LastActive, Entry, LastDeclarations, is_disj, is_var, last_active_of, stmt_of, statements_of, positions_from, AreAllLegal, ReadsAs, replaced_of, last_declarations_of, names_in, labels_in, option_position, AreNumbered, KeepsCounts, IsAfter, Storage, naming_of, AreKept, AreStored, Extends, has_parts, IsKeptAs, extends-length, extends-take, take-get, labels_of-append, AreKeptUntil}
+use Rattle.frame.proofs.Words.{sym, ◌∙◌, ap, subst, arith, take-take, ◌≡◌, ℕ, ◌+◌, ◌<◌, ◌≤◌, true, List, length, map, take, drop, slice_get, Some, refl, suc, [], ◌∷◌, Option, None, length-take-le, take-map, take-append-drop, take_at, length-map, Name, Database, IsNumberingOf, Declared, declared_symbols, declared_labels, stays_open, label_of, symbols_of, labels_of, prepend_option, LastActive, Entry, LastDeclarations, is_disj, is_var, last_active_of, stmt_of, statements_of, positions_from, AreAllLegal, AreGivenBy, replaced_of, last_declarations_of, names_in, labels_in, option_position, AreNumbered, KeepsCounts, HasMoreAtEnd, Storage, naming_of, AreKept, AreStored, Extends, has_parts, IsKeptAs, extends-length, extends-take, take-get, labels_of-append, AreKeptUntil}
 use Rattle.frame.proofs.StackLemmas.{essentials-back, stacks-back}
 use Rattle.frame.proofs.BlockWalkLemmas.{get-take}
 use Rattle.frame.proofs.DeclaredSymbolLemmas.{symbols_of-front}
@@ -42,7 +42,7 @@ pub record IsCut (names labels : List Name) (positions : List ℕ) (symbols : Li
   pub between_count : length between ≡ length symbols
   pub symbols_cut : symbols' ≡ take e.symbol_count between
   pub entries_cut : entries' ≡ take n entries
-  pub declared : ReadsAs between (last_declarations_of entries')
+  pub declared : AreGivenBy between (last_declarations_of entries')
   pub recorded : replaced' ≡ replaced_of entries'
   pub last_active_back : links' ≡ e.last_active
 
@@ -160,7 +160,7 @@ module _ (k : Storage) (n : ℕ) (e : Entry) (stored : AreStored k) (at : slice_
 
 -- `mid` has added parts, which are removed in `new`
 pub record IsTakenBack (old mid new : Storage) : Type 0 where
-  pub after : IsAfter old mid
+  pub after : HasMoreAtEnd old mid
   pub numbering_cut : new.numbering ≡ take (length old.numbering) mid.numbering
   pub symbols_cut : new.symbols.items ≡ take (length (names_in new)) mid.symbols.items
   pub positions_cut : new.positions.items ≡ take (length (labels_in new)) mid.positions.items

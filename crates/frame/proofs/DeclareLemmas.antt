@@ -1,5 +1,5 @@
 -- The last declarations of symbols, and those that they replace, as a statement is appended or removed.
-use Rattle.frame.proofs.Words.{sym, ◌∙◌, ap, arith, add-zero, append-nil, append_assoc, length-append, ◌≡◌, ℕ, zero, suc, ◌+◌, Bool, true, false, cond, ◌||◌, nat_eq, List, [], ◌∷◌, ◌++◌, length, get_or, slice_get, slice_set, Option, Some, refl, ◌-◌, ◌<◌, map, take, drop, or-false, get_or_from_slice_get, list_any, take_all, take_more, map_push, drop-append_seam, Float, last_of, with_last, is_float_kind, is_var_kind, second_is, ◌&&◌, Entry, LastDeclarations, floats, declares, last_from, last_declarations_of, ReadsAs, replaced_by, replaced_after, replaced_of, with_entry, with_declared, place, Kind, Var, Extends}
+use Rattle.frame.proofs.Words.{sym, ◌∙◌, ap, arith, add-zero, append-nil, append_assoc, length-append, ◌≡◌, ℕ, zero, suc, ◌+◌, Bool, true, false, cond, ◌||◌, nat_eq, List, [], ◌∷◌, ◌++◌, length, get_or, slice_get, slice_set, Option, Some, refl, ◌-◌, ◌<◌, map, take, drop, or-false, get_or_from_slice_get, list_any, take_all, take_more, map_push, drop-append_seam, Float, last_of, with_last, is_float_kind, is_var_kind, second_is, ◌&&◌, Entry, LastDeclarations, is_float_with, is_var_with, last_from, last_declarations_of, AreGivenBy, replaced_by, replaced_after, replaced_of, with_entry, with_declared, place, Kind, Var, Extends}
 use Rattle.frame.proofs.BlockWalkLemmas.{take-one}
 use Rattle.frame.proofs.LegalAfter.{stands-at}
 
@@ -56,7 +56,7 @@ declared-is kind codes c at f v = refl
 
 -- the last declarations of a symbol after an entry is appended
 pub last_declarations_of-push : (es : List Entry) (e : Entry) (c : ℕ) → last_declarations_of (es ++ e ∷ []) c ≡ with_entry e (1 + length es) c (last_declarations_of es c)
-last_declarations_of-push es e c = rw (last_from-push (floats c) 0 1 es e, last_from-push (declares c) 0 1 es e) (declared-is e.kind e.symbols c (1 + length es) _ _)
+last_declarations_of-push es e c = rw (last_from-push (is_float_with c) 0 1 es e, last_from-push (is_var_with c) 0 1 es e) (declared-is e.kind e.symbols c (1 + length es) _ _)
 
 -- ---- an entry is appended
 
@@ -78,7 +78,7 @@ replaced_of-push es e = replaced-push [] es e
 -- the declarations that a statement with these symbols replaced are restored
 pub restored : (old new : List LastDeclarations) (kind : Kind) (codes olds : List ℕ) (x : ℕ → LastDeclarations) (at : ℕ) → olds ≡ map (λ c. last_of kind (x c)) codes
     → ((y : ℕ → ℕ) → olds ≡ map y codes → (c : ℕ) (s : LastDeclarations) → slice_get old c ≡ Some s → slice_get new c ≡ Some (recorded kind s (y c) (list_any (λ k. nat_eq c k) codes)))
-    → length new ≡ length old → ReadsAs old (λ c. recorded kind (x c) at (list_any (nat_eq c) codes)) → ReadsAs new x
+    → length new ≡ length old → AreGivenBy old (λ c. recorded kind (x c) at (list_any (nat_eq c) codes)) → AreGivenBy new x
 restored old new kind codes olds x at h each n reads c lt =
     each (λ k. last_of kind (x k)) h c _ (reads c (omega (arith, n, lt))) ∙ ap Some (back kind (x c) (list_any (nat_eq c) codes))
   where
@@ -89,7 +89,7 @@ restored old new kind codes olds x at h each n reads c lt =
     back kind s false = refl
 
 -- the step of the loop: the declaration replaced for the next symbol is recorded
-pub record-more : (kind : Kind) (symbols : List LastDeclarations) (codes : List ℕ) (x : ℕ → LastDeclarations) (i v : ℕ) (d : LastDeclarations) (old here new : List ℕ) → i < length codes → get_or codes i 0 < length symbols → ReadsAs symbols x
+pub record-more : (kind : Kind) (symbols : List LastDeclarations) (codes : List ℕ) (x : ℕ → LastDeclarations) (i v : ℕ) (d : LastDeclarations) (old here new : List ℕ) → i < length codes → get_or codes i 0 < length symbols → AreGivenBy symbols x
     → here ≡ old ++ map (λ c. last_of kind (x c)) (take i codes) → v ≡ last_of kind (get_or symbols (get_or codes i 0) d) → new ≡ here ++ v ∷ []
     → new ≡ old ++ map (λ c. last_of kind (x c)) (take (i + 1) codes)
 record-more kind symbols codes x i v d old here new lt inside reads h is more =

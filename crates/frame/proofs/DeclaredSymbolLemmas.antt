@@ -1,5 +1,5 @@
 -- The declared symbols; a name that is no symbol is not one of them.
-use Rattle.frame.proofs.Words.{list_all, sym, ◌∙◌, ap, subst, arith, take-append-drop, ◌≡◌, ℕ, Bool, true, false, cond, ◌||◌, nat_lt, List, [], ◌∷◌, ◌++◌, length, take, drop, refl, take-append_seam, and_parts, or_parts, or-false, Name, name_eq, has_name, Stmt, Const, Database, constants, variables, was_symbol, was_variable, with_name, with_names, AreCodes, AreDistinct, Declared, declared_symbols, kind_in, is_some_constant, MatchesKinds, symbols_declared_by, symbols_from, symbols_of, has_name-append, symbols_of-later, symbols-distinct, was_symbol-either, AreBelow, Storage, is_declared, AreStored, names_in, statements_of}
+use Rattle.frame.proofs.Words.{list_all, sym, ◌∙◌, ap, subst, arith, take-append-drop, ◌≡◌, ℕ, Bool, true, false, cond, ◌||◌, nat_lt, List, [], ◌∷◌, ◌++◌, length, take, drop, refl, take-append_seam, and_parts, or_parts, or-false, Name, name_eq, has_name, Stmt, Const, Database, constants, variables, was_symbol, was_variable, with_name, with_names, AreCodes, AreDistinct, Declared, declared_symbols, kind_in, is_some_constant, MatchesKinds, symbols_declared_by, symbols_from, symbols_of, has_name-append, symbols_of-later, symbols-distinct, was_symbol-either, AreBelow, Storage, is_kind_of_symbol, AreStored, names_in, statements_of}
 use Rattle.mm_read.specs.declared.stmt.Stmt.TheVariants.{Var}
 
 -- the names of a storage are distinct
@@ -41,10 +41,10 @@ never-named names (s ∷ S) x h k =
     never-named (with_names names (symbols_declared_by s)) S x (with-unnamed names (symbols_declared_by s) x h (by-unnamed s x p.0)) p.1
 
 -- a symbol was declared exactly if its kind is that of a declared symbol
-was-declared : (S : Database) (names : Declared) (x : Name) → MatchesKinds S names → was_symbol S x ≡ is_declared (kind_in names x)
+was-declared : (S : Database) (names : Declared) (x : Name) → MatchesKinds S names → was_symbol S x ≡ is_kind_of_symbol (kind_in names x)
 was-declared S names x told =
     was_symbol-either S x ∙ (ap (λ b. b || was_variable S x) (told x).constant ∙ ap (λ b. is_some_constant (kind_in names x) || b) (told x).variable)
 
 -- a name that is no declared symbol has no number among the symbols
-pub no-number : (S : Database) (names : Declared) (x : Name) → MatchesKinds S names → declared_symbols names ≡ symbols_of S → is_declared (kind_in names x) ≡ false → has_name x (declared_symbols names) ≡ false
+pub no-number : (S : Database) (names : Declared) (x : Name) → MatchesKinds S names → declared_symbols names ≡ symbols_of S → is_kind_of_symbol (kind_in names x) ≡ false → has_name x (declared_symbols names) ≡ false
 no-number S names x told same h = ap (has_name x) same ∙ never-named [] S x refl (was-declared S names x told ∙ h)

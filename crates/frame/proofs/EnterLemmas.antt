@@ -1,5 +1,5 @@
 -- A statement is entered: the new entry has its meaning, and the storage has its parts.
-use Rattle.frame.proofs.Words.{sym, ◌∙◌, ap, subst, arith, length-append, inl, inr, ◌≡◌, ℕ, List, [], ◌∷◌, ◌++◌, length, take, slice_get, Option, Some, true, refl, ◌+◌, ◌<◌, ◌⊎◌, map, length-map, take-append-le, map_push, same_Some, take-append_seam, name_at-last, Name, Stmt, Database, bare, label_of, expr_of, is_assertion, is_essential, stays_open, declared_with, IsRecordedBy, IsLegal, name_at, decode, with_names, symbols_declared_by, symbols_in, symbols_of, symbols_after, labels_of, prepend_option, AreNumbers, AreVariableNumbers, AreRecorded, IsNumberingOf, numbering-after, recorded-after, symbols_of-append, labels_of-append, AreBelow, Assertion, Entry, entry_by, Kind, Ess, Storage, names_in, labels_in, stmt_by, stmt_of, statements_of, option_position, ReadsAs, replaced_by, last_declarations_of, positions_from, AreAllLegal, AreStored, IsKeptOf, AreKept, floats_in, kept_with, has_parts, IsKeptAs, is_label_kind, kind_of, IsLabelBelow, HasTwo, HasMoreNames, HasRoom, with_declared, AreNumbered, with_entry, KeepsCounts, LastActive, LastDeclarations, last_active_of, naming_of, get-last, Extends, get-push, extends-length, bare-same, symbols_declared_by-bare, declared_with-bare, legal-bare, EntryHeader, IsEntryHeader}
+use Rattle.frame.proofs.Words.{sym, ◌∙◌, ap, subst, arith, length-append, inl, inr, ◌≡◌, ℕ, List, [], ◌∷◌, ◌++◌, length, take, slice_get, Option, Some, true, refl, ◌+◌, ◌<◌, ◌⊎◌, map, length-map, take-append-le, map_push, same_Some, take-append_seam, name_at-last, Name, Stmt, Database, bare, label_of, expr_of, is_assertion, is_essential, stays_open, declared_with, IsRecordedBy, IsLegal, name_at, decode, with_names, symbols_declared_by, symbols_in, symbols_of, symbols_after, labels_of, prepend_option, AreNumbers, AreVariableNumbers, AreRecorded, IsNumberingOf, numbering-after, recorded-after, symbols_of-append, labels_of-append, AreBelow, Assertion, Entry, entry_by, Kind, Ess, Storage, names_in, labels_in, stmt_by, stmt_of, statements_of, option_position, AreGivenBy, replaced_by, last_declarations_of, positions_from, AreAllLegal, AreStored, IsKeptOf, AreKept, floats_in, kept_with, has_parts, IsKeptAs, is_labelled_kind, kind_of, IsLabelBelow, HasTwoSymbolsIfFloat, HasMoreNames, HasRoom, with_declared, AreNumbered, with_entry, KeepsCounts, LastActive, LastDeclarations, last_active_of, naming_of, get-last, Extends, get-push, extends-length, bare-same, symbols_declared_by-bare, declared_with-bare, legal-bare, EntryHeader, IsEntryHeader}
 use Rattle.frame.proofs.DeclaredSymbolLemmas.{codes-below}
 use Rattle.frame.proofs.NamingLemmas.{stored-naming, naming_of-append, symbols-extend}
 use Rattle.frame.proofs.StoredOneMore.{still-reads, numbered-at, statements-more, stmt-more, numbered-push, positions_from-push, legal-push, stays-push}
@@ -20,11 +20,11 @@ stands-for s labels = refl
 label-below : (s : Stmt) (labels : List Name) → IsLabelBelow (kind_of s) (length labels) (length (labels ++ prepend_option (label_of s) []))
 label-below s labels = λ k. let n = length-append labels (prepend_option (label_of s) []) in omega (arith, n, has-label s k)
   where
-    has-label : (t : Stmt) → is_label_kind (kind_of t) ≡ true → length (prepend_option (label_of t) []) ≡ 1
+    has-label : (t : Stmt) → is_labelled_kind (kind_of t) ≡ true → length (prepend_option (label_of t) []) ≡ 1
     has-label (stmt.Float label constant variable) h = refl
     has-label t h = cc
 
-has-two : (s : Stmt) (names : List Name) (codes : List ℕ) → decode names codes ≡ symbols_in s → HasTwo (kind_of s) codes
+has-two : (s : Stmt) (names : List Name) (codes : List ℕ) → decode names codes ≡ symbols_in s → HasTwoSymbolsIfFloat (kind_of s) codes
 has-two (stmt.Float label constant variable) names codes stand = sym (length-map codes (name_at names)) ∙ ap length stand
 has-two s names codes stand = tt
 
@@ -87,8 +87,8 @@ module _ (old new : Storage) (s : Stmt) (h : EntryHeader) (before after : Option
   pub entered-label : IsLabelBelow h.kind h.before.label_count (length (labels_in new))
   entered-label = rw (kind, e.header.label, labels) (label-below s (labels_in old))
 
-  pub entered-two : HasTwo h.kind codes
-  entered-two = subst (λ q. HasTwo q codes) (sym kind) (has-two s (names_in new) codes numbers.1)
+  pub entered-two : HasTwoSymbolsIfFloat h.kind codes
+  entered-two = subst (λ q. HasTwoSymbolsIfFloat q codes) (sym kind) (has-two s (names_in new) codes numbers.1)
 
 pub not-essential : (s : Stmt) → is_assertion s ≡ true → is_essential s ≡ true → ⊥
 not-essential (stmt.Ess label expr) a e = cc
@@ -120,7 +120,7 @@ pub record IsExtended (old new : Storage) (s : Stmt) (h : EntryHeader) (a : Asse
   pub kept : has_parts h.kind ≡ true → IsKeptOf old (bare s) a
   pub of_kind : kind ≡ h.kind
   pub place : at ≡ length old.entries + 1
-  pub recorded : (x : ℕ → LastDeclarations) → ReadsAs new.symbols.items x → replaced ≡ new.replaced.items ++ replaced_by x kind codes
+  pub recorded : (x : ℕ → LastDeclarations) → AreGivenBy new.symbols.items x → replaced ≡ new.replaced.items ++ replaced_by x kind codes
   pub each : (c : ℕ) (x : LastDeclarations) → slice_get new.symbols.items c ≡ Some x → slice_get symbols c ≡ Some (with_declared kind codes at c x)
   pub count : length symbols ≡ length new.symbols.items
   pub pushed : entries ≡ new.entries ++ entry_by h codes a ∷ []
@@ -179,7 +179,7 @@ module _ {old new : Storage} {s : Stmt} {h : EntryHeader} {a : Assertion} {codes
       by (inr q) = ap (λ w. w.last_active) (sym q.1) ∙ (x.header.last_active ∙ (x.stored.kept.last ∙ ap last_active_of (sym (late i q.0))))
 
   -- the symbols as before, followed by symbols that nothing declares
-  between : ReadsAs new.symbols.items (last_declarations_of old.entries)
+  between : AreGivenBy new.symbols.items (last_declarations_of old.entries)
   between = still-reads (names_in old) (labels_in old) old.positions.items old.symbols.items old.replaced.items old.entries old.last_active new.symbols.items x.stored.kept p.grown.symbols
 
   -- each symbol has its last declarations, with those of the new statement

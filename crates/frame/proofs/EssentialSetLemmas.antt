@@ -1,5 +1,5 @@
 -- The sets of the hypotheses that the active `$e` bring along: read at a position, kept for the next statement, and truncated.
-use Rattle.frame.proofs.Words.{◌≡◌, ◌∙◌, ap, sym, subst, arith, refl, inl, inr, ⊎_elim, ⊎_map, ℕ, zero, suc, ◌+◌, ◌-◌, ◌<◌, ◌≤◌, ◌⊎◌, true, false, cond, List, [], ◌∷◌, ◌++◌, length, length-take, length-take-le, map, map-append, take, take-take, take_all, take-append-le, nat_lt, slice_get, Option, Some, None, take-get, get-push, slice_get_within, Database, Entry, Stmt, LastActive, Ess, actives, last_active_of, is_essential, is_close, stmt_of, names_in, labels_in, statements_of, AreStored, Storage, Extends, extends-length, extends-take, In, Ascends, AreThose, HasMore, OfSome, IsFromEssentials, IsWith, kept_at, option_kept, set_at, with_position, cond_both, max, nat_tests, ascends-with, set_at-extends, KeptSet, EssentialSets, AreAmong, index_of, item_by, option_set, kept_set, IsSetFromEssentials, IsKeptSet, AreEssentialSets}
+use Rattle.frame.proofs.Words.{◌≡◌, ◌∙◌, ap, sym, subst, arith, refl, inl, inr, ⊎_elim, ⊎_map, ℕ, zero, suc, ◌+◌, ◌-◌, ◌<◌, ◌≤◌, ◌⊎◌, true, false, cond, List, [], ◌∷◌, ◌++◌, length, length-take, length-take-le, map, map-append, take, take-take, take_all, take-append-le, nat_lt, slice_get, Option, Some, None, take-get, get-push, slice_get_within, Database, Entry, Stmt, LastActive, Ess, actives, last_active_of, is_essential, is_close, stmt_of, names_in, labels_in, statements_of, AreStored, Storage, Extends, extends-length, extends-take, In, Ascends, ListsExactly, HasMore, HoldsForSome, IsFromEssentials, IsKeptWith, kept_at, option_kept, set_at, with_position, cond_both, max, nat_tests, ascends-with, set_at-extends, KeptSet, EssentialSets, AreAmong, index_of, item_by, option_set, kept_set, IsSetFromEssentials, IsKeptSet, AreEssentialSets}
 use Rattle.frame.proofs.SparseLemmas.{item-found}
 use Rattle.frame.proofs.BlockWalkLemmas.{get-take, take-one}
 use Rattle.frame.proofs.CollectLemmas.{last-in, last-out, those-by}
@@ -59,7 +59,7 @@ pub given-at : (k : Storage) (g : EssentialSets) (at q : ℕ) (l : LastActive) �
 given-at k g at zero l stored sets low high last_active is some = absurd (some refl)
 given-at k g at (suc i) l stored sets low high last_active is some = by (item_by index_of g.kept i) refl some
   where
-    by : (o : Option KeptSet) → item_by index_of g.kept i ≡ o → (kept_set g.kept (suc i) ≡ 0 → ⊥) → AreThose (IsFromEssentials k.entries (take (at - 1) (statements_of k))) (set_at g.sets (kept_set g.kept (suc i)))
+    by : (o : Option KeptSet) → item_by index_of g.kept i ≡ o → (kept_set g.kept (suc i) ≡ 0 → ⊥) → ListsExactly (IsFromEssentials k.entries (take (at - 1) (statements_of k))) (set_at g.sets (kept_set g.kept (suc i)))
     by None e some = absurd (some (ap option_set e))
     by (Some x) e some =
         let S = statements_of k in
@@ -70,15 +70,15 @@ given-at k g at (suc i) l stored sets low high last_active is some = by (item_by
         let list : actives is_essential (take m S) ≡ actives is_essential (take (at - 1) S) = ap (λ n. actives is_essential (take n S)) (ap suc item.index ∙ is) ∙ f.same in
         let those = (sets.each item.place x item.got).given (λ z. some (same ∙ z)) in
         let there : (p : ℕ) → IsFromEssentials (take m k.entries) (take m S) p → IsFromEssentials k.entries (take (at - 1) S) p
-        = λ p h. subst (λ ps. OfSome (IsWith k.entries) (map (λ r. r.0) ps) p) list (given-back k.entries m m S (omega arith) p h) in
+        = λ p h. subst (λ ps. HoldsForSome (IsKeptWith k.entries) (map (λ r. r.0) ps) p) list (given-back k.entries m m S (omega arith) p h) in
         let back : (p : ℕ) → IsFromEssentials k.entries (take (at - 1) S) p → IsFromEssentials (take m k.entries) (take m S) p
-        = λ p h. given-forth k.entries m m S (omega arith) p (subst (λ ps. OfSome (IsWith k.entries) (map (λ r. r.0) ps) p) (sym list) h) in
-        subst (λ n. AreThose (IsFromEssentials k.entries (take (at - 1) S)) (set_at g.sets n)) (sym same) (those-by those there back)
+        = λ p h. given-forth k.entries m m S (omega arith) p (subst (λ ps. HoldsForSome (IsKeptWith k.entries) (map (λ r. r.0) ps) p) (sym list) h) in
+        subst (λ n. ListsExactly (IsFromEssentials k.entries (take (at - 1) S)) (set_at g.sets n)) (sym same) (those-by those there back)
 
 -- ---- the next `$e` brings along the hypotheses of the last active one, itself, and the `$f` of its own variables
 
 pub given-next : (k : Storage) (last : ℕ) (e : Entry) (xs new : List ℕ) → length k.entries ≡ suc last → slice_get k.entries last ≡ Some e → e.kind ≡ Ess
-    → AreThose (IsFromEssentials k.entries (take last (statements_of k))) xs → Ascends new → HasMore (λ p. (p ≡ suc last) ⊎ In p e.assertion.hypotheses) xs new → AreThose (IsFromEssentials k.entries (statements_of k)) new
+    → ListsExactly (IsFromEssentials k.entries (take last (statements_of k))) xs → Ascends new → HasMore (λ p. (p ≡ suc last) ⊎ In p e.assertion.hypotheses) xs new → ListsExactly (IsFromEssentials k.entries (statements_of k)) new
 given-next k last e xs new size got kind those ascends more =
     let S = statements_of k in
     let s = stmt_of (names_in k) (labels_in k) e in
@@ -91,8 +91,8 @@ given-next k last e xs new size got kind those ascends more =
     let before = map (λ (r : ℕ × Stmt). r.0) (actives is_essential (take last S)) in
     let places : map (λ (r : ℕ × Stmt). r.0) (actives is_essential S) ≡ before ++ suc last ∷ [] = ap (map (λ (r : ℕ × Stmt). r.0)) list ∙ map-append (λ (r : ℕ × Stmt). r.0) (actives is_essential (take last S)) ((suc last, s) ∷ []) in
     let own : kept_at k.entries (suc last) ≡ e.assertion.hypotheses = ap (λ n. option_kept (slice_get k.entries n)) (omega arith) ∙ ap option_kept got in
-    let among : (p : ℕ) → IsFromEssentials k.entries S p → OfSome (IsWith k.entries) (before ++ suc last ∷ []) p = λ p h. subst (λ ps. OfSome (IsWith k.entries) ps p) places h in
-    let joined : (p : ℕ) → OfSome (IsWith k.entries) (before ++ suc last ∷ []) p → IsFromEssentials k.entries S p = λ p h. subst (λ ps. OfSome (IsWith k.entries) ps p) (sym places) h in
+    let among : (p : ℕ) → IsFromEssentials k.entries S p → HoldsForSome (IsKeptWith k.entries) (before ++ suc last ∷ []) p = λ p h. subst (λ ps. HoldsForSome (IsKeptWith k.entries) ps p) places h in
+    let joined : (p : ℕ) → HoldsForSome (IsKeptWith k.entries) (before ++ suc last ∷ []) p → IsFromEssentials k.entries S p = λ p h. subst (λ ps. HoldsForSome (IsKeptWith k.entries) ps p) (sym places) h in
     record {
       ascends = ascends;
       all = λ p h. let a = among p h in
@@ -130,18 +130,18 @@ kept-ascends g es S (suc i) are some = by (item_by index_of g.kept i) refl some
 -- the set of the next `$e` is that of the last active one, with the `$f` of its own variables and itself
 pub set-next : (k : Storage) (g : EssentialSets) (n : ℕ) (e : Entry) (mid new : List (List ℕ)) (set made : ℕ) → AreStored k → AreEssentialSets g k.entries (statements_of k) → n ≡ length k.entries → slice_get k.entries (n - 1) ≡ Some e → e.kind ≡ Ess
     → (kept_set g.kept e.last_active.essential ≡ 0 → ⊥) → Ascends (set_at mid set) → HasMore (λ p. In p e.assertion.hypotheses) (set_at g.sets (kept_set g.kept e.last_active.essential)) (set_at mid set) → set_at new made ≡ with_position (n - 1 + 1) (set_at mid set)
-    → AreThose (IsFromEssentials k.entries (statements_of k)) (set_at new made)
+    → ListsExactly (IsFromEssentials k.entries (statements_of k)) (set_at new made)
 set-next k g n e mid new set made stored sets size got kind some ascends more is =
     let S = statements_of k in
     let low = slice_get_within k.entries (n - 1) e got in
     let last = n - 1 in
     let long : length k.entries ≡ suc last = omega arith in
     let before = given-at k g (suc last) e.last_active.essential e.last_active stored sets (omega arith) (omega (arith, as-many k)) (stored.kept.linked last e got ∙ ap (λ m. last_active_of (take m S)) (omega arith)) refl some in
-    let those : AreThose (IsFromEssentials k.entries (take last S)) (set_at g.sets (kept_set g.kept e.last_active.essential)) =
-    subst (λ m. AreThose (IsFromEssentials k.entries (take m S)) (set_at g.sets (kept_set g.kept e.last_active.essential))) (omega arith) before in
+    let those : ListsExactly (IsFromEssentials k.entries (take last S)) (set_at g.sets (kept_set g.kept e.last_active.essential)) =
+    subst (λ m. ListsExactly (IsFromEssentials k.entries (take m S)) (set_at g.sets (kept_set g.kept e.last_active.essential))) (omega arith) before in
     let q = last + 1 in
     let same : q ≡ suc last = omega arith in
-    subst (AreThose (IsFromEssentials k.entries S)) (sym is)
+    subst (ListsExactly (IsFromEssentials k.entries S)) (sym is)
     (given-next k last e (set_at g.sets (kept_set g.kept e.last_active.essential)) (with_position q (set_at mid set)) long got kind those (ascends-with q (set_at mid set) ascends)
     (record {
       stays = λ p i. with-in p q (set_at mid set) (inr (more.stays p i));
@@ -212,7 +212,7 @@ sets-cut g h es S n c first are here sets kept among =
     k.earlier j y less ((take-get c j g.kept y (ap (λ v. slice_get v j) (sym kept) ∙ got)).1) in
     let set = set_at-extends h.sets g.sets x.set front (let a = e.1 in omega arith) in
     let given : IsSetFromEssentials (take (suc x.index) (take n es)) (take (suc x.index) (take n S)) h.sets x.set
-    = rw (take-take (suc x.index) n es (omega arith), take-take (suc x.index) n S (omega arith)) (λ z. subst (AreThose (IsFromEssentials (take (suc x.index) es) (take (suc x.index) S))) set (k.given z)) in
+    = rw (take-take (suc x.index) n es (omega arith), take-take (suc x.index) n S (omega arith)) (λ z. subst (ListsExactly (IsFromEssentials (take (suc x.index) es) (take (suc x.index) S))) set (k.given z)) in
     record { some = k.some; before = (let a = e.0 in omega arith); within = (let a = e.1 in omega arith); among = omega (arith, low, all, length-take n es); earlier = earlier; given = given } in
     record { some = omega arith; each = each }
 
@@ -226,7 +226,7 @@ wider g h es S i x more k old = record {
   within = (let wider = extends-length g.sets h.sets more in let w = k.within in omega arith);
   among = k.among;
   earlier = λ j y less got. k.earlier j y less (old j y less got);
-  given = λ z. subst (AreThose (IsFromEssentials (take (suc x.index) es) (take (suc x.index) S))) (sym (set_at-extends g.sets h.sets x.set more k.within)) (k.given z);
+  given = λ z. subst (ListsExactly (IsFromEssentials (take (suc x.index) es) (take (suc x.index) S))) (sym (set_at-extends g.sets h.sets x.set more k.within)) (k.given z);
 }
 
 -- no set is kept with the next statement

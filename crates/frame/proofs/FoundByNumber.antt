@@ -1,5 +1,5 @@
 -- Distinct names, and statements by their kinds.
-use Rattle.frame.proofs.Words.{◌&&◌, is_float_kind, second_is, sym, ◌∙◌, ap, subst, arith, take-take, ◌≡◌, ℕ, zero, suc, ◌-◌, ◌<◌, true, List, [], ◌∷◌, length, map, take, slice_get, Option, Some, option_map, refl, same_Some, slice_get-map, Name, Stmt, Database, expr_of, is_assertion, IsLegal, name_at, decode, AreDistinct, is_hypothesis, AreBelow, typecode_of, IsTypecode, IsStatementOf, Kind, Float, Ess, Axiom, Prove, Entry, stmt_by, AreNumbered, HasTwo, is_typed_by, hypothesis_by, take-get, code-at}
+use Rattle.frame.proofs.Words.{◌&&◌, is_float_kind, second_is, sym, ◌∙◌, ap, subst, arith, take-take, ◌≡◌, ℕ, zero, suc, ◌-◌, ◌<◌, true, List, [], ◌∷◌, length, map, take, slice_get, Option, Some, option_map, refl, same_Some, slice_get-map, Name, Stmt, Database, expr_of, is_assertion, IsLegal, name_at, decode, AreDistinct, is_hypothesis, AreBelow, typecode_of, IsTypecode, IsStatementOf, Kind, Float, Ess, Axiom, Prove, Entry, stmt_by, AreNumbered, HasTwoSymbolsIfFloat, is_typed_by, hypothesis_by, take-get, code-at}
 use Rattle.frame.proofs.LegalLabels.{AllKept}
 
 -- ---- lists
@@ -42,15 +42,15 @@ decode-injective names (x ∷ a) (y ∷ b) d p q e =
 -- ---- statements by their kinds
 
 -- a hypothesis is the `$f` of c exactly if it is a `$f` and its second symbol is c
-pub code-floats : (c p : ℕ) (kind : Kind) (codes : List ℕ) → HasTwo kind codes → is_typed_by c (hypothesis_by p kind codes) ≡ (is_float_kind kind && second_is c codes)
+pub code-floats : (c p : ℕ) (kind : Kind) (codes : List ℕ) → HasTwoSymbolsIfFloat kind codes → is_typed_by c (hypothesis_by p kind codes) ≡ (is_float_kind kind && second_is c codes)
 code-floats c p Float [] two = absurd (omega (arith, two))
 code-floats c p Float (x ∷ []) two = absurd (omega (arith, two))
 code-floats c p Float (x ∷ y ∷ codes) two = refl
 code-floats c p kind codes two = refl
 
-pub numbered-at : (n m : ℕ) (es : List Entry) (k : ℕ) (e : Entry) → AreNumbered n m es → slice_get es k ≡ Some e → AreBelow n e.symbols × HasTwo e.kind e.symbols
+pub numbered-at : (n m : ℕ) (es : List Entry) (k : ℕ) (e : Entry) → AreNumbered n m es → slice_get es k ≡ Some e → AreBelow n e.symbols × HasTwoSymbolsIfFloat e.kind e.symbols
 numbered-at n m [] k e a h = cc
-numbered-at n m (x ∷ es) zero e a h = let same : x ≡ e = cc in subst (λ v. AreBelow n v.symbols × HasTwo v.kind v.symbols) same (a.0, a.3)
+numbered-at n m (x ∷ es) zero e a h = let same : x ≡ e = cc in subst (λ v. AreBelow n v.symbols × HasTwoSymbolsIfFloat v.kind v.symbols) same (a.0, a.3)
 numbered-at n m (x ∷ es) (suc k) e a h = numbered-at n m es k e a.2 h
 
 pub own-expr : (names : List Name) (kind : Kind) (label : Name) (codes : List ℕ) → is_assertion (stmt_by kind label (decode names codes)) ≡ true → expr_of (stmt_by kind label (decode names codes)) ≡ decode names codes
@@ -59,7 +59,7 @@ own-expr names Prove label codes h = refl
 own-expr names kind label codes h = cc
 
 -- a hypothesis is described by its typecode and its number
-pub required-kind : (names : List Name) (kind : Kind) (label : Name) (codes : List ℕ) (p : ℕ) (S : Database) (s : Stmt) → AreBelow (length names) codes → HasTwo kind codes
+pub required-kind : (names : List Name) (kind : Kind) (label : Name) (codes : List ℕ) (p : ℕ) (S : Database) (s : Stmt) → AreBelow (length names) codes → HasTwoSymbolsIfFloat kind codes
     → is_hypothesis S s (stmt_by kind label (decode names codes)) ≡ true
     → IsTypecode names (typecode_of codes) (expr_of (stmt_by kind label (decode names codes))) × IsStatementOf names p (stmt_by kind label (decode names codes)) (hypothesis_by p kind codes)
 required-kind names Float label [] p S s b two h = absurd (omega (arith, two))

@@ -1,5 +1,5 @@
 -- The groups of a frame have exactly the mandatory pairs.
-use Rattle.frame.proofs.Words.{list_any, sym, ◌∙◌, ap, arith, ◌≡◌, Bool, true, false, not, ◌&&◌, ◌||◌, List, [], ◌∷◌, map, filter, refl, and_comm, or-false, and_parts, both_ways, Name, name_eq, has_name, name_same, same_name, groups, has_two_or_more, is_mandatory, any-filter_same, GroupsArePairs}
+use Rattle.frame.proofs.Words.{list_any, sym, ◌∙◌, ap, arith, ◌≡◌, Bool, true, false, not, ◌&&◌, ◌||◌, List, [], ◌∷◌, map, filter, refl, and_comm, or-false, and_parts, both_ways, Name, name_eq, has_name, name_same, same_name, active_disjoint_lists, has_two_or_more, is_mandatory, any-filter_same, GroupsHaveMandatoryPairs}
 
 -- a name is in the filtered list exactly if it is in the list and passes
 pub has-filter : (m : Name → Bool) (x : Name) (l : List Name) → has_name x (filter m l) ≡ (has_name x l && m x)
@@ -24,13 +24,13 @@ any-map m x y (l ∷ ls) = rw (has-filter m x l, has-filter m y l, any-map m x y
     shuffle : (a b c d r : Bool) → (((a && c) && (b && d)) || ((r && c) && d)) ≡ ((((a && b) || r) && c) && d)
     shuffle a b c d r = grind arith
 
-pub groups-pairs : GroupsArePairs
+pub groups-pairs : GroupsHaveMandatoryPairs
 groups-pairs S s x y = by (name_eq x y) refl
   where
     m : Name → Bool
     m = is_mandatory S s
 
-    by : (e : Bool) → name_eq x y ≡ e → (not e && list_any (both x y) (filter has_two_or_more (map (filter m) (groups S)))) ≡ ((not e && list_any (both x y) (groups S)) && m x && m y)
+    by : (e : Bool) → name_eq x y ≡ e → (not e && list_any (both x y) (filter has_two_or_more (map (filter m) (active_disjoint_lists S)))) ≡ ((not e && list_any (both x y) (active_disjoint_lists S)) && m x && m y)
     by true e = refl
     -- both names can only be in a list of two or more, so the other lists can be dropped
-    by false e = any-filter_same (both x y) has_two_or_more true (λ l h. both-separates x y l e h) (map (filter m) (groups S)) ∙ any-map m x y (groups S)
+    by false e = any-filter_same (both x y) has_two_or_more true (λ l h. both-separates x y l e h) (map (filter m) (active_disjoint_lists S)) ∙ any-map m x y (active_disjoint_lists S)

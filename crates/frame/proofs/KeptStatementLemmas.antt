@@ -1,5 +1,5 @@
 -- The parts that are kept with an assertion describe it.
-use Rattle.frame.proofs.Words.{In, floats, is_typed_by, list_any, list_any-map, sym, ◌∙◌, ap, subst, arith, append_assoc, length-append, ◌≡◌, ℕ, suc, ◌+◌, ◌-◌, ◌<◌, ◌≤◌, Bool, true, false, cond, List, [], ◌∷◌, ◌++◌, length, map, filter, slice_get, Option, Some, None, refl, Name, Stmt, Database, stmt_at, before, stays_open, active_from, expr_of, disjoint_names, is_assertion, IsLegal, name_at, decode, AreDistinct, is_mandatory, is_hypothesis, hypotheses, has_two_or_more, AreBelow, AllBelow, typecode_of, IsTypecode, IsStatementOf, IsNumberedHypothesis, AreNumberedHypotheses, AreListsOf, IsViewOf, AssertionView, Kind, Disj, Entry, Assertion, actives, actives_from, is_disj, stmt_by, stmt_of, AreAllLegal, AreNumbered, HasTwo, is_typed, typed, symbols_at, option_symbols, has_two, groups_by, typecode_at, hypothesis_by, entry_hypothesis, hypothesis_at, kept_with, IsKeptAs, take-get, Hypothesis}
+use Rattle.frame.proofs.Words.{In, is_float_with, is_typed_by, list_any, list_any-map, sym, ◌∙◌, ap, subst, arith, append_assoc, length-append, ◌≡◌, ℕ, suc, ◌+◌, ◌-◌, ◌<◌, ◌≤◌, Bool, true, false, cond, List, [], ◌∷◌, ◌++◌, length, map, filter, slice_get, Option, Some, None, refl, Name, Stmt, Database, stmt_at, before, stays_open, active_from, expr_of, disjoint_names, is_assertion, IsLegal, name_at, decode, AreDistinct, is_mandatory, is_hypothesis, hypotheses, has_two_or_more, AreBelow, AllBelow, typecode_of, IsTypecode, IsStatementOf, IsNumberedHypothesis, AreNumberedHypotheses, AreListsOf, IsViewOf, AssertionView, Kind, Disj, Entry, Assertion, actives, actives_from, is_disj, stmt_by, stmt_of, AreAllLegal, AreNumbered, HasTwoSymbolsIfFloat, is_typed, typed, symbols_at, option_symbols, has_two_or_more_items, groups_by, typecode_at, hypothesis_by, entry_hypothesis, hypothesis_at, kept_with, IsKeptAs, take-get, Hypothesis}
 use Rattle.frame.proofs.LegalAfter.{stands-at}
 use Rattle.frame.proofs.LegalLabels.{AllKept}
 use Rattle.frame.proofs.VariablePlaceLemmas.{any-in, in-any, mandatory-float}
@@ -44,7 +44,7 @@ module _ (es : List Entry) (names labels : List Name) (m a : ℕ) (e : Entry) (d
     pub found : slice_get es (p - 1) ≡ Some entry
     pub same : t ≡ stmt_of names labels entry
     pub codes : AreBelow (length names) entry.symbols
-    pub two : HasTwo entry.kind entry.symbols
+    pub two : HasTwoSymbolsIfFloat entry.kind entry.symbols
 
   entry-at : (p : ℕ) (A : Database) (t : Stmt) (T : Database) → front_of ≡ A ++ t ∷ T → p ≡ suc (length A) → IsEntryAt p A t
   entry-at p A t T whole at =
@@ -100,7 +100,7 @@ module _ (es : List Entry) (names labels : List Name) (m a : ℕ) (e : Entry) (d
           let r = any-in (λ p. is_typed_by c (hypothesis_at es p)) d.hypotheses h in
           let a = active-members front_of (is_hypothesis front_of own) r.0 [] front_of 1 refl refl (subst (In r.0) hyps-are r.1) in
           let x = entry-at r.0 a.front a.stmt a.rest a.whole a.at in
-          let passes : floats c x.entry ≡ true = sym (code-floats c r.0 x.entry.kind x.entry.symbols x.two) ∙ (ap (λ o. is_typed_by c (entry_hypothesis r.0 o)) (sym x.found) ∙ r.2) in
+          let passes : is_float_with c x.entry ≡ true = sym (code-floats c r.0 x.entry.kind x.entry.symbols x.two) ∙ (ap (λ o. is_typed_by c (entry_hypothesis r.0 o)) (sym x.found) ∙ r.2) in
           let y = floats-is names c x.entry (name_at labels x.entry.label_count) passes in
           ap (is_hypothesis front_of own) (sym (x.same ∙ y.1)) ∙ a.passes
 
@@ -121,7 +121,7 @@ module _ (es : List Entry) (names labels : List Name) (m a : ℕ) (e : Entry) (d
       by true more = ap (λ r. name_at names c ∷ r) more
       by false more = more
 
-  with-group : (L : List ℕ) (G : List (List ℕ)) → map (decode names) (cond (has_two L) (L ∷ G) G) ≡ cond (has_two_or_more (decode names L)) (decode names L ∷ map (decode names) G) (map (decode names) G)
+  with-group : (L : List ℕ) (G : List (List ℕ)) → map (decode names) (cond (has_two_or_more_items L) (L ∷ G) G) ≡ cond (has_two_or_more (decode names L)) (decode names L ∷ map (decode names) G) (map (decode names) G)
   with-group (x ∷ y ∷ xs) G = refl
   with-group xs G = refl
 
@@ -171,7 +171,7 @@ module _ (es : List Entry) (names labels : List Name) (m a : ℕ) (e : Entry) (d
 
   groups-low : (qs : List (ℕ × Stmt)) → AllBelow (length names) (groups_by places (map (λ q. symbols_at es q.0) qs))
   groups-low [] = tt
-  groups-low (q ∷ qs) = by (has_two (typed places (symbols_at es q.0))) (groups-low qs)
+  groups-low (q ∷ qs) = by (has_two_or_more_items (typed places (symbols_at es q.0))) (groups-low qs)
     where
       by : (t : Bool) → AllBelow (length names) (groups_by places (map (λ r. symbols_at es r.0) qs))
           → AllBelow (length names) (cond t (typed places (symbols_at es q.0) ∷ groups_by places (map (λ r. symbols_at es r.0) qs)) (groups_by places (map (λ r. symbols_at es r.0) qs)))

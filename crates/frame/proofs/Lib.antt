@@ -29,7 +29,7 @@ pub mod VariablePlaceLemmas
 pub mod FoundByNumber
 pub mod PlacedHypotheses
 pub mod KeptStatementLemmas
-pub mod BoundLemmas
+pub mod WellTypedLemmas
 pub mod BufferedHypotheses
 pub mod SparseLemmas
 pub mod EssentialSetLemmas

@@ -11,7 +11,7 @@ use Rattle.entries.specs.declared.assertion_view.Hypothesis.TheVariants as hypot
 use Rattle.frame.specs.LongEssentials.{is_long_with, is_one_long_with, long_essentials, HasConstants}
 use Rattle.frame.specs.declared.stored_entries.TheConstants.{LONG_EXPRESSION}
 use Rattle.frame.specs.Stored.AssertionParts.{floats_in, is_float_in}
-use Rattle.frame.specs.Stored.EntryMeanings.{floats}
+use Rattle.frame.specs.Stored.EntryMeanings.{is_float_with}
 use Rattle.frame.proofs.ActivePositions.{active-members}
 use Rattle.frame.proofs.AssertionViewLemmas.{is-there}
 use Rattle.frame.proofs.BackLemmas.{by-codes}
@@ -137,7 +137,7 @@ module _ (k : Storage) (stored : AreStored k) where
       let b = map-back (stmt_of N (labels_in k)) k.entries (length a.front) a.stmt (take-get i (length a.front) S a.stmt there).1 in
       let n = numbered-at (length N) (length (labels_in k)) k.entries (length a.front) b.0 stored.kept.coded b.1 in
       let found : slice_get k.entries (r.0 - 1) ≡ Some b.0 = ap (slice_get k.entries) (let at = a.at in omega (arith, at)) ∙ b.1 in
-      let passes : floats c b.0 ≡ true = sym (code-floats c r.0 b.0.kind b.0.symbols n.1) ∙ (ap (λ o. is_typed_by c (entry_hypothesis r.0 o)) (sym found) ∙ r.2) in
+      let passes : is_float_with c b.0 ≡ true = sym (code-floats c r.0 b.0.kind b.0.symbols n.1) ∙ (ap (λ o. is_typed_by c (entry_hypothesis r.0 o)) (sym found) ∙ r.2) in
       let y = floats-is N c b.0 (name_at (labels_in k) b.0.label_count) passes in
       (float-kinds T a.front (name_at (labels_in k) b.0.label_count) y.0 (name_at N c) a.rest (kept-front S i stored.kept.legal) (a.whole ∙ ap (λ t. a.front ++ t ∷ a.rest) (b.2 ∙ y.1)) a.stays).1
 

@@ -1,5 +1,5 @@
 -- Making the parts of an assertion: the steps of the loops.
-use Rattle.frame.proofs.Words.{sym, ◌∙◌, ap, subst, arith, append_assoc, append-nil, ◌≡◌, ℕ, zero, suc, ◌+◌, ◌-◌, ◌<◌, ◌≤◌, Bool, true, false, cond, List, [], ◌∷◌, ◌++◌, length, map, filter, reverse, get_or, slice_range, refl, is_typed, recorded_in, list_any, ◌==◌, filter-append, length-append, map-append, reverse-append, slice_get_within, Stmt, cut, AreSpansIn, range-behind, extends-refl, cut-more, cut-push, spans-push, Entry, typed, symbols_at, has_two, groups_by, AreHypotheses, map_push, BufferPart, Hypothesis}
+use Rattle.frame.proofs.Words.{sym, ◌∙◌, ap, subst, arith, append_assoc, append-nil, ◌≡◌, ℕ, zero, suc, ◌+◌, ◌-◌, ◌<◌, ◌≤◌, Bool, true, false, cond, List, [], ◌∷◌, ◌++◌, length, map, filter, reverse, get_or, slice_range, refl, is_typed, recorded_in, list_any, ◌==◌, filter-append, length-append, map-append, reverse-append, slice_get_within, Stmt, cut, AreSpansIn, range-behind, extends-refl, cut-more, cut-push, spans-push, Entry, typed, symbols_at, has_two_or_more_items, groups_by, AreHypotheses, map_push, BufferPart, Hypothesis}
 
 -- ---- the hypotheses, one by one
 
@@ -21,23 +21,23 @@ pub recorded-typed : (ns : List ℕ) (hs : List Hypothesis) → ((c : ℕ) → l
 recorded-typed ns hs h [] = refl
 recorded-typed ns hs h (c ∷ codes) = rw (h c, recorded-typed ns hs h codes) refl
 
-has_two-len : {A : Type 0} (xs : List A) → 1 < length xs → has_two xs ≡ true
-has_two-len [] h = absurd (omega (arith, h))
-has_two-len (x ∷ []) h = absurd (omega (arith, h))
-has_two-len (x ∷ y ∷ xs) h = refl
+has_two_or_more_items-len : {A : Type 0} (xs : List A) → 1 < length xs → has_two_or_more_items xs ≡ true
+has_two_or_more_items-len [] h = absurd (omega (arith, h))
+has_two_or_more_items-len (x ∷ []) h = absurd (omega (arith, h))
+has_two_or_more_items-len (x ∷ y ∷ xs) h = refl
 
 -- the groups found so far, in reverse order, are those of the `$d` visited
 abbrev pub AreGroups : List Entry → List Hypothesis → List (ℕ × Stmt) → List (ℕ × Stmt) → List (List ℕ) → Type 0
 AreGroups es vs all rest found = groups_by vs (map (λ q. symbols_at es q.0) all) ≡ groups_by vs (map (λ q. symbols_at es q.0) rest) ++ reverse found
 
 groups-append : (vs : List Hypothesis) (a b : List (List ℕ)) → groups_by vs (a ++ b) ≡ groups_by vs a ++ groups_by vs b
-groups-append vs a b = ap (filter has_two) (map-append (typed vs) a b) ∙ filter-append has_two (map (typed vs) a) (map (typed vs) b)
+groups-append vs a b = ap (filter has_two_or_more_items) (map-append (typed vs) a b) ∙ filter-append has_two_or_more_items (map (typed vs) a) (map (typed vs) b)
 
 pub groups-step : (es : List Entry) (vs : List Hypothesis) (all rest before : List (ℕ × Stmt)) (p : ℕ) (s : Stmt) (found : List (List ℕ)) (codes : List ℕ) → rest ≡ before ++ (p, s) ∷ [] → symbols_at es p ≡ codes
-    → AreGroups es vs all rest found → AreGroups es vs all before (cond (has_two (typed vs codes)) (found ++ typed vs codes ∷ []) found)
+    → AreGroups es vs all rest found → AreGroups es vs all before (cond (has_two_or_more_items (typed vs codes)) (found ++ typed vs codes ∷ []) found)
 groups-step es vs all rest before p s found codes e is k =
     k ∙ rw (e, map-append (λ (q : ℕ × Stmt). symbols_at es q.0) before ((p, s) ∷ []), groups-append vs (map (λ q. symbols_at es q.0) before) (symbols_at es p ∷ []), append_assoc, is)
-    (ap (λ r. groups_by vs (map (λ q. symbols_at es q.0) before) ++ r) (last (has_two (typed vs codes))))
+    (ap (λ r. groups_by vs (map (λ q. symbols_at es q.0) before) ++ r) (last (has_two_or_more_items (typed vs codes))))
   where
     last : (t : Bool) → cond t (typed vs codes ∷ []) [] ++ reverse found ≡ reverse (cond t (found ++ typed vs codes ∷ []) found)
     last true = sym (reverse-append found (typed vs codes ∷ []))
@@ -60,11 +60,11 @@ pub spans-more : (places more new : List ℕ) (a : List BufferPart) → new ≡ 
 spans-more places more new a e h = let l = length-append places more in let m = ap length e in spans-later (length places) (length new) a (omega arith) h
 
 pub group-added : (places new : List ℕ) (a b : List BufferPart) (s : BufferPart) (group : List ℕ) → new ≡ places ++ group → s.from ≡ length places → s.to ≡ length new → s.from + 1 < s.to → AreSpansIn (length places) a
-    → b ≡ a ++ s ∷ [] → (cut new b ≡ cond (has_two group) (cut places a ++ group ∷ []) (cut places a)) × AreSpansIn (length new) b
+    → b ≡ a ++ s ∷ [] → (cut new b ≡ cond (has_two_or_more_items group) (cut places a ++ group ∷ []) (cut places a)) × AreSpansIn (length new) b
 group-added places new a b s group e from to two h k =
     let l = length-append places group in
     let m = ap length e in
-    let both : has_two group ≡ true = has_two-len group (omega arith) in
+    let both : has_two_or_more_items group ≡ true = has_two_or_more_items-len group (omega arith) in
     let here : slice_range new s.from s.to ≡ group = range-behind places group new new s.from s.to from e to (extends-refl new) in
     let before : cut new a ≡ cut places a = ap (λ w. cut w a) e ∙ cut-more places group a h in (
       ap (cut new) k ∙ (cut-push new a s ∙ (ap (λ r. r ++ slice_range new s.from s.to ∷ []) before ∙ (ap (λ g. cut places a ++ g ∷ []) here

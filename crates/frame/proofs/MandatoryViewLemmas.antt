@@ -1,5 +1,5 @@
 -- The mandatory hypotheses of an assertion whose active `$e` bring along a set: this set, and the `$f` of the assertion's own variables that are not in it.
-use Rattle.frame.proofs.Words.{◌≡◌, ◌∙◌, ap, sym, subst, arith, refl, ⊎_map, ℕ, ◌-◌, ◌<◌, ◌≤◌, true, false, not, List, [], ◌∷◌, length, length-append, length-take, filter, take, Stmt, Entry, LastActive, Storage, hypotheses, is_hypothesis, is_assertion, is_float_in, expr_of, last_active_of, statements_of, Ascends, AreThose, IsFromEssentials, In, set_at, ◌^◌, has_position, EssentialSets, AreFrames, kept_set, AreMerged, with_each}
+use Rattle.frame.proofs.Words.{◌≡◌, ◌∙◌, ap, sym, subst, arith, refl, ⊎_map, ℕ, ◌-◌, ◌<◌, ◌≤◌, true, false, not, List, [], ◌∷◌, length, length-append, length-take, filter, take, Stmt, Entry, LastActive, Storage, hypotheses, is_hypothesis, is_assertion, is_float_in, expr_of, last_active_of, statements_of, Ascends, ListsExactly, IsFromEssentials, In, set_at, ◌^◌, has_position, EssentialSets, AreFrames, kept_set, AreMerged, with_each}
 use Rattle.frame.proofs.ActivePositions.{active-members, ascends-active}
 use Rattle.frame.proofs.AssertionViewLemmas.{IsThere}
 use Rattle.frame.proofs.CollectLemmas.{those-by}
@@ -20,7 +20,7 @@ module _ (k : Storage) (g : EssentialSets) (a i : ℕ) (s : Stmt) (e : Entry) (l
   abbrev set : List ℕ
   set = set_at g.sets (kept_set g.kept l.essential)
 
-  given : AreThose (IsFromEssentials k.entries (take (a - 1) (statements_of k))) set
+  given : ListsExactly (IsFromEssentials k.entries (take (a - 1) (statements_of k))) set
   given = given-at k g a l.essential l held.stored held.sets low (omega (arith, high)) is refl some
 
   abbrev all : List ℕ

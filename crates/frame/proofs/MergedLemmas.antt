@@ -1,5 +1,5 @@
 -- A set of positions merged with own positions, which are not in it: which positions there are, how many, and which one is at an index.
-use Rattle.frame.proofs.Words.{◌≡◌, ◌∙◌, ap, sym, subst, arith, refl, inl, inr, ⊎_elim, ℕ, zero, suc, ◌+◌, ◌<◌, ◌≤◌, ◌==◌, ◌||◌, ◌⊎◌, true, false, List, [], ◌∷◌, length, get_or, slice_get, Some, slice_get-get_or, ◌-◌, Result, Ok, Err, or_right, or_left, or_cases, true≢false, Bool, not, not-true, cond, ◌++◌, filter, filter-append, take, take_more, ⊎_map, In, AreThose, cases_Bool, cases_eq, cases_lt, cond_both, MatchResult, is_ok, nat_tests, slice_get_cases, AreAbove, Ascends, count_below, has_position, above-all, ascends-with, count-above, count-all, count-get, count-grows, count-less, count-with, get-count, has-above, has-get, has-with, length-with, AreMissing, with_each}
+use Rattle.frame.proofs.Words.{◌≡◌, ◌∙◌, ap, sym, subst, arith, refl, inl, inr, ⊎_elim, ℕ, zero, suc, ◌+◌, ◌<◌, ◌≤◌, ◌==◌, ◌||◌, ◌⊎◌, true, false, List, [], ◌∷◌, length, get_or, slice_get, Some, slice_get-get_or, ◌-◌, Result, Ok, Err, or_right, or_left, or_cases, true≢false, Bool, not, not-true, cond, ◌++◌, filter, filter-append, take, take_more, ⊎_map, In, ListsExactly, cases_Bool, cases_eq, cases_lt, cond_both, MatchResult, is_ok, nat_tests, slice_get_cases, AreAbove, Ascends, count_below, has_position, above-all, ascends-with, count-above, count-all, count-get, count-grows, count-less, count-with, get-count, has-above, has-get, has-with, length-with, AreMissing, with_each}
 
 pub has-each : (q : ℕ) (own xs : List ℕ) → has_position q (with_each own xs) ≡ (has_position q own || has_position q xs)
 has-each q [] xs = refl
@@ -135,7 +135,7 @@ filter-in f p [] i = i
 filter-in f p (x ∷ xs) i =
     cond_both (f x) _ _ (λ v. In p v → In p (x ∷ xs)) (λ _ j. ⊎_map (λ e. e) (λ k. filter-in f p xs k) j) (λ _ j. inr (filter-in f p xs j)) i
 
-pub merged-are : (xs own : List ℕ) → Ascends xs → AreThose (λ p. In p own ⊎ In p xs) (with_each (filter (λ p. not (has_position p xs)) own) xs)
+pub merged-are : (xs own : List ℕ) → Ascends xs → ListsExactly (λ p. In p own ⊎ In p xs) (with_each (filter (λ p. not (has_position p xs)) own) xs)
 merged-are xs own h =
     let f : ℕ → Bool = λ p. not (has_position p xs) in
     record {

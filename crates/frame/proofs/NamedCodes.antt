@@ -1,5 +1,5 @@
 -- Names of lists of numbers, and the `$f` of a number.
-use Rattle.frame.proofs.Words.{sym, ◌∙◌, ap, arith, inl, inr, ◌≡◌, ℕ, ◌<◌, Bool, true, false, ◌&&◌, ◌||◌, List, [], ◌∷◌, length, refl, bytes_eq-Decides, or_left, or_right, and_parts, Name, name_eq, has_name, name_at, decode, AreDistinct, AreBelow, Kind, Float, Entry, stmt_by, floats, second_is, is_float_kind, HasTwo, In}
+use Rattle.frame.proofs.Words.{sym, ◌∙◌, ap, arith, inl, inr, ◌≡◌, ℕ, ◌<◌, Bool, true, false, ◌&&◌, ◌||◌, List, [], ◌∷◌, length, refl, bytes_eq-Decides, or_left, or_right, and_parts, Name, name_eq, has_name, name_at, decode, AreDistinct, AreBelow, Kind, Float, Entry, stmt_by, is_float_with, second_is, is_float_kind, HasTwoSymbolsIfFloat, In}
 use Rattle.mm_read.specs.declared.stmt.Stmt.TheVariants as stmt
 use Rattle.frame.proofs.FoundByNumber.{name_at-injective}
 
@@ -31,7 +31,7 @@ code-low n c (d ∷ codes) b (inl e) = let l = b.0 in omega (arith, l, e)
 code-low n c (d ∷ codes) b (inr i) = code-low n c codes b.1 i
 
 -- an entry that is a `$f` of the number c is a `$f` of the name of c
-pub floats-is : (names : List Name) (c : ℕ) (x : Entry) (label : Name) → floats c x ≡ true → (l : Name) × (stmt_by x.kind label (decode names x.symbols) ≡ stmt.Float label l (name_at names c))
+pub floats-is : (names : List Name) (c : ℕ) (x : Entry) (label : Name) → is_float_with c x ≡ true → (l : Name) × (stmt_by x.kind label (decode names x.symbols) ≡ stmt.Float label l (name_at names c))
 floats-is names c x label h =
     let r = and_parts (is_float_kind x.kind) (second_is c x.symbols) h in
     let k = by x.kind r.0 in
@@ -46,11 +46,11 @@ floats-is names c x label h =
     second (y ∷ z ∷ codes) e = let same : c ≡ z = grind (arith, e) in ap (name_at names) (sym same)
     second codes e = cc
 
-pub is-floats : (names : List Name) (c : ℕ) (x : Entry) (label l m : Name) → AreDistinct names → AreBelow (length names) x.symbols → HasTwo x.kind x.symbols → c < length names
-    → stmt_by x.kind label (decode names x.symbols) ≡ stmt.Float m l (name_at names c) → floats c x ≡ true
+pub is-floats : (names : List Name) (c : ℕ) (x : Entry) (label l m : Name) → AreDistinct names → AreBelow (length names) x.symbols → HasTwoSymbolsIfFloat x.kind x.symbols → c < length names
+    → stmt_by x.kind label (decode names x.symbols) ≡ stmt.Float m l (name_at names c) → is_float_with c x ≡ true
 is-floats names c x label l m distinct low two small h = by x.kind x.symbols low two h
   where
-    by : (k : Kind) (codes : List ℕ) → AreBelow (length names) codes → HasTwo k codes → stmt_by k label (decode names codes) ≡ stmt.Float m l (name_at names c) → (is_float_kind k && second_is c codes) ≡ true
+    by : (k : Kind) (codes : List ℕ) → AreBelow (length names) codes → HasTwoSymbolsIfFloat k codes → stmt_by k label (decode names codes) ≡ stmt.Float m l (name_at names c) → (is_float_kind k && second_is c codes) ≡ true
     by Float (y ∷ z ∷ codes) b t e =
         let q : name_at names z ≡ name_at names c = cc in
         let same : z ≡ c = name_at-injective names z c distinct b.1.0 small q in

@@ -1,5 +1,5 @@
 -- The frame collected from the active statements is that of the definition.
-use Rattle.frame.proofs.Words.{list_any, flat_map, position_or_len, ◌∙◌, ap, sym, arith, inl, inr, ◌≡◌, ℕ, ◌<◌, ◌≤◌, Bool, true, false, cond, ◌&&◌, ◌||◌, List, [], ◌∷◌, ◌++◌, map, filter, length, refl, Some, None, is_some, nat_lt, or-false, cases_lt, Name, name_eq, has_name, Stmt, Database, Expr, active, disjoint_names, expr_of, is_essential, is_variable, name_at, code_of, has-at, same_name, lt-list_any, has_name-append, FrameParts, is_mandatory, is_hypothesis, hypotheses, groups, mandatory_groups, has_two_or_more, AreMandatory, is_in_essential, is_needed, mandatory_positions, among, groups_among, fun_ext, as_frame_statement, frame_statements_of, FrameStatement}
+use Rattle.frame.proofs.Words.{list_any, flat_map, position_or_len, ◌∙◌, ap, sym, arith, inl, inr, ◌≡◌, ℕ, ◌<◌, ◌≤◌, Bool, true, false, cond, ◌&&◌, ◌||◌, List, [], ◌∷◌, ◌++◌, map, filter, length, refl, Some, None, is_some, nat_lt, or-false, cases_lt, Name, name_eq, has_name, Stmt, Database, Expr, active, disjoint_names, expr_of, is_essential, is_variable, name_at, code_of, has-at, same_name, lt-list_any, has_name-append, FrameParts, is_mandatory, is_hypothesis, hypotheses, active_disjoint_lists, mandatory_groups, has_two_or_more, AreMandatory, is_in_essential, is_needed, mandatory_positions, among, groups_among, fun_ext, as_frame_statement, frame_statements_of, FrameStatement}
 use Rattle.mm_read.specs.declared.stmt.Stmt.TheVariants.{Disj, Float, Ess}
 
 -- testing also for a name that is in the list changes nothing
@@ -52,7 +52,7 @@ pub required-hypotheses : (S : Database) (s : Stmt) (used : List Name) → AreMa
 required-hypotheses S s used m = required-all S s used m (active S)
 
 pub groups-mandatory : (S : Database) (s : Stmt) (used : List Name) → AreMandatory S s used → groups_among used (frame_statements_of S) ≡ mandatory_groups S s
-groups-mandatory S s used m = all (active S) ∙ ap (λ p. filter has_two_or_more (map (filter p) (groups S))) (fun_ext m)
+groups-mandatory S s used m = all (active S) ∙ ap (λ p. filter has_two_or_more (map (filter p) (active_disjoint_lists S))) (fun_ext m)
   where
     all : (es : List (ℕ × Stmt)) → groups_among used (flat_map (λ p. as_frame_statement p.0 p.1) es) ≡ filter has_two_or_more (map (among used) (map (λ p. disjoint_names p.1) es))
     all [] = refl

@@ -2,7 +2,7 @@
 -- The `$d` of a variable, from one of them back, are those that were active right after that one.
 use Rattle.frame.proofs.Words.{◌≡◌, ◌∙◌, ap, sym, subst, arith, refl, inl, inr, ℕ, zero, suc, ◌+◌, ◌-◌, ◌<◌, ◌≤◌, Bool, true, false, cond, cases_lt, not, ◌||◌, ◌&&◌, ◌==◌, List, [], ◌∷◌, ◌++◌, length, take, drop, drop_all, get_or, slice_get, Some, list_any, name_at, AreDistinct, before, names_in, statements_of, is_disj, is_pair, Storage, AreStored, Numbered, history, stack_at, AreSearched, are_pair, IsOfKind, has_code, positions_with, actives, last_active_of_kind, Stmt}
 use Rattle.frame.specs.declared.pair_facts.PairFact.{PairFact}
-use Rattle.frame.specs.declared.pair_facts.Walked.{Walked}
+use Rattle.frame.specs.declared.pair_facts.SearchEnd.{SearchEnd}
 use Rattle.frame.specs.PairFacts.{AreFacts, IsFact}
 use Rattle.frame.specs.Stored.EntryMeanings.{numbered}
 use Rattle.frame.specs.Stored.PairLists.{AreAnswered, IsSearchedIn}
@@ -91,7 +91,7 @@ sought-row k at x y xs s is =
       first = s.first;
       second = s.second;
       differ = s.differ;
-      row_of = record { count = at - 1; within = omega (arith, le); are = is ∙ s.stored.disjoints.each x at one (omega (arith, le, as-many k)) };
+      with_x = record { count = at - 1; within = omega (arith, le); are = is ∙ s.stored.disjoints.each x at one (omega (arith, le, as-many k)) };
     }
 
 -- x and y are a pair at a position exactly if a `$d` of the row there has y
@@ -125,7 +125,7 @@ drop-next (x ∷ xs) rest p (suc n) e = drop-next xs rest p n e
 
 module _ (k : Storage) (x y : ℕ) (start xs : List ℕ) (steps p : ℕ) (rest : List ℕ) (is : xs ≡ p ∷ rest) where
   pub top-of : IsSearchedIn k x y xs → IsTop k x p rest
-  top-of s = row-top k x p rest s.row_of.count s.row_of.count (omega arith) s.row_of.within (sym is ∙ s.row_of.are)
+  top-of s = row-top k x p rest s.with_x.count s.with_x.count (omega arith) s.with_x.within (sym is ∙ s.with_x.are)
 
   pub rest-next : IsRest k x y start xs steps → IsRest k x y start rest (steps + 1)
   rest-next r =
@@ -140,7 +140,7 @@ module _ (k : Storage) (x y : ℕ) (start xs : List ℕ) (steps p : ℕ) (rest :
           first = s.first;
           second = s.second;
           differ = s.differ;
-          row_of = record { count = p - 1; within = omega (arith, high); are = t.before_it };
+          with_x = record { count = p - 1; within = omega (arith, high); are = t.before_it };
         };
         rest = drop-next start rest p steps (sym is ∙ r.rest) ∙ ap (λ n. drop n start) next;
       }
@@ -162,7 +162,7 @@ module _ (k : Storage) (x y : ℕ) (start xs : List ℕ) (steps p : ℕ) (rest :
         ];
       }
 
-  pub walk-found : (w : Walked) → IsWalk k x y start xs steps → true ≡ has_code k.entries y p → w.passed ≡ steps → w.found ≡ true → AreAnswered k y start w
+  pub walk-found : (w : SearchEnd) → IsWalk k x y start xs steps → true ≡ has_code k.entries y p → w.passed ≡ steps → w.found ≡ true → AreAnswered k y start w
   walk-found w walk has count found = λ i le.
       walk.same i (omega (arith, le, count)) ∙ (any-here ∙ (ap (λ b. b || list_any (has_code k.entries y) rest) (sym has) ∙ sym found))
 
@@ -174,14 +174,14 @@ module _ (k : Storage) (x y : ℕ) (start xs : List ℕ) (steps p : ℕ) (rest :
       ap (λ n. is_pair (take n (statements_of k)) (name_at (names_in k) x) (name_at (names_in k) y)) up
       ∙ row-pair k x y p xs s.stored s.distinct s.first s.second s.differ t.within (is ∙ t.after_it)
 
-  pub walk-known : (w : Walked) (f : PairFact) → IsWalk k x y start xs steps → IsFact (numbered k) f → (f.position ≡ p) × (f.x ≡ x) × (f.y ≡ y) → w.passed ≡ steps → w.found ≡ f.found → AreAnswered k y start w
+  pub walk-known : (w : SearchEnd) (f : PairFact) → IsWalk k x y start xs steps → IsFact (numbered k) f → (f.position ≡ p) × (f.x ≡ x) × (f.y ≡ y) → w.passed ≡ steps → w.found ≡ f.found → AreAnswered k y start w
   walk-known w f walk fact asked count found = λ i le.
       let same : is_pair (before (statements_of k) (f.position + 1)) (name_at (names_in k) f.x) (name_at (names_in k) f.y) ≡ list_any (has_code k.entries y) xs =
       rw (asked.0, asked.1, asked.2) (front-is walk.at.sought) in
       walk.same i (omega (arith, le, count)) ∙ (sym same ∙ (fact.is ∙ sym found))
 
   -- the fact that is recorded is true
-  pub fact-made : (w : Walked) → IsRest k x y start xs steps → AreAnswered k y start w → steps ≤ w.passed → IsFact (numbered k) (record { position = p; x = x; y = y; found = w.found })
+  pub fact-made : (w : SearchEnd) → IsRest k x y start xs steps → AreAnswered k y start w → steps ≤ w.passed → IsFact (numbered k) (record { position = p; x = x; y = y; found = w.found })
   fact-made w r answered le =
       let s = r.sought in
       let t = top-of s in
@@ -196,7 +196,7 @@ module _ (k : Storage) (x y : ℕ) (start xs : List ℕ) (steps p : ℕ) (rest :
   pub top-kind : IsSearchedIn k x y xs → IsOfKind is_disj (statements_of k) p
   top-kind s = (top-of s).of_kind
 
-pub walk-end : (k : Storage) (x y : ℕ) (start xs : List ℕ) (steps : ℕ) (w : Walked) → IsWalk k x y start xs steps → length start ≤ steps → w.passed ≡ steps → w.found ≡ false → AreAnswered k y start w
+pub walk-end : (k : Storage) (x y : ℕ) (start xs : List ℕ) (steps : ℕ) (w : SearchEnd) → IsWalk k x y start xs steps → length start ≤ steps → w.passed ≡ steps → w.found ≡ false → AreAnswered k y start w
 walk-end k x y start xs steps w walk all count found = λ i le.
     let none : xs ≡ [] = walk.at.rest ∙ drop_all steps start all in
     walk.same i (omega (arith, le, count)) ∙ (ap (list_any (has_code k.entries y)) none ∙ sym found)

@@ -1,5 +1,5 @@
 -- The search for an active `$d` that has two variables, and the use of one that is known to have both.
-use Rattle.frame.proofs.Words.{◌≡◌, ◌∙◌, ap, sym, subst, arith, refl, ℕ, suc, ◌+◌, ◌-◌, ◌<◌, ◌≤◌, Bool, true, false, cond, not, ◌||◌, ◌&&◌, List, [], ◌∷◌, length, map, filter, take, drop, slice_get, Some, list_any, list_any-map, has_name, name_at, before, is_pair, is_active, active, disjoint_names, stays_open, stmt_of, names_in, labels_in, statements_of, is_disj, Stmt, Storage, Entry, Kind, Disj, In, IsPlain, Name, name_eq, Expr, stmt_by, history, stack_at, AreSearched, IsLeft, are_pair, AreOfKind, IsOfKind, has_code}
+use Rattle.frame.proofs.Words.{◌≡◌, ◌∙◌, ap, sym, subst, arith, refl, ℕ, suc, ◌+◌, ◌-◌, ◌<◌, ◌≤◌, Bool, true, false, cond, not, ◌||◌, ◌&&◌, List, [], ◌∷◌, length, map, filter, take, drop, slice_get, Some, list_any, list_any-map, has_name, name_at, before, is_pair, is_active, active, disjoint_names, stays_open, stmt_of, names_in, labels_in, statements_of, is_disj, Stmt, Storage, Entry, Kind, Disj, In, IsPlain, Name, name_eq, Expr, stmt_by, history, stack_at, AreSearched, AreRemaining, are_pair, AreOfKind, IsOfKind, has_code}
 use Rattle.mm_read.specs.declared.stmt.Stmt.TheVariants as stmt
 use Rattle.frame.proofs.ActivePositions.{members-active}
 use Rattle.frame.proofs.BlockWalkLemmas.{active-stays, get-take}
@@ -15,7 +15,7 @@ use Rattle.frame.specs.Stored.PairLists.{IsSearchedIn}
 
 -- ---- the search
 
-pub left-start : (k : Storage) (at x y : ℕ) (st : List ℕ) → AreSearched k at x y → st ≡ stack_at (history k.disjoints x) at → IsLeft k at x y st
+pub left-start : (k : Storage) (at x y : ℕ) (st : List ℕ) → AreSearched k at x y → st ≡ stack_at (history k.disjoints x) at → AreRemaining k at x y st
 left-start k at x y st s is =
     let one = s.above in
     let le = s.within in
@@ -23,7 +23,7 @@ left-start k at x y st s is =
     record {
       sought = s;
       of_kind = stack-of-kind k s.stored s.distinct (at - 1) x st (omega (arith, le)) here;
-      row_of = record { count = at - 1; within = omega (arith, le); are = is ∙ s.stored.disjoints.each x at one (omega (arith, le, as-many k)) };
+      with_x = record { count = at - 1; within = omega (arith, le); are = is ∙ s.stored.disjoints.each x at one (omega (arith, le, as-many k)) };
       rest = pair-is k s.stored s.distinct (at - 1) x y st s.first s.second (omega (arith, le)) here ∙ ap (λ t. not t && list_any (has_code k.entries y) st) s.differ;
     }
 
@@ -42,33 +42,33 @@ pair-turn k at x y s =
     ∙ (ap (λ b. not b && list_any (has_code k.entries x) st) (t.differ ∙ sym s.differ)
     ∙ sym (pair-swapped k s.stored s.distinct (at - 1) x y st s.first s.second (omega (arith, le)) refl))
 
-pub left-none : (k : Storage) (at x y : ℕ) (left : List ℕ) → IsLeft k at x y left → left ≡ [] → false ≡ are_pair k at x y
+pub left-none : (k : Storage) (at x y : ℕ) (left : List ℕ) → AreRemaining k at x y left → left ≡ [] → false ≡ are_pair k at x y
 left-none k at x y left l none = sym (l.rest ∙ ap (list_any (has_code k.entries y)) none)
 
-pub left-found : (k : Storage) (at x y p : ℕ) (left rest : List ℕ) → IsLeft k at x y left → left ≡ p ∷ rest → true ≡ has_code k.entries y p → true ≡ are_pair k at x y
+pub left-found : (k : Storage) (at x y p : ℕ) (left rest : List ℕ) → AreRemaining k at x y left → left ≡ p ∷ rest → true ≡ has_code k.entries y p → true ≡ are_pair k at x y
 left-found k at x y p left rest l is has = sym (l.rest ∙ (ap (list_any (has_code k.entries y)) is ∙ ap (λ b. b || list_any (has_code k.entries y) rest) (sym has)))
 
-pub left-next : (k : Storage) (at x y p : ℕ) (left rest : List ℕ) → IsLeft k at x y left → left ≡ p ∷ rest → has_code k.entries y p ≡ false → IsLeft k at x y rest
+pub left-next : (k : Storage) (at x y p : ℕ) (left rest : List ℕ) → AreRemaining k at x y left → left ≡ p ∷ rest → has_code k.entries y p ≡ false → AreRemaining k at x y rest
 left-next k at x y p left rest l is none =
-    let t = row-top k x p rest l.row_of.count l.row_of.count (omega arith) l.row_of.within (sym is ∙ l.row_of.are) in
+    let t = row-top k x p rest l.with_x.count l.with_x.count (omega arith) l.with_x.within (sym is ∙ l.with_x.are) in
     let high = t.within in
     record {
       sought = l.sought;
       of_kind = (subst (AreOfKind is_disj (statements_of k)) is l.of_kind).1;
-      row_of = record { count = p - 1; within = omega (arith, high); are = t.before_it };
+      with_x = record { count = p - 1; within = omega (arith, high); are = t.before_it };
       rest = l.rest ∙ (ap (list_any (has_code k.entries y)) is ∙ ap (λ b. b || list_any (has_code k.entries y) rest) none);
     }
 
 -- a fact tells the answer
-pub left-known : (k : Storage) (at x y p : ℕ) (left rest : List ℕ) (f : PairFact) → IsLeft k at x y left → left ≡ p ∷ rest → IsFact (numbered k) f → (f.position ≡ p) × (f.x ≡ x) × (f.y ≡ y) → f.found ≡ are_pair k at x y
+pub left-known : (k : Storage) (at x y p : ℕ) (left rest : List ℕ) (f : PairFact) → AreRemaining k at x y left → left ≡ p ∷ rest → IsFact (numbered k) f → (f.position ≡ p) × (f.x ≡ x) × (f.y ≡ y) → f.found ≡ are_pair k at x y
 left-known k at x y p left rest f l is fact asked =
     let s = l.sought in
-    let sought : IsSearchedIn k x y left = record { stored = s.stored; distinct = s.distinct; first = s.first; second = s.second; differ = s.differ; row_of = l.row_of } in
+    let sought : IsSearchedIn k x y left = record { stored = s.stored; distinct = s.distinct; first = s.first; second = s.second; differ = s.differ; with_x = l.with_x } in
     let same : is_pair (before (statements_of k) (f.position + 1)) (name_at (names_in k) f.x) (name_at (names_in k) f.y) ≡ list_any (has_code k.entries y) left =
     rw (asked.0, asked.1, asked.2) (front-is k x y left left 0 p rest is sought) in
     sym fact.is ∙ (same ∙ sym l.rest)
 
-pub left-first : (k : Storage) (at x y p : ℕ) (left rest : List ℕ) → IsLeft k at x y left → left ≡ p ∷ rest → IsOfKind is_disj (statements_of k) p
+pub left-first : (k : Storage) (at x y p : ℕ) (left rest : List ℕ) → AreRemaining k at x y left → left ≡ p ∷ rest → IsOfKind is_disj (statements_of k) p
 left-first k at x y p left rest l is = (subst (AreOfKind is_disj (statements_of k)) is l.of_kind).0
 
 -- ---- a `$d` that is known to have both

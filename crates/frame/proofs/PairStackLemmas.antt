@@ -1,5 +1,5 @@
 -- Pairs of variables in an active `$d`, and active variables, by the stacks of symbols.
-use Rattle.frame.proofs.Words.{◌≡◌, ◌∙◌, ap, sym, subst, arith, refl, ℕ, suc, ◌+◌, ◌-◌, ◌<◌, ◌≤◌, Bool, true, false, cond, not, ◌||◌, ◌&&◌, ◌==◌, nat_eq, List, [], ◌∷◌, ◌++◌, length, map, filter, take, slice_get, slice_get_within, Option, Some, None, length-take, same_Some, list_any, or-false, append_assoc, length-append, take-get, and_comm, list_any-map, AllBelow, AreBelow, Name, name_eq, has_name, name_at, decode, AreDistinct, Stmt, Database, Entry, Storage, stays_open, active_from, actives, actives_from, is_disj, is_var, is_variable, disjoint_names, variables, is_pair, groups, names_in, labels_in, statements_of, stmt_of, AreStored, history, stack_at, symbols_at, option_symbols, has_code, having_after, positions_with, IsOfKind, AreOfKind, AreTogether, have_both}
+use Rattle.frame.proofs.Words.{◌≡◌, ◌∙◌, ap, sym, subst, arith, refl, ℕ, suc, ◌+◌, ◌-◌, ◌<◌, ◌≤◌, Bool, true, false, cond, not, ◌||◌, ◌&&◌, ◌==◌, nat_eq, List, [], ◌∷◌, ◌++◌, length, map, filter, take, slice_get, slice_get_within, Option, Some, None, length-take, same_Some, list_any, or-false, append_assoc, length-append, take-get, and_comm, list_any-map, AllBelow, AreBelow, Name, name_eq, has_name, name_at, decode, AreDistinct, Stmt, Database, Entry, Storage, stays_open, active_from, actives, actives_from, is_disj, is_var, is_variable, disjoint_names, variables, is_pair, active_disjoint_lists, names_in, labels_in, statements_of, stmt_of, AreStored, history, stack_at, symbols_at, option_symbols, has_code, having_after, positions_with, IsOfKind, AreOfKind, AreListsOfPairs, have_both}
 use Rattle.frame.proofs.FoundByNumber.{map-back}
 use Rattle.frame.proofs.LegalAfter.{stands-at}
 use Rattle.frame.proofs.StoredOneMore.{numbered-at}
@@ -112,23 +112,23 @@ module _ (k : Storage) (stored : AreStored k) (d : AreDistinct (names_in k)) (m 
   pair-is x y st a b le is =
       let st_is : st ≡ positions_with k.entries x (actives is_disj T) = is ∙ (stored.disjoints.each x (m + 1) (omega arith) (omega (arith, le, as-many k)) ∙ ap (λ n. positions_with k.entries x (actives is_disj (take n (statements_of k)))) (omega arith)) in
       let X = name_at N x in let Y = name_at N y in
-      let both : list_any (λ p. has_code k.entries y p) st ≡ list_any (λ names. has_name X names && has_name Y names) (groups T) =
+      let both : list_any (λ p. has_code k.entries y p) st ≡ list_any (λ names. has_name X names && has_name Y names) (active_disjoint_lists T) =
       ap (list_any (λ p. has_code k.entries y p)) st_is
       ∙ (positions_with-any (λ p. has_code k.entries y p) k.entries x (actives is_disj T)
       ∙ (same-any is_disj T (λ p. has_code k.entries x p.0 && has_code k.entries y p.0) (λ p. has_name X (disjoint_names p.1) && has_name Y (disjoint_names p.1)) (actives is_disj T) (there is_disj)
       (λ p s o. ap (λ t. t && has_code k.entries y p.0) (code-name is_disj disjoint_names disjoint_lists x a p s o) ∙ ap (λ t. has_name X (disjoint_names p.1) && t) (code-name is_disj disjoint_names disjoint_lists y b p s o))
       ∙ sym (groups-any (λ names. has_name X names && has_name Y names) T refl))) in
-      ap (λ t. not t && list_any (λ names. has_name X names && has_name Y names) (groups T)) (sym (same-number N x y d a b)) ∙ ap (λ t. not (nat_eq x y) && t) (sym both)
+      ap (λ t. not t && list_any (λ names. has_name X names && has_name Y names) (active_disjoint_lists T)) (sym (same-number N x y d a b)) ∙ ap (λ t. not (nat_eq x y) && t) (sym both)
 
   -- x and y are a pair exactly if they are different and a `$d` of the stack of y has x
   pub pair-swapped : (x y : ℕ) (st : List ℕ) → x < length N → y < length N → m ≤ length (statements_of k) → st ≡ stack_at (history k.disjoints y) (m + 1)
       → is_pair T (name_at N x) (name_at N y) ≡ (not (x == y) && list_any (λ p. has_code k.entries x p) st)
   pair-swapped x y st a b le is =
       let X = name_at N x in let Y = name_at N y in
-      let turn : (list_any (λ names. has_name X names && has_name Y names) (groups T)) ≡ list_any (λ names. has_name Y names && has_name X names) (groups T) = any-turn (groups T) in
+      let turn : (list_any (λ names. has_name X names && has_name Y names) (active_disjoint_lists T)) ≡ list_any (λ names. has_name Y names && has_name X names) (active_disjoint_lists T) = any-turn (active_disjoint_lists T) in
       let same : nat_eq y x ≡ nat_eq x y = nat-turn in
       ap (λ t. not (name_eq X Y) && t) turn
-      ∙ (ap (λ t. not t && list_any (λ names. has_name Y names && has_name X names) (groups T)) (sym (same-number N x y d a b) ∙ (sym same ∙ same-number N y x d b a))
+      ∙ (ap (λ t. not t && list_any (λ names. has_name Y names && has_name X names) (active_disjoint_lists T)) (sym (same-number N x y d a b) ∙ (sym same ∙ same-number N y x d b a))
       ∙ (pair-is y x st b a le is ∙ ap (λ t. not t && list_any (λ p. has_code k.entries x p) st) same))
     where
       any-turn : (gs : List (List Name)) → list_any (λ names. has_name (name_at N x) names && has_name (name_at N y) names) gs ≡ list_any (λ names. has_name (name_at N y) names && has_name (name_at N x) names) gs
@@ -172,7 +172,7 @@ module _ (k : Storage) (stored : AreStored k) (d : AreDistinct (names_in k)) (m 
   row-is x y st a b le is = pair-is x y st a b le is ∙ ap (λ t. not (nat_eq x y) && t) (list_any-map (symbols_at k.entries) (λ list. list_any (λ c. nat_eq y c) list) st)
 
   -- two symbols of one `$d` in the stack are a pair
-  pub row-together : (x : ℕ) (st : List ℕ) → m ≤ length (statements_of k) → st ≡ stack_at (history k.disjoints x) (m + 1) → AreTogether (record { statements = T; names = N }) (map (symbols_at k.entries) st)
+  pub row-together : (x : ℕ) (st : List ℕ) → m ≤ length (statements_of k) → st ≡ stack_at (history k.disjoints x) (m + 1) → AreListsOfPairs (record { statements = T; names = N }) (map (symbols_at k.entries) st)
   row-together x st le is = record { each = two }
     where
       two : (a b : ℕ) → a < length N → b < length N → (a == b) ≡ false → have_both (map (symbols_at k.entries) st) a b ≡ true → is_pair T (name_at N a) (name_at N b) ≡ true

@@ -1,5 +1,5 @@
 -- The parts of the storage after a statement is appended: numbers, labels, positions, symbols.
-use Rattle.frame.proofs.Words.{list_any, sym, ◌∙◌, ap, subst, arith, inl, inr, add-zero, ◌≡◌, ℕ, zero, suc, ◌+◌, ◌-◌, ◌<◌, ◌≤◌, Bool, true, false, cond, not, ◌&&◌, ◌||◌, ◌==◌, nat_lt, ◌⊎◌, List, [], ◌∷◌, ◌++◌, length, map, take, slice_get, Option, Some, None, refl, and-false, take-append-le, cases_lt, ltb-true, take-append_seam, Name, Stmt, Database, before, label_of, stays_open, is_close, is_open, count, IsLegal, G10, name_at, decode, AreBelow, LastActive, Kind, Float, Ess, Axiom, Prove, Entry, LastDeclarations, stmt_by, stmt_of, positions_from, option_position, AreAllLegal, last_declarations_of, ReadsAs, floats, declares, second_is, is_float_kind, is_var_kind, last_from, IsLabelBelow, HasTwo, AreNumbered, AreUndeclared, AreZeroAfter, undeclared_symbol, AreKept, Extends, get-more, place, stays_open-append, below-deficit, no_deficit, deficit-close, count-left_open, get-push}
+use Rattle.frame.proofs.Words.{list_any, sym, ◌∙◌, ap, subst, arith, inl, inr, add-zero, ◌≡◌, ℕ, zero, suc, ◌+◌, ◌-◌, ◌<◌, ◌≤◌, Bool, true, false, cond, not, ◌&&◌, ◌||◌, ◌==◌, nat_lt, ◌⊎◌, List, [], ◌∷◌, ◌++◌, length, map, take, slice_get, Option, Some, None, refl, and-false, take-append-le, cases_lt, ltb-true, take-append_seam, Name, Stmt, Database, before, label_of, stays_open, is_close, is_open, count, IsLegal, G10, name_at, decode, AreBelow, LastActive, Kind, Float, Ess, Axiom, Prove, Entry, LastDeclarations, stmt_by, stmt_of, positions_from, option_position, AreAllLegal, last_declarations_of, AreGivenBy, is_float_with, is_var_with, second_is, is_float_kind, is_var_kind, last_from, IsLabelBelow, HasTwoSymbolsIfFloat, AreNumbered, AreUndeclared, AreUndeclaredAfter, undeclared_symbol, AreKept, Extends, get-more, place, stays_open-append, below-deficit, no_deficit, deficit-close, count-left_open, get-push}
 use Rattle.frame.proofs.SymbolNumberLemmas.{decode-extends, name_at-extends, below-more}
 use Rattle.mm_read.specs.declared.stmt.Stmt.TheVariants as stmt
 
@@ -24,7 +24,7 @@ statements-more names names' labels labels' (e ∷ es) p q h =
     ap (λ s. s ∷ map (stmt_of names' labels') es) (stmt-more names names' labels labels' e p q h.0 h.1)
     ∙ ap (λ r. stmt_of names labels e ∷ r) (statements-more names names' labels labels' es p q h.2)
 
-pub numbered-push : (n n' m m' : ℕ) (es : List Entry) (e : Entry) → n ≤ n' → m ≤ m' → AreNumbered n m es → AreBelow n' e.symbols → IsLabelBelow e.kind e.label_count m' → HasTwo e.kind e.symbols → AreNumbered n' m' (es ++ e ∷ [])
+pub numbered-push : (n n' m m' : ℕ) (es : List Entry) (e : Entry) → n ≤ n' → m ≤ m' → AreNumbered n m es → AreBelow n' e.symbols → IsLabelBelow e.kind e.label_count m' → HasTwoSymbolsIfFloat e.kind e.symbols → AreNumbered n' m' (es ++ e ∷ [])
 numbered-push n n' m m' [] e le le' h b l t = (b, l, tt, t)
 numbered-push n n' m m' (d ∷ es) e le le' h b l t =
     (below-more n n' d.symbols le h.0, λ k. let lt = h.1 k in omega (arith, lt, le'), numbered-push n n' m m' es e le le' h.2 b l t, h.3)
@@ -98,8 +98,8 @@ numbered-at n m (d ∷ es) h (suc k) e g = numbered-at n m es h.2 k e g
 pub last_declarations_of-above : (n m : ℕ) (es : List Entry) (c : ℕ) → AreNumbered n m es → n ≤ c → last_declarations_of es c ≡ undeclared_symbol
 last_declarations_of-above n m es c h le =
     rw (
-      none-from (floats c) 0 1 es (λ e k g. ap (λ b. is_float_kind e.kind && b) (above-second n c e.symbols (numbered-at n m es h k e g) le) ∙ and-false (is_float_kind e.kind)),
-      none-from (declares c) 0 1 es (λ e k g. ap (λ b. is_var_kind e.kind && b) (above-any n c e.symbols (numbered-at n m es h k e g) le) ∙ and-false (is_var_kind e.kind)),
+      none-from (is_float_with c) 0 1 es (λ e k g. ap (λ b. is_float_kind e.kind && b) (above-second n c e.symbols (numbered-at n m es h k e g) le) ∙ and-false (is_float_kind e.kind)),
+      none-from (is_var_with c) 0 1 es (λ e k g. ap (λ b. is_var_kind e.kind && b) (above-any n c e.symbols (numbered-at n m es h k e g) le) ∙ and-false (is_var_kind e.kind)),
     ) refl
 
 get-zero : (old more : List LastDeclarations) (c : ℕ) → AreUndeclared more → length old ≤ c → c < length (old ++ more) → slice_get (old ++ more) c ≡ Some undeclared_symbol
@@ -111,7 +111,7 @@ get-zero (x ∷ old) more (suc c) z le lt = get-zero old more c z (omega (arith,
 
 -- the symbols, followed by symbols that nothing declares, have the same declarations
 pub still-reads : (names labels : List Name) (positions : List ℕ) (symbols : List LastDeclarations) (replaced : List ℕ) (entries : List Entry) (last_active : LastActive) (between : List LastDeclarations)
-    → AreKept names labels positions symbols replaced entries last_active → AreZeroAfter symbols between → ReadsAs between (last_declarations_of entries)
+    → AreKept names labels positions symbols replaced entries last_active → AreUndeclaredAfter symbols between → AreGivenBy between (last_declarations_of entries)
 still-reads names labels positions symbols replaced entries last_active between k z c lt = by (cases_lt c (length names))
   where
     by : (c < length names) ⊎ (length names ≤ c) → slice_get between c ≡ Some (last_declarations_of entries c)

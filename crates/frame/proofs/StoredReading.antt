@@ -1,5 +1,5 @@
 -- Reading an entry of the storage, and finding the position of a label.
-use Rattle.frame.proofs.Words.{sym, ◌∙◌, ap, subst, arith, inl, inr, ◌≡◌, ℕ, zero, suc, ◌+◌, ◌-◌, ◌<◌, ◌≤◌, true, false, ◌⊎◌, List, [], ◌∷◌, length, map, get_or, slice_get, Option, Some, None, option_map, refl, same_Some, slice_get-map, slice_get_within, get_or_from_slice_get, bytes_eq-Decides, both_ways, list_any_at, Name, Stmt, Database, stmt_at, label_of, expr_of, is_assertion, was_label, has_label, name_at, decode, labels_of, prepend_option, is_hypothesis_kind, Kind, Float, Ess, Axiom, Prove, Entry, is_label_kind, stmt_by, stmt_of, positions_from, option_position, HasTwo, AreNumbered, place}
+use Rattle.frame.proofs.Words.{sym, ◌∙◌, ap, subst, arith, inl, inr, ◌≡◌, ℕ, zero, suc, ◌+◌, ◌-◌, ◌<◌, ◌≤◌, true, false, ◌⊎◌, List, [], ◌∷◌, length, map, get_or, slice_get, Option, Some, None, option_map, refl, same_Some, slice_get-map, slice_get_within, get_or_from_slice_get, bytes_eq-Decides, both_ways, list_any_at, Name, Stmt, Database, stmt_at, label_of, expr_of, is_assertion, was_label, has_label, name_at, decode, labels_of, prepend_option, is_hypothesis_kind, Kind, Float, Ess, Axiom, Prove, Entry, is_labelled_kind, stmt_by, stmt_of, positions_from, option_position, HasTwoSymbolsIfFloat, AreNumbered, place}
 
 -- ---- reading an entry
 
@@ -10,26 +10,26 @@ pub stmt-at-suc : (S : Database) (at : ℕ) → 1 ≤ at → stmt_at S at ≡ sl
 stmt-at-suc S zero h = absurd (omega (arith, h))
 stmt-at-suc S (suc n) h = ap (slice_get S) (omega arith)
 
-pub two-of : (n m : ℕ) (es : List Entry) → AreNumbered n m es → (k : ℕ) (e : Entry) → slice_get es k ≡ Some e → HasTwo e.kind e.symbols
+pub two-of : (n m : ℕ) (es : List Entry) → AreNumbered n m es → (k : ℕ) (e : Entry) → slice_get es k ≡ Some e → HasTwoSymbolsIfFloat e.kind e.symbols
 two-of n m [] h k e g = cc
-two-of n m (d ∷ es) h zero e g = let same : d ≡ e = cc in subst (λ x. HasTwo x.kind x.symbols) same h.3
+two-of n m (d ∷ es) h zero e g = let same : d ≡ e = cc in subst (λ x. HasTwoSymbolsIfFloat x.kind x.symbols) same h.3
 two-of n m (d ∷ es) h (suc k) e g = two-of n m es h.2 k e g
 
 two-names : (names : List Name) (codes : List ℕ) → length codes ≡ 2 → decode names codes ≡ name_at (decode names codes) 0 ∷ name_at (decode names codes) 1 ∷ []
 two-names names (x ∷ y ∷ []) h = refl
 two-names names codes h = absurd (omega (arith, h))
 
-pub entry-expr : (names labels : List Name) (e : Entry) → is_label_kind e.kind ≡ true → HasTwo e.kind e.symbols → decode names e.symbols ≡ expr_of (stmt_of names labels e)
+pub entry-expr : (names labels : List Name) (e : Entry) → is_labelled_kind e.kind ≡ true → HasTwoSymbolsIfFloat e.kind e.symbols → decode names e.symbols ≡ expr_of (stmt_of names labels e)
 entry-expr names labels e = by e.kind
   where
-    by : (kind : Kind) → is_label_kind kind ≡ true → HasTwo kind e.symbols → decode names e.symbols ≡ expr_of (stmt_by kind (name_at labels e.label_count) (decode names e.symbols))
+    by : (kind : Kind) → is_labelled_kind kind ≡ true → HasTwoSymbolsIfFloat kind e.symbols → decode names e.symbols ≡ expr_of (stmt_by kind (name_at labels e.label_count) (decode names e.symbols))
     by Float h t = two-names names e.symbols t
     by kind h t = cc
 
-pub entry-none : (names labels : List Name) (e : Entry) → is_label_kind e.kind ≡ false → expr_of (stmt_of names labels e) ≡ []
+pub entry-none : (names labels : List Name) (e : Entry) → is_labelled_kind e.kind ≡ false → expr_of (stmt_of names labels e) ≡ []
 entry-none names labels e = by e.kind
   where
-    by : (kind : Kind) → is_label_kind kind ≡ false → expr_of (stmt_by kind (name_at labels e.label_count) (decode names e.symbols)) ≡ []
+    by : (kind : Kind) → is_labelled_kind kind ≡ false → expr_of (stmt_by kind (name_at labels e.label_count) (decode names e.symbols)) ≡ []
     by Float h = cc
     by kind h = cc
 

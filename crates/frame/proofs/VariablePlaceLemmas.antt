@@ -1,5 +1,5 @@
 -- The typecode of an active `$f` is no variable, a used variable has an active `$f`, and the mandatory variables are those of the mandatory `$f`.
-use Rattle.frame.proofs.Words.{list_any, ◌∙◌, ap, inl, inr, append_assoc, ◌≡◌, ℕ, suc, Bool, true, false, ◌||◌, List, [], ◌∷◌, ◌++◌, length, refl, not, ◌&&◌, or_left, or_cases, and_parts, not_both, list_any-append, list_any-from_Any, Any-from_list_any, Name, has_name, Stmt, Database, Expr, is_assertion, is_variable, is_float_of, stays_open, active, constants, variables, expr_of, is_essential, is_constant, has_float, IsLegal, starts_with_constant, is_used, is_mandatory, is_hypothesis, hypotheses, In, all-has, IsFirstFixed}
+use Rattle.frame.proofs.Words.{list_any, ◌∙◌, ap, inl, inr, append_assoc, ◌≡◌, ℕ, suc, Bool, true, false, ◌||◌, List, [], ◌∷◌, ◌++◌, length, refl, not, ◌&&◌, or_left, or_cases, and_parts, not_both, list_any-append, list_any-from_Any, Any-from_list_any, Name, has_name, Stmt, Database, Expr, is_assertion, is_variable, is_float_of, stays_open, active, constants, variables, expr_of, is_essential, is_constant, has_float, IsLegal, starts_with_constant, is_used, is_mandatory, is_hypothesis, hypotheses, In, all-has, BeginsWithNoVariable}
 use Rattle.mm_read.specs.declared.stmt.Stmt.TheVariants.{Float, Ess, Axiom, Prove}
 use Rattle.frame.proofs.LegalLabels.{AllKept}
 use Rattle.frame.proofs.LegalAfter.{legal-keeps, kept-legal, constant-no_variable}
@@ -33,24 +33,24 @@ float-kinds S A l c x B all whole stays =
     )
 
 -- the expression of a legal statement begins with a constant, and so not with a variable if no constant is one
-fixed : (S A : Database) (s : Stmt) → ((x : Name) → is_constant A x ≡ true → is_variable S x ≡ false) → IsLegal A s → IsFirstFixed S (expr_of s)
+fixed : (S A : Database) (s : Stmt) → ((x : Name) → is_constant A x ≡ true → is_variable S x ≡ false) → IsLegal A s → BeginsWithNoVariable S (expr_of s)
 fixed S A s other legal = by s legal
   where
-    first : (e : Expr) → starts_with_constant A e ≡ true → IsFirstFixed S e
+    first : (e : Expr) → starts_with_constant A e ≡ true → BeginsWithNoVariable S e
     first [] h = tt
     first (x ∷ e) h = other x h
 
-    by : (s : Stmt) → IsLegal A s → IsFirstFixed S (expr_of s)
+    by : (s : Stmt) → IsLegal A s → BeginsWithNoVariable S (expr_of s)
     by (Float l c x) k = other c (legal-keeps A (Float l c x) k).g6
     by (Ess l e) k = first e (legal-keeps A (Ess l e) k).g6
     by (Axiom l e) k = first e (legal-keeps A (Axiom l e) k).g6
     by (Prove l e p) k = first e (legal-keeps A (Prove l e p) k).g6
     by s k = tt
 
-pub first-fixed : (S A : Database) (t : Stmt) (B : Database) → AllKept S → S ≡ A ++ t ∷ B → IsFirstFixed S (expr_of t)
+pub first-fixed : (S A : Database) (t : Stmt) (B : Database) → AllKept S → S ≡ A ++ t ∷ B → BeginsWithNoVariable S (expr_of t)
 first-fixed S A t B all whole = fixed S A t (λ x h. constant-no_variable S x all (constant-front S A t B x whole h)) (kept-legal S A t B all whole)
 
-pub own-fixed : (S : Database) (s : Stmt) → AllKept S → IsLegal S s → IsFirstFixed S (expr_of s)
+pub own-fixed : (S : Database) (s : Stmt) → AllKept S → IsLegal S s → BeginsWithNoVariable S (expr_of s)
 own-fixed S s all legal = fixed S S s (λ x h. constant-no_variable S x all h) legal
 
 typed-own : (S : Database) (s : Stmt) (x : Name) → IsLegal S s → is_assertion s ≡ true → has_name x (expr_of s) ≡ true → is_variable S x ≡ true → has_float S x ≡ true

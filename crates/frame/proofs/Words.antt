@@ -21,31 +21,31 @@ pub use Rattle.entries.specs.declared.kind.Kind.{Kind}
 pub use Rattle.entries.specs.declared.kind.Kind.TheVariants.{Axiom, Disj, Ess, Float, Prove, Var}
 pub use Rattle.entries.specs.declared.last_active.LastActive.{LastActive}
 pub use Rattle.frame.specs.AssertionView.{AreListsOf, AreNumberedHypotheses, IsStatementOf, IsNumberedHypothesis, IsTypecode, IsViewOf, typecode_of}
-pub use Rattle.frame.specs.AtPosition.{AreLegal, ArePositions, HasLabelsOnce, IsPosition, IsSingle}
+pub use Rattle.frame.specs.AtPosition.{HasLegalProperties, ArePositions, HasLabelsOnce, IsPosition, HasSingleResults}
 pub use Rattle.frame.specs.Below.{AllBelow, AreBelow}
-pub use Rattle.frame.specs.Bound.{HasFloat, IsBound, IsFirstFixed}
-pub use Rattle.frame.specs.Citations.{Carries, OfVariables, expr_at, is_hypothesis_kind, premises}
+pub use Rattle.frame.specs.WellTyped.{HasFloat, IsWellTyped, BeginsWithNoVariable}
+pub use Rattle.frame.specs.Citations.{Carries, AreImagesOfVariables, expr_at, is_hypothesis_kind, premises}
 pub use Rattle.frame.specs.Disjoint.{are_disjoint, is_pair_disjoint, is_symbol_disjoint, is_variable_disjoint}
 pub use Rattle.frame.specs.ExprPlaces.{AreExprPlaces}
-pub use Rattle.frame.specs.FrameOf.{HasAssertion, frame_of, groups, hypotheses, is_hypothesis, is_mandatory, is_pair, is_used, mandatory_groups, has_two_or_more}
+pub use Rattle.frame.specs.FrameOf.{HasAssertion, frame_of, active_disjoint_lists, hypotheses, is_hypothesis, is_mandatory, is_pair, is_used, mandatory_groups, has_two_or_more}
 pub use Rattle.frame.specs.LastActive.{actives, actives_from, is_disj, is_var, last_active_of, last_active_of_kind, last_position}
-pub use Rattle.frame.specs.Laws.{GroupsArePairs}
-pub use Rattle.frame.specs.PairRows.{AreTogether, have_both}
+pub use Rattle.frame.specs.Laws.{GroupsHaveMandatoryPairs}
+pub use Rattle.frame.specs.ListsOfPairs.{AreListsOfPairs, have_both}
 pub use Rattle.frame.specs.Parts.{FrameParts, Numbered}
-pub use Rattle.frame.specs.Stored.AssertionParts.{IsKeptAs, floats_in, groups_by, has_parts, has_two, is_float_in, is_typed, is_typed_by, kept_with, entry_hypothesis, option_symbols, recorded_in, hypothesis_at, hypothesis_by, symbols_at, typecode_at, typed}
-pub use Rattle.frame.specs.Stored.Counts.{AreNumbered, AreUndeclared, AreZeroAfter, HasMoreNames, HasRoom, HasTwo, IsAfter, IsLabelBelow, IsPlain, KeepsCounts, kind_of, next_last_active, with_declared, with_entry, undeclared_symbol}
+pub use Rattle.frame.specs.Stored.AssertionParts.{IsKeptAs, floats_in, groups_by, has_parts, has_two_or_more_items, is_float_in, is_typed, is_typed_by, kept_with, entry_hypothesis, option_symbols, recorded_in, hypothesis_at, hypothesis_by, symbols_at, typecode_at, typed}
+pub use Rattle.frame.specs.Stored.Counts.{AreNumbered, AreUndeclared, AreUndeclaredAfter, HasMoreNames, HasRoom, HasTwoSymbolsIfFloat, HasMoreAtEnd, IsLabelBelow, IsPlain, KeepsCounts, kind_of, next_last_active, with_declared, with_entry, undeclared_symbol}
 pub use Rattle.frame.specs.Stored.Ends.{AreBlocks, AreEnds, AreBlockEnds, end_from, end_of, with_end}
-pub use Rattle.frame.specs.Stored.EntryMeanings.{AreAllLegal, ReadsAs, declared_by, declares, floats, is_float_kind, is_var_kind, labels_in, last_from, last_of, last_where, names_in, option_position, positions_from, replaced_after, replaced_by, replaced_of, second_is, statements_of, stmt_by, stmt_of, last_declarations_of, with_last}
+pub use Rattle.frame.specs.Stored.EntryMeanings.{AreAllLegal, AreGivenBy, declared_by, is_var_with, is_float_with, is_float_kind, is_var_kind, labels_in, last_from, last_of, last_where, names_in, option_position, positions_from, replaced_after, replaced_by, replaced_of, second_is, statements_of, stmt_by, stmt_of, last_declarations_of, with_last}
 pub use Rattle.frame.specs.Stored.EssentialSets.{AreFrames, AreEssentialSets, IsSetFromEssentials, IsKeptSet}
 pub use Rattle.frame.specs.Stored.KeptSets.{AreAmong, index_of, kept_set, option_set}
 pub use Rattle.frame.specs.Stored.Sparse.{AreAmongBy, IsCountBy, IsCutBy, RiseBy, item_by}
-pub use Rattle.frame.specs.Stored.Hypotheses.{AreCollected, AreDescribed, AreFloats, AreHypotheses, AreLooked, AreThose, AreWith, HasMore, In, IsFilledFrom, IsFloatOf, IsFromEssentials, IsWith, OfSome, SomeFloat, is_hypothesis_entry, kept_at, option_kept}
-pub use Rattle.frame.specs.Stored.Labels.{is_label_kind}
+pub use Rattle.frame.specs.Stored.Hypotheses.{AreCollected, AreDescribed, AreFloats, AreHypotheses, HasLookedUpFloats, ListsExactly, AreWithEssentials, HasMore, In, IsFilledFrom, IsFloatOf, IsFromEssentials, IsKeptWith, HoldsForSome, IsFloatOfSome, is_hypothesis_entry, kept_at, option_kept}
+pub use Rattle.frame.specs.Stored.Labels.{is_labelled_kind}
 pub use Rattle.frame.specs.Stored.LongExpressions.{AreLongIn, IsLongIn}
 pub use Rattle.frame.specs.Stored.Merged.{AreMerged, AreMissing, with_each}
-pub use Rattle.frame.specs.Stored.Naming.{is_declared, naming_from, naming_of}
+pub use Rattle.frame.specs.Stored.Naming.{is_kind_of_symbol, naming_from, naming_of}
 pub use Rattle.frame.specs.Stored.OneFrame.{AreMandatory, among, is_needed, groups_among, is_in_essential, mandatory_positions}
-pub use Rattle.frame.specs.Stored.PairSearch.{AreSearched, IsLeft, are_pair}
+pub use Rattle.frame.specs.Stored.PairSearch.{AreSearched, AreRemaining, are_pair}
 pub use Rattle.frame.specs.Stored.Stacks.{AreChangedBy, AreOfKind, AreStacks, IsNext, IsOfKind, KeepsUntil, codes_by, entries_by, has_code, positions_with, having_after, kind_test, last_by_kind, latest_of, long_codes, long_entry, opening, with_top}
 pub use Rattle.frame.specs.Stored.Whole.{AreKept, ArePartsFor, AreStored, IsEntryHeader, IsKeptOf, AreStacksOfStorage}
 pub use Rattle.frame.specs.declared.essential_sets.EssentialSets.{EssentialSets}

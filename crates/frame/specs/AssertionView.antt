@@ -78,7 +78,7 @@ abbrev pub AreCitingLists : Database → List Name → ℕ → Assertion → Typ
 AreCitingLists S names a g = (s : Stmt) → stmt_at S a ≡ Some s → AreCitingListsOf S names a g s
 
 -- the assertion s at a can be cited by these parts
-pub record IsCited (S : Database) (names : List Name) (a : ℕ) (s : Stmt) (c : AssertionView) : Type 0 where
+pub record IsCitingView (S : Database) (names : List Name) (a : ℕ) (s : Stmt) (c : AssertionView) : Type 0 where
   pub numbered_hypotheses : AreNumberedHypotheses S names (hypotheses (before S a) s) c.typecodes.now c.hypotheses
   pub conclusion : decode names c.conclusion.now ≡ expr_of s
   pub conclusion_below : AreBelow (length names) c.conclusion.now

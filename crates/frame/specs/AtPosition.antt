@@ -9,7 +9,7 @@ use Rattle.frame.specs.declared.meaning.Meaning.{Meaning}
 use Rattle.frame.specs.declared.meaning.Meaning.TheVariants.{Hypothesis, Assertion, Nothing}
 use Rattle.frame.specs.Citations.{Carries, IsHypothesis, IsInstance, premises}
 use Rattle.frame.specs.Below.{AreBelow}
-use Rattle.frame.specs.Bound.{IsBound}
+use Rattle.frame.specs.WellTyped.{IsWellTyped}
 
 -- the meaning, at the position `at`, of a citation of the statement at i
 abbrev pub IsMeaning : Database → List Name → ℕ → ℕ → Meaning → Type 0
@@ -32,14 +32,14 @@ abbrev pub HasLabelsOnce : Database → Type 0
 HasLabelsOnce S = (i j : ℕ) (s r : Stmt) (label : Name) → Carries S i s label → Carries S j r label → i ≡ j
 
 -- the results that a citation of an assertion at `at` takes determine the result that it gives
-abbrev pub IsSingle : Database → ℕ → Type 0
-IsSingle S at =
+abbrev pub HasSingleResults : Database → ℕ → Type 0
+HasSingleResults S at =
     (a : ℕ) (s : Stmt) (σ τ : Images) → IsInstance S at a s σ → IsInstance S at a s τ
     → premises S a s σ ≡ premises S a s τ → applied σ (expr_of s) ≡ applied τ (expr_of s)
 
 -- legal statements have these properties, and their names are distinct
-pub record AreLegal (S : Database) (names : List Name) : Type 0 where
+pub record HasLegalProperties (S : Database) (names : List Name) : Type 0 where
   pub once : HasLabelsOnce S
-  pub single : (at : ℕ) → IsSingle S at
-  pub bound : (a : ℕ) (s : Stmt) → HasAssertion S a s → IsBound S a s
+  pub single : (at : ℕ) → HasSingleResults S at
+  pub well_typed : (a : ℕ) (s : Stmt) → HasAssertion S a s → IsWellTyped S a s
   pub distinct : AreDistinct names

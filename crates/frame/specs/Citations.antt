@@ -26,15 +26,15 @@ pub record IsHypothesis (S : Database) (at i : ℕ) (s : Stmt) : Type 0 where
   pub active : IsTrue (is_active S i at)
 
 -- each name that has an image is a variable at a
-abbrev pub OfVariables : Database → ℕ → Images → Type 0
-OfVariables S a σ = IsTrue (list_all (λ p. is_variable (before S a) p.0) σ)
+abbrev pub AreImagesOfVariables : Database → ℕ → Images → Type 0
+AreImagesOfVariables S a σ = IsTrue (list_all (λ p. is_variable (before S a) p.0) σ)
 
 -- the assertion a may be cited at `at` with these images of its variables
 pub record IsInstance (S : Database) (at a : ℕ) (s : Stmt) (σ : Images) : Type 0 where
   pub earlier : a < at
   pub stands : stmt_at S a ≡ Some s
   pub assertion : IsTrue (is_assertion s)
-  pub of_variables : OfVariables S a σ
+  pub of_variables : AreImagesOfVariables S a σ
   pub disjoint : IsTrue (are_groups_disjoint (before S at) σ (mandatory_groups (before S a) s))
 
 -- the expression of a statement, or nothing if there is none

@@ -5,9 +5,9 @@ use Rattle.std.specs.Prelude.{◌≡◌, ℕ, List, length}
 use Rattle.frame.specs.Words.{Name, Expr, decode, ArePlacesOf, SymbolGroups}
 use Rattle.frame.specs.Below.{AreBelow}
 
--- the groups are the places of numbers that stand for the expression
-pub record AreExprPlaces (names : List Name) (e : Expr) (groups : SymbolGroups) : Type 0 where
+-- these are the places of the symbols of the expression, by numbers that stand for them
+pub record AreExprPlaces (names : List Name) (e : Expr) (symbol_places : SymbolGroups) : Type 0 where
   pub codes : List ℕ
   pub below : AreBelow (length names) codes
   pub named : decode names codes ≡ e
-  pub places : ArePlacesOf codes groups
+  pub places : ArePlacesOf codes symbol_places

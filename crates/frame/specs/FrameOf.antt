@@ -24,15 +24,15 @@ hypotheses S s = map (λ p. p.0) (filter (λ p. is_hypothesis S s p.1) (active S
 
 -- the two are different, and both are in one of the lists
 abbrev pub together : List (List Name) → Name → Name → Bool
-together groups x y = not (name_eq x y) && list_any (λ names. has_name x names && has_name y names) groups
+together lists x y = not (name_eq x y) && list_any (λ names. has_name x names && has_name y names) lists
 
--- the whole lists of the active `$d`, also with variables that are not mandatory
-abbrev pub groups : Database → List (List Name)
-groups S = map (λ p. disjoint_names p.1) (active S)
+-- the list of the variables of each active `$d`, mandatory or not; an empty list for each other active statement
+abbrev pub active_disjoint_lists : Database → List (List Name)
+active_disjoint_lists S = map (λ p. disjoint_names p.1) (active S)
 
 -- x and y are different and both occur in one active `$d`
 abbrev pub is_pair : Database → Name → Name → Bool
-is_pair S x y = together (groups S) x y
+is_pair S x y = together (active_disjoint_lists S) x y
 
 -- a pair of mandatory variables
 abbrev pub is_mandatory_pair : Database → Stmt → Name → Name → Bool
@@ -46,7 +46,7 @@ has_two_or_more (x ∷ y ∷ names) = true
 
 -- for each active `$d` the list of its mandatory variables, if these are two or more
 abbrev pub mandatory_groups : Database → Stmt → List (List Name)
-mandatory_groups S s = filter has_two_or_more (map (filter (is_mandatory S s)) (groups S))
+mandatory_groups S s = filter has_two_or_more (map (filter (is_mandatory S s)) (active_disjoint_lists S))
 
 -- the frame of the assertion s
 abbrev pub frame_of : Database → Stmt → FrameParts

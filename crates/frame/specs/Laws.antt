@@ -6,5 +6,5 @@ use Rattle.frame.specs.Words.{Name, Stmt, Database}
 use Rattle.frame.specs.FrameOf.{together, mandatory_groups, is_mandatory_pair}
 
 -- two variables are both in one of the groups of a frame exactly if they are a mandatory pair
-abbrev pub GroupsArePairs : Type 0
-GroupsArePairs = (S : Database) (s : Stmt) (x y : Name) → together (mandatory_groups S s) x y ≡ is_mandatory_pair S s x y
+abbrev pub GroupsHaveMandatoryPairs : Type 0
+GroupsHaveMandatoryPairs = (S : Database) (s : Stmt) (x y : Name) → together (mandatory_groups S s) x y ≡ is_mandatory_pair S s x y

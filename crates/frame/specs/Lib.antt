@@ -1,7 +1,7 @@
 pub mod Words
 pub mod Parts
 pub mod FrameOf
-pub mod PairRows
+pub mod ListsOfPairs
 pub mod Substitution
 pub mod Disjoint
 pub mod Citations
@@ -9,7 +9,7 @@ pub mod Below
 pub mod AssertionView
 pub mod ExprPlaces
 pub mod LongEssentials
-pub mod Bound
+pub mod WellTyped
 pub mod AtPosition
 pub mod PairFacts
 pub mod LastActive

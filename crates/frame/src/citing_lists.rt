@@ -9,9 +9,9 @@ ghost use Rattle.frame.specs.Stored.Hypotheses.{AreHypotheses};
 ghost use Rattle.frame.specs.Stored.PairLists.{HasPairs, HasSameHypotheses, IsFilledForCitation, IsSearchPosition, are_among, is_beside};
 ghost use Rattle.frame.specs.Stored.Whole.{AreStored};
 
+use crate::assertion_parts::{encode_hypotheses, fill_from_hypotheses, hypothesis};
 use crate::at_position::last_active_at;
 use crate::frame_buffers::FrameBuffers;
-use crate::make::{encode_hypotheses, fill_from_hypotheses, hypothesis};
 use crate::pair_facts::{PairFacts, SoughtPair, search_by_facts};
 use crate::storage::Storage;
 use entries::Hypothesis;
@@ -23,9 +23,9 @@ const PAIR_COST: usize = 2;
 /// The largest number of attempts to search for all pairs, each up to four times as long as the one before it.
 const MAX_TRIES: usize = 16;
 
-/// Appends, for the positions in `buffers` of the mandatory hypotheses of an assertion at `at`,
-/// each hypothesis as one number, its typecode, and groups that have exactly the pairs of disjoint
-/// variables: one group for each pair if that costs less, else one for each `$d`.
+/// Appends the other parts of an assertion at `at` to `buffers`, which has the positions of its
+/// mandatory hypotheses: each hypothesis as one number, its typecode, and groups that have exactly its
+/// mandatory pairs: one group for each pair if that costs less, else one for each `$d`.
 ///
 /// Errors: an allocation fails.
 pub fn fill_citing_lists(
@@ -105,8 +105,8 @@ fn sought_pair(x: u32, others: &[u32], index: usize, counts: &[usize]) -> Sought
     SoughtPair {
         x,
         y: others[index],
-        with_x: count_at(counts, others.len()),
-        with_y: count_at(counts, index),
+        count_x: count_at(counts, others.len()),
+        count_y: count_at(counts, index),
     }
 }
 
@@ -123,7 +123,7 @@ fn count_at(counts: &[usize], index: usize) -> usize {
 ///
 /// All searches together may pass a budget of `$d`. When it is spent, it is made four times as
 /// large. If the active `$d` have more symbols than the new budget, all pairs are searched for
-/// again, which the recorded facts make shorter; else `false` is returned.
+/// again, which the recorded facts make shorter, at most `MAX_TRIES` times; else `false` is returned.
 ///
 /// Errors: an allocation fails. Cost: at most a constant times that of the cheaper of the two.
 fn find_pairs(
@@ -145,20 +145,20 @@ fn find_pairs(
     ensures same { IfOk result (λ all. HasSameHypotheses buffers.old buffers.new) }
     ensures none { IfOk result (λ all. all ≡ false → buffers.new.groups ≡ []) }
 {
-    let mut most = first_budget(variables);
-    if !has_more_symbols(storage, at, most) {
+    let mut budget = first_budget(variables);
+    if !has_more_symbols(storage, at, budget) {
         return Ok(false);
     }
     let counts = counts(alloc, storage, at, variables)?;
     facts.make_room();
     for _ in 0..MAX_TRIES {
-        facts.set_budget(most);
+        facts.set_budget(budget);
         if add_pairs(storage, kept, at, facts, buffers, variables, &counts)? {
             return Ok(true);
         }
         buffers.clear_groups();
-        most = most.saturating_mul(4);
-        if !has_more_symbols(storage, at, most) {
+        budget = budget.saturating_mul(4);
+        if !has_more_symbols(storage, at, budget) {
             return Ok(false);
         }
     }

@@ -1,8 +1,8 @@
-//! Makes the changes of one more statement in the names, in the last declarations of symbols, in
-//! where blocks end, and in what is active after it. Undoes those in last declarations and in where
-//! blocks end; `extend` undoes the others.
+//! Changes the names, the last declarations of symbols, the ends of blocks and the last active
+//! statements for one more statement. Undoes the changes of last declarations and of ends of blocks;
+//! `extend` undoes the others.
 ghost use Rattle.std.specs.Prelude.{◌≡◌, ℕ, ◌+◌, ◌≤◌, ◌==◌, ◌++◌, ◌∷◌, [], Some, length, slice_get, OnOk, if◌then◌else◌, map, take};
-ghost use Rattle.{std.specs.List.list_any, mm_read.specs.declared.stmt.Stmt.Stmt as Statement, scope.specs.Active.label_of, scope.specs.Declares.IsRecordedBy, scope.specs.Declares.MayDeclare, scope.specs.Declares.declared_with, entries.specs.Stored.Spans.Extends, frame.specs.Below.AreBelow, frame.specs.LastActive.last_active_of, frame.specs.declared.storage.LastDeclarations.LastDeclarations as Declared, frame.specs.Stored.Whole.AreStored, frame.specs.Stored.EntryMeanings.option_position, frame.specs.Stored.EntryMeanings.statements_of, frame.specs.Stored.EntryMeanings.declared_by, frame.specs.Stored.EntryMeanings.last_of, frame.specs.Stored.EntryMeanings.with_last, frame.specs.Stored.EntryMeanings.ReadsAs, frame.specs.Stored.EntryMeanings.replaced_of, frame.specs.Stored.EntryMeanings.last_declarations_of, frame.specs.Stored.Counts.HasMoreNames, frame.specs.Stored.Counts.HasRoom, frame.specs.Stored.Counts.kind_of, frame.specs.Stored.Counts.next_last_active, frame.specs.Stored.Counts.HasTwo, frame.specs.Stored.Ends.with_end, frame.specs.Stored.Ends.AreBlockEnds};
+ghost use Rattle.{std.specs.List.list_any, mm_read.specs.declared.stmt.Stmt.Stmt as Statement, scope.specs.Active.label_of, scope.specs.Declares.IsRecordedBy, scope.specs.Declares.MayDeclare, scope.specs.Declares.declared_with, entries.specs.Stored.Spans.Extends, frame.specs.Below.AreBelow, frame.specs.LastActive.last_active_of, frame.specs.declared.storage.LastDeclarations.LastDeclarations as Declarations, frame.specs.Stored.Whole.AreStored, frame.specs.Stored.EntryMeanings.option_position, frame.specs.Stored.EntryMeanings.statements_of, frame.specs.Stored.EntryMeanings.declared_by, frame.specs.Stored.EntryMeanings.last_of, frame.specs.Stored.EntryMeanings.with_last, frame.specs.Stored.EntryMeanings.AreGivenBy, frame.specs.Stored.EntryMeanings.replaced_of, frame.specs.Stored.EntryMeanings.last_declarations_of, frame.specs.Stored.Counts.HasMoreNames, frame.specs.Stored.Counts.HasRoom, frame.specs.Stored.Counts.kind_of, frame.specs.Stored.Counts.next_last_active, frame.specs.Stored.Counts.HasTwoSymbolsIfFloat, frame.specs.Stored.Ends.with_end, frame.specs.Stored.Ends.AreBlockEnds};
 
 use crate::at_position::last_active_at;
 use crate::shape::{has_label, kind};
@@ -91,7 +91,7 @@ fn last_active_with(last_active: LastActive, kind: Kind, at: u32) -> LastActive
 /// Returns the symbols whose last declaration changes with a statement of this kind with these
 /// symbols: the variable of a `$f`, and all symbols of a `$v`.
 pub fn declared(kind: Kind, codes: &[u32]) -> &[u32]
-    requires { HasTwo kind codes.now }
+    requires { HasTwoSymbolsIfFloat kind codes.now }
     ensures declared { result.now ≡ declared_by kind codes.now }
     ensures below { (n : ℕ) → AreBelow n codes.now → AreBelow n result.now }
 {
@@ -121,7 +121,7 @@ pub fn record_replaced(
     replaced: &mut Vec<usize>,
 ) -> Result<(), AllocError>
     requires { AreBelow (length symbols.now) declared.now }
-    ensures recorded { OnOk result ((x : ℕ → Declared) → ReadsAs symbols.now x → replaced.new.items ≡ replaced.old.items ++ map (λ c. last_of kind (x c)) declared.now) }
+    ensures recorded { OnOk result ((x : ℕ → Declarations) → AreGivenBy symbols.now x → replaced.new.items ≡ replaced.old.items ++ map (λ c. last_of kind (x c)) declared.now) }
     ensures after { Extends replaced.old.items replaced.new.items }
 {
     for code in declared {
@@ -133,7 +133,7 @@ pub fn record_replaced(
 /// Records `at` as the last declaration of these symbols by statements of this kind.
 pub fn declare(symbols: &mut Vec<LastDeclarations>, kind: Kind, declared: &[u32], at: usize)
     requires { AreBelow (length symbols.old.items) declared.now }
-    ensures each { (c : ℕ) (x : Declared) → slice_get symbols.old.items c ≡ Some x → slice_get symbols.new.items c ≡ Some (if list_any (λ y. c == y) declared.now then with_last kind at x else x) }
+    ensures each { (c : ℕ) (x : Declarations) → slice_get symbols.old.items c ≡ Some x → slice_get symbols.new.items c ≡ Some (if list_any (λ y. c == y) declared.now then with_last kind at x else x) }
     ensures count { length symbols.new.items ≡ length symbols.old.items }
 {
     for code in declared {
@@ -167,7 +167,7 @@ pub fn remove_entries(storage: &mut Storage, len: usize)
     requires stored { AreStored storage.old }
     requires within { len ≤ length storage.old.entries }
     ensures entries { storage.new.entries ≡ take len storage.old.entries }
-    ensures declared { ReadsAs storage.new.symbols.items (last_declarations_of storage.new.entries) }
+    ensures declared { AreGivenBy storage.new.symbols.items (last_declarations_of storage.new.entries) }
     ensures recorded { storage.new.replaced.items ≡ replaced_of storage.new.entries }
     ensures ends { AreBlockEnds storage.new.ends.items (take len (statements_of storage.old)) }
     ensures count { length storage.new.symbols.items ≡ length storage.old.symbols.items }
@@ -202,7 +202,7 @@ pub fn remove_entries(storage: &mut Storage, len: usize)
 fn restore(symbols: &mut Vec<LastDeclarations>, kind: Kind, declared: &[u32], replaced: &[usize])
     requires below { AreBelow (length symbols.old.items) declared.now }
     requires count { length replaced.now ≡ length declared.now }
-    ensures each { (x : ℕ → ℕ) → replaced.now ≡ map x declared.now → (c : ℕ) (y : Declared) → slice_get symbols.old.items c ≡ Some y → slice_get symbols.new.items c ≡ Some (if list_any (λ k. c == k) declared.now then with_last kind (x c) y else y) }
+    ensures each { (x : ℕ → ℕ) → replaced.now ≡ map x declared.now → (c : ℕ) (y : Declarations) → slice_get symbols.old.items c ≡ Some y → slice_get symbols.new.items c ≡ Some (if list_any (λ k. c == k) declared.now then with_last kind (x c) y else y) }
     ensures count { length symbols.new.items ≡ length symbols.old.items }
 {
     for (place, code) in declared.iter().enumerate() {

@@ -1,12 +1,12 @@
-//! The mandatory hypotheses that the active `$e` bring along, which are the `$e` themselves and the `$f` of their variables, as
-//! sets that are kept with each `$e`.
+//! The mandatory hypotheses that the active `$e` bring along, which are the `$e` themselves and the
+//! `$f` of their variables, as sets that are kept with some `$e`.
 ghost use Rattle.std.specs.Prelude.{◌≡◌, ◌+◌, ◌-◌, ◌<◌, ◌≤◌, ◌++◌, ℕ, List, [], length, take, IfOk, OnErr, OnOk};
 ghost use Rattle.entries.specs.PositionSets.{Ascends, set_at};
 ghost use Rattle.entries.specs.Stored.Spans.{Extends};
 ghost use Rattle.frame.specs.Words.{Database, Entry};
 ghost use Rattle.frame.specs.Stored.EntryMeanings.{statements_of};
 ghost use Rattle.frame.specs.Stored.EssentialSets.{AreEssentialSets, IsSetFromEssentials};
-ghost use Rattle.frame.specs.Stored.Hypotheses.{AreWith, HasMore, In};
+ghost use Rattle.frame.specs.Stored.Hypotheses.{AreWithEssentials, HasMore, In};
 ghost use Rattle.frame.specs.Stored.KeptSets.{AreAmong, kept_set};
 ghost use Rattle.frame.specs.Stored.Whole.{AreStored};
 
@@ -17,8 +17,8 @@ use crate::storage::Storage;
 use entries::{Kind, PositionSets};
 use std::alloc::{AllocError, Global};
 
-/// For each `$e`, the mandatory hypotheses that it and the active `$e` before it bring along, as a set if they are many. If
-/// they are few, they are collected by a walk over the `$e`.
+/// For a `$e`, the set of the mandatory hypotheses that the active `$e` up to it bring along, if
+/// they are many. If they are few, they are collected by a walk over the `$e`.
 #[derive(Drop)]
 pub struct EssentialSets {
     /// Where lists are allocated.
@@ -61,11 +61,16 @@ impl EssentialSets {
     ///
     /// Errors: an allocation fails. Cost: n log n for n of them; if they are few, a walk over the
     /// `$e`.
-    pub fn add(&self, storage: &Storage, at: usize, list: &mut Vec<u32>) -> Result<(), AllocError>
+    pub fn append_hypotheses(
+        &self,
+        storage: &Storage,
+        at: usize,
+        list: &mut Vec<u32>,
+    ) -> Result<(), AllocError>
         requires stored { AreStored storage.now }
         requires sets { AreEssentialSets self.now storage.now.entries (statements_of storage.now) }
         requires place { (1 ≤ at) × (at ≤ length (statements_of storage.now) + 1) }
-        ensures { OnOk result (AreWith storage.now.entries (take (at - 1) (statements_of storage.now)) list.old.items list.new.items) }
+        ensures { OnOk result (AreWithEssentials storage.now.entries (take (at - 1) (statements_of storage.now)) list.old.items list.new.items) }
     {
         let set = self.set(last_active_at(storage, at).essential);
         if set == 0 {

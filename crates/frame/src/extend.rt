@@ -1,15 +1,15 @@
 //! Appends a statement to the storage as a whole or not at all, and truncates it to the first statements.
 ghost use Rattle.std.specs.Prelude.{true, ◌≡◌, ◌++◌, ◌∷◌, [], Some, OnOk, OnErr, take, length, slice_get, ◌+◌, IfSome, IfErr};
 ghost use Rattle.frame.specs.Stored.EssentialSets.{AreFrames};
-ghost use Rattle.{names.specs.Codes.with_names, scope.specs.Active.bare, scope.specs.Legal.IsLegal, scope.specs.Legal.broken_rule, scope.specs.Stored.SymbolNumbers.AreRecorded, scope.specs.Symbols.AreVariableNumbers, scope.specs.Symbols.symbols_after, scope.specs.Symbols.symbols_declared_by, scope.specs.Symbols.symbols_in, scope.specs.Symbols.symbols_of, entries.specs.Entries.Entry, entries.specs.Histories.AreKeptUntil, entries.specs.Histories.AreSame, entries.specs.Stored.Spans.Extends, frame.specs.Stored.Whole.AreStored, frame.specs.Stored.Counts.IsAfter, frame.specs.Stored.EntryMeanings.labels_in, frame.specs.Stored.EntryMeanings.names_in, frame.specs.Stored.EntryMeanings.statements_of};
+ghost use Rattle.{names.specs.Codes.with_names, scope.specs.Active.bare, scope.specs.Legal.IsLegal, scope.specs.Legal.broken_rule, scope.specs.Stored.SymbolNumbers.AreRecorded, scope.specs.Symbols.AreVariableNumbers, scope.specs.Symbols.symbols_after, scope.specs.Symbols.symbols_declared_by, scope.specs.Symbols.symbols_in, scope.specs.Symbols.symbols_of, entries.specs.Entries.Entry, entries.specs.Histories.AreKeptUntil, entries.specs.Histories.AreSame, entries.specs.Stored.Spans.Extends, frame.specs.Stored.Whole.AreStored, frame.specs.Stored.Counts.HasMoreAtEnd, frame.specs.Stored.EntryMeanings.labels_in, frame.specs.Stored.EntryMeanings.names_in, frame.specs.Stored.EntryMeanings.statements_of};
 
+use crate::assertion_parts::fill_parts;
 use crate::declare::{
     declare, declare_next, declared, last_active_after, record_end, record_replaced, remove_entries,
 };
 use crate::essential_sets::EssentialSets;
 use crate::frame_buffers::FrameBuffers;
 use crate::frames::Frames;
-use crate::make::fill_parts;
 use crate::shape::kind;
 use crate::stacks::{NextStatement, record_active};
 use crate::storage::Storage;
@@ -38,7 +38,7 @@ fn extend(
     ensures added { OnOk result (statements_of storage.new ≡ statements_of storage.old ++ bare stmt.now ∷ []) }
     ensures numbers { OnOk result ((e : Entry) → slice_get storage.new.entries (length storage.old.entries) ≡ Some e → AreVariableNumbers (symbols_after (statements_of storage.old) stmt.now) stmt.now e.symbols) }
     ensures more { OnOk result (Extends storage.old.entries storage.new.entries) }
-    ensures after { OnErr result (IsAfter storage.old storage.new) }
+    ensures after { OnErr result (HasMoreAtEnd storage.old storage.new) }
 {
     let at = storage.entries.len() + 1;
     let kind = kind(stmt);

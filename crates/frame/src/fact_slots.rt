@@ -77,7 +77,7 @@ impl FactSlots {
         let hash = hash_of(key);
         let guess = u32::try_from(index.saturating_add(1)).unwrap_or(0);
         for probe in 0..PROBES {
-            if self.take(hash, probe, guess) {
+            if self.fill_if_empty(hash, probe, guess) {
                 return;
             }
         }
@@ -86,7 +86,7 @@ impl FactSlots {
 
     /// Puts a guess into the slot with number `probe` of a hash, if that slot is empty, and returns
     /// whether it was.
-    fn take(&mut self, hash: usize, probe: usize, guess: u32) -> bool {
+    fn fill_if_empty(&mut self, hash: usize, probe: usize, guess: u32) -> bool {
         let slot = self.slot(hash, probe);
         let Some(place) = self.slots.get_mut(slot) else {
             return false;

@@ -1,13 +1,13 @@
 //! The statements of a database by position.
 ghost use Rattle.std.specs.Prelude.{◌≡◌, ◌≤◌, ◌<◌, [], true, IfOk, length, Some, option_map, OnOk, IfSome};
-ghost use Rattle.{mm_read.specs.declared.stmt.Stmt.Stmt as Statement, names.specs.Codes.name_at, names.specs.Codes.decode, scope.specs.Active.before, scope.specs.Active.stmt_at, scope.specs.Active.label_of, scope.specs.Active.expr_of, frame.specs.AtPosition.IsPosition, frame.specs.AtPosition.ArePositions, frame.specs.AtPosition.AreLegal, frame.specs.AtPosition.IsMeaning, frame.specs.FrameOf.HasAssertion, frame.specs.FrameOf.hypotheses, frame.specs.AssertionView.AreBuffersOf, frame.specs.AssertionView.AreCitingLists, frame.specs.AssertionView.IsCited, frame.specs.AssertionView.IsViewOf, frame.specs.PairFacts.AreFacts, frame.specs.ExprPlaces.AreExprPlaces, frame.specs.Below.AreBelow, frame.specs.LongEssentials.HasConstants, frame.specs.LongEssentials.long_essentials, scope.specs.Active.is_essential};
+ghost use Rattle.{mm_read.specs.declared.stmt.Stmt.Stmt as Statement, names.specs.Codes.name_at, names.specs.Codes.decode, scope.specs.Active.before, scope.specs.Active.stmt_at, scope.specs.Active.label_of, scope.specs.Active.expr_of, frame.specs.AtPosition.IsPosition, frame.specs.AtPosition.ArePositions, frame.specs.AtPosition.HasLegalProperties, frame.specs.AtPosition.IsMeaning, frame.specs.FrameOf.HasAssertion, frame.specs.FrameOf.hypotheses, frame.specs.AssertionView.AreBuffersOf, frame.specs.AssertionView.AreCitingLists, frame.specs.AssertionView.IsCitingView, frame.specs.AssertionView.IsViewOf, frame.specs.PairFacts.AreFacts, frame.specs.ExprPlaces.AreExprPlaces, frame.specs.Below.AreBelow, frame.specs.LongEssentials.HasConstants, frame.specs.LongEssentials.long_essentials, scope.specs.Active.is_essential};
 
+use crate::assertion_parts::fill_from_hypotheses;
 use crate::at_position::{is_active_at, last_active_at};
 use crate::citing_lists::fill_citing_lists;
 use crate::essential_sets::EssentialSets;
 use crate::frame_buffers::FrameBuffers;
 use crate::kept_facts::KeptFacts;
-use crate::make::fill_from_hypotheses;
 use crate::mandatory_view::{MandatoryView, missing};
 use crate::meaning::Meaning;
 use crate::pair_facts::PairFacts;
@@ -24,8 +24,8 @@ use scope::{Numbering, SymbolNumbers};
 use std::alloc::{AllocError, Global};
 use std::marker::Model;
 
-/// The largest number of mandatory hypotheses, brought along by the active `$e`, that
-/// `mandatory_view` leaves to a list.
+/// The largest number of mandatory hypotheses brought along by the active `$e` for which
+/// `mandatory_view` returns `None`.
 const MAX_WITHOUT_VIEW: usize = 64;
 
 /// The statements of a database by position, counted from 1, without their proofs, with their
@@ -38,7 +38,8 @@ pub struct Frames {
     pub(crate) alloc: Global,
     /// The statements.
     pub(crate) storage: Storage,
-    /// For each `$e`, the mandatory hypotheses that it and the active `$e` before it bring along, as a set.
+    /// For a `$e`, the set of the mandatory hypotheses that the active `$e` up to it bring along, if
+    /// they are many.
     pub(crate) essential_sets: EssentialSets,
     /// Facts about pairs of variables, which stay true as statements are added.
     pub(crate) kept_facts: KeptFacts,
@@ -122,7 +123,7 @@ impl Frames {
     /// Errors: an allocation fails. Cost: that of looking each label up.
     pub fn positions(&self, labels: &Words) -> Result<Vec<Option<usize>>, AllocError>
         ensures found { IfOk result (λ positions. ArePositions self.now.statements labels.now positions.items) }
-        ensures legal { AreLegal self.now.statements self.now.names }
+        ensures legal { HasLegalProperties self.now.statements self.now.names }
     {
         let mut positions = Vec::new(self.alloc);
         for label in labels.iter() {
@@ -165,8 +166,8 @@ impl Frames {
         }
     }
 
-    /// Returns the mandatory `$e` of the assertion at a position that have `LONG_EXPRESSION`
-    /// symbols or more, one of which is x: their positions, from the last one back.
+    /// Returns the positions of those mandatory `$e` of the assertion at a position that have x and
+    /// at least `LONG_EXPRESSION` symbols, from the last one back.
     ///
     /// Cost: a binary search.
     pub fn long_essentials(&self, x: u32, a: usize) -> PositionStack<'_>
@@ -177,7 +178,7 @@ impl Frames {
         self.storage.essentials.stack(x, a)
     }
 
-    /// Returns the meaning at `at` of a citation of the statement at `i`.
+    /// Returns what a citation of the statement at `i` means at `at`.
     ///
     /// Cost: a constant.
     #[inline(always)]
@@ -208,7 +209,7 @@ impl Frames {
         requires { (1 ≤ at) × (at ≤ length self.now.statements) }
         ensures statements { result.statements ≡ before self.now.statements at }
         ensures names { result.names ≡ self.now.names }
-        ensures legal { AreLegal self.now.statements self.now.names }
+        ensures legal { HasLegalProperties self.now.statements self.now.names }
     {
         Pairs {
             storage: &self.storage,
@@ -300,7 +301,7 @@ impl Frames {
     pub fn citing_view<'a>(&'a self, a: usize, buffers: &'a FrameBuffers) -> AssertionView<'a>
         requires assertion { (s : Statement) × HasAssertion self.now.statements a s }
         requires lists { AreCitingLists self.now.statements self.now.names a buffers.now }
-        ensures { (s : Statement) → stmt_at self.now.statements a ≡ Some s → IsCited self.now.statements self.now.names a s result }
+        ensures { (s : Statement) → stmt_at self.now.statements a ≡ Some s → IsCitingView self.now.statements self.now.names a s result }
     {
         AssertionView {
             typecodes: &buffers.typecodes,
@@ -313,23 +314,24 @@ impl Frames {
     /// Appends the positions of the mandatory hypotheses of the assertion at a position, in order,
     /// to an empty list.
     ///
-    /// Errors: an allocation fails. Cost: their number; if they are not kept whole, n log n for n
-    /// of them, or a walk over the active `$e` if they are few.
+    /// Errors: an allocation fails. Cost: their number, if all are kept with the assertion; else n log
+    /// n for n of them, or a walk over the active `$e` if these bring along few.
     pub fn mandatory(&self, a: usize, list: &mut Vec<u32>) -> Result<(), AllocError>
         requires assertion { (s : Statement) × HasAssertion self.now.statements a s }
         requires empty { list.old.items ≡ [] }
         ensures listed { (s : Statement) → stmt_at self.now.statements a ≡ Some s → OnOk result (list.new.items ≡ hypotheses (before self.now.statements a) s) }
-        ensures legal { AreLegal self.now.statements self.now.names }
+        ensures legal { HasLegalProperties self.now.statements self.now.names }
     {
         list.extend_from_slice(self.storage.entries.hypotheses(a - 1))?;
         if self.storage.entries.is_whole(a - 1) {
             Ok(())
         } else {
-            self.essential_sets.add(&self.storage, a, list)
+            self.essential_sets
+                .append_hypotheses(&self.storage, a, list)
         }
     }
 
-    /// Returns the mandatory hypotheses of the assertion at a position without making a list of them, or `None` if the active
+    /// Returns the mandatory hypotheses of the assertion at a position without a list of all of them, or `None` if the active
     /// `$e` bring along at most 64 of them or the parts of the assertion are kept whole.
     ///
     /// Errors: an allocation fails. Cost: the `$f` of the assertion's own variables, times a logarithm.

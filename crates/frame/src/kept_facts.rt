@@ -5,7 +5,7 @@ ghost use Rattle.frame.specs.Stored.PairSearch.{AreSearched};
 ghost use Rattle.mm_read.specs.Statements.{Database};
 ghost use Rattle.std.specs.Prelude.{take};
 
-use crate::pair_facts::{PairFacts, search_row};
+use crate::pair_facts::{PairFacts, search_disjoints_with};
 use crate::storage::Storage;
 use std::alloc::Global;
 
@@ -54,7 +54,7 @@ impl KeptFacts {
     {
         self.facts.make_room();
         let none = PairFacts::new(alloc);
-        let _found = search_row(storage, &none, at, &mut self.facts, x, y);
+        let _found = search_disjoints_with(storage, &none, at, &mut self.facts, x, y);
         self.count = storage.entries.len();
     }
 }

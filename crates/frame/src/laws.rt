@@ -1,7 +1,7 @@
 //! Laws of frames.
-ghost use Rattle.frame.specs.Laws.{GroupsArePairs};
+ghost use Rattle.frame.specs.Laws.{GroupsHaveMandatoryPairs};
 
-/// The lists of disjoint variables of a frame are exactly its mandatory pairs.
-pub fn groups_are_pairs()
-    ensures { GroupsArePairs }
+/// The groups of a frame have exactly its mandatory pairs.
+pub fn groups_have_mandatory_pairs()
+    ensures { GroupsHaveMandatoryPairs }
 {}

@@ -1,6 +1,6 @@
 //! Finds the mandatory hypotheses of an assertion by the symbols that it uses.
 ghost use Rattle.std.specs.Prelude.{◌≡◌, ◌+◌, ◌-◌, ◌≤◌, ◌<◌, ◌==◌, [], length, take, OnOk};
-ghost use Rattle.{std.specs.List.list_all, std.specs.List.list_any, frame.specs.Below.AreBelow, frame.specs.Stored.Whole.AreStored, frame.specs.Stored.Hypotheses.In, frame.specs.Stored.Hypotheses.AreThose, frame.specs.Stored.Hypotheses.HasMore, frame.specs.Stored.Hypotheses.IsFloatOf, frame.specs.Stored.Hypotheses.AreLooked, frame.specs.Stored.Hypotheses.AreFloats, frame.specs.Stored.Hypotheses.AreWith, frame.specs.Stored.EntryMeanings.names_in, frame.specs.Stored.EntryMeanings.statements_of};
+ghost use Rattle.{std.specs.List.list_all, std.specs.List.list_any, frame.specs.Below.AreBelow, frame.specs.Stored.Whole.AreStored, frame.specs.Stored.Hypotheses.In, frame.specs.Stored.Hypotheses.ListsExactly, frame.specs.Stored.Hypotheses.HasMore, frame.specs.Stored.Hypotheses.IsFloatOf, frame.specs.Stored.Hypotheses.HasLookedUpFloats, frame.specs.Stored.Hypotheses.AreFloats, frame.specs.Stored.Hypotheses.AreWithEssentials, frame.specs.Stored.EntryMeanings.names_in, frame.specs.Stored.EntryMeanings.statements_of};
 
 use crate::at_position::{is_active_at, last_active_at};
 use crate::essential_sets::EssentialSets;
@@ -10,7 +10,7 @@ use std::alloc::AllocError;
 
 /// Sorts positions in ascending order and removes repetitions.
 pub fn sort_unique(list: &mut Vec<u32>)
-    ensures { AreThose (λ p. In p list.old.items) list.new.items }
+    ensures { ListsExactly (λ p. In p list.old.items) list.new.items }
 {
     list.sort_unstable();
     list.dedup();
@@ -20,21 +20,21 @@ pub fn sort_unique(list: &mut Vec<u32>)
 /// the symbol was not looked up before.
 fn add_float(
     storage: &Storage,
-    looked: &mut Stack,
+    looked_up: &mut Stack,
     list: &mut Vec<u32>,
     code: u32,
 ) -> Result<(), AllocError>
     requires stored { AreStored storage.now }
     requires code { code < length (names_in storage.now) }
-    requires looked { AreLooked storage.now.entries (statements_of storage.now) looked.old list.old.items }
+    requires looked_up { HasLookedUpFloats storage.now.entries (statements_of storage.now) looked_up.old list.old.items }
     ensures more { OnOk result (HasMore (IsFloatOf storage.now.entries (statements_of storage.now) code) list.old.items list.new.items) }
-    ensures looked { OnOk result (AreLooked storage.now.entries (statements_of storage.now) looked.new list.new.items) }
+    ensures looked_up { OnOk result (HasLookedUpFloats storage.now.entries (statements_of storage.now) looked_up.new list.new.items) }
 {
     let float = storage.symbols[code as usize].float;
-    if float == 0 || looked.index_of(code).is_some() {
+    if float == 0 || looked_up.index_of(code).is_some() {
         return Ok(());
     }
-    looked.push(code)?;
+    looked_up.push(code)?;
     if is_active_at(storage, float, storage.entries.len() + 1) {
         list.push(float as u32)?;
     }
@@ -46,7 +46,7 @@ fn add_float(
 /// Cost: that of the symbols, and of sorting the `$f`.
 pub fn find_floats(
     storage: &Storage,
-    looked: &mut Stack,
+    looked_up: &mut Stack,
     list: &mut Vec<u32>,
     codes: &[u32],
 ) -> Result<(), AllocError>
@@ -55,9 +55,9 @@ pub fn find_floats(
     requires empty { list.old.items ≡ [] }
     ensures { OnOk result (AreFloats storage.now.entries (statements_of storage.now) codes.now list.new.items) }
 {
-    looked.truncate(0);
+    looked_up.truncate(0);
     for code in codes {
-        add_float(storage, looked, list, *code)?;
+        add_float(storage, looked_up, list, *code)?;
     }
     sort_unique(list);
     Ok(())
@@ -87,7 +87,7 @@ fn add_new(list: &mut Vec<u32>, positions: &[u32]) -> Result<(), AllocError>
 pub fn add_essentials(storage: &Storage, at: usize, list: &mut Vec<u32>) -> Result<(), AllocError>
     requires stored { AreStored storage.now }
     requires place { (1 ≤ at) × (at ≤ length (statements_of storage.now) + 1) }
-    ensures { OnOk result (AreWith storage.now.entries (take (at - 1) (statements_of storage.now)) list.old.items list.new.items) }
+    ensures { OnOk result (AreWithEssentials storage.now.entries (take (at - 1) (statements_of storage.now)) list.old.items list.new.items) }
 {
     let mut essential = last_active_at(storage, at).essential;
     while essential != 0 {

@@ -20,7 +20,7 @@ pub fn frame(alloc: Global, scope: &Scope, stmt: &Stmt) -> Result<Frame, AllocEr
 {
     let used = mandatory_variables(alloc, scope, stmt)?;
     let hypotheses = mandatory_hypotheses(alloc, scope.frame_statements(), &used)?;
-    let groups = groups(alloc, scope.frame_statements(), &used)?;
+    let groups = mandatory_groups(alloc, scope.frame_statements(), &used)?;
     let conclusion = expression(stmt).copy(alloc)?;
     Ok(Frame {
         hypotheses,
@@ -90,7 +90,7 @@ fn mandatory_hypotheses(
 {
     let mut list = SmallVec::new(alloc);
     for entry in frame_statements.iter() {
-        if is_required(used, &entry.stmt) {
+        if is_needed(used, &entry.stmt) {
             list.push(entry.at)?;
         }
     }
@@ -98,7 +98,7 @@ fn mandatory_hypotheses(
 }
 
 /// Returns whether a statement is an `$e`, or the `$f` of one of the used variables.
-fn is_required(used: &NameTable, stmt: &Stmt) -> bool
+fn is_needed(used: &NameTable, stmt: &Stmt) -> bool
     ensures { result ≡ is_needed used.now stmt.now }
 {
     match stmt {
@@ -116,7 +116,7 @@ fn has(used: &NameTable, name: &[u8]) -> bool
 }
 
 /// Returns for each active `$d` those of its variables that are used, if they are two or more.
-fn groups(
+fn mandatory_groups(
     alloc: Global,
     frame_statements: &[FrameStatement],
     used: &NameTable,
@@ -126,7 +126,7 @@ fn groups(
     let mut groups = Vec::new(alloc);
     for entry in frame_statements.iter() {
         if let Stmt::Disj(names) = &entry.stmt {
-            let group = group(alloc, used, names)?;
+            let group = mandatory_group(alloc, used, names)?;
             if group.len() > 1 {
                 groups.push(group)?;
             }
@@ -136,7 +136,7 @@ fn groups(
 }
 
 /// Returns those of the names that are among the used variables.
-fn group(alloc: Global, used: &NameTable, names: &Words) -> Result<Words, AllocError>
+fn mandatory_group(alloc: Global, used: &NameTable, names: &Words) -> Result<Words, AllocError>
     ensures { IfOk result (λ group. group ≡ among used.now names.now) }
 {
     let mut group = Words::new(alloc);

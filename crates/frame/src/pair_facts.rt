@@ -25,8 +25,8 @@ const MAX_UNRECORDED: usize = 16;
 /// their answers are kept with the statements.
 pub(crate) const MAX_UNLISTED: usize = 256;
 
-/// A search looks up a fact at each of its first `MAX_UNRECORDED` `$d`, and at each `$d` that has a multiple of this many
-/// `$d` left, itself included.
+/// After its first `MAX_UNRECORDED` `$d`, a search looks up a fact at each `$d` that has a multiple of
+/// this many `$d` left, itself included.
 const STRIDE: usize = 64;
 
 /// A fact: whether two variables both occur in a `$d` that is active right after the `$d` at a
@@ -236,8 +236,8 @@ fn key(fact: PairFact) -> FactKey {
 pub struct SoughtPair {
     pub x: u32,
     pub y: u32,
-    pub with_x: usize,
-    pub with_y: usize,
+    pub count_x: usize,
+    pub count_y: usize,
 }
 
 /// Returns whether two variables are disjoint at a position, by the facts of earlier searches and those that are kept with
@@ -262,23 +262,24 @@ pub fn search_by_facts(
     let SoughtPair {
         x,
         y,
-        with_x,
-        with_y,
+        count_x,
+        count_y,
     } = pair;
-    if searches_first_row(with_x, with_y, x, y) {
-        search_row(storage, kept, at, facts, x, y)
+    if searches_x(count_x, count_y, x, y) {
+        search_disjoints_with(storage, kept, at, facts, x, y)
     } else {
-        search_row(storage, kept, at, facts, y, x)
+        search_disjoints_with(storage, kept, at, facts, y, x)
     }
 }
 
-/// Returns whether the `$d` of x are searched, and not those of y, given how many each has: the same for either order.
-pub(crate) fn searches_first_row(with_x: usize, with_y: usize, x: u32, y: u32) -> bool {
-    with_x < with_y || (with_x == with_y && x <= y)
+/// Returns whether the `$d` of x are searched, not those of y, given how many each has. The choice does
+/// not depend on the order of the two.
+pub(crate) fn searches_x(count_x: usize, count_y: usize, x: u32, y: u32) -> bool {
+    count_x < count_y || (count_x == count_y && x <= y)
 }
 
 /// Returns whether two variables are disjoint at a position, by going through the `$d` that have the first.
-pub(crate) fn search_row(
+pub(crate) fn search_disjoints_with(
     storage: &Storage,
     kept: &PairFacts,
     at: usize,
@@ -292,19 +293,19 @@ pub(crate) fn search_row(
     ensures found { result ≡ are_pair storage.now at x y }
     ensures facts { AreFacts (numbered storage.now) facts.new }
 {
-    let walked = walk(storage, kept, facts, storage.disjoints.stack(x, at), x, y);
-    facts.spend(walked.passed);
-    facts.record_search(walked.passed, LongSearch { at, x, y });
-    if walked.passed > MAX_UNRECORDED {
-        let row = storage.disjoints.stack(x, at);
-        record_passed(storage, facts, row, x, y, walked);
+    let search_end = walk(storage, kept, facts, storage.disjoints.stack(x, at), x, y);
+    facts.spend(search_end.passed);
+    facts.record_search(search_end.passed, LongSearch { at, x, y });
+    if search_end.passed > MAX_UNRECORDED {
+        let with_x = storage.disjoints.stack(x, at);
+        record_passed(storage, facts, with_x, x, y, search_end);
     }
-    walked.found
+    search_end.found
 }
 
 /// How a search ended.
 #[derive(Clone, Copy, Drop)]
-pub struct Walked {
+pub struct SearchEnd {
     /// How many `$d` it passed that do not have the other variable.
     pub passed: usize,
     /// Its answer.
@@ -316,36 +317,36 @@ fn walk(
     storage: &Storage,
     kept: &PairFacts,
     facts: &PairFacts,
-    mut row: PositionStack<'_>,
+    mut with_x: PositionStack<'_>,
     x: u32,
     y: u32,
-) -> Walked
-    requires sought { IsSearchedIn storage.now x y row }
+) -> SearchEnd
+    requires sought { IsSearchedIn storage.now x y with_x }
     requires kept { AreFacts (numbered storage.now) kept.now }
     requires facts { AreFacts (numbered storage.now) facts.now }
-    ensures { AreAnswered storage.now y row.entry result }
+    ensures { AreAnswered storage.now y with_x.entry result }
 {
-    let height = row.len();
+    let height = with_x.len();
     for passed in 0..height {
-        let Some(position) = row.pop() else {
+        let Some(position) = with_x.pop() else {
             unreachable!();
         };
-        if is_looked_up(passed, row.len()) {
+        if is_looked_up(passed, with_x.len()) {
             if let Some(fact) = known_in(facts, kept, position, x, y) {
-                return Walked {
+                return SearchEnd {
                     passed,
                     found: fact.found,
                 };
             }
         }
         if has_symbol(storage, position, y) {
-            return Walked {
+            return SearchEnd {
                 passed,
                 found: true,
             };
         }
     }
-    Walked {
+    SearchEnd {
         passed: height,
         found: false,
     }
@@ -372,21 +373,21 @@ fn known_in(
 fn record_passed(
     storage: &Storage,
     facts: &mut PairFacts,
-    mut row: PositionStack<'_>,
+    mut with_x: PositionStack<'_>,
     x: u32,
     y: u32,
-    walked: Walked,
+    search_end: SearchEnd,
 )
-    requires sought { IsSearchedIn storage.now x y row }
-    requires answered { AreAnswered storage.now y row walked }
+    requires sought { IsSearchedIn storage.now x y with_x }
+    requires answered { AreAnswered storage.now y with_x search_end }
     requires facts { AreFacts (numbered storage.now) facts.old }
     ensures { AreFacts (numbered storage.now) facts.new }
 {
-    let found = walked.found;
-    let top = row.len();
-    for passed in 0..walked.passed {
-        let height = row.len();
-        let Some(position) = row.pop() else {
+    let found = search_end.found;
+    let top = with_x.len();
+    for passed in 0..search_end.passed {
+        let height = with_x.len();
+        let Some(position) = with_x.pop() else {
             return;
         };
         if is_recorded(top, height) {

@@ -2,7 +2,7 @@
 ghost use Rattle.std.specs.Prelude.{◌≡◌, true};
 ghost use Rattle.frame.specs.PairFacts.{AreFacts};
 ghost use Rattle.frame.specs.Stored.EntryMeanings.{numbered};
-ghost use Rattle.frame.specs.Stored.PairSearch.{AreSearched, IsLeft, are_pair};
+ghost use Rattle.frame.specs.Stored.PairSearch.{AreSearched, AreRemaining, are_pair};
 
 use crate::at_position::is_active_at;
 use crate::long_searches::{LongSearch, LongSearches};
@@ -19,9 +19,8 @@ const MAX_PAIRS: usize = 65_536;
 /// The number of `$d` that a search goes through before it looks the pair up in the memo.
 const MAX_BEFORE_MEMO: usize = 16;
 
-/// The positions of the `$d` in which long searches found pairs of variables. Also the first 64 of
-/// the other long searches, which found none or were ended by a fact, and passed more than 256 `$d`
-/// after the first 16.
+/// The positions of the `$d` in which long searches found pairs of variables. Also the first 64
+/// searches that found no `$d` themselves and passed more than 256 after the first 16.
 ///
 /// A position only says where to look first, so one memo serves at all positions and for all
 /// databases.
@@ -71,7 +70,7 @@ fn key(x: u32, y: u32) -> u64 {
     (x.min(y) as u64) << 32 | x.max(y) as u64
 }
 
-/// Returns whether two variables are disjoint, given the `$d` that are left to search, all of which
+/// Returns whether two variables are disjoint, given the `$d` that remain to be searched, all of which
 /// have the first variable.
 ///
 /// Cost: the number of these `$d`, times a binary search; less in two cases. If the memo has an
@@ -82,23 +81,23 @@ pub fn search(
     facts: &PairFacts,
     at: usize,
     memo: &mut PairMemo,
-    mut left: PositionStack<'_>,
+    mut remaining: PositionStack<'_>,
     x: u32,
     y: u32,
 ) -> bool
-    requires left { IsLeft storage.now at x y left }
+    requires remaining { AreRemaining storage.now at x y remaining }
     requires facts { AreFacts (numbered storage.now) facts.now }
     ensures { result ≡ are_pair storage.now at x y }
 {
     for _ in 0..MAX_BEFORE_MEMO {
-        let Some(position) = left.pop() else {
+        let Some(position) = remaining.pop() else {
             return false;
         };
         if has_symbol(storage, position, y) {
             return true;
         }
     }
-    search_on(storage, facts, at, memo, left, x, y)
+    search_on(storage, facts, at, memo, remaining, x, y)
 }
 
 /// Continues a search after its first `MAX_BEFORE_MEMO` `$d`: first by the memo, then through the other `$d`.
@@ -109,11 +108,11 @@ fn search_on(
     facts: &PairFacts,
     at: usize,
     memo: &mut PairMemo,
-    mut left: PositionStack<'_>,
+    mut remaining: PositionStack<'_>,
     x: u32,
     y: u32,
 ) -> bool
-    requires left { IsLeft storage.now at x y left }
+    requires remaining { AreRemaining storage.now at x y remaining }
     requires facts { AreFacts (numbered storage.now) facts.now }
     ensures { result ≡ are_pair storage.now at x y }
 {
@@ -121,13 +120,13 @@ fn search_on(
     if has_both(storage, at, known, x, y) {
         return true;
     }
-    let height = left.len();
-    while let Some(position) = left.pop() {
+    let height = remaining.len();
+    while let Some(position) = remaining.pop() {
         if has_symbol(storage, position, y) {
             memo.record(x, y, position);
             return true;
         }
-        let below = left.len();
+        let below = remaining.len();
         // This `$d` is counted; the first `MAX_BEFORE_MEMO` are not.
         let passed = height.saturating_sub(below);
         if is_looked_up(passed, below) {

@@ -1,11 +1,11 @@
 //! The disjoint variables at a position.
 ghost use Rattle.std.specs.Prelude.{◌≡◌, ◌==◌, ◌&&◌, ◌||◌, ◌<◌, ℕ, not, false, length, IfNone, IfSome};
-ghost use Rattle.{std.specs.List.list_any, mm_lex.specs.Alphabet.Name, names.specs.Codes.name_at, names.specs.Codes.code_of, scope.specs.Active.is_variable, frame.specs.Below.AllBelow, frame.specs.Below.AreBelow, frame.specs.FrameOf.is_pair, frame.specs.LastActive.is_disj, frame.specs.PairRows.AreTogether, frame.specs.Stored.EntryMeanings.statements_of, frame.specs.Stored.Stacks.AreOfKind, frame.specs.Stored.Stacks.IsOfKind, frame.specs.Stored.Stacks.has_code, frame.specs.Stored.Whole.AreStored};
+ghost use Rattle.{std.specs.List.list_any, mm_lex.specs.Alphabet.Name, names.specs.Codes.name_at, names.specs.Codes.code_of, scope.specs.Active.is_variable, frame.specs.Below.AllBelow, frame.specs.Below.AreBelow, frame.specs.FrameOf.is_pair, frame.specs.LastActive.is_disj, frame.specs.ListsOfPairs.AreListsOfPairs, frame.specs.Stored.EntryMeanings.statements_of, frame.specs.Stored.Stacks.AreOfKind, frame.specs.Stored.Stacks.IsOfKind, frame.specs.Stored.Stacks.has_code, frame.specs.Stored.Whole.AreStored};
 
 use crate::at_position::last_active_at;
-use crate::pair_facts::{PairFacts, searches_first_row};
+use crate::disjoints_with::DisjointsWith;
+use crate::pair_facts::{PairFacts, searches_x};
 use crate::pair_memo::{PairMemo, search};
-use crate::row::Row;
 use crate::storage::Storage;
 use crate::symbol_numbers::symbol_number;
 use entries::PositionStack;
@@ -71,7 +71,7 @@ impl<'a> Pairs<'a> {
         }
         let with_x = self.storage.disjoints.stack(x, self.at);
         let with_y = self.storage.disjoints.stack(y, self.at);
-        if searches_first_row(with_x.len(), with_y.len(), x, y) {
+        if searches_x(with_x.len(), with_y.len(), x, y) {
             search(self.storage, self.facts, self.at, memo, with_x, x, y)
         } else {
             search(self.storage, self.facts, self.at, memo, with_y, y, x)
@@ -81,13 +81,13 @@ impl<'a> Pairs<'a> {
     /// Returns the active `$d` that have x, from the last one back.
     ///
     /// Cost: a binary search.
-    pub fn row(&self, x: u32) -> Row<'a>
+    pub fn disjoints_with(&self, x: u32) -> DisjointsWith<'a>
         requires { x < length self.now.names }
         ensures pairs { (y : ℕ) → y < length self.now.names → is_pair self.now.statements (name_at self.now.names x) (name_at self.now.names y) ≡ (not (x == y) && list_any (λ list. list_any (λ c. y == c) list) result) }
-        ensures together { AreTogether self.now result }
+        ensures together { AreListsOfPairs self.now result }
         ensures below { AllBelow (length self.now.names) result }
     {
-        Row::new(self.storage, self.storage.disjoints.stack(x, self.at))
+        DisjointsWith::new(self.storage, self.storage.disjoints.stack(x, self.at))
     }
 
     /// Returns the same `$d`. Cost: a constant.

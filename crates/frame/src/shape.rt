@@ -1,6 +1,6 @@
 //! Properties of the shape of a statement.
 ghost use Rattle.std.specs.Prelude.{◌≡◌};
-ghost use Rattle.{scope.specs.Active.bare, scope.specs.Active.is_assertion, scope.specs.Active.is_essential, frame.specs.Stored.AssertionParts.has_parts, frame.specs.Stored.Counts.kind_of, frame.specs.Stored.Labels.is_label_kind};
+ghost use Rattle.{scope.specs.Active.bare, scope.specs.Active.is_assertion, scope.specs.Active.is_essential, frame.specs.Stored.AssertionParts.has_parts, frame.specs.Stored.Counts.kind_of, frame.specs.Stored.Labels.is_labelled_kind};
 
 use entries::Kind;
 use mm_read::Stmt;
@@ -45,7 +45,7 @@ pub fn has_parts(kind: Kind) -> bool
 
 /// Returns whether statements of a kind have a label, and so an expression.
 pub fn has_label(kind: Kind) -> bool
-    ensures { result ≡ is_label_kind kind }
+    ensures { result ≡ is_labelled_kind kind }
 {
     matches!(kind, Kind::Float | Kind::Ess | Kind::Axiom | Kind::Prove)
 }

@@ -88,10 +88,10 @@ fn long_codes(codes: &[u32]) -> &[u32]
 
 /// Returns those symbols of a statement of a kind whose stacks have the statement: none of a short
 /// `$e`.
-fn codes_of_kind(codes: &[u32], of: Kind) -> &[u32]
-    ensures { result.now ≡ codes_by of codes.now }
+fn codes_of_kind(codes: &[u32], stack_kind: Kind) -> &[u32]
+    ensures { result.now ≡ codes_by stack_kind codes.now }
 {
-    match of {
+    match stack_kind {
         Kind::Ess => long_codes(codes),
         _ => codes,
     }
@@ -103,20 +103,20 @@ fn revert_all(
     histories: &mut Histories,
     entries: &Entries,
     next: &NextStatement<'_>,
-    of: Kind,
+    stack_kind: Kind,
 ) -> Result<(), AllocError>
     requires place { next.now.at ≡ length entries.now + 1 }
-    requires walked { AreStacksOfStorage of entries.now next.now.last_active histories.old }
+    requires walked { AreStacksOfStorage stack_kind entries.now next.now.last_active histories.old }
     ensures next { OnOk result (IsNext next.now.at (λ c. stack_at (history histories.old c) (opening next.now.last_active.block)) histories.old histories.new) }
     ensures kept { KeepsUntil (next.now.at - 1) histories.old histories.new }
 {
     let before = next.last_active.block.max(1);
-    let mut last = last_of_kind(next.last_active, of);
+    let mut last = last_of_kind(next.last_active, stack_kind);
     while last > next.last_active.block {
         let entry = entries.entry(last as usize - 1);
-        let codes = codes_of_kind(entry.symbols, of);
+        let codes = codes_of_kind(entry.symbols, stack_kind);
         revert_each(histories, codes, next.at, before)?;
-        last = last_of_kind(entry.before.last_active, of);
+        last = last_of_kind(entry.before.last_active, stack_kind);
     }
     Ok(())
 }
@@ -139,10 +139,10 @@ fn revert_each(
 }
 
 /// Returns the position of the last active statement of a kind, or 0.
-fn last_of_kind(last_active: LastActive, of: Kind) -> u32
-    ensures { result ≡ last_by_kind of last_active }
+fn last_of_kind(last_active: LastActive, stack_kind: Kind) -> u32
+    ensures { result ≡ last_by_kind stack_kind last_active }
 {
-    match of {
+    match stack_kind {
         Kind::Disj => last_active.disjoint,
         Kind::Ess => last_active.essential,
         _ => last_active.variable,

@@ -1,6 +1,6 @@
 //! Looks up the numbers of symbols and labels.
 ghost use Rattle.std.specs.Prelude.{◌≡◌, ◌++◌, ◌∷◌, [], IfSome, IfNone, false};
-ghost use Rattle.{mm_read.specs.Statements.Expr, names.specs.Codes.with_names, scope.specs.Kinds.declared_symbols, scope.specs.Kinds.declared_labels, scope.specs.Kinds.is_some_label, scope.specs.Kinds.kind_in, scope.specs.Kinds.IsNumberOf, scope.specs.Stored.SymbolNumbers.AreRecorded, scope.specs.Symbols.symbols_declared_by, scope.specs.Symbols.symbols_in, frame.specs.Stored.Naming.is_declared};
+ghost use Rattle.{mm_read.specs.Statements.Expr, names.specs.Codes.with_names, scope.specs.Kinds.declared_symbols, scope.specs.Kinds.declared_labels, scope.specs.Kinds.is_some_label, scope.specs.Kinds.kind_in, scope.specs.Kinds.IsNumberOf, scope.specs.Stored.SymbolNumbers.AreRecorded, scope.specs.Symbols.symbols_declared_by, scope.specs.Symbols.symbols_in, frame.specs.Stored.Naming.is_kind_of_symbol};
 
 use mm_lex::Words;
 use mm_read::Stmt;
@@ -9,7 +9,7 @@ use scope::{NameKind, Numbering, SymbolNumbers};
 /// Returns the number of a symbol, or `None` if the word is not a symbol.
 pub fn symbol_number(numbering: &Numbering, word: &[u8]) -> Option<u32>
     ensures found { IfSome result (λ n. IsNumberOf (declared_symbols numbering.now) word.now n) }
-    ensures none { IfNone result (is_declared (kind_in numbering.now word.now) ≡ false) }
+    ensures none { IfNone result (is_kind_of_symbol (kind_in numbering.now word.now) ≡ false) }
 {
     match numbering.find(word) {
         Some((number, NameKind::Constant)) => Some(number),

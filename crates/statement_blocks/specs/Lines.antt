@@ -11,9 +11,9 @@ use Rattle.names.specs.Codes.{name_at}
 use Rattle.scope.specs.Active.{bares, before, stmt_at, is_assertion}
 use Rattle.frame.specs.FrameOf.{hypotheses, mandatory_groups}
 
--- a label, a keyword and symbols
-abbrev pub labelled : Name → List ℕ → List ℕ → List ℕ
-labelled label keyword symbols = label ++ keyword ++ symbols
+-- three texts, one after another
+abbrev pub three_joined : Name → List ℕ → List ℕ → List ℕ
+three_joined first second third = first ++ second ++ third
 
 -- the number of a proof's tokens, and the end of the line
 abbrev pub proof_note : List Name → List ℕ
@@ -21,10 +21,10 @@ proof_note proof = codes " (proof of " ++ decimal (length proof) ++ codes " toke
 
 -- the line of a statement that has a label, without its proof
 abbrev pub statement_line : Stmt → List ℕ
-statement_line (Float label constant variable) = labelled label (codes " $f ") constant ++ labelled (codes " ") variable (codes "\n")
-statement_line (Ess label expr) = labelled label (codes " $e ") (spaced expr) ++ codes "\n"
-statement_line (Axiom label expr) = labelled label (codes " $a ") (spaced expr) ++ codes "\n"
-statement_line (Prove label expr proof) = labelled label (codes " $p ") (spaced expr) ++ proof_note proof
+statement_line (Float label constant variable) = three_joined label (codes " $f ") constant ++ three_joined (codes " ") variable (codes "\n")
+statement_line (Ess label expr) = three_joined label (codes " $e ") (spaced expr) ++ codes "\n"
+statement_line (Axiom label expr) = three_joined label (codes " $a ") (spaced expr) ++ codes "\n"
+statement_line (Prove label expr proof) = three_joined label (codes " $p ") (spaced expr) ++ proof_note proof
 statement_line s = []
 
 -- the line of a statement, if there is one
@@ -39,7 +39,7 @@ line_at S position = line_if (stmt_at S position)
 abbrev pub after_space : Name → List ℕ
 after_space name = codes " " ++ name
 
--- a list of disjoint variables, as a `$d`
+-- a list of disjoint variables, as the line of a `$d`
 abbrev pub group_line : List Name → List ℕ
 group_line group = codes "$d" ++ flat_map after_space group ++ codes "\n"
 

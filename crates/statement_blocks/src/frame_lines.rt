@@ -41,13 +41,17 @@ fn push_hypotheses(
         ≡ text.old.items ++ flat_map (line_at statements.now) positions.now) }
 {
     for position in positions {
-        push_at(text, statements, *position as usize)?;
+        push_statement_at(text, statements, *position as usize)?;
     }
     Ok(())
 }
 
 /// Appends the statement at a position, if there is one.
-fn push_at(text: &mut Vec<u8>, statements: &[Stmt], position: usize) -> Result<(), AllocError>
+fn push_statement_at(
+    text: &mut Vec<u8>,
+    statements: &[Stmt],
+    position: usize,
+) -> Result<(), AllocError>
     ensures { OnOk result (text.new.items ≡ text.old.items ++ line_at statements.now position) }
 {
     if position == 0 || position > statements.len() {
@@ -56,7 +60,8 @@ fn push_at(text: &mut Vec<u8>, statements: &[Stmt], position: usize) -> Result<(
     push_statement(text, &statements[position - 1])
 }
 
-/// Appends the mandatory variables of each active `$d` at an assertion.
+/// Appends a line for each active `$d` at an assertion that has two or more of its mandatory
+/// variables.
 fn push_disjoint(
     alloc: Global,
     text: &mut Vec<u8>,
@@ -111,6 +116,7 @@ fn push_variables(text: &mut Vec<u8>, frames: &Frames, group: &[u32]) -> Result<
     Ok(())
 }
 
+/// Appends a space and a variable.
 fn push_variable(text: &mut Vec<u8>, frames: &Frames, number: u32) -> Result<(), AllocError>
     ensures { OnOk result (text.new.items ≡ text.old.items ++ symbol_text frames.now.names number) }
 {

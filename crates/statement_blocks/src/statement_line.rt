@@ -1,6 +1,6 @@
 //! The line of a statement.
 ghost use Rattle.std.specs.Prelude.{◌≡◌, ◌++◌, OnOk};
-ghost use Rattle.statement_blocks.specs.Lines.{labelled, proof_note, statement_line};
+ghost use Rattle.statement_blocks.specs.Lines.{three_joined, proof_note, statement_line};
 
 use mm_lex::Words;
 use mm_read::Stmt;
@@ -19,38 +19,38 @@ pub(crate) fn push_statement(text: &mut Vec<u8>, statement: &Stmt) -> Result<(),
             constant,
             variable,
         } => {
-            push_labelled(text, label.as_bytes(), b" $f ", constant.as_bytes())?;
-            push_labelled(text, b" ", variable.as_bytes(), b"\n")
+            push_three(text, label.as_bytes(), b" $f ", constant.as_bytes())?;
+            push_three(text, b" ", variable.as_bytes(), b"\n")
         }
         Stmt::Ess { label, expr } => {
-            push_labelled(text, label.as_bytes(), b" $e ", expr.as_text())?;
+            push_three(text, label.as_bytes(), b" $e ", expr.as_text())?;
             text.extend_from_slice(b"\n")
         }
         Stmt::Axiom { label, expr } => {
-            push_labelled(text, label.as_bytes(), b" $a ", expr.as_text())?;
+            push_three(text, label.as_bytes(), b" $a ", expr.as_text())?;
             text.extend_from_slice(b"\n")
         }
         Stmt::Prove { label, expr, proof } => {
-            push_labelled(text, label.as_bytes(), b" $p ", expr.as_text())?;
+            push_three(text, label.as_bytes(), b" $p ", expr.as_text())?;
             push_proof_note(text, proof)
         }
         _ => Ok(()),
     }
 }
 
-/// Appends a label, a keyword and symbols.
-fn push_labelled(
+/// Appends three texts.
+fn push_three(
     text: &mut Vec<u8>,
-    label: &[u8],
-    keyword: &[u8],
-    symbols: &[u8],
+    first: &[u8],
+    second: &[u8],
+    third: &[u8],
 ) -> Result<(), AllocError>
     ensures { OnOk result (text.new.items
-        ≡ text.old.items ++ labelled label.now keyword.now symbols.now) }
+        ≡ text.old.items ++ three_joined first.now second.now third.now) }
 {
-    text.extend_from_slice(label)?;
-    text.extend_from_slice(keyword)?;
-    text.extend_from_slice(symbols)
+    text.extend_from_slice(first)?;
+    text.extend_from_slice(second)?;
+    text.extend_from_slice(third)
 }
 
 /// Appends the number of a proof's tokens, and ends the line.

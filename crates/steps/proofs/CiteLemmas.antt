@@ -1,5 +1,5 @@
 -- The step that a citation adds to a table, if a run cites the same.
-use Rattle.steps.proofs.Words.{◌≡◌, ℕ, zero, suc, ◌-◌, ◌<◌, ◌≤◌, List, [], ◌∷◌, ◌++◌, length, map, drop, get_or, slice_get, Some, refl, sym, ◌∙◌, ap, subst, arith, inl, inr, length-map, map-append, get_or_from_slice_get, Name, Stmt, Expr, Database, stmt_at, before, expr_of, is_assertion, decode, Float, AssertionView, AreBelow, AllBelow, IsBound, IsViewOf, HasAssertion, hypotheses, Carries, IsHypothesis, IsInstance, premises, AreLegal, Cite, below-drop, IsTyped, AreRead, AreDifferent, AreNamed, Results, State, Cites, Steps, with_result, below, top, required-lengths, required-different, Meets, meets-step, read-over, cited-plain, append_cut, length-premises, not_both, apply-below, halves, length-top, map-drop, Row, no_row, expr_in, Follows, from_hypothesis, from_assertion, AreRows, row_of, rows_of, codes_in, progress_of, IsDraft, AgreesWithRun, GivesHypothesis, GivesAssertion, TableDraft, some-same, below-take}
+use Rattle.steps.proofs.Words.{◌≡◌, ℕ, zero, suc, ◌-◌, ◌<◌, ◌≤◌, List, [], ◌∷◌, ◌++◌, length, map, drop, get_or, slice_get, Some, refl, sym, ◌∙◌, ap, subst, arith, inl, inr, length-map, map-append, get_or_from_slice_get, Name, Stmt, Expr, Database, stmt_at, before, expr_of, is_assertion, decode, Float, AssertionView, AreBelow, AllBelow, IsWellTyped, IsViewOf, HasAssertion, hypotheses, Carries, IsHypothesis, IsInstance, premises, HasLegalProperties, Cite, below-drop, IsTyped, AreRead, AreDifferent, AreNamed, Results, State, Cites, Steps, with_result, below, top, required-lengths, required-different, Meets, meets-step, read-over, cited-plain, append_cut, length-premises, not_both, apply-below, halves, length-top, map-drop, Row, no_row, expr_in, Follows, from_hypothesis, from_assertion, AreRows, row_of, rows_of, codes_in, progress_of, IsDraft, AgreesWithRun, GivesHypothesis, GivesAssertion, TableDraft, some-same, below-take}
 use Rattle.frame.specs.Substitution.{Images, CodeImages, apply as applied, code_apply}
 use Rattle.verify.specs.Machine.{of_hypothesis, of_assertion}
 use Rattle.steps.specs.StepTable.{Step, stands, of_hypothesis as makes_hypothesis, of_assertion as makes_assertion, RecordsItem}
@@ -26,7 +26,7 @@ codes-named S at names rows (k ∷ ks) are b = (one rows k are b.0, codes-named 
 abbrev IsRecorded : Database → ℕ → List Name → TableDraft → Name → TableDraft → State → Type 0
 IsRecorded S at names d label new next = RecordsItem S at (progress_of d) (Cite label) (progress_of new) × AgreesWithRun names new next
 
-module _ (S : Database) (at : ℕ) (names : List Name) (legal : AreLegal S names) (d : TableDraft) (is : IsDraft S at names d) (label : Name) (st : State) (tied : AgreesWithRun names d st) where
+module _ (S : Database) (at : ℕ) (names : List Name) (legal : HasLegalProperties S names) (d : TableDraft) (is : IsDraft S at names d) (label : Name) (st : State) (tied : AgreesWithRun names d st) where
   -- ---- a hypothesis
 
   module _ (i : ℕ) (s : Stmt) (codes : List ℕ) (carries : Carries S i s label) (active : IsHypothesis S at i s) (named : decode names codes ≡ expr_of s) (low : AreBelow (length names) codes) where
@@ -81,8 +81,8 @@ module _ (S : Database) (at : ℕ) (names : List Name) (legal : AreLegal S names
     results = record { stack = map (codes_in d) d.stack.items; saved = map (codes_in d) d.saved.items; weight = st.weight }
 
     -- each variable of the assertion is that of exactly one mandatory `$f`
-    bound : IsBound S a s
-    bound = legal.bound a s has
+    bound : IsWellTyped S a s
+    bound = legal.well_typed a s has
 
     -- there are as many rows as placed steps
     count' : length rows' ≡ length d.placed.items

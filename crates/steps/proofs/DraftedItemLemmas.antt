@@ -1,5 +1,5 @@
 -- The effect of an item on the table that is built.
-use Rattle.steps.proofs.Words.{◌≡◌, ℕ, zero, suc, ◌-◌, ◌<◌, List, [], ◌∷◌, ◌++◌, length, map, get_or, slice_get, Option, Some, None, refl, sym, ◌∙◌, ap, subst, arith, length-append, length-map, map_push, slice_get-get_or, Name, Stmt, Expr, Database, stmt_at, AreBelow, Carries, IsHypothesis, IsMeaning, IsPosition, ArePositions, AreLegal, Nothing, Recall, Mark, State, Cites, with_result, with_mark, append_cut, get-map, Progress, steps_of, expr_in, AreRows, row_of, rows_of, AreInBuffer, AreKnown, IsDraft, AgreesWithRun, CanDo, IsDone, TableDraft, below-push, below-at}
+use Rattle.steps.proofs.Words.{◌≡◌, ℕ, zero, suc, ◌-◌, ◌<◌, List, [], ◌∷◌, ◌++◌, length, map, get_or, slice_get, Option, Some, None, refl, sym, ◌∙◌, ap, subst, arith, length-append, length-map, map_push, slice_get-get_or, Name, Stmt, Expr, Database, stmt_at, AreBelow, Carries, IsHypothesis, IsMeaning, IsPosition, ArePositions, HasLegalProperties, Nothing, Recall, Mark, State, Cites, with_result, with_mark, append_cut, get-map, Progress, steps_of, expr_in, AreRows, row_of, rows_of, AreInBuffer, AreKnown, IsDraft, AgreesWithRun, CanDo, IsDone, TableDraft, below-push, below-at}
 use Rattle.verify.specs.Machine.{of_hypothesis, of_assertion}
 
 -- a list that is not empty, split before its last element
@@ -104,7 +104,7 @@ module _ (S : Database) (at : ℕ) (names : List Name) (d : TableDraft) (is : Is
         )
 
 -- a statement that a run cites has a meaning
-pub never-nothing : (S : Database) (names : List Name) (at i : ℕ) (s : Stmt) (label : Name) (stack b : List Expr) (e : Expr) → AreLegal S names → Carries S i s label → IsMeaning S names at i Nothing
+pub never-nothing : (S : Database) (names : List Name) (at i : ℕ) (s : Stmt) (label : Name) (stack b : List Expr) (e : Expr) → HasLegalProperties S names → Carries S i s label → IsMeaning S names at i Nothing
     → Cites S at label stack b e → ⊥
 never-nothing S names at i s label stack b e legal carries none (of_hypothesis j t carries' active same whole) =
     let n : j ≡ i = legal.once j i t s label carries' carries in

@@ -1,10 +1,10 @@
 -- A step is placed in the table that is built: it is there already, or it is new.
-use Rattle.steps.proofs.Words.{◌≡◌, ℕ, ◌+◌, ◌<◌, ◌≤◌, List, [], ◌∷◌, ◌++◌, length, map, slice_get, Some, sym, ◌∙◌, ap, subst, arith, length-append, length-map, map_push, get_or_from_slice_get, slice_get_within, Name, Expr, Database, decode, AreBelow, AreLegal, State, with_result, Step, IsPlaced, stands, comes_last, Row, no_row, steps_of, expr_in, Follows, AreRows, row_of, rows_of, IsDraft, AgreesWithRun, Finds, TableDraft, below-push, below-more}
+use Rattle.steps.proofs.Words.{◌≡◌, ℕ, ◌+◌, ◌<◌, ◌≤◌, List, [], ◌∷◌, ◌++◌, length, map, slice_get, Some, sym, ◌∙◌, ap, subst, arith, length-append, length-map, map_push, get_or_from_slice_get, slice_get_within, Name, Expr, Database, decode, AreBelow, HasLegalProperties, State, with_result, Step, IsPlaced, stands, comes_last, Row, no_row, steps_of, expr_in, Follows, AreRows, row_of, rows_of, IsDraft, AgreesWithRun, Finds, TableDraft, below-push, below-more}
 use Rattle.frame.proofs.PositionLemmas.{get-last}
 use Rattle.steps.specs.Stored.Drafted as drafted
 use Rattle.steps.proofs.DraftRowLemmas.{rows-more, buffer-snoc, row-at, exprs-front, rows-snoc, known-snoc}
 
-module _ (S : Database) (at : ℕ) (names : List Name) (legal : AreLegal S names) (d new : TableDraft) (is : IsDraft S at names d) where
+module _ (S : Database) (at : ℕ) (names : List Name) (legal : HasLegalProperties S names) (d new : TableDraft) (is : IsDraft S at names d) where
   abbrev rows : List Row
   rows = rows_of d
 

@@ -1,5 +1,5 @@
 -- The items recorded so far; a run takes the others.
-use Rattle.steps.proofs.Words.{◌≡◌, ℕ, zero, suc, ◌-◌, ◌+◌, ◌<◌, ◌≤◌, List, [], ◌∷◌, length, map, take, drop, get_or, Some, refl, sym, ◌∙◌, ap, subst, arith, length-map, drop_all, Name, Stmt, Expr, Database, stmt_at, expr_of, AreLegal, Item, item_of, items_of, State, start, Steps, Runs, IsRight, conclude_same, spellings_run, items-more, all-taken, progress, RecordsItems, AreSteps, steps_of, expr_in, row_of, rows_of, progress_of, AgreesWithRun, CanDo, IsDone, TableDraft, some-same}
+use Rattle.steps.proofs.Words.{◌≡◌, ℕ, zero, suc, ◌-◌, ◌+◌, ◌<◌, ◌≤◌, List, [], ◌∷◌, length, map, take, drop, get_or, Some, refl, sym, ◌∙◌, ap, subst, arith, length-map, drop_all, Name, Stmt, Expr, Database, stmt_at, expr_of, HasLegalProperties, Item, item_of, items_of, State, start, Steps, Runs, IsRight, conclude_same, spellings_run, items-more, all-taken, progress, RecordsItems, AreSteps, steps_of, expr_in, row_of, rows_of, progress_of, AgreesWithRun, CanDo, IsDone, TableDraft, some-same}
 use Rattle.steps.proofs.SoundLemmas.{records-sound, records-snoc, nothing-sound, last_place-last}
 
 drop-more : (labels : List Name) (xs : List ℕ) (i : ℕ) → i < length xs → map (item_of labels) (drop i xs) ≡ item_of labels (get_or xs i 0) ∷ map (item_of labels) (drop (i + 1) xs)
@@ -18,7 +18,7 @@ module _ (S : Database) (at : ℕ) (names : List Name) where
     pub ends : end.stack ≡ expr_of stmt ∷ []
     pub recorded : RecordsItems S at (progress [] [] []) (map (item_of labels) (take i numbers)) (progress_of d)
 
-  pub reached-start : AreLegal S names → (labels : List Name) (numbers : List ℕ) (items : List Item) (d : TableDraft) → items_of labels numbers ≡ items → IsRight S at items → d.placed.items ≡ [] → d.stack.items ≡ [] → d.saved.items ≡ []
+  pub reached-start : HasLegalProperties S names → (labels : List Name) (numbers : List ℕ) (items : List Item) (d : TableDraft) → items_of labels numbers ≡ items → IsRight S at items → d.placed.items ≡ [] → d.stack.items ≡ [] → d.saved.items ≡ []
       → Reached labels numbers 0 d
   reached-start legal labels numbers items d same (t, derives) placed stack saved =
       let r = spellings_run S at (legal.single at) items t derives.after derives.weight derives.spelled in

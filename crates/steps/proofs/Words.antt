@@ -10,9 +10,9 @@ pub use Rattle.frame.proofs.FoundByNumber.{decode-injective, map-at, some-same}
 pub use Rattle.frame.proofs.PositionLemmas.{get-front}
 pub use Rattle.frame.proofs.SymbolNumberLemmas.{below-more, below-push, below-take}
 pub use Rattle.frame.specs.AssertionView.{AreNumberedHypotheses, IsStatementOf, IsViewOf}
-pub use Rattle.frame.specs.AtPosition.{AreLegal, ArePositions, HasLabelsOnce, IsMeaning, IsPosition}
+pub use Rattle.frame.specs.AtPosition.{HasLegalProperties, ArePositions, HasLabelsOnce, IsMeaning, IsPosition}
 pub use Rattle.frame.specs.Below.{AllBelow, AreBelow}
-pub use Rattle.frame.specs.Bound.{IsBound}
+pub use Rattle.frame.specs.WellTyped.{IsWellTyped}
 pub use Rattle.frame.specs.Citations.{Carries, IsHypothesis, IsInstance, premises}
 pub use Rattle.frame.specs.ExprPlaces.{AreExprPlaces}
 pub use Rattle.frame.specs.FrameOf.{HasAssertion, hypotheses, mandatory_groups}

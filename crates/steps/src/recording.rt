@@ -3,7 +3,7 @@ ghost use Rattle.std.specs.Prelude.{suc, ◌<◌, ◌≤◌, List, OnOk, length}
 ghost use Rattle.mm_lex.specs.Alphabet.{Name};
 ghost use Rattle.mm_read.specs.declared.stmt.Stmt.{Stmt as Statement};
 ghost use Rattle.frame.specs.Citations.{Carries};
-ghost use Rattle.frame.specs.AtPosition.{ArePositions, AreLegal};
+ghost use Rattle.frame.specs.AtPosition.{ArePositions, HasLegalProperties};
 ghost use Rattle.proof_code.specs.declared.item.Item.TheVariants.{Cite, Recall, Mark};
 ghost use Rattle.proof_code.specs.ItemNumbers.{item_of};
 ghost use Rattle.steps.specs.Stored.Drafted.{IsDraft, CanDo, IsDone};
@@ -50,7 +50,7 @@ fn cite(
     lists: &mut LongLists,
     draft: &mut TableDraft,
 ) -> Result<(), AllocError>
-    requires legal { AreLegal frames.now.statements frames.now.names }
+    requires legal { HasLegalProperties frames.now.statements frames.now.names }
     requires place { (1 ≤ at) × (at ≤ length frames.now.statements) }
     requires draft { IsDraft frames.now.statements at frames.now.names draft.old }
     requires can { (label : Name) × (s : Statement) × Carries frames.now.statements position s label
@@ -86,7 +86,7 @@ pub fn record_item(
     lists: &mut LongLists,
     draft: &mut TableDraft,
 ) -> Result<(), AllocError>
-    requires legal { AreLegal frames.now.statements frames.now.names }
+    requires legal { HasLegalProperties frames.now.statements frames.now.names }
     requires place { (1 ≤ at) × (at ≤ length frames.now.statements) }
     requires draft { IsDraft frames.now.statements at frames.now.names draft.old }
     requires can { (labels : List Name) × ArePositions frames.now.statements labels positions.now

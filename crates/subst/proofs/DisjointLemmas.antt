@@ -1,14 +1,14 @@
 -- The test of the disjoint variable condition succeeds exactly if both conditions on the images of disjoint variables hold.
-use Rattle.subst.proofs.Words.{◌≡◌, Bool, true, false, not, ◌&&◌, ◌||◌, List, [], ◌∷◌, refl, list_all, list_any, sym, ◌∙◌, ap, true≢false, inl, inr, and_parts, and_from, not-true, or_left, or_right, or_cases, cases_Bool, not_from_false, false_from_ne_true, Name, name_eq, has_name, Expr, Database, is_variable, name_same, same_name, groups, is_pair, together, Images, image, are_disjoint, is_group_disjoint, are_groups_disjoint, all-from, pair_at, disjoint-from, DisjointConditionLaw, AreImagesDisjoint, all-has}
+use Rattle.subst.proofs.Words.{◌≡◌, Bool, true, false, not, ◌&&◌, ◌||◌, List, [], ◌∷◌, refl, list_all, list_any, sym, ◌∙◌, ap, true≢false, inl, inr, and_parts, and_from, not-true, or_left, or_right, or_cases, cases_Bool, not_from_false, false_from_ne_true, Name, name_eq, has_name, Expr, Database, is_variable, name_same, same_name, active_disjoint_lists, is_pair, together, Images, image, are_disjoint, is_group_disjoint, are_groups_disjoint, all-from, pair_at, disjoint-from, DisjointConditionLaw, AreImagesDisjoint, all-has}
 
 -- ---- two images
 
 module _ (S : Database) where
   pub disjoint-keeps : (e f : Expr) → are_disjoint S e f ≡ true → AreImagesDisjoint S e f
   disjoint-keeps e f h = record {
-    none_shared = λ u p in_e in_f. same_clash u (list_any (λ names. has_name u names && has_name u names) (groups S)) (pair_at S e f h u u p p in_e in_f);
+    none_shared = λ u p in_e in_f. same_clash u (list_any (λ names. has_name u names && has_name u names) (active_disjoint_lists S)) (pair_at S e f h u u p p in_e in_f);
     each_listed = λ u v p q in_e in_f.
-        (and_parts (not (name_eq u v)) (list_any (λ names. has_name u names && has_name v names) (groups S)) (pair_at S e f h u v p q in_e in_f)).1;
+        (and_parts (not (name_eq u v)) (list_any (λ names. has_name u names && has_name v names) (active_disjoint_lists S)) (pair_at S e f h u v p q in_e in_f)).1;
   }
     where
       same_clash : (u : Name) (b : Bool) → (not (name_eq u u) && b) ≡ true → ⊥
@@ -19,7 +19,7 @@ module _ (S : Database) where
     where
       pair : (u v : Name) → is_variable S u ≡ true → is_variable S v ≡ true → has_name u e ≡ true → has_name v f ≡ true → is_pair S u v ≡ true
       pair u v p q in_e in_f =
-          and_from (not (name_eq u v)) (list_any (λ names. has_name u names && has_name v names) (groups S)) (not_from_false (name_eq u v) (false_from_ne_true (name_eq u v) same)) (k.each_listed u v p q in_e in_f)
+          and_from (not (name_eq u v)) (list_any (λ names. has_name u names && has_name v names) (active_disjoint_lists S)) (not_from_false (name_eq u v) (false_from_ne_true (name_eq u v) same)) (k.each_listed u v p q in_e in_f)
         where
           same : name_eq u v ≡ true → ⊥
           same is = k.none_shared u p in_e (ap (λ w. has_name w f) (same_name u v is) ∙ in_f)

@@ -1,5 +1,5 @@
 -- One active `$d` that has all variables of two images.
-use Rattle.subst.proofs.Words.{◌≡◌, ℕ, ◌+◌, ◌*◌, ◌<◌, ◌≤◌, ◌⊎◌, Bool, true, false, true≢false, List, ◌∷◌, length, replicate, get_or, slice_set, bit_at, sym, ◌∙◌, subst, arith, inl, inr, and_from, or_left, or_right, cases_eq, cases_lt, get_or-replicate, get_or_past, get_or-set_same, get_or-set_other, length-replicate, AllBelow, AreTogether, Numbered, PlaceWord, HasAmong, HasBit, HasPlace, no_word, MetVariables, IsAmong, ArePairs, DecidesEach, IsMarked, number_at, AreMarksOf, TakesMark, TakesPlaces, HasBoth}
+use Rattle.subst.proofs.Words.{◌≡◌, ℕ, ◌+◌, ◌*◌, ◌<◌, ◌≤◌, ◌⊎◌, Bool, true, false, true≢false, List, ◌∷◌, length, replicate, get_or, slice_set, bit_at, sym, ◌∙◌, subst, arith, inl, inr, and_from, or_left, or_right, cases_eq, cases_lt, get_or-replicate, get_or_past, get_or-set_same, get_or-set_other, length-replicate, AllBelow, AreListsOfPairs, Numbered, PlaceWord, HasAmong, HasBit, HasPlace, no_word, MetVariables, IsAmong, ArePairs, DecidesEach, IsMarked, number_at, AreMarksOf, TakesMark, TakesPlaces, HasBoth}
 use Rattle.subst.proofs.BitsLemmas.{differ, zero-none, IsTaken, taken-more}
 use Rattle.subst.proofs.VariablePlaceLemmas.{among-before, among-last}
 use Rattle.subst.proofs.PlaceSetLemmas.{word-more}
@@ -102,7 +102,7 @@ both-taken f words others list first now last are left right = record {
 -- any two symbols of one of the `$d` are a pair
 pub record IsRow (v : Numbered) (row : List (List ℕ)) : Type 0 where
   pub below : AllBelow (length v.names) row
-  pub together : AreTogether v row
+  pub together : AreListsOfPairs v row
 
 pub row-rest : (v : Numbered) (list : List ℕ) (old rest : List (List ℕ)) → old ≡ list ∷ rest → IsRow v old → IsRow v rest
 row-rest v list old rest e row =

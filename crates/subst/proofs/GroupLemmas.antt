@@ -1,5 +1,5 @@
 -- The images of the numbers of a group, each tested against the earlier ones.
-use Rattle.subst.proofs.Words.{◌≡◌, ℕ, zero, suc, ◌+◌, ◌<◌, ◌≤◌, Bool, true, false, not, ◌||◌, ◌&&◌, ◌==◌, List, [], ◌∷◌, length, map, take, drop, get_or, slice_get, slice_range, Some, refl, list_all, list_any, position_or_len, sym, ◌∙◌, ap, subst, arith, inl, inr, true≢false, lt-ltb, and_from, and_parts, or_right, cases_eq, or_cases, or_left, cases_Bool, false_from_ne_true, list_all-map, list_all_at, list_all_more, list_any_at, get_or-take, get_or_default, length-take, take_all, eqb-true, last_part, Name, name_eq, has_name, Expr, Database, name_at, decode, AreDistinct, name_same, same_name, name_eq-comm, is_pair, groups, Numbered, CodeImages, code_image, image, images_of_names, are_disjoint, is_group_disjoint, are_groups_disjoint, AreBelow, AllBelow, image_named, are_two_disjoint, is_number_disjoint, are_numbers_disjoint, pair_at, disjoint-from, MetVariables, ArePlaced, ArePlacesOf, HasVariable, IsAmong, HasPlace, PlaceWord, WordRange, IsIn, IsRangeOf, AddsWords, DecidesEach, get_or_from_slice_get, slice_get-get_or, slice_get_within, Any-from_list_any, and_comm}
+use Rattle.subst.proofs.Words.{◌≡◌, ℕ, zero, suc, ◌+◌, ◌<◌, ◌≤◌, Bool, true, false, not, ◌||◌, ◌&&◌, ◌==◌, List, [], ◌∷◌, length, map, take, drop, get_or, slice_get, slice_range, Some, refl, list_all, list_any, position_or_len, sym, ◌∙◌, ap, subst, arith, inl, inr, true≢false, lt-ltb, and_from, and_parts, or_right, cases_eq, or_cases, or_left, cases_Bool, false_from_ne_true, list_all-map, list_all_at, list_all_more, list_any_at, get_or-take, get_or_default, length-take, take_all, eqb-true, last_part, Name, name_eq, has_name, Expr, Database, name_at, decode, AreDistinct, name_same, same_name, name_eq-comm, is_pair, active_disjoint_lists, Numbered, CodeImages, code_image, image, images_of_names, are_disjoint, is_group_disjoint, are_groups_disjoint, AreBelow, AllBelow, image_named, are_two_disjoint, is_number_disjoint, are_numbers_disjoint, pair_at, disjoint-from, MetVariables, ArePlaced, ArePlacesOf, HasVariable, IsAmong, HasPlace, PlaceWord, WordRange, IsIn, IsRangeOf, AddsWords, DecidesEach, get_or_from_slice_get, slice_get-get_or, slice_get_within, Any-from_list_any, and_comm}
 use Rattle.subst.proofs.BitsLemmas.{differ}
 use Rattle.subst.proofs.VariablePlaceLemmas.{grows-own, has-more, places-same, at-variable}
 use Rattle.subst.proofs.ImageVariableLemmas.{in-listed, listed-in}
@@ -43,8 +43,8 @@ any-same p q (x ∷ xs) h = ap (λ b. b || list_any p xs) (h x) ∙ ap (λ b. q 
 
 pair-swap : (D : Database) (x y : Name) → is_pair D x y ≡ is_pair D y x
 pair-swap D x y =
-    ap (λ b. not b && list_any (λ names. has_name x names && has_name y names) (groups D)) (name_eq-comm x y)
-    ∙ ap (λ b. not (name_eq y x) && b) (any-same (λ names. has_name x names && has_name y names) (λ names. has_name y names && has_name x names) (groups D) (λ names. and_comm (has_name x names) (has_name y names)))
+    ap (λ b. not b && list_any (λ names. has_name x names && has_name y names) (active_disjoint_lists D)) (name_eq-comm x y)
+    ∙ ap (λ b. not (name_eq y x) && b) (any-same (λ names. has_name x names && has_name y names) (λ names. has_name y names && has_name x names) (active_disjoint_lists D) (λ names. and_comm (has_name x names) (has_name y names)))
 
 disjoint-swap : (D : Database) (e f : Expr) → are_disjoint D e f ≡ true → are_disjoint D f e ≡ true
 disjoint-swap D e f h = disjoint-from D f e (λ u v p q in_f in_e. pair-swap D u v ∙ pair_at D e f h v u q p in_e in_f)

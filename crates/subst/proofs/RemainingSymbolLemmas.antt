@@ -1,5 +1,5 @@
 -- An expression without the symbols whose images are empty has the same result.
-use Rattle.subst.proofs.Words.{append-nil, ◌≡◌, ℕ, zero, suc, ◌+◌, ◌-◌, ◌<◌, ◌≤◌, Bool, true, false, true≢false, inl, inr, cond, nat_eq, List, [], ◌∷◌, ◌++◌, length, take, take_all, drop, slice_get, Option, Some, None, refl, lookup, sym, ◌∙◌, ap, subst, arith, code_image, code_apply, SymbolRange, images_at, ⊎_elim, get_or, cases_lt, ltb-false, Contains, cons_option, filter, filter_map, flat_map, All-contains, Contains-append_cases, Contains-append_left, Contains-append_right, filter_map-append, flat_map_more, take_more, get_or_from_slice_get, slice_get-get_or, slice_get_within, IsGroupOf, AreGroupsFrom, IsGrouped, AreAbove, Ascends, In, AreThose, contains-in, in-contains, has_nonempty_image, is_range_nonempty, is_symbol_left, is_group_left, group_left, remaining}
+use Rattle.subst.proofs.Words.{append-nil, ◌≡◌, ℕ, zero, suc, ◌+◌, ◌-◌, ◌<◌, ◌≤◌, Bool, true, false, true≢false, inl, inr, cond, nat_eq, List, [], ◌∷◌, ◌++◌, length, take, take_all, drop, slice_get, Option, Some, None, refl, lookup, sym, ◌∙◌, ap, subst, arith, code_image, code_apply, SymbolRange, images_at, ⊎_elim, get_or, cases_lt, ltb-false, Contains, cons_option, filter, filter_map, flat_map, All-contains, Contains-append_cases, Contains-append_left, Contains-append_right, filter_map-append, flat_map_more, take_more, get_or_from_slice_get, slice_get-get_or, slice_get_within, IsGroupOf, AreGroupsFrom, IsGrouped, AreAbove, Ascends, In, ListsExactly, contains-in, in-contains, has_nonempty_image, is_range_nonempty, is_symbol_left, is_group_left, group_left, remaining}
 use Rattle.entries.specs.SymbolPlaces.{ArePlacesOf, SymbolGroups}
 use Rattle.entries.proofs.SymbolPlacesLemmas.{group-at, groups-count}
 use Rattle.subst.proofs.ImageRangesLemmas.{image-some}
@@ -168,7 +168,7 @@ picks p f (x ∷ e) k list at h =
     pick-one p f x e k here (λ l a. picks p f e (suc k) l (λ j. let n : suc k + j ≡ k + suc j = omega arith in ap f n ∙ at (suc j)) a) (p x) refl list h
 
 -- the indexes of the groups that are left, in ascending order, give the symbols that are left
-pub remaining-read : (ps : List (ℕ × SymbolRange)) (e : List ℕ) (gs : SymbolGroups) (all list : List ℕ) → ArePlacesOf e gs → all ≡ flat_map (group_left ps e) gs.groups → AreThose (λ i. In i all) list → filter_map (slice_get e) list ≡ remaining ps e
+pub remaining-read : (ps : List (ℕ × SymbolRange)) (e : List ℕ) (gs : SymbolGroups) (all list : List ℕ) → ArePlacesOf e gs → all ≡ flat_map (group_left ps e) gs.groups → ListsExactly (λ i. In i all) list → filter_map (slice_get e) list ≡ remaining ps e
 remaining-read ps e gs all list places is those =
     picks (has_nonempty_image ps) (slice_get e) e 0 list (λ j. let n : 0 + j ≡ j = omega arith in ap (slice_get e) n) (record {
       ascends = those.ascends;
@@ -191,7 +191,7 @@ among-more symbols k None l = refl
 among-more symbols k (Some x) l = list_any_more (λ s. nat_eq x s) symbols k 0 l
 
 -- the indexes of the symbols of two lists, in order, give the occurrences of these symbols
-pub listed-read : (e : List ℕ) (first second all list : List ℕ) → ((i : ℕ) → list_any (λ j. nat_eq i j) all ≡ (is_among first (slice_get e i) || is_among second (slice_get e i))) → AreThose (λ i. In i all) list
+pub listed-read : (e : List ℕ) (first second all list : List ℕ) → ((i : ℕ) → list_any (λ j. nat_eq i j) all ≡ (is_among first (slice_get e i) || is_among second (slice_get e i))) → ListsExactly (λ i. In i all) list
     → filter_map (slice_get e) list ≡ filter (λ x. list_any (λ s. nat_eq x s) first || list_any (λ s. nat_eq x s) second) e
 listed-read e first second all list told those =
     picks keeps (slice_get e) e 0 list (λ j. let n : 0 + j ≡ j = omega arith in ap (slice_get e) n) (record {

@@ -6,10 +6,10 @@ pub use Rattle.frame.proofs.CollectLemmas.{contains-in, in-contains, ordered}
 pub use Rattle.frame.proofs.SymbolNumberLemmas.{below-take}
 pub use Rattle.frame.specs.Below.{AllBelow, AreBelow}
 pub use Rattle.frame.specs.Disjoint.{are_disjoint, are_groups_disjoint, is_group_disjoint}
-pub use Rattle.frame.specs.FrameOf.{groups, is_pair, together}
-pub use Rattle.frame.specs.PairRows.{AreTogether}
+pub use Rattle.frame.specs.FrameOf.{active_disjoint_lists, is_pair, together}
+pub use Rattle.frame.specs.ListsOfPairs.{AreListsOfPairs}
 pub use Rattle.frame.specs.Parts.{Numbered}
-pub use Rattle.frame.specs.Stored.Hypotheses.{AreThose, In}
+pub use Rattle.frame.specs.Stored.Hypotheses.{ListsExactly, In}
 pub use Rattle.frame.specs.Substitution.{CodeImages, Images, apply, code_apply, code_image, image, images_from, images_of_names}
 pub use Rattle.mm_lex.specs.Alphabet.{Name, has_name, name_eq}
 pub use Rattle.mm_read.specs.Statements.{Database, Expr}

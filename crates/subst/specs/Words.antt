@@ -1,7 +1,7 @@
 -- Re-exports of the definitions of lower layers that the specs of this crate cite.
 pub use Rattle.frame.specs.Below.{AreBelow}
 pub use Rattle.frame.specs.Disjoint.{are_disjoint, are_groups_disjoint}
-pub use Rattle.frame.specs.FrameOf.{groups, is_pair, together}
+pub use Rattle.frame.specs.FrameOf.{active_disjoint_lists, is_pair, together}
 pub use Rattle.frame.specs.Parts.{Numbered}
 pub use Rattle.frame.specs.Substitution.{CodeImages, Images, apply, code_apply, code_image, image, images_of_names}
 pub use Rattle.mm_lex.specs.Alphabet.{Name, has_name, name_eq}

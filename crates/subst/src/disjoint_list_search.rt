@@ -53,7 +53,7 @@ impl DisjointListSearch {
         let Some(place) = first_place(words) else {
             return Ok(false);
         };
-        let mut row = pairs.row(variables.number(place));
+        let mut row = pairs.disjoints_with(variables.number(place));
         let mut left = steps;
         while let Some(list) = row.next() {
             let Some(taken) = marking_steps(list, left) else {

@@ -4,7 +4,7 @@ ghost use Rattle.std.specs.List.{filter_map, flat_map, list_any};
 ghost use Rattle.entries.specs.PositionSets.{Ascends};
 ghost use Rattle.entries.specs.Stored.Keys.{index_of, key_of};
 ghost use Rattle.entries.specs.SymbolPlaces.{ArePlacesOf};
-ghost use Rattle.frame.specs.Stored.Hypotheses.{In, AreThose};
+ghost use Rattle.frame.specs.Stored.Hypotheses.{In, ListsExactly};
 ghost use Rattle.subst.specs.RemainingSymbols.{is_among, has_nonempty_image, group_left, remaining, HasListed, HaveSameResult};
 
 use crate::image_ranges::{ImageRanges, ImageTable};
@@ -78,7 +78,7 @@ impl Remaining {
     ///
     /// Cost: n log n for n pairs.
     pub fn sort_listed(&mut self)
-        ensures { AreThose (λ k. In k self.old.keys) self.new.keys }
+        ensures { ListsExactly (λ k. In k self.old.keys) self.new.keys }
     {
         self.keys.sort_unstable();
         self.keys.dedup();
@@ -225,7 +225,7 @@ fn collect(
 
 /// Sorts indexes in ascending order, and removes repetitions.
 fn order(indexes: &mut Vec<u32>)
-    ensures { AreThose (λ i. In i indexes.old.items) indexes.new.items }
+    ensures { ListsExactly (λ i. In i indexes.old.items) indexes.new.items }
 {
     indexes.sort_unstable();
     indexes.dedup();

@@ -1,5 +1,5 @@
 -- No rule and no frame depends on whether an assertion is a `$a` or a `$p`.
-use Rattle.unproved.proofs.Words.{◌≡◌, ℕ, zero, suc, ◌+◌, ◌-◌, ◌==◌, Bool, true, false, not, cond, ◌||◌, ◌&&◌, nat_le, nat_lt, List, [], ◌∷◌, map, filter, take, drop, Some, None, option_map, refl, list_any, list_all, drop-map, take-map, ◌∙◌, ap, slice_get-map, Name, has_name, name_eq, Open, Close, Const, Var, Disj, Float, Ess, Axiom, Prove, Expr, active, active_from, before, count, expr_of, has_float, has_label, is_active, is_close, is_constant, is_essential, is_float_of, is_open, is_variable, label_of, constants, disjoint_names, stays_open, stmt_at, variables, was_label, was_symbol, all_different, broken_rule, end_rule, G1, G2, G3, G4, G5, G6, G7, G8, G9, G10, groups, hypotheses, is_hypothesis, is_mandatory, is_pair, is_used, mandatory_groups, has_two_or_more, together, Images, image, are_groups_disjoint, as_axiom}
+use Rattle.unproved.proofs.Words.{◌≡◌, ℕ, zero, suc, ◌+◌, ◌-◌, ◌==◌, Bool, true, false, not, cond, ◌||◌, ◌&&◌, nat_le, nat_lt, List, [], ◌∷◌, map, filter, take, drop, Some, None, option_map, refl, list_any, list_all, drop-map, take-map, ◌∙◌, ap, slice_get-map, Name, has_name, name_eq, Open, Close, Const, Var, Disj, Float, Ess, Axiom, Prove, Expr, active, active_from, before, count, expr_of, has_float, has_label, is_active, is_close, is_constant, is_essential, is_float_of, is_open, is_variable, label_of, constants, disjoint_names, stays_open, stmt_at, variables, was_label, was_symbol, all_different, broken_rule, end_rule, G1, G2, G3, G4, G5, G6, G7, G8, G9, G10, active_disjoint_lists, hypotheses, is_hypothesis, is_mandatory, is_pair, is_used, mandatory_groups, has_two_or_more, together, Images, image, are_groups_disjoint, as_axiom}
 use Rattle.mm_read.specs.declared.stmt.Stmt.{Stmt}
 use Rattle.mm_read.specs.Statements.{Database}
 
@@ -141,7 +141,7 @@ module _ (S : Database) where
 
   -- ---- frames
 
-  groups-plains : groups (plains S) ≡ groups S
+  groups-plains : active_disjoint_lists (plains S) ≡ active_disjoint_lists S
   groups-plains = ap (map (λ p. disjoint_names p.1)) (active-plains 1 S) ∙ map-at disjoint_names (plain-same disjoint_names (λ l e p. refl)) (active S)
 
   pub are_pairs : (x y : Name) → is_pair (plains S) x y ≡ is_pair S x y

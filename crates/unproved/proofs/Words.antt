@@ -1,7 +1,7 @@
 -- Re-exports of the definitions and lemmas with which this crate is proved.
 pub use Rattle.frame.specs.Citations.{Carries, IsHypothesis, IsInstance, expr_at, is_hypothesis_kind, option_expr, premises}
 pub use Rattle.frame.specs.Disjoint.{are_groups_disjoint}
-pub use Rattle.frame.specs.FrameOf.{groups, hypotheses, is_hypothesis, is_mandatory, is_pair, is_used, mandatory_groups, has_two_or_more, together}
+pub use Rattle.frame.specs.FrameOf.{active_disjoint_lists, hypotheses, is_hypothesis, is_mandatory, is_pair, is_used, mandatory_groups, has_two_or_more, together}
 pub use Rattle.frame.specs.Substitution.{Images, image}
 pub use Rattle.library.proofs.AddingLemmas.{left-at, left-more, none-at-end, rule-at-end, rule-is, taken-more}
 pub use Rattle.library.proofs.CitedByLemmas.{not-provable}

@@ -1,5 +1,5 @@
 -- The citation of an assertion when the results are lists of numbers.
-use Rattle.verify.proofs.Words.{◌≡◌, ℕ, ◌-◌, ◌<◌, ◌≤◌, Bool, true, false, List, [], ◌++◌, length, map, get_or, slice_get, Some, sym, ◌∙◌, ap, subst, arith, length-append, length-map, map-append, Name, Stmt, Expr, Database, stmt_at, before, expr_of, is_assertion, is_variable, name_at, decode, HasAssertion, mandatory_groups, Images, applied, CodeImages, code_apply, images_of_names, are_groups_disjoint, Carries, IsInstance, premises, AreLegal, Cite, substitution_over_names, Float, IsBound, IsTyped, AreRead, HypothesesMatch, named, AreNamed, StepsByNumber, Results, Cites, of_hypothesis, of_assertion, below, top, Adds, some-same, true≢false, AreOver, MayCite, HasCited, Assertion, ProofContext, Numbered, IsCitedBy, AssertionView}
+use Rattle.verify.proofs.Words.{◌≡◌, ℕ, ◌-◌, ◌<◌, ◌≤◌, Bool, true, false, List, [], ◌++◌, length, map, get_or, slice_get, Some, sym, ◌∙◌, ap, subst, arith, length-append, length-map, map-append, Name, Stmt, Expr, Database, stmt_at, before, expr_of, is_assertion, is_variable, name_at, decode, HasAssertion, mandatory_groups, Images, applied, CodeImages, code_apply, images_of_names, are_groups_disjoint, Carries, IsInstance, premises, HasLegalProperties, Cite, substitution_over_names, Float, IsWellTyped, IsTyped, AreRead, HypothesesMatch, named, AreNamed, StepsByNumber, Results, Cites, of_hypothesis, of_assertion, below, top, Adds, some-same, true≢false, AreOver, MayCite, HasCited, Assertion, ProofContext, Numbered, IsCitedBy, AssertionView}
 use Rattle.verify.proofs.LabelTableLemmas.{has_with}
 use Rattle.verify.proofs.RequiredHypotheses.{required-lengths}
 use Rattle.verify.proofs.CitingLemmas.{of_variables, apply-τ, disjoint-τ, premises-read, premise-typed, fits-agree, conclusion-agrees, disjoint-agrees, read-over}
@@ -15,7 +15,7 @@ pub record Meets (S : Database) (names : List Name) (at a : ℕ) (c : AssertionV
   pub disjoint : (ρ : CodeImages) → AreRead c.typecodes.now c.hypotheses (top (length c.hypotheses) stack) ρ → are_groups_disjoint (before S at) (images_of_names names ρ) (map (decode names) c.groups) ≡ true
   pub gives : (ρ : CodeImages) → AreRead c.typecodes.now c.hypotheses (top (length c.hypotheses) stack) ρ → f ≡ decode names (code_apply ρ c.conclusion.now)
 
-module _ (S : Database) (names : List Name) (at a : ℕ) (s : Stmt) (c : AssertionView) (legal : AreLegal S names) (bound : IsBound S a s) (is : IsCitedBy S names a s c) where
+module _ (S : Database) (names : List Name) (at a : ℕ) (s : Stmt) (c : AssertionView) (legal : HasLegalProperties S names) (bound : IsWellTyped S a s) (is : IsCitedBy S names a s c) where
   abbrev n : ℕ
   n = length c.hypotheses
 
@@ -102,7 +102,7 @@ module _ (t : ProofContext) (a : ℕ) (about : Numbered) (old : Results ℕ) (ma
 
   pub over-read : (ρ : CodeImages) → count ≤ length old.stack → AreRead c.typecodes.now c.hypotheses (top count old.stack) ρ → AreOver t.frames.now.names ρ
   over-read ρ many read =
-      read-over t.frames.now.statements t.frames.now.names a may.assertion.0 may.ready.legal.distinct (may.ready.legal.bound a may.assertion.0 may.assertion.1) c.typecodes.now c.hypotheses (cited may.assertion.0 may.assertion.1.0).numbered_hypotheses
+      read-over t.frames.now.statements t.frames.now.names a may.assertion.0 may.ready.legal.distinct (may.ready.legal.well_typed a may.assertion.0 may.assertion.1) c.typecodes.now c.hypotheses (cited may.assertion.0 may.assertion.1.0).numbered_hypotheses
       (top count old.stack) (length-top count old.stack many) ρ read (all-drop (length t.frames.now.names) (length old.stack - count) old.stack may.named.stack_named)
 
   pub has-cited : (ok : Bool) (new : Results ℕ) (ρ : CodeImages) → count ≤ length old.stack → AreRead c.typecodes.now c.hypotheses (top count old.stack) ρ
@@ -112,7 +112,7 @@ module _ (t : ProofContext) (a : ℕ) (about : Numbered) (old : Results ℕ) (ma
   has-cited ok new ρ many read fits disjoint adds = (
     λ label is.
         let has = has_with t.frames.now.statements a is.0 may.assertion.0 label is.1 may.assertion.1 in
-        goes-assertion t.frames.now.statements t.frames.now.names t.at a is.0 c may.ready.legal (may.ready.legal.bound a is.0 has) (cited is.0 is.1.stands) ok old new label ρ may.named is.1 has may.earlier many read fits disjoint adds,
+        goes-assertion t.frames.now.statements t.frames.now.names t.at a is.0 c may.ready.legal (may.ready.legal.well_typed a is.0 has) (cited is.0 is.1.stands) ok old new label ρ may.named is.1 has may.earlier many read fits disjoint adds,
     saved-same old new (below count old.stack) (code_apply ρ c.conclusion.now) ok adds,
   )
 
@@ -120,6 +120,6 @@ module _ (t : ProofContext) (a : ℕ) (about : Numbered) (old : Results ℕ) (ma
   not-cited new none = (
     λ label is.
         let has = has_with t.frames.now.statements a is.0 may.assertion.0 label is.1 may.assertion.1 in
-        goes-not t.frames.now.statements t.frames.now.names t.at a is.0 c may.ready.legal (may.ready.legal.bound a is.0 has) (cited is.0 is.1.stands) old new label may.named is.1 has none,
+        goes-not t.frames.now.statements t.frames.now.names t.at a is.0 c may.ready.legal (may.ready.legal.well_typed a is.0 has) (cited is.0 is.1.stands) old new label may.named is.1 has none,
     λ same. absurd (true≢false (sym same)),
   )

@@ -1,5 +1,5 @@
 -- An assertion may be cited with any lists of variables that have exactly its mandatory pairs.
-use Rattle.verify.proofs.Words.{◌≡◌, ℕ, suc, ◌<◌, Bool, true, false, not, ◌&&◌, ◌==◌, List, [], ◌∷◌, length, map, slice_get, Some, refl, sym, ◌∙◌, ap, subst, true≢false, inl, inr, arith, list_any, and_from, and_parts, or_cases, or_left, or_right, not-true, false_from_ne_true, eqb-true, both_ways, slice_get_within, some-same, Name, name_eq, has_name, name_same, same_name, name_at, decode, Stmt, Database, stmt_at, before, hypotheses, mandatory_groups, together, is_mandatory_pair, groups-pairs, disjoint_condition_law, Images, are_groups_disjoint, AllBelow, AreBelow, has_both, Hypothesis, IsBound, HasFloat, HasAssertion, AreNumberedHypotheses, AreLegal, AssertionView, IsCited, IsCitedBy}
+use Rattle.verify.proofs.Words.{◌≡◌, ℕ, suc, ◌<◌, Bool, true, false, not, ◌&&◌, ◌==◌, List, [], ◌∷◌, length, map, slice_get, Some, refl, sym, ◌∙◌, ap, subst, true≢false, inl, inr, arith, list_any, and_from, and_parts, or_cases, or_left, or_right, not-true, false_from_ne_true, eqb-true, both_ways, slice_get_within, some-same, Name, name_eq, has_name, name_same, same_name, name_at, decode, Stmt, Database, stmt_at, before, hypotheses, mandatory_groups, together, is_mandatory_pair, groups-pairs, disjoint_condition_law, Images, are_groups_disjoint, AllBelow, AreBelow, has_both, Hypothesis, IsWellTyped, HasFloat, HasAssertion, AreNumberedHypotheses, HasLegalProperties, AssertionView, IsCitingView, IsCitedBy}
 use Rattle.verify.proofs.RequiredHypotheses.{required-at, float-number}
 
 -- ---- lists of names with the same pairs
@@ -127,7 +127,7 @@ module _ (S : Database) (names : List Name) (a : ℕ) (s : Stmt) (typecodes : Li
       let r = float-number S names at.position at.typecode at.hypothesis f.label f.constant x at.numbered_hypotheses (ap (stmt_at S) one ∙ f.stands) in
       (r.0, r.2, r.3)
 
-  module _ (bound : IsBound S a s) (gs : List (List ℕ)) (low : AllBelow (length names) gs)
+  module _ (bound : IsWellTyped S a s) (gs : List (List ℕ)) (low : AllBelow (length names) gs)
       (pairs : (m n : ℕ) → m < length names → n < length names → (m == n) ≡ false → list_any (has_both m n) gs ≡ is_mandatory_pair (before S a) s (name_at names m) (name_at names n)) where
     abbrev Gs : List (List Name)
     Gs = mandatory_groups (before S a) s
@@ -156,7 +156,7 @@ module _ (S : Database) (names : List Name) (a : ℕ) (s : Stmt) (typecodes : Li
     pub pairs-say : (D : Database) (σ : Images) → are_groups_disjoint D σ (map (decode names) gs) ≡ are_groups_disjoint D σ Gs
     pairs-say D σ = say-same D σ (map (decode names) gs) Gs (λ x y. both_ways _ _ (listed-pair x y) (pair-listed x y))
 
-pub cited_pairs : (S : Database) (names : List Name) (a : ℕ) (s : Stmt) (c : AssertionView) → IsBound S a s → IsCited S names a s c → IsCitedBy S names a s c
+pub cited_pairs : (S : Database) (names : List Name) (a : ℕ) (s : Stmt) (c : AssertionView) → IsWellTyped S a s → IsCitingView S names a s c → IsCitedBy S names a s c
 cited_pairs S names a s c bound is = record {
   numbered_hypotheses = is.numbered_hypotheses;
   conclusion = is.conclusion;
@@ -165,6 +165,6 @@ cited_pairs S names a s c bound is = record {
   groups_below = is.groups_below;
 }
 
--- an assertion among legal statements is bound (`IsBound`)
-pub bound_at : (S : Database) (names : List Name) (a : ℕ) (s t : Stmt) → AreLegal S names → HasAssertion S a t → stmt_at S a ≡ Some s → IsBound S a s
-bound_at S names a s t legal has stands = legal.bound a s (subst (HasAssertion S a) (some-same has.0 stands) has)
+-- an assertion among legal statements is well typed (`IsWellTyped`)
+pub bound_at : (S : Database) (names : List Name) (a : ℕ) (s t : Stmt) → HasLegalProperties S names → HasAssertion S a t → stmt_at S a ≡ Some s → IsWellTyped S a s
+bound_at S names a s t legal has stands = legal.well_typed a s (subst (HasAssertion S a) (some-same has.0 stands) has)

@@ -1,6 +1,6 @@
 -- The results are the hypotheses of an assertion under some images if and only if each result for a `$f` begins with its
 -- typecode, and each result for a `$e` is its expression under the images that are read from the results for the `$f`.
-use Rattle.verify.proofs.Words.{◌≡◌, ℕ, zero, suc, ◌<◌, Bool, true, false, cond, List, [], ◌∷◌, ◌++◌, length, map, drop, get_or, slice_get, Option, Some, None, option_map, ◌⊎◌, refl, sym, ◌∙◌, ap, subst, arith, inl, inr, true≢false, append-nil, lt-ltb, length-map, ext_get_or, get_or_from_slice_get, slice_get_within, slice_get-map, Name, Stmt, Expr, Database, stmt_at, before, expr_of, is_variable, name_at, decode, code_of, AreDistinct, code-name, hypotheses, mandatory_groups, Images, image, applied, CodeImages, code_image, images_of_names, OfVariables, premises, expr_at, option_expr, are_groups_disjoint, AreBelow, AllBelow, AreOver, image-named, image-unnamed, image-decode, Hypothesis, Float, Essential, IsBound, HasFloat, IsFirstFixed, typecode_of, IsTypecode, IsNumberedHypothesis, AreNumberedHypotheses, IsTyped, AreRead, HypothesisMatches, HypothesesMatch, some-same, name_at-injective}
+use Rattle.verify.proofs.Words.{◌≡◌, ℕ, zero, suc, ◌<◌, Bool, true, false, cond, List, [], ◌∷◌, ◌++◌, length, map, drop, get_or, slice_get, Option, Some, None, option_map, ◌⊎◌, refl, sym, ◌∙◌, ap, subst, arith, inl, inr, true≢false, append-nil, lt-ltb, length-map, ext_get_or, get_or_from_slice_get, slice_get_within, slice_get-map, Name, Stmt, Expr, Database, stmt_at, before, expr_of, is_variable, name_at, decode, code_of, AreDistinct, code-name, hypotheses, mandatory_groups, Images, image, applied, CodeImages, code_image, images_of_names, AreImagesOfVariables, premises, expr_at, option_expr, are_groups_disjoint, AreBelow, AllBelow, AreOver, image-named, image-unnamed, image-decode, Hypothesis, Float, Essential, IsWellTyped, HasFloat, BeginsWithNoVariable, typecode_of, IsTypecode, IsNumberedHypothesis, AreNumberedHypotheses, IsTyped, AreRead, HypothesisMatches, HypothesesMatch, some-same, name_at-injective}
 use Rattle.mm_read.specs.declared.stmt.Stmt.TheVariants as stmt
 use Rattle.verify.proofs.Named.{all-at}
 use Rattle.verify.proofs.RequiredHypotheses.{At, required-lengths, required-at, float-at, essential-at, float-number, float-find}
@@ -25,7 +25,7 @@ pub typecodes_counted : (names : List Name) (e : List ℕ) → 0 < length e → 
 typecodes_counted names [] h = absurd (omega (arith, h))
 typecodes_counted names (x ∷ e) h = refl
 
-module _ (S : Database) (names : List Name) (a : ℕ) (s : Stmt) (distinct : AreDistinct names) (bound : IsBound S a s)
+module _ (S : Database) (names : List Name) (a : ℕ) (s : Stmt) (distinct : AreDistinct names) (bound : IsWellTyped S a s)
     (typecodes : List ℕ) (hs : List Hypothesis) (numbered_hypotheses : AreNumberedHypotheses S names (hypotheses (before S a) s) typecodes hs) (rs : List (List ℕ)) (count : length rs ≡ length hs) where
   abbrev V : Name → Bool
   V = is_variable (before S a)
@@ -101,7 +101,7 @@ module _ (S : Database) (names : List Name) (a : ℕ) (s : Stmt) (distinct : Are
         by false e = sym (image-constant y e)
 
     -- these are images of the assertion's variables only
-    pub of_variables : OfVariables S a τ
+    pub of_variables : AreImagesOfVariables S a τ
     of_variables = only-all V N
 
     pub apply-τ : (e : Expr) → applied τ e ≡ applied N e
@@ -140,7 +140,7 @@ module _ (S : Database) (names : List Name) (a : ℕ) (s : Stmt) (distinct : Are
 
   -- ---- results that are the hypotheses under images of variables
 
-  module _ (low : AllBelow (length names) rs) (σ : Images) (of_vars : OfVariables S a σ) (whole : premises S a s σ ≡ map (decode names) rs) where
+  module _ (low : AllBelow (length names) rs) (σ : Images) (of_vars : AreImagesOfVariables S a σ) (whole : premises S a s σ ≡ map (decode names) rs) where
     premise-at : (k p : ℕ) → slice_get ps k ≡ Some p → decode names (get_or rs k []) ≡ applied σ (expr_at S p)
     premise-at k p listed = sym (get-decode names rs k) ∙ (ap (λ v. get_or v k []) (sym whole) ∙ get-map-of (λ i. applied σ (expr_at S i)) ps k p [] listed)
 
@@ -170,7 +170,7 @@ module _ (S : Database) (names : List Name) (a : ℕ) (s : Stmt) (distinct : Are
         (bound.first k d.position d.numbered_hypotheses.stmt d.listed d.numbered_hypotheses.stands)
         (premise-at k d.position d.listed ∙ ap (applied σ) (expr-stands d.position d.numbered_hypotheses.stmt d.numbered_hypotheses.stands))
       where
-        by : (e : Expr) → IsTypecode names d.typecode e → (r : List ℕ) → AreBelow (length names) r → IsFirstFixed (before S a) e → decode names r ≡ applied σ e → typecode_of r ≡ d.typecode
+        by : (e : Expr) → IsTypecode names d.typecode e → (r : List ℕ) → AreBelow (length names) r → BeginsWithNoVariable (before S a) e → decode names r ≡ applied σ e → typecode_of r ≡ d.typecode
         by [] first [] b fix same = sym first
         by [] first (n ∷ r) b fix same = cc
         by (x ∷ e) first [] b fix same = let q : [] ≡ x ∷ applied σ e = same ∙ ap (λ i. i ++ applied σ e) (fixed x fix) in cc

@@ -1,8 +1,8 @@
 -- If items spell a derivation, the machine runs over them and leaves its conclusion on top, whatever lies below.
-use Rattle.verify.proofs.Words.{◌≡◌, ℕ, zero, suc, ◌+◌, List, [], ◌∷◌, ◌++◌, length, Some, slice_get, refl, sym, ◌∙◌, ap, subst, append_assoc, append-nil, add_assoc, add-zero, Stmt, Expr, Database, expr_of, Images, applied, Item, Cite, Mark, Derivation, Derivations, hyp, apply, none, more, Concludes, ConcludeAll, IsInstance, premises, Carries, Spells, SpellsAll, cites_hypothesis, cites_assertion, recalls, marks, spells_none, spells_more, State, of_hypothesis, of_assertion, Runs, IsSingle, some-same}
+use Rattle.verify.proofs.Words.{◌≡◌, ℕ, zero, suc, ◌+◌, List, [], ◌∷◌, ◌++◌, length, Some, slice_get, refl, sym, ◌∙◌, ap, subst, append_assoc, append-nil, add_assoc, add-zero, Stmt, Expr, Database, expr_of, Images, applied, Item, Cite, Mark, Derivation, Derivations, hyp, apply, none, more, Concludes, ConcludeAll, IsInstance, premises, Carries, Spells, SpellsAll, cites_hypothesis, cites_assertion, recalls, marks, spells_none, spells_more, State, of_hypothesis, of_assertion, Runs, HasSingleResults, some-same}
 use Rattle.verify.proofs.Sound.{AllConclude, conclude_snoc}
 
-module _ (S : Database) (at : ℕ) (single : IsSingle S at) where
+module _ (S : Database) (at : ℕ) (single : HasSingleResults S at) where
   -- two instances of an assertion that take the same results have the same conclusion
   pub conclude_instance : (a : ℕ) (s r : Stmt) (σ τ : Images) → s ≡ r → IsInstance S at a s σ → IsInstance S at a r τ → premises S a s σ ≡ premises S a r τ
       → applied σ (expr_of s) ≡ applied τ (expr_of r)

@@ -1,5 +1,5 @@
 -- The machine is deterministic, so a run that cannot continue refutes the proof.
-use Rattle.verify.proofs.Words.{◌≡◌, ℕ, zero, suc, ◌+◌, ◌<◌, ◌≤◌, true, List, [], ◌∷◌, ◌++◌, length, Some, refl, sym, ◌∙◌, ap, subst, arith, append-nil, length-append, length-map, same_from_push, Name, Stmt, Ess, Expr, Database, stmt_at, before, expr_of, is_assertion, hypotheses, Images, applied, Item, Cite, Recall, Mark, IsHypothesis, IsInstance, premises, is_hypothesis_kind, expr_at, Carries, State, start, Cites, of_hypothesis, of_assertion, IsSaved, with_result, with_mark, Steps, Runs, IsRight, weight_limit, IsSingle, HasLabelsOnce, some-same}
+use Rattle.verify.proofs.Words.{◌≡◌, ℕ, zero, suc, ◌+◌, ◌<◌, ◌≤◌, true, List, [], ◌∷◌, ◌++◌, length, Some, refl, sym, ◌∙◌, ap, subst, arith, append-nil, length-append, length-map, same_from_push, Name, Stmt, Ess, Expr, Database, stmt_at, before, expr_of, is_assertion, hypotheses, Images, applied, Item, Cite, Recall, Mark, IsHypothesis, IsInstance, premises, is_hypothesis_kind, expr_at, Carries, State, start, Cites, of_hypothesis, of_assertion, IsSaved, with_result, with_mark, Steps, Runs, IsRight, weight_limit, HasSingleResults, HasLabelsOnce, some-same}
 use Rattle.mm_read.specs.declared.stmt.Stmt.TheVariants.{Float}
 use Rattle.verify.proofs.Sound.{Spelled, sound}
 use Rattle.verify.proofs.Complete.{state, Result, complete, conclude_instance, conclude_same}
@@ -24,7 +24,7 @@ not_both (Float l c v) p q = cc
 not_both (Ess l e) p q = cc
 not_both s p q = cc
 
-module _ (S : Database) (at : ℕ) (single : IsSingle S at) (once : HasLabelsOnce S) where
+module _ (S : Database) (at : ℕ) (single : HasSingleResults S at) (once : HasLabelsOnce S) where
   -- statements that carry the same label are equal
   carried_same : (i j : ℕ) (s r : Stmt) (label : Name) → Carries S i s label → Carries S j r label → s ≡ r
   carried_same i j s r label p q = some-same p.stands (ap (stmt_at S) (once i j s r label p q) ∙ q.stands)

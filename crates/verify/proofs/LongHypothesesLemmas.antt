@@ -3,7 +3,7 @@ use Rattle.std.specs.Prelude.{reverse, filter, ◌++◌, ◌||◌, ◌&&◌, nat
 use Rattle.std.proofs.Common.{le-leb, inl, inr}
 use Rattle.std.proofs.lemmas.Bool.{cases_Bool}
 use Rattle.std.proofs.lemmas.List.{reverse-append, length-map}
-use Rattle.verify.proofs.Words.{◌≡◌, ℕ, ◌<◌, Bool, true, false, true≢false, IsTrue, cond, List, [], ◌∷◌, length, slice_get, slice_get_within, Some, refl, sym, ◌∙◌, ap, subst, arith, some-same, name_at-injective, Name, Stmt, Expr, Database, stmt_at, before, expr_of, name_at, decode, hypotheses, Hypothesis, Float, Essential, IsBound, IsNumberedHypothesis, AreNumberedHypotheses, AreBelow, AreDistinct, decode-injective, ArePlacesOf, SymbolGroups, AreExprPlaces, CodeImages, code_apply, code_image, ◌↔◌}
+use Rattle.verify.proofs.Words.{◌≡◌, ℕ, ◌<◌, Bool, true, false, true≢false, IsTrue, cond, List, [], ◌∷◌, length, slice_get, slice_get_within, Some, refl, sym, ◌∙◌, ap, subst, arith, some-same, name_at-injective, Name, Stmt, Expr, Database, stmt_at, before, expr_of, name_at, decode, hypotheses, Hypothesis, Float, Essential, IsWellTyped, IsNumberedHypothesis, AreNumberedHypotheses, AreBelow, AreDistinct, decode-injective, ArePlacesOf, SymbolGroups, AreExprPlaces, CodeImages, code_apply, code_image, ◌↔◌}
 use Rattle.mm_lex.specs.Alphabet.{has_name, name_eq}
 use Rattle.mm_read.specs.declared.stmt.Stmt.TheVariants.{Ess}
 use Rattle.names.proofs.CodesLemmas.{name_same}
@@ -87,7 +87,7 @@ essential S names a s hs stands those k position h =
 -- ---- what is left
 
 module _ (S : Database) (names : List Name) (a : ℕ) (s : Stmt) (hs : List Hypothesis) (σ : CodeImages) (keys : List ℕ)
-    (bound : IsBound S a s) (distinct : AreDistinct names) (stands : stmt_at S a ≡ Some s) (those : AreHypothesesOf S names a hs) (listed : AreListed S names a hs σ keys) where
+    (bound : IsWellTyped S a s) (distinct : AreDistinct names) (stands : stmt_at S a ≡ Some s) (those : AreHypothesesOf S names a hs) (listed : AreListed S names a hs σ keys) where
   abbrev ps : List ℕ
   ps = hypotheses (before S a) s
 

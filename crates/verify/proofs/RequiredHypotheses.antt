@@ -1,5 +1,5 @@
 -- The mandatory hypotheses of an assertion, one at a time.
-use Rattle.verify.proofs.Words.{◌≡◌, ℕ, zero, suc, ◌<◌, Bool, true, false, nat_eq, List, [], ◌∷◌, length, slice_get, Some, ◌⊎◌, refl, sym, ◌∙◌, ap, subst, arith, inl, inr, nat_tests, slice_get_within, Name, Stmt, Expr, Database, stmt_at, before, expr_of, name_at, hypotheses, Hypothesis, Float, Essential, IsBound, IsTypecode, IsStatementOf, IsNumberedHypothesis, AreNumberedHypotheses, AreDifferent, IsPresent, ArePresent, some-same}
+use Rattle.verify.proofs.Words.{◌≡◌, ℕ, zero, suc, ◌<◌, Bool, true, false, nat_eq, List, [], ◌∷◌, length, slice_get, Some, ◌⊎◌, refl, sym, ◌∙◌, ap, subst, arith, inl, inr, nat_tests, slice_get_within, Name, Stmt, Expr, Database, stmt_at, before, expr_of, name_at, hypotheses, Hypothesis, Float, Essential, IsWellTyped, IsTypecode, IsStatementOf, IsNumberedHypothesis, AreNumberedHypotheses, AreDifferent, IsPresent, ArePresent, some-same}
 use Rattle.mm_read.specs.declared.stmt.Stmt.TheVariants as stmt
 
 -- ---- one hypothesis
@@ -80,7 +80,7 @@ module _ (S : Database) (names : List Name) where
   required-standing ps typecodes hs a = absurd a
 
   -- the mandatory `$f` are of different variables
-  pub required-different : (a : ℕ) (s : Stmt) (typecodes : List ℕ) (hs : List Hypothesis) → IsBound S a s → AreNumberedHypotheses S names (hypotheses (before S a) s) typecodes hs → AreDifferent hs
+  pub required-different : (a : ℕ) (s : Stmt) (typecodes : List ℕ) (hs : List Hypothesis) → IsWellTyped S a s → AreNumberedHypotheses S names (hypotheses (before S a) s) typecodes hs → AreDifferent hs
   required-different a s typecodes hs bound numbered_hypotheses = record { each = λ j k x p q. one j k x p q }
     where
       one : (j k x : ℕ) → slice_get hs j ≡ Some (Float x) → slice_get hs k ≡ Some (Float x) → j ≡ k

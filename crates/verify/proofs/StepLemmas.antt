@@ -1,5 +1,5 @@
 -- The exits of a step in the code are steps of the machine.
-use Rattle.verify.proofs.Words.{◌≡◌, ℕ, suc, ◌+◌, ◌-◌, ◌<◌, ◌≤◌, Bool, true, false, List, [], ◌∷◌, ◌++◌, length, map, take, drop, get_or, Some, refl, IsTrue, nat_lt, nat_eq, replicate, slice_get, slice_set, sym, ◌∙◌, ap, subst, arith, true≢false, length-append, nat_tests, length-map, map-append, take-append-drop, take_all, take_more, same_from_push, map_push, append-nil, nil_from_length, drop_all, drop_more, map_more, drop-append-le, drop-set-lt, length-set, length-replicate, get_or-set_same, get_or-set_other, get_or-replicate, get_or_from_slice_get, get_or_default, slice_get-get_or, item-cite, item-recall, Name, Stmt, Database, stmt_at, expr_of, name_at, decode, Item, Cite, Recall, Results, State, start, Cites, of_hypothesis, of_assertion, premises, Expr, Runs, with_result, Adds, Marks, Recalls, CachesLast, AreBelow, AllBelow, named, AreNamed, StepsByNumber, without_cached, HasCited, IsCached, AreCached, AreNamedAndCached, StepsWithTable, AreLegal, item_of, IsRight, weight_limit, decode-injective, below-group, LabelEntry, Nothing, IsEntry, AreEntries, get-front, length-drop, get_or-append_right, get_or-drop}
+use Rattle.verify.proofs.Words.{◌≡◌, ℕ, suc, ◌+◌, ◌-◌, ◌<◌, ◌≤◌, Bool, true, false, List, [], ◌∷◌, ◌++◌, length, map, take, drop, get_or, Some, refl, IsTrue, nat_lt, nat_eq, replicate, slice_get, slice_set, sym, ◌∙◌, ap, subst, arith, true≢false, length-append, nat_tests, length-map, map-append, take-append-drop, take_all, take_more, same_from_push, map_push, append-nil, nil_from_length, drop_all, drop_more, map_more, drop-append-le, drop-set-lt, length-set, length-replicate, get_or-set_same, get_or-set_other, get_or-replicate, get_or_from_slice_get, get_or_default, slice_get-get_or, item-cite, item-recall, Name, Stmt, Database, stmt_at, expr_of, name_at, decode, Item, Cite, Recall, Results, State, start, Cites, of_hypothesis, of_assertion, premises, Expr, Runs, with_result, Adds, Marks, Recalls, CachesLast, AreBelow, AllBelow, named, AreNamed, StepsByNumber, without_cached, HasCited, IsCached, AreCached, AreNamedAndCached, StepsWithTable, HasLegalProperties, item_of, IsRight, weight_limit, decode-injective, below-group, LabelEntry, Nothing, IsEntry, AreEntries, get-front, length-drop, get_or-append_right, get_or-drop}
 use Rattle.verify.proofs.Named.{goes-recall, goes-mark, named-result, result-named, all-drop, all-set, all-snoc, all-none, all-at, get-drop}
 use Rattle.verify.proofs.Decide.{cites_same, refuted_at_end, refuted_at_step, accepts_right}
 use Rattle.verify.proofs.Complete.{runs_append}
@@ -13,7 +13,7 @@ cites-alone S at label stack below e (of_assertion a s σ carries is all same) l
     let none = nil_from_length (premises S a s σ) (omega (arith, less, ap length all, length-append below (premises S a s σ))) in
     of_assertion a s σ carries is (sym (append-nil other) ∙ ap (λ r. other ++ r) (sym none)) same
 
-module _ (S : Database) (names : List Name) (at : ℕ) (legal : AreLegal S names) where
+module _ (S : Database) (names : List Name) (at : ℕ) (legal : HasLegalProperties S names) where
   module _ (old new : Results ℕ) (an : AreNamed names old) where
     pub given-result : (label : Name) (ok : Bool) (e : List ℕ) → Cites S at label (map (decode names) old.stack) (map (decode names) old.stack) (decode names e) → AreBelow (length names) e → Adds ok old new old.stack e → StepsByNumber ok S at names (Cite label) old new
     given-result label true e cites codes adds = (
@@ -101,7 +101,7 @@ module _ (S : Database) (names : List Name) (at : ℕ) where
       let w = ap (λ (st : State). st.weight) p.3 in
       omega (arith, heavy, w)
 
-  module _ (legal : AreLegal S names) (table : List LabelEntry) (old new : Results ℕ) (known : AreNamedAndCached S at names table old) where
+  module _ (legal : HasLegalProperties S names) (table : List LabelEntry) (old new : Results ℕ) (known : AreNamedAndCached S at names table old) where
     -- the numbers in the results without the cached ones have names
     below_named : AreNamed names (without_cached (length table) old)
     below_named = without_cached-named (length table) old known.are_named

@@ -16,11 +16,11 @@ pub use Rattle.frame.proofs.LegalLabels.{legal-labels}
 pub use Rattle.frame.proofs.PlacedHypotheses.{AreHyps, IsHyp, hyps}
 pub use Rattle.frame.proofs.PositionLemmas.{get-front, get-last}
 pub use Rattle.frame.proofs.SymbolNumberLemmas.{below-append, below-more, below-push, below-take}
-pub use Rattle.frame.specs.AssertionView.{AreCitingLists, AreNumberedHypotheses, IsCited, IsStatementOf, IsNumberedHypothesis, IsTypecode, IsViewOf, has_both, typecode_of}
-pub use Rattle.frame.specs.AtPosition.{AreLegal, ArePositions, HasLabelsOnce, IsPosition, IsSingle}
+pub use Rattle.frame.specs.AssertionView.{AreCitingLists, AreNumberedHypotheses, IsCitingView, IsStatementOf, IsNumberedHypothesis, IsTypecode, IsViewOf, has_both, typecode_of}
+pub use Rattle.frame.specs.AtPosition.{HasLegalProperties, ArePositions, HasLabelsOnce, IsPosition, HasSingleResults}
 pub use Rattle.frame.specs.Below.{AllBelow, AreBelow}
-pub use Rattle.frame.specs.Bound.{HasFloat, IsBound, IsFirstFixed}
-pub use Rattle.frame.specs.Citations.{Carries, IsHypothesis, IsInstance, OfVariables, expr_at, is_hypothesis_kind, option_expr, premises}
+pub use Rattle.frame.specs.WellTyped.{HasFloat, IsWellTyped, BeginsWithNoVariable}
+pub use Rattle.frame.specs.Citations.{Carries, IsHypothesis, IsInstance, AreImagesOfVariables, expr_at, is_hypothesis_kind, option_expr, premises}
 pub use Rattle.frame.specs.Disjoint.{are_disjoint, are_groups_disjoint, is_group_disjoint}
 pub use Rattle.frame.specs.ExprPlaces.{AreExprPlaces}
 pub use Rattle.frame.specs.FrameOf.{HasAssertion, hypotheses, is_hypothesis, is_mandatory_pair, mandatory_groups, together}

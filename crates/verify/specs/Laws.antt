@@ -2,7 +2,7 @@
 -- Metamath, 4.2.6 and appendix B: a proof is right if its stack ends with the statement's expression alone.
 -- The code only runs; that its runs spell derivations, and that it misses none, is stated here over names.
 use Rattle.std.specs.Prelude.{◌≡◌, ℕ, List, [], ◌∷◌, Some}
-use Rattle.verify.specs.Words.{Stmt, Expr, Database, stmt_at, before, Item, IsLegal, IsSingle}
+use Rattle.verify.specs.Words.{Stmt, Expr, Database, stmt_at, before, Item, IsLegal, HasSingleResults}
 use Rattle.verify.specs.Derivations.{Derivation}
 use Rattle.verify.specs.Concludes.{Concludes}
 use Rattle.verify.specs.Spells.{Spells}
@@ -31,7 +31,7 @@ RunsSpell = (S : Database) (at : ℕ) (items : List Item) (end : State) (e : Exp
 
 -- items that spell a derivation run to its conclusion, if an assertion's premises determine its conclusion
 abbrev pub SpellingsRun : Type 0
-SpellingsRun = (S : Database) (at : ℕ) → IsSingle S at → (items : List Item) (t : Derivation) (after : List Derivation) (weight : ℕ)
+SpellingsRun = (S : Database) (at : ℕ) → HasSingleResults S at → (items : List Item) (t : Derivation) (after : List Derivation) (weight : ℕ)
     → Spells S at [] items t after weight → RunsTo S at items t weight
 
 -- each statement obeys the rules, given the earlier ones

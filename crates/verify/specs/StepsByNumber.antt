@@ -2,7 +2,7 @@
 -- Metamath, 4.2.6 and appendix B; `Machine` defines the same over names.
 -- The program knows only the numbers of symbols, here called codes; each has a name.
 use Rattle.std.specs.Prelude.{◌≡◌, ℕ, ◌<◌, ◌≤◌, Bool, true, false, IsTrue, List, [], length, map, drop, get_or}
-use Rattle.verify.specs.Words.{Name, Stmt, Expr, Database, before, AllBelow, Item, Cite, decode, AreLegal, HasAssertion, Numbered}
+use Rattle.verify.specs.Words.{Name, Stmt, Expr, Database, before, AllBelow, Item, Cite, decode, HasLegalProperties, HasAssertion, Numbered}
 use Rattle.verify.specs.declared.label_table.LabelEntry.{LabelEntry}
 use Rattle.verify.specs.declared.label_table.LabelEntry.TheVariants.{Nothing}
 use Rattle.verify.specs.LabelTable.{IsEntry}
@@ -56,7 +56,7 @@ StepsWithTable ok S at names table item old new = StepsByNumber ok S at names it
 
 -- legal statements, the pairs that are active at the statement, and results that are about these
 pub record IsReady (context : ProofContext) (about : Numbered) : Type 0 where
-  pub legal : AreLegal context.frames.now.statements context.frames.now.names
+  pub legal : HasLegalProperties context.frames.now.statements context.frames.now.names
   pub active : context.pairs.statements ≡ before context.frames.now.statements context.at
   pub names : context.pairs.names ≡ context.frames.now.names
   pub same : about ≡ context.pairs

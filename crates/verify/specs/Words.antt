@@ -3,7 +3,7 @@ pub use Rattle.entries.specs.declared.assertion_view.AssertionView.{AssertionVie
 pub use Rattle.entries.specs.declared.assertion_view.Hypothesis.{Hypothesis}
 pub use Rattle.entries.specs.declared.assertion_view.Hypothesis.TheVariants.{Essential, Float}
 pub use Rattle.frame.specs.AssertionView.{AreNumberedHypotheses, has_both, typecode_of}
-pub use Rattle.frame.specs.AtPosition.{AreLegal, IsSingle}
+pub use Rattle.frame.specs.AtPosition.{HasLegalProperties, HasSingleResults}
 pub use Rattle.frame.specs.Below.{AllBelow, AreBelow}
 pub use Rattle.frame.specs.Citations.{Carries, IsHypothesis, IsInstance, expr_at, premises}
 pub use Rattle.frame.specs.Disjoint.{are_groups_disjoint}

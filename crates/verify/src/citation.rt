@@ -1,7 +1,7 @@
 //! Runs one item of a proof.
 
 ghost use Rattle.std.specs.Prelude.{◌≡◌, ◌++◌, List, Some, IfOk, map, option_map};
-ghost use Rattle.frame.specs.AtPosition.{AreLegal};
+ghost use Rattle.frame.specs.AtPosition.{HasLegalProperties};
 ghost use Rattle.frame.specs.FrameOf.{HasAssertion};
 ghost use Rattle.mm_lex.specs.Alphabet.{Name};
 ghost use Rattle.mm_read.specs.declared.stmt.Stmt.{Stmt as Statement};
@@ -153,7 +153,7 @@ fn kept_index(
     kept: &mut CitationCache,
 ) -> Result<usize, AllocError>
     requires assertion { (s : Statement) × HasAssertion context.now.frames.now.statements position s }
-    requires legal { AreLegal context.now.frames.now.statements context.now.frames.now.names }
+    requires legal { HasLegalProperties context.now.frames.now.statements context.now.frames.now.names }
     requires kept { IsCacheFor context.now.frames.now.statements context.now.frames.now.names kept.old }
     ensures kept { IsCacheFor context.now.frames.now.statements context.now.frames.now.names kept.new }
     ensures index { IfOk result (λ i. HasListsAt kept.new.lists i position) }

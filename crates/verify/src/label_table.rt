@@ -1,7 +1,7 @@
 //! The meanings of the labels of a proof, each looked up once.
 
 ghost use Rattle.std.specs.Prelude.{◌≡◌, ◌≤◌, ◌++◌, List, OnOk, IfOk, IsTrue, not, length, take};
-ghost use Rattle.frame.specs.AtPosition.{AreLegal, IsPosition};
+ghost use Rattle.frame.specs.AtPosition.{HasLegalProperties, IsPosition};
 ghost use Rattle.frame.specs.FrameOf.{hypotheses};
 ghost use Rattle.mm_lex.specs.Alphabet.{Name};
 ghost use Rattle.mm_read.specs.declared.stmt.Stmt.{Stmt as Statement};
@@ -30,7 +30,7 @@ pub enum LabelEntry {
 
 /// Returns the meaning of a label at the statement, by the position of the statement that has the label.
 fn entry_of(frames: &Frames, at: usize, position: Option<usize>) -> LabelEntry
-    requires legal { AreLegal frames.now.statements frames.now.names }
+    requires legal { HasLegalProperties frames.now.statements frames.now.names }
     requires place { (1 ≤ at) × (at ≤ length frames.now.statements) }
     ensures { (label : Name) → IsPosition frames.now.statements label position → IsEntry frames.now.statements at label result }
 {
@@ -55,7 +55,7 @@ pub fn fill_table(
 ) -> Result<(), AllocError>
     requires place { (1 ≤ at) × (at ≤ length frames.now.statements) }
     ensures entries { OnOk result (AreEntries frames.now.statements at labels.now table.new.items) }
-    ensures legal { AreLegal frames.now.statements frames.now.names }
+    ensures legal { HasLegalProperties frames.now.statements frames.now.names }
 {
     let positions = frames.positions(labels)?;
     table.clear();
@@ -79,7 +79,7 @@ pub fn fill_mandatory(
     ensures mandatory { OnOk result ((s : Statement) → IsProvable frames.now.statements at s → mandatory.new.items ≡ hypotheses (before frames.now.statements at) s) }
     ensures entries { OnOk result ((s : Statement) → IsProvable frames.now.statements at s
         → AreEntries frames.now.statements at (mandatory_labels frames.now.statements at s) table.new.items) }
-    ensures legal { AreLegal frames.now.statements frames.now.names }
+    ensures legal { HasLegalProperties frames.now.statements frames.now.names }
 {
     mandatory.clear();
     frames.mandatory(at, mandatory)?;
@@ -142,7 +142,7 @@ pub fn add_listed(
     table: &mut Vec<LabelEntry>,
 ) -> Result<bool, AllocError>
     requires mandatory { (s : Statement) → IsProvable frames.now.statements at s → positions_in mandatory ≡ hypotheses (before frames.now.statements at) s }
-    requires legal { AreLegal frames.now.statements frames.now.names }
+    requires legal { HasLegalProperties frames.now.statements frames.now.names }
     requires provable { (s : Statement) × IsProvable frames.now.statements at s }
     requires listed { heading.count ≤ length heading.words }
     ensures entries { IfOk result (λ ok. IsTrue ok → (front : List Name) → AreEntries frames.now.statements at front table.old.items

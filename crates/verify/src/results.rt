@@ -3,7 +3,7 @@
 ghost use Rattle.std.specs.Prelude.{take, true, List, ℕ, ◌≡◌, suc, ◌<◌, ◌≤◌, ◌↔◌, ◌∷◌, ◌++◌, [], length, map, get_or, slice_get, replicate, nat_eq, ◌==◌, Some, is_some, if◌then◌else◌, IfOk, IfSome, MatchOption, OnOk, OnErr, IsTrue};
 ghost use Rattle.mm_read.specs.declared.stmt.Stmt.{Stmt as Statement};
 ghost use Rattle.entries.specs.PositionSets.{Ascends};
-ghost use Rattle.frame.specs.AtPosition.{AreLegal};
+ghost use Rattle.frame.specs.AtPosition.{HasLegalProperties};
 ghost use Rattle.frame.specs.Below.{AllBelow, AreBelow};
 ghost use Rattle.frame.specs.Disjoint.{are_groups_disjoint};
 ghost use Rattle.frame.specs.FrameOf.{HasAssertion};
@@ -241,7 +241,7 @@ impl Results {
         remaining: &mut Remaining,
     ) -> bool
         requires leading { AreLeadingFloats hypotheses.now leading_count }
-        requires legal { AreLegal frames.now.statements frames.now.names }
+        requires legal { HasLegalProperties frames.now.statements frames.now.names }
         requires assertion { (s : Statement) × HasAssertion frames.now.statements cited s }
         requires numbered_hypotheses { AreHypothesesOf frames.now.statements frames.now.names cited hypotheses.now }
         requires present { ArePresent frames.now.statements hypotheses.now }
@@ -281,7 +281,7 @@ impl Results {
         from: usize,
         remaining: &mut Remaining,
     ) -> bool
-        requires legal { AreLegal frames.now.statements frames.now.names }
+        requires legal { HasLegalProperties frames.now.statements frames.now.names }
         requires assertion { (s : Statement) × HasAssertion frames.now.statements cited s }
         requires numbered_hypotheses { AreHypothesesOf frames.now.statements frames.now.names cited hypotheses.now }
         requires present { ArePresent frames.now.statements hypotheses.now }

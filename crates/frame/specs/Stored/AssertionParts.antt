@@ -23,7 +23,7 @@ is_typed hs c = list_any (is_typed_by c) hs
 abbrev pub typed : List Hypothesis → List ℕ → List ℕ
 typed hs codes = filter (is_typed hs) codes
 
--- the numbers that are in the list ns
+-- those of the numbers that are in the list ns
 abbrev pub recorded_in : List ℕ → List ℕ → List ℕ
 recorded_in ns codes = filter (λ c. list_any (λ n. n == c) ns) codes
 
@@ -37,14 +37,14 @@ abbrev pub symbols_at : List Entry → ℕ → List ℕ
 symbols_at es p = option_symbols (slice_get es (p - 1))
 
 -- the list has two or more items
-abbrev pub has_two : {A : Type 0} → List A → Bool
-has_two [] = false
-has_two (x ∷ []) = false
-has_two (x ∷ y ∷ xs) = true
+abbrev pub has_two_or_more_items : {A : Type 0} → List A → Bool
+has_two_or_more_items [] = false
+has_two_or_more_items (x ∷ []) = false
+has_two_or_more_items (x ∷ y ∷ xs) = true
 
 -- for each list its numbers that are variables of the `$f`, if these are two or more
 abbrev pub groups_by : List Hypothesis → List (List ℕ) → List (List ℕ)
-groups_by hs lists = filter has_two (map (typed hs) lists)
+groups_by hs lists = filter has_two_or_more_items (map (typed hs) lists)
 
 -- the typecode of the statement at a position
 abbrev pub typecode_at : List Entry → ℕ → ℕ

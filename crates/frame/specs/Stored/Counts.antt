@@ -6,7 +6,7 @@ use Rattle.mm_read.specs.declared.stmt.Stmt.TheVariants as stmt
 use Rattle.frame.specs.declared.storage.LastDeclarations.{LastDeclarations}
 use Rattle.frame.specs.declared.storage.Storage.{Storage}
 use Rattle.frame.specs.Below.{AreBelow}
-use Rattle.frame.specs.Stored.Labels.{is_label_kind}
+use Rattle.frame.specs.Stored.Labels.{is_labelled_kind}
 use Rattle.frame.specs.Stored.EntryMeanings.{stmt_of, names_in, declared_by, with_last}
 use Rattle.frame.specs.Stored.Stacks.{KeepsUntil}
 
@@ -14,17 +14,17 @@ use Rattle.frame.specs.Stored.Stacks.{KeepsUntil}
 
 -- the number of a label is below n, if statements of the kind have a label
 abbrev pub IsLabelBelow : Kind → ℕ → ℕ → Type 0
-IsLabelBelow kind label n = is_label_kind kind ≡ true → label < n
+IsLabelBelow kind label n = is_labelled_kind kind ≡ true → label < n
 
 -- if the kind is that of a `$f`, there are two symbols
-abbrev pub HasTwo : Kind → List ℕ → Type 0
-HasTwo Float codes = length codes ≡ 2
-HasTwo kind codes = Unit {0}
+abbrev pub HasTwoSymbolsIfFloat : Kind → List ℕ → Type 0
+HasTwoSymbolsIfFloat Float codes = length codes ≡ 2
+HasTwoSymbolsIfFloat kind codes = Unit {0}
 
--- the symbols of the entries are below n, and the labels below m
+-- the symbols of the entries are below n, and the labels below m; each `$f` has two symbols
 abbrev pub AreNumbered : ℕ → ℕ → List Entry → Type 0
 AreNumbered n m [] = Unit {0}
-AreNumbered n m (e ∷ es) = AreBelow n e.symbols × IsLabelBelow e.kind e.label_count m × AreNumbered n m es × HasTwo e.kind e.symbols
+AreNumbered n m (e ∷ es) = AreBelow n e.symbols × IsLabelBelow e.kind e.label_count m × AreNumbered n m es × HasTwoSymbolsIfFloat e.kind e.symbols
 
 -- the counts in the entry e, at index i, are those of the symbols and labels that earlier entries
 -- declare; those entries use only numbers below these counts
@@ -48,8 +48,8 @@ AreUndeclared [] = Unit {0}
 AreUndeclared (x ∷ xs) = (x ≡ undeclared_symbol) × AreUndeclared xs
 
 -- the new list is the old one, followed by symbols that nothing declares
-abbrev pub AreZeroAfter : List LastDeclarations → List LastDeclarations → Type 0
-AreZeroAfter old new = (more : List LastDeclarations) × (new ≡ old ++ more) × AreUndeclared more
+abbrev pub AreUndeclaredAfter : List LastDeclarations → List LastDeclarations → Type 0
+AreUndeclaredAfter old new = (more : List LastDeclarations) × (new ≡ old ++ more) × AreUndeclared more
 
 -- the kind of a statement
 abbrev pub kind_of : Stmt → Kind
@@ -88,7 +88,7 @@ pub record HasRoom (k : Storage) : Type 0 where
 -- names and positions were appended; everything else is as before
 pub record HasMoreNames (old new : Storage) : Type 0 where
   pub numbering : Extends old.numbering new.numbering
-  pub symbols : AreZeroAfter old.symbols.items new.symbols.items
+  pub symbols : AreUndeclaredAfter old.symbols.items new.symbols.items
   pub positions : Extends old.positions.items new.positions.items
   pub replaced : new.replaced ≡ old.replaced
   pub ends : new.ends ≡ old.ends
@@ -99,9 +99,9 @@ pub record HasMoreNames (old new : Storage) : Type 0 where
   pub last_active : new.last_active ≡ old.last_active
 
 -- the new storage may have more at its end: truncated, it is the old one
-pub record IsAfter (old new : Storage) : Type 0 where
+pub record HasMoreAtEnd (old new : Storage) : Type 0 where
   pub numbering : Extends old.numbering new.numbering
-  pub symbols : AreZeroAfter old.symbols.items new.symbols.items
+  pub symbols : AreUndeclaredAfter old.symbols.items new.symbols.items
   pub positions : Extends old.positions.items new.positions.items
   pub replaced : Extends old.replaced.items new.replaced.items
   pub ends : Extends old.ends.items new.ends.items

@@ -71,12 +71,12 @@ second_is c (x ∷ y ∷ codes) = c == y
 second_is c codes = false
 
 -- the entry is a `$f` whose variable is c
-abbrev pub floats : ℕ → Entry → Bool
-floats c e = is_float_kind e.kind && second_is c e.symbols
+abbrev pub is_float_with : ℕ → Entry → Bool
+is_float_with c e = is_float_kind e.kind && second_is c e.symbols
 
 -- the entry is a `$v` that has the symbol c, and so declares it as a variable
-abbrev pub declares : ℕ → Entry → Bool
-declares c e = is_var_kind e.kind && list_any (λ x. c == x) e.symbols
+abbrev pub is_var_with : ℕ → Entry → Bool
+is_var_with c e = is_var_kind e.kind && list_any (λ x. c == x) e.symbols
 
 -- the position of the last entry that passes the test, or `found`, if the first entry is at `at`
 abbrev pub last_from : (Entry → Bool) → ℕ → ℕ → List Entry → ℕ
@@ -89,11 +89,11 @@ last_where test es = last_from test 0 1 es
 
 -- the last declarations of the symbol c
 abbrev pub last_declarations_of : List Entry → ℕ → LastDeclarations
-last_declarations_of es c = record { float = last_where (floats c) es; variable = last_where (declares c) es }
+last_declarations_of es c = record { float = last_where (is_float_with c) es; variable = last_where (is_var_with c) es }
 
 -- the list has, at each number c of a symbol, x c
-abbrev pub ReadsAs : List LastDeclarations → (ℕ → LastDeclarations) → Type 0
-ReadsAs symbols x = (c : ℕ) → c < length symbols → slice_get symbols c ≡ Some (x c)
+abbrev pub AreGivenBy : List LastDeclarations → (ℕ → LastDeclarations) → Type 0
+AreGivenBy symbols x = (c : ℕ) → c < length symbols → slice_get symbols c ≡ Some (x c)
 
 -- ---- the declarations that a declaration replaces
 

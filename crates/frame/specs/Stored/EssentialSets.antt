@@ -8,12 +8,12 @@ use Rattle.frame.specs.declared.essential_sets.EssentialSets.{EssentialSets}
 use Rattle.frame.specs.declared.kept_sets.KeptSet.{KeptSet}
 use Rattle.frame.specs.declared.storage.Storage.{Storage}
 use Rattle.frame.specs.Stored.EntryMeanings.{statements_of}
-use Rattle.frame.specs.Stored.Hypotheses.{AreThose, IsFromEssentials}
+use Rattle.frame.specs.Stored.Hypotheses.{ListsExactly, IsFromEssentials}
 use Rattle.frame.specs.Stored.Whole.{AreStored}
 
 -- the set, if one is kept, has the hypotheses that the `$e` active after the statements bring along
 abbrev pub IsSetFromEssentials : List Entry → Database → List (List ℕ) → ℕ → Type 0
-IsSetFromEssentials es S sets set = (set ≡ 0 → ⊥) → AreThose (IsFromEssentials es S) (set_at sets set)
+IsSetFromEssentials es S sets set = (set ≡ 0 → ⊥) → ListsExactly (IsFromEssentials es S) (set_at sets set)
 
 -- k is kept with one of the statements; earlier statements use only sets that were made before it
 pub record IsKeptSet (sets : List (List ℕ)) (kept : List KeptSet) (es : List Entry) (S : Database) (i : ℕ) (k : KeptSet) : Type 0 where

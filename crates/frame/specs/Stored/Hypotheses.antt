@@ -4,7 +4,7 @@
 use Rattle.std.specs.Prelude.{◌≡◌, ℕ, ◌+◌, ◌-◌, ◌≤◌, ◌==◌, ◌⊎◌, Bool, true, false, List, [], ◌∷◌, length, map, slice_get, Option, Some, None}
 use Rattle.frame.specs.Words.{Database, is_active, is_essential, Kind, Float, Ess, Entry, Assertion, list_any, Ascends}
 use Rattle.frame.specs.LastActive.{actives, is_disj}
-use Rattle.frame.specs.Stored.EntryMeanings.{floats, last_where}
+use Rattle.frame.specs.Stored.EntryMeanings.{is_float_with, last_where}
 use Rattle.frame.specs.Stored.AssertionParts.{symbols_at, groups_by, typecode_at, hypothesis_at}
 
 -- ---- lists of positions
@@ -15,7 +15,7 @@ In p [] = ⊥
 In p (q ∷ qs) = (p ≡ q) ⊎ In p qs
 
 -- the list has exactly those for which P holds, in ascending order, each once
-pub record AreThose (P : ℕ → Type 0) (list : List ℕ) : Type 0 where
+pub record ListsExactly (P : ℕ → Type 0) (list : List ℕ) : Type 0 where
   pub ascends : Ascends list
   pub all : (p : ℕ) → P p → In p list
   pub only : (p : ℕ) → In p list → P p
@@ -28,23 +28,23 @@ pub record HasMore (P : ℕ → Type 0) (old new : List ℕ) : Type 0 where
 
 -- p is the position of the last `$f` of the symbol c, which is active after all entries
 pub record IsFloatOf (es : List Entry) (S : Database) (c p : ℕ) : Type 0 where
-  pub last : p ≡ last_where (floats c) es
+  pub last : p ≡ last_where (is_float_with c) es
   pub some : p ≡ 0 → ⊥
   pub stands : is_active S p (length S + 1) ≡ true
 
 -- P relates one of the list to p
-pub record OfSome (P : ℕ → ℕ → Type 0) (list : List ℕ) (p : ℕ) : Type 0 where
+pub record HoldsForSome (P : ℕ → ℕ → Type 0) (list : List ℕ) (p : ℕ) : Type 0 where
   pub one : ℕ
   pub among : In one list
   pub is : P one p
 
 -- p is the position of the active `$f` of one of the symbols
-abbrev pub SomeFloat : List Entry → Database → List ℕ → ℕ → Type 0
-SomeFloat es S codes p = OfSome (IsFloatOf es S) codes p
+abbrev pub IsFloatOfSome : List Entry → Database → List ℕ → ℕ → Type 0
+IsFloatOfSome es S codes p = HoldsForSome (IsFloatOf es S) codes p
 
 -- the list has the active `$f` of each symbol that was looked up
-abbrev pub AreLooked : List Entry → Database → List ℕ → List ℕ → Type 0
-AreLooked es S looked list = (c p : ℕ) → list_any (λ n. n == c) looked ≡ true → IsFloatOf es S c p → In p list
+abbrev pub HasLookedUpFloats : List Entry → Database → List ℕ → List ℕ → Type 0
+HasLookedUpFloats es S looked_up list = (c p : ℕ) → list_any (λ n. n == c) looked_up ≡ true → IsFloatOf es S c p → In p list
 
 -- the hypotheses that are kept with an entry, or none if there is no entry
 abbrev pub option_kept : Option Entry → List ℕ
@@ -56,25 +56,25 @@ abbrev pub kept_at : List Entry → ℕ → List ℕ
 kept_at es p = option_kept (slice_get es (p - 1))
 
 -- p is the position q of a `$e`, or that of a hypothesis kept with it
-abbrev pub IsWith : List Entry → ℕ → ℕ → Type 0
-IsWith es q p = In p (q ∷ kept_at es q)
+abbrev pub IsKeptWith : List Entry → ℕ → ℕ → Type 0
+IsKeptWith es q p = In p (q ∷ kept_at es q)
 
 -- p is the position of an active `$e`, or of a hypothesis kept with one
 abbrev pub IsFromEssentials : List Entry → Database → ℕ → Type 0
-IsFromEssentials es S p = OfSome (IsWith es) (map (λ q. q.0) (actives is_essential S)) p
+IsFromEssentials es S p = HoldsForSome (IsKeptWith es) (map (λ q. q.0) (actives is_essential S)) p
 
 -- the list has exactly the active `$f` of the symbols
 abbrev pub AreFloats : List Entry → Database → List ℕ → List ℕ → Type 0
-AreFloats es S codes list = AreThose (SomeFloat es S codes) list
+AreFloats es S codes list = ListsExactly (IsFloatOfSome es S codes) list
 
 -- the list has exactly the active `$f` of the symbols, the active `$e`, and the hypotheses kept
 -- with these
 abbrev pub AreCollected : List Entry → Database → List ℕ → List ℕ → Type 0
-AreCollected es S codes list = AreThose (λ p. SomeFloat es S codes p ⊎ IsFromEssentials es S p) list
+AreCollected es S codes list = ListsExactly (λ p. IsFloatOfSome es S codes p ⊎ IsFromEssentials es S p) list
 
 -- the new list has exactly those of the old one, the active `$e` and the hypotheses kept with these
-abbrev pub AreWith : List Entry → Database → List ℕ → List ℕ → Type 0
-AreWith es S old new = AreThose (λ p. In p old ⊎ IsFromEssentials es S p) new
+abbrev pub AreWithEssentials : List Entry → Database → List ℕ → List ℕ → Type 0
+AreWithEssentials es S old new = ListsExactly (λ p. In p old ⊎ IsFromEssentials es S p) new
 
 -- the kind is that of a `$f` or a `$e`
 abbrev pub is_hypothesis_entry : Kind → Bool

@@ -13,5 +13,5 @@ abbrev pub naming_of : Database → Declared
 naming_of S = naming_from [] S
 
 -- the kind is that of a symbol
-abbrev pub is_declared : Option NameKind → Bool
-is_declared kind = is_some_constant kind || is_some_variable kind
+abbrev pub is_kind_of_symbol : Option NameKind → Bool
+is_kind_of_symbol kind = is_some_constant kind || is_some_variable kind

@@ -6,29 +6,29 @@ use Rattle.std.specs.Prelude.{◌≡◌, ℕ, ◌<◌, ◌≤◌, ◌-◌, ◌==
 use Rattle.frame.specs.Words.{list_any, Assertion, AreDistinct}
 use Rattle.frame.specs.AssertionView.{has_both}
 use Rattle.frame.specs.Below.{AllBelow}
-use Rattle.frame.specs.declared.pair_facts.Walked.{Walked}
+use Rattle.frame.specs.declared.pair_facts.SearchEnd.{SearchEnd}
 use Rattle.frame.specs.declared.storage.Storage.{Storage}
 use Rattle.frame.specs.Stored.AssertionParts.{hypothesis_at, typecode_at, is_typed}
 use Rattle.frame.specs.Stored.EntryMeanings.{names_in, statements_of}
 use Rattle.frame.specs.Stored.Hypotheses.{IsFilledFrom}
-use Rattle.frame.specs.Stored.PairSearch.{IsRowOf, are_pair}
+use Rattle.frame.specs.Stored.PairSearch.{AreDisjointsWith, are_pair}
 use Rattle.frame.specs.Stored.Stacks.{has_code}
 use Rattle.frame.specs.Stored.Whole.{AreStored}
 
 -- ---- the search for a pair, with known facts
 
--- x and y are variables that are searched for, and the row is that of the `$d` that have x
-pub record IsSearchedIn (k : Storage) (x y : ℕ) (row : List ℕ) : Type 0 where
+-- y is searched for in the active `$d` that have x
+pub record IsSearchedIn (k : Storage) (x y : ℕ) (disjoints : List ℕ) : Type 0 where
   pub stored : AreStored k
   pub distinct : AreDistinct (names_in k)
   pub first : x < length (names_in k)
   pub second : y < length (names_in k)
   pub differ : (x == y) ≡ false
-  pub row_of : IsRowOf k x row
+  pub with_x : AreDisjointsWith k x disjoints
 
--- the answer of the search holds for the whole row, and for what is left of it after each of the passed `$d`
-abbrev pub AreAnswered : Storage → ℕ → List ℕ → Walked → Type 0
-AreAnswered k y row walked = (i : ℕ) → i ≤ walked.passed → list_any (has_code k.entries y) (drop i row) ≡ walked.found
+-- the answer of the search holds for all these `$d`, and for those that are left after each passed one
+abbrev pub AreAnswered : Storage → ℕ → List ℕ → SearchEnd → Type 0
+AreAnswered k y disjoints search_end = (i : ℕ) → i ≤ search_end.passed → list_any (has_code k.entries y) (drop i disjoints) ≡ search_end.found
 
 -- ---- the groups of two variables
 

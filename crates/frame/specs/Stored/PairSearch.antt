@@ -26,14 +26,14 @@ pub record AreSearched (k : Storage) (at x y : ℕ) : Type 0 where
   pub differ : (x == y) ≡ false
 
 -- the `$d` that have x and are active after the first `count` statements, from the last one back
-pub record IsRowOf (k : Storage) (x : ℕ) (row : List ℕ) : Type 0 where
+pub record AreDisjointsWith (k : Storage) (x : ℕ) (disjoints : List ℕ) : Type 0 where
   pub count : ℕ
   pub within : count ≤ length (statements_of k)
-  pub are : row ≡ positions_with k.entries x (actives is_disj (take count (statements_of k)))
+  pub are : disjoints ≡ positions_with k.entries x (actives is_disj (take count (statements_of k)))
 
--- x and y are a pair exactly if one of the `$d` that are left, which have x, has y
-pub record IsLeft (k : Storage) (at x y : ℕ) (left : List ℕ) : Type 0 where
+-- x and y are a pair exactly if one of the remaining `$d`, all of which have x, has y
+pub record AreRemaining (k : Storage) (at x y : ℕ) (remaining : List ℕ) : Type 0 where
   pub sought : AreSearched k at x y
-  pub of_kind : AreOfKind is_disj (statements_of k) left
-  pub row_of : IsRowOf k x left
-  pub rest : are_pair k at x y ≡ list_any (has_code k.entries y) left
+  pub of_kind : AreOfKind is_disj (statements_of k) remaining
+  pub with_x : AreDisjointsWith k x remaining
+  pub rest : are_pair k at x y ≡ list_any (has_code k.entries y) remaining

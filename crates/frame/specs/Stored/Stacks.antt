@@ -84,8 +84,8 @@ abbrev pub latest_of : Kind → Kind → NextStatement → List (List StackVersi
 latest_of Disj Disj x hs c = with_top x.codes.now x.at hs c
 latest_of Var Var x hs c = with_top x.codes.now x.at hs c
 latest_of Ess Ess x hs c = with_top (long_codes x.codes.now) x.at hs c
-latest_of of Close x hs c = stack_at (history hs c) (opening x.last_active.block)
-latest_of of kind x hs c = stack_at (history hs c) x.at
+latest_of stack_kind Close x hs c = stack_at (history hs c) (opening x.last_active.block)
+latest_of stack_kind kind x hs c = stack_at (history hs c) x.at
 
 -- the versions up to n are the same for each number
 abbrev pub KeepsUntil : ℕ → List (List StackVersion) → List (List StackVersion) → Type 0

@@ -39,12 +39,12 @@ pub record AreStored (k : Storage) : Type 0 where
   pub essentials : AreStacks is_essential k.essentials (map long_entry k.entries) (statements_of k)
 
 -- the stacks of a kind are those of a storage with these entries and these last active statements
-pub record AreStacksOfStorage (of : Kind) (entries : List Entry) (last_active : LastActive) (hs : List (List StackVersion)) : Type 0 where
+pub record AreStacksOfStorage (stack_kind : Kind) (entries : List Entry) (last_active : LastActive) (hs : List (List StackVersion)) : Type 0 where
   pub storage : Storage
   pub stored : AreStored storage
   pub entries_are : entries ≡ storage.entries
   pub last_active_are : last_active ≡ storage.last_active
-  pub stacks : AreStacks (kind_test of) hs (entries_by of entries) (statements_of storage)
+  pub stacks : AreStacks (kind_test stack_kind) hs (entries_by stack_kind entries) (statements_of storage)
 
 -- h is the header of the next statement
 pub record IsEntryHeader (k : Storage) (s : Stmt) (h : EntryHeader) : Type 0 where

@@ -1,4 +1,4 @@
-use Rattle.cross_references.proofs.Words.{[], arith, refl, OfSome, on_ok, lists_of, AddsAxiom}
+use Rattle.cross_references.proofs.Words.{[], arith, refl, HoldsForSome, on_ok, lists_of, AddsAxiom}
 use Rattle.cross_references.proofs.ListLemmas.{in-at, has-some-next, has-some-all, those-collected}
 use Rattle.cross_references.proofs.references.axioms_of_cited.Goals as goal
 
@@ -14,6 +14,6 @@ pub returns : goal.returns
 returns c =
     let R = AddsAxiom c.args.statements.now (lists_of c.args.axioms.now) in
     on_ok c.ordered.result
-    (λ list those. those-collected (OfSome R c.args.cited.now) [] c.loop-position.collector list.items refl
+    (λ list those. those-collected (HoldsForSome R c.args.cited.now) [] c.loop-position.collector list.items refl
     (has-some-all R c.args.cited.now c.loop-position.position-index [] c.loop-position.collector (omega (arith, c.loop-position-test.false)) c.loop-position.invariant) those)
     c.ordered.ensures

@@ -45,6 +45,6 @@ returns c labels s e =
     let whole : map (decode names) stack ≡ below ++ rs =
     ap (map (decode names)) (sym (take-append-drop base stack)) ∙ (map-append (decode names) (take base stack) (drop base stack) ∙ ap (λ r. below ++ r) (sym by_names)) in
     let result = applied (images_of S c.args.cited_at s rs) (expr_of s) in
-    let gives = gives_is S c.args.at c.args.cited_at s rs (map (decode names) stack) below result c.requires.earlier has (c.requires.legal.bound c.args.cited_at s has).variable
+    let gives = gives_is S c.args.at c.args.cited_at s rs (map (decode names) stack) below result c.requires.earlier has (c.requires.legal.well_typed c.args.cited_at s has).variable
     (rw c.in-None.is at (c.in_ok-fault.ensures s e)) whole refl in
     record { below = below; result = result; gives = gives; heavy = c.requires.stuck s below result e gives }

@@ -1,10 +1,10 @@
-use Rattle.frame.proofs.Words.{Extends, [], ◌∙◌, sym, append-nil, arith, declared_symbols, extends-length, AreZeroAfter}
+use Rattle.frame.proofs.Words.{Extends, [], ◌∙◌, sym, append-nil, arith, declared_symbols, extends-length, AreUndeclaredAfter}
 use Rattle.frame.proofs.NamingLemmas.{symbols-extend}
 use Rattle.frame.proofs.SymbolNumberLemmas.{zero-more}
 use Rattle.frame.proofs.declare.declare_next.Goals as goal
 use Rattle.frame.proofs.declare.declare_next.Goals.{In_ok-resize}
 
-after : (c : In_ok-resize) → AreZeroAfter c.args.storage.now.symbols.items c.resize.new.self.items
+after : (c : In_ok-resize) → AreUndeclaredAfter c.args.storage.now.symbols.items c.resize.new.self.items
 after c =
     let old = c.args.storage.now.numbering in
     let new = c.declare_names.new.names in

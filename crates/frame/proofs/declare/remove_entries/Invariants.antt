@@ -1,11 +1,11 @@
-use Rattle.frame.proofs.Words.{◌≡◌, ◌≤◌, length, take, AreBlockEnds, statements_of, Extends, ReadsAs, replaced_of, last_declarations_of}
+use Rattle.frame.proofs.Words.{◌≡◌, ◌≤◌, length, take, AreBlockEnds, statements_of, Extends, AreGivenBy, replaced_of, last_declarations_of}
 use Rattle.frame.proofs.declare.remove_entries.Given as goal
 
 abbrev pub invariant-loop-storage : goal.invariant-loop-storage
 invariant-loop-storage l = record {
   front : Extends l.storage.entries l.fn.storage.entries;
   enough : l.len ≤ length l.storage.entries;
-  declared : ReadsAs l.storage.symbols.items (last_declarations_of l.storage.entries);
+  declared : AreGivenBy l.storage.symbols.items (last_declarations_of l.storage.entries);
   recorded : l.storage.replaced.items ≡ replaced_of l.storage.entries;
   ended : AreBlockEnds l.storage.ends.items (take (length l.storage.entries) (statements_of l.fn.storage));
   ends_count : length l.storage.ends.items ≡ length l.fn.storage.ends.items;

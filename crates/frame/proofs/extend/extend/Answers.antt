@@ -1,4 +1,4 @@
-use Rattle.frame.proofs.Words.{Extends, IsAfter, Result, Ok, Err, OnErr, append-nil, ◌≡◌, ◌∙◌, ap, sym, subst, arith, refl, length, ◌+◌, ◌++◌, ◌∷◌, [], true, bare, entry_by, may-declare, AreBelow, has_parts, statements_of, ReadsAs, IsKeptOf, NextStatement, history, kept_until, EntryHeader}
+use Rattle.frame.proofs.Words.{Extends, HasMoreAtEnd, Result, Ok, Err, OnErr, append-nil, ◌≡◌, ◌∙◌, ap, sym, subst, arith, refl, length, ◌+◌, ◌++◌, ◌∷◌, [], true, bare, entry_by, may-declare, AreBelow, has_parts, statements_of, AreGivenBy, IsKeptOf, NextStatement, history, kept_until, EntryHeader}
 use Rattle.frame.proofs.EndLemmas.{block-within, ends-next}
 use Rattle.frame.proofs.EnterLemmas.{IsEntered, IsExtended, added-numbers, entered-below, kept-pushed, numbered-pushed, pushed-statements}
 use Rattle.frame.proofs.NamingLemmas.{stored-naming}
@@ -66,7 +66,7 @@ any-err (Err e) p = p
 pub returns-in_err-push-clause-after : goal.returns-in_err-push-clause-after
 returns-in_err-push-clause-after c =
     let g = c.in_ok-declare_next.ensures.grown in
-    any-err {P = IsAfter c.args.storage.now _} c.from_residual-in_err-push.result (record {
+    any-err {P = HasMoreAtEnd c.args.storage.now _} c.from_residual-in_err-push.result (record {
       numbering = g.numbering;
       symbols = g.symbols;
       positions = g.positions;
@@ -97,7 +97,7 @@ returns c =
       kept = kept;
       of_kind = c.kind-kind.ensures ∙ sym e.header.kind;
       place = omega (arith, c.len-at.ensures.len);
-      recorded = λ x reads. rw (← c.declared-declared.ensures.declared) (c.in_ok-record_replaced.ensures.recorded x (subst (λ xs. ReadsAs xs x) (sym c.deref.ensures.value) reads));
+      recorded = λ x reads. rw (← c.declared-declared.ensures.declared) (c.in_ok-record_replaced.ensures.recorded x (subst (λ xs. AreGivenBy xs x) (sym c.deref.ensures.value) reads));
       each = λ k x g. rw (← c.declared-declared.ensures.declared) (c.declare.ensures.each k x g);
       count = c.declare.ensures.count;
       pushed = rw (c.parts.ensures.symbols, c.parts.ensures.assertion) at c.in_ok-push-2.ensures.added;

@@ -1,4 +1,4 @@
-use Rattle.frame.proofs.Words.{◌∙◌, ap, sym, take, arith, IsAfter, on-err, Result, Ok, Err, OnErr}
+use Rattle.frame.proofs.Words.{◌∙◌, ap, sym, take, arith, HasMoreAtEnd, on-err, Result, Ok, Err, OnErr}
 use Rattle.frame.proofs.CutStorage.{back-stored}
 use Rattle.frame.proofs.extend.extend_whole.Goals as goal
 
@@ -10,7 +10,7 @@ pub returns-then-is_err-clause-stored : goal.returns-then-is_err-clause-stored
 returns-then-is_err-clause-stored c =
     let old = c.args.storage.now in
     let mid = c.extend-result.new.storage in
-    let after = on-err c.extend-result.result (IsAfter old mid) (sym c.is_err.ensures.value ∙ c.if-is_err.true) c.extend-result.ensures.after in
+    let after = on-err c.extend-result.result (HasMoreAtEnd old mid) (sym c.is_err.ensures.value ∙ c.if-is_err.true) c.extend-result.ensures.after in
     let cut = c.roll_back.ensures in
     back-stored old mid c.roll_back.new.storage c.requires.stored (record {
       after = after;
@@ -30,5 +30,5 @@ pub returns-then-is_err-clause-same_entries : goal.returns-then-is_err-clause-sa
 returns-then-is_err-clause-same_entries c =
     let old = c.args.storage.now in
     let mid = c.extend-result.new.storage in
-    let after = on-err c.extend-result.result (IsAfter old mid) (sym c.is_err.ensures.value ∙ c.if-is_err.true) c.extend-result.ensures.after in
+    let after = on-err c.extend-result.result (HasMoreAtEnd old mid) (sym c.is_err.ensures.value ∙ c.if-is_err.true) c.extend-result.ensures.after in
     any-err c.extend-result.result (c.roll_back.ensures.entries ∙ after.entries)

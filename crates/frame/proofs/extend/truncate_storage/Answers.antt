@@ -1,4 +1,4 @@
-use Rattle.frame.proofs.Words.{◌≡◌, ◌∙◌, ap, sym, subst, arith, length, take, ◌<◌, ◌≤◌, is_disj, is_var, AreStored, Extends, length-take-le, take-length, slice_get_within, names_in, labels_in, statements_of, ReadsAs, replaced_of, last_declarations_of, declared_symbols, declared_labels, naming_of, entry_from_ref, AreKeptUntil}
+use Rattle.frame.proofs.Words.{◌≡◌, ◌∙◌, ap, sym, subst, arith, length, take, ◌<◌, ◌≤◌, is_disj, is_var, AreStored, Extends, length-take-le, take-length, slice_get_within, names_in, labels_in, statements_of, AreGivenBy, replaced_of, last_declarations_of, declared_symbols, declared_labels, naming_of, entry_from_ref, AreKeptUntil}
 use Rattle.frame.proofs.StackLemmas.{essentials-front, stacks-front}
 use Rattle.frame.proofs.EndLemmas.{ends-front, stored-blocks}
 use Rattle.frame.proofs.CutStorage.{IsCut, kept-cut, cut-statements, names-front, front-naming, numbering-front}
@@ -29,7 +29,7 @@ left c =
       between_count = away.count;
       symbols_cut = back.symbols ∙ ap (λ m. take m between) (ap length names ∙ sym counts.name_count);
       entries_cut = back.entries ∙ away.entries;
-      declared = subst (λ v. ReadsAs between (last_declarations_of v)) (sym back.entries) away.declared;
+      declared = subst (λ v. AreGivenBy between (last_declarations_of v)) (sym back.entries) away.declared;
       recorded = back.replaced ∙ (ap (λ m. take m left) all ∙ (take-length left ∙ (away.recorded ∙ ap (λ v. replaced_of v) (sym back.entries))));
       last_active_back = back.last_active;
     } in

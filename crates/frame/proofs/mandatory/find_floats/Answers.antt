@@ -9,7 +9,7 @@ add_float-requires-clause-code c = below-at (length (names_in c.args.storage.now
 pub loop-code-preserved : goal.loop-code-preserved
 loop-code-preserved c = record {
   left = left-step (λ x j. j) (λ x j. j) c.in_ok-add_float.ensures.more (rw (drop_more c.args.codes.now c.loop-code.code-index 0 (omega arith)) at c.loop-code.invariant.left);
-  looked = c.in_ok-add_float.ensures.looked;
+  looked_up = c.in_ok-add_float.ensures.looked_up;
 }
 
 pub returns : goal.returns

@@ -11,12 +11,12 @@ loop-passed-preserved c =
     let l = c.loop-passed in
     let is = c.in-Some.ensures.some in
     record {
-      at = rest-next k c.args.x c.args.y c.args.row l.row l.passed c.in-Some.position c.pop.new.self is l.invariant.at;
+      at = rest-next k c.args.x c.args.y c.args.with_x l.with_x l.passed c.in-Some.position c.pop.new.self is l.invariant.at;
       facts = elim c.if-is_recorded.branch [
         | then-is_recorded w ↦
             subst (AreFacts (numbered k)) (sym w.facts-is)
             (w.record.ensures (numbered k) l.invariant.facts
-            (fact-made k c.args.x c.args.y c.args.row l.row l.passed c.in-Some.position c.pop.new.self is c.args.walked l.invariant.at c.requires.answered (omega (arith, c.loop-passed-test.true))))
+            (fact-made k c.args.x c.args.y c.args.with_x l.with_x l.passed c.in-Some.position c.pop.new.self is c.args.search_end l.invariant.at c.requires.answered (omega (arith, c.loop-passed-test.true))))
         | else-is_recorded w ↦ subst (AreFacts (numbered k)) (sym w.facts-is) l.invariant.facts
       ];
     }

@@ -1,11 +1,11 @@
-use Rattle.steps.proofs.Words.{◌≡◌, List, Name, ArePositions, AreLegal, items_of, IsDraft, AreKept}
+use Rattle.steps.proofs.Words.{◌≡◌, List, Name, ArePositions, HasLegalProperties, items_of, IsDraft, AreKept}
 use Rattle.steps.proofs.ReachedLemmas.{Reached}
 use Rattle.steps.proofs.steps_table.proof_table.Given as goal
 
 -- the items so far are recorded in the table
 abbrev pub invariant-loop-number : goal.invariant-loop-number
 invariant-loop-number l =
-    AreLegal l.frames.statements l.frames.names
+    HasLegalProperties l.frames.statements l.frames.names
     × IsDraft l.frames.statements l.at l.frames.names l.draft
     × ((labels : List Name)
     × ArePositions l.frames.statements labels l.positions.items

@@ -23,7 +23,7 @@ pub read_images-requires-clause-same : goal.read_images-requires-clause-same
 read_images-requires-clause-same c = let l = required-lengths _ _ _ _ _ (c.requires.cited c.requires.may.assertion.0 c.requires.may.assertion.1.0).numbered_hypotheses in l.0 ∙ sym l.1
 
 pub read_images-requires-clause-different : goal.read_images-requires-clause-different
-read_images-requires-clause-different c = required-different _ _ _ c.requires.may.assertion.0 _ _ (c.requires.may.ready.legal.bound _ c.requires.may.assertion.0 c.requires.may.assertion.1) (c.requires.cited c.requires.may.assertion.0 c.requires.may.assertion.1.0).numbered_hypotheses
+read_images-requires-clause-different c = required-different _ _ _ c.requires.may.assertion.0 _ _ (c.requires.may.ready.legal.well_typed _ c.requires.may.assertion.0 c.requires.may.assertion.1) (c.requires.cited c.requires.may.assertion.0 c.requires.may.assertion.1.0).numbered_hypotheses
 
 pub hypotheses_match-requires-clause-numbered_hypotheses : goal.hypotheses_match-requires-clause-numbered_hypotheses
 hypotheses_match-requires-clause-numbered_hypotheses c = λ s at. (c.args.cited.now.typecodes.now, (c.requires.cited s at).numbered_hypotheses)

@@ -1,4 +1,4 @@
-use Rattle.frame.proofs.Words.{◌≡◌, ◌∙◌, ◌-◌, ap, sym, subst, take, true, ◌++◌, same_Some, before, hypotheses, AreWith, statements_of, ok-weaker}
+use Rattle.frame.proofs.Words.{◌≡◌, ◌∙◌, ◌-◌, ap, sym, subst, take, true, ◌++◌, same_Some, before, hypotheses, AreWithEssentials, statements_of, ok-weaker}
 use Rattle.frame.proofs.AssertionViewLemmas.{all-legal, is-there}
 use Rattle.frame.proofs.BufferedHypotheses.{kept-by, mandatory-own}
 use Rattle.frame.proofs.frames.Frames.mandatory.Goals as goal
@@ -19,10 +19,10 @@ returns-else-is_whole-clause-listed c = λ s h.
     let own = sym (c.is_whole.ensures t.1 t.2.got) ∙ c.if-is_whole.false in
     let list = c.in_ok-extend_from_slice.ensures.items ∙ (ap (λ xs. xs ++ c.hypotheses.result.now) c.requires.empty ∙ c.hypotheses.ensures t.1 t.2.got) in
     let same : c.requires.assertion.0 ≡ s = same_Some _ _ (sym c.requires.assertion.1.0 ∙ h) in
-    rw (← c.self.view_is) (ok-weaker c.add.result _ _
-    (λ w. mandatory-own k c.args.a t.0 c.requires.assertion.0 t.1 c.self.invariant.stored c.requires.assertion.1.1 t.2 own c.add.new.list.items
-    (subst (λ l. AreWith k.entries (take (c.args.a - 1) (statements_of k)) l c.add.new.list.items) list w) ∙ ap (hypotheses (before (statements_of k) c.args.a)) same)
-    c.add.ensures)
+    rw (← c.self.view_is) (ok-weaker c.append_hypotheses.result _ _
+    (λ w. mandatory-own k c.args.a t.0 c.requires.assertion.0 t.1 c.self.invariant.stored c.requires.assertion.1.1 t.2 own c.append_hypotheses.new.list.items
+    (subst (λ l. AreWithEssentials k.entries (take (c.args.a - 1) (statements_of k)) l c.append_hypotheses.new.list.items) list w) ∙ ap (hypotheses (before (statements_of k) c.args.a)) same)
+    c.append_hypotheses.ensures)
 
 pub returns-then-is_whole-clause-legal : goal.returns-then-is_whole-clause-legal
 returns-then-is_whole-clause-legal c = rw (← c.self.view_is) (all-legal c.self.inside.storage c.self.invariant.stored)

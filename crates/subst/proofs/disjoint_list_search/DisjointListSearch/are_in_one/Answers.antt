@@ -6,11 +6,11 @@ use Rattle.subst.proofs.disjoint_list_search.DisjointListSearch.are_in_one.Goals
 pub number-requires : goal.number-requires
 number-requires c = c.requires.there c.in-Some.place c.in-Some.ensures
 
-pub row-row-requires : goal.row-row-requires
-row-row-requires c = (at-variable c.args.pairs.now c.args.variables.now c.in-Some.place c.number.result c.requires.placed (record { there = c.requires.there c.in-Some.place c.in-Some.ensures; same = sym c.number.ensures })).named
+pub disjoints_with-row-requires : goal.disjoints_with-row-requires
+disjoints_with-row-requires c = (at-variable c.args.pairs.now c.args.variables.now c.in-Some.place c.number.result c.requires.placed (record { there = c.requires.there c.in-Some.place c.in-Some.ensures; same = sym c.number.ensures })).named
 
 pub loop-list-init : goal.loop-list-init
-loop-list-init c = record { below = c.row-row.ensures.below; together = c.row-row.ensures.together }
+loop-list-init c = record { below = c.disjoints_with-row.ensures.below; together = c.disjoints_with-row.ensures.together }
 
 pub loop-list-preserved : goal.loop-list-preserved
 loop-list-preserved c = row-rest c.args.pairs.now c.in-Some-next.list.now c.loop-list.row c.next.new.self c.in-Some-next.ensures.some c.loop-list.invariant

@@ -1,5 +1,0 @@
-use Rattle.frame.proofs.GroupsLemmas.{groups-pairs}
-use Rattle.frame.proofs.laws.groups_are_pairs.Goals as goal
-
-pub returns : goal.returns
-returns c = groups-pairs
