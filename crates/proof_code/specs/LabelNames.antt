@@ -9,5 +9,5 @@ use Rattle.std.specs.Borrow.{Bor}
 use Rattle.mm_lex.specs.Alphabet.{Name, has_name}
 
 -- the set has exactly the labels of the list
-abbrev pub AreNames : BTreeSet (Bor Name) → List Name → Type 0
-AreNames names labels = (label : Bor Name) → contains (λ a b. slice_cmp nat_cmp a.now b.now) names label ≡ has_name label.now labels
+abbrev pub IsLabelSet : BTreeSet (Bor Name) → List Name → Type 0
+IsLabelSet names labels = (label : Bor Name) → contains (λ a b. slice_cmp nat_cmp a.now b.now) names label ≡ has_name label.now labels

@@ -1,6 +1,6 @@
 use Rattle.proof_code.proofs.Words.{arith}
 use Rattle.proof_code.proofs.StepLemmas.{marks-at, mask-at}
-use Rattle.proof_code.proofs.letter_numbers.LetterState.pass.Goals as goal
+use Rattle.proof_code.proofs.letter_numbers.LetterState.advance.Goals as goal
 
 pub overflow_add-self : goal.overflow_add-self
 overflow_add-self c = let is = marks-at c.args.byte c.from.result c.ranges.byte.fits c.from.ensures c.args.self.now.limit in omega (arith, is.1, c.requires)
