@@ -42,8 +42,8 @@ struct LetterState {
 }
 
 impl LetterState {
-    /// Tests `value`, that of the digits with the byte after them. Returns `None` if letters that go
-    /// on with this byte write no list of numbers, whatever follows it, else `Some`.
+    /// Tests `value`, that of the digits with the byte after them. Returns `None` if letters that
+    /// go on with this byte write no list of numbers, whatever follows it, else `Some`.
     ///
     /// A word with digits over `digits_limit` has a number over the limit, however it ends.
     #[inline(always)]

@@ -1,7 +1,8 @@
 //! From the tokens of a Metamath proof to its items: citations, recalls and marks.
 //!
 //! `normal` reads a normal proof, `packed` a compressed one. Each returns the items that the tokens
-//! write; if they write none, it returns `Unfinished` if a token has the byte `?`, else `Malformed`.
+//! write; if they write none, it returns `Unfinished` if a token has the byte `?`, else
+//! `Malformed`.
 //! `Items` stores a table of labels and a number for each item; contracts see the list of items.
 //! `Reader::read` reads one compressed proof after another into one buffer, without the labels of
 //! the mandatory hypotheses, which the caller has.

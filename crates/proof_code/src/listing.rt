@@ -8,8 +8,8 @@ use std::simd::prelude::*;
 /// How many bytes are compared at once.
 const LANES: usize = 16;
 
-/// Returns the count of the labels before the word `)`, and the letters after it, or `None` if there
-/// is no `)` or if a word before it is not a label.
+/// Returns the count of the labels before the word `)`, and the letters after it, or `None` if
+/// there is no `)` or if a word before it is not a label.
 pub(crate) fn count_listed(text: &[u8]) -> Option<(usize, &[u8])>
     ensures listed_count { MatchOption result (listed_count true text.now ≡ None) (λ r. listed_count true text.now ≡ Some (r.0, r.1.now)) }
     ensures within { IfSome result (λ r. r.0 + length r.1.now ≤ length text.now) }

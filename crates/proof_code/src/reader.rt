@@ -93,9 +93,9 @@ impl Reader {
         Ok(Some(heading))
     }
 
-    /// Reads a proof as `read` does, but checks it even if every allocation fails. Returns the listed
-    /// labels with `Ok` if the numbers are kept, with `Err` if an allocation failed, and `None` if
-    /// the proof writes no items.
+    /// Reads a proof as `read` does, but checks it even if every allocation fails. Returns the
+    /// listed labels with `Ok` if the numbers are kept, with `Err` if an allocation failed, and
+    /// `None` if the proof writes no items.
     pub(crate) fn read_or_check<'a>(
         &mut self,
         tokens: &'a Words,
