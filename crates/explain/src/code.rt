@@ -28,8 +28,8 @@ pub(crate) enum TokenFault {
 /// Returns the rule of proof code that the tokens break. They must write no items under these
 /// mandatory labels.
 ///
-/// Errors: an allocation fails, or there are more than `MAX_LABELS_OR_LETTERS` tokens, mandatory labels or
-/// letters. Cost: the tokens, times a logarithm of the number of mandatory labels.
+/// Errors: an allocation fails, or there are more than `MAX_LABELS_OR_LETTERS` tokens, mandatory
+/// labels or letters. Cost: the tokens, times a logarithm of the number of mandatory labels.
 pub(crate) fn code_break(
     alloc: Global,
     tokens: &Words,
