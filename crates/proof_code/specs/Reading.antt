@@ -58,9 +58,9 @@ IsNextRead before limit digits byte after limit' digits' =
 abbrev pub share_label : List Name → List Name → Bool
 share_label mandatory listed = list_any (λ label. has_name label mandatory) listed
 
--- the proof lists the first `count` of the words; and for any mandatory labels, `mandatory` of them,
 -- the proof lists the first `count` of the words; for any mandatory labels, `mandatory` of them, it
 -- writes the items of these numbers if none of them is listed, and no items if one is
+pub record IsHeadingWithNumbers (tokens : List Name) (mandatory : ℕ) (words : List Name) (count : ℕ) (numbers : List ℕ) : Type 0 where
   pub listed : List Name
   pub rest : List Name
   pub whole : words ≡ listed ++ right_parenthesis ∷ rest
