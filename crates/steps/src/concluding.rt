@@ -9,7 +9,7 @@ ghost use Rattle.verify.specs.HypothesisResults.{AreDifferent, IsTyped, AreRead}
 
 use entries::{AssertionView, SymbolPlaces};
 use std::alloc::AllocError;
-use subst::{Buffer, ImageRanges, Remaining, SYMBOLS_LIMIT, SymbolRange, range_between};
+use subst::{Buffer, ImageRanges, RemainingSymbols, SYMBOLS_LIMIT, SymbolRange, range_between};
 use verify::read_off;
 
 /// Returns a shorter expression in which substitution gives the same result: the symbols whose images are not empty, if
@@ -20,7 +20,7 @@ fn shortened<'a>(
     images: &ImageRanges,
     expr: &'a [u32],
     symbol_places: Option<&SymbolPlaces>,
-    remaining: &'a mut Remaining,
+    remaining: &'a mut RemainingSymbols,
 ) -> Result<&'a [u32], AllocError>
     requires { IfSome symbol_places (λ places. ArePlacesOf expr.now places.now) }
     ensures { IfOk result (λ short. HaveSameResult images.now short.now expr.now) }
@@ -44,7 +44,7 @@ fn shortened<'a>(
 pub fn conclude(
     symbols: &mut Buffer,
     images: &mut ImageRanges,
-    remaining: &mut Remaining,
+    remaining: &mut RemainingSymbols,
     cited: &AssertionView<'_>,
     symbol_places: Option<&SymbolPlaces>,
     ranges: &[SymbolRange],

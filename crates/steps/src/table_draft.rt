@@ -14,7 +14,7 @@ use crate::step_places::{find_place, record_place, step_key};
 use entries::{AssertionView, SymbolPlaces};
 use std::alloc::{AllocError, Global};
 use std::collections::BTreeMap;
-use subst::{Buffer, ImageRanges, Remaining, SYMBOLS_LIMIT, SymbolRange, range_between};
+use subst::{Buffer, ImageRanges, RemainingSymbols, SYMBOLS_LIMIT, SymbolRange, range_between};
 
 /// A step, with the range of its expression in a buffer.
 #[derive(Drop)]
@@ -44,7 +44,7 @@ pub struct TableDraft {
     pub images: ImageRanges,
     /// A buffer for the symbols that are left of a long expression without those whose images are
     /// empty.
-    pub remaining: Remaining,
+    pub remaining: RemainingSymbols,
     /// A buffer for the ranges of the results that a citation takes.
     pub ranges: Vec<SymbolRange>,
 }
@@ -62,7 +62,7 @@ impl TableDraft {
             saved: Vec::new(alloc),
             step_places: BTreeMap::new(alloc),
             images: ImageRanges::new(alloc),
-            remaining: Remaining::new(alloc),
+            remaining: RemainingSymbols::new(alloc),
             ranges: Vec::new(alloc),
         }
     }

@@ -25,24 +25,24 @@ fn copy_run(symbols: &mut [u32], from: usize, len: usize, at: usize)
     }
 }
 
-/// Copies the symbols in the range `place` to `at`, and returns where the copy ends, or `None` if
+/// Copies the symbols in the range `range` to `at`, and returns where the copy ends, or `None` if
 /// that is after `last`.
 #[inline(always)]
-pub fn copy_range(symbols: &mut [u32], at: usize, last: usize, place: SymbolRange) -> Option<usize>
-    requires place { (place.start ≤ place.end) × (place.end ≤ at) }
+pub fn copy_range(symbols: &mut [u32], at: usize, last: usize, range: SymbolRange) -> Option<usize>
+    requires range { (range.start ≤ range.end) × (range.end ≤ at) }
     requires inside { at ≤ length symbols.old }
     requires room { last + 32 ≤ length symbols.old }
-    ensures some { IfSome result (IsWritten symbols.old symbols.new at (symbols_in (take at symbols.old) place)) }
+    ensures some { IfSome result (IsWritten symbols.old symbols.new at (symbols_in (take at symbols.old) range)) }
     ensures within { IfSome result (λ end. end ≤ last) }
-    ensures none { IfNone result (last < at + length (symbols_in (take at symbols.old) place)) }
+    ensures none { IfNone result (last < at + length (symbols_in (take at symbols.old) range)) }
     ensures kept { take at symbols.new ≡ take at symbols.old }
     ensures count { length symbols.new ≡ length symbols.old }
 {
-    let len = (place.end - place.start) as usize;
+    let len = (range.end - range.start) as usize;
     if at + len > last {
         return None;
     }
-    copy_run(symbols, place.start as usize, len, at);
+    copy_run(symbols, range.start as usize, len, at);
     Some(at + len)
 }
 

@@ -8,7 +8,7 @@ ghost use Rattle.subst.specs.DisjointImages.{are_numbers_disjoint, image_named, 
 ghost use Rattle.subst.specs.Images.{AreOver};
 ghost use Rattle.subst.specs.SymbolRanges.{AreInside, images_at, symbols_in};
 ghost use Rattle.subst.specs.Stored.DisjointTables.{AreTables, are_named_disjoint};
-ghost use Rattle.subst.specs.Stored.ImageVariables.{AreRead};
+ghost use Rattle.subst.specs.Stored.ImageVariables.{AreReadImages};
 ghost use Rattle.subst.specs.Stored.VariablePlaces.{Grows};
 
 use crate::disjoint_rows::DisjointRows;
@@ -33,7 +33,7 @@ pub struct DisjointTables {
     /// The pairs of variables that were found to be disjoint.
     rows: DisjointRows,
     /// The variables of the earlier images of a group.
-    before: PlaceSet,
+    earlier_places: PlaceSet,
     /// The pairs of images that were found to be disjoint.
     found: ImagePairs,
 }
@@ -47,7 +47,7 @@ impl DisjointTables {
             variables: VariablePlaces::new(alloc),
             images: ImageVariables::new(alloc),
             rows: DisjointRows::new(alloc),
-            before: PlaceSet::new(alloc),
+            earlier_places: PlaceSet::new(alloc),
             found: ImagePairs::new(alloc),
         }
     }
@@ -96,15 +96,15 @@ impl DisjointTables {
         second: u32,
     ) -> Result<bool, AllocError>
         requires tables { AreTables pairs.now symbols.now self.old }
-        requires read { AreRead pairs.now self.old.variables symbols.now images.now self.old.images }
+        requires read { AreReadImages pairs.now self.old.variables symbols.now images.now self.old.images }
         requires named { AreOver pairs.now.names (images_at symbols.now images.now) }
         requires inside { AreInside (length symbols.now) images.now }
         requires first { first < length pairs.now.names }
         requires second { second < length pairs.now.names }
         ensures tables { AreTables pairs.now symbols.now self.new }
-        ensures read { AreRead pairs.now self.new.variables symbols.now images.now self.new.images }
+        ensures read { AreReadImages pairs.now self.new.variables symbols.now images.now self.new.images }
         ensures grows { Grows self.old.variables self.new.variables }
-        ensures before { self.new.before ≡ self.old.before }
+        ensures earlier_places { self.new.earlier_places ≡ self.old.earlier_places }
         ensures disjoint { IfOk result (λ ok. ok ≡ are_named_disjoint pairs.now symbols.now images.now first second) }
     {
         let one = self
@@ -125,7 +125,7 @@ impl DisjointTables {
     ///
     /// Errors: an allocation fails. Cost: log n for n recorded pairs; that of `are_disjoint` if
     /// this one is not recorded.
-    fn are_found_disjoint(
+    fn are_disjoint_by_record(
         &mut self,
         pairs: &Pairs<'_>,
         symbols: &[u32],
@@ -134,15 +134,15 @@ impl DisjointTables {
         second: u32,
     ) -> Result<bool, AllocError>
         requires tables { AreTables pairs.now symbols.now self.old }
-        requires read { AreRead pairs.now self.old.variables symbols.now images.now self.old.images }
+        requires read { AreReadImages pairs.now self.old.variables symbols.now images.now self.old.images }
         requires named { AreOver pairs.now.names (images_at symbols.now images.now) }
         requires inside { AreInside (length symbols.now) images.now }
         requires first { first < length pairs.now.names }
         requires second { second < length pairs.now.names }
         ensures tables { AreTables pairs.now symbols.now self.new }
-        ensures read { AreRead pairs.now self.new.variables symbols.now images.now self.new.images }
+        ensures read { AreReadImages pairs.now self.new.variables symbols.now images.now self.new.images }
         ensures grows { Grows self.old.variables self.new.variables }
-        ensures before { self.new.before ≡ self.old.before }
+        ensures earlier_places { self.new.earlier_places ≡ self.old.earlier_places }
         ensures disjoint { IfOk result (λ ok. ok ≡ are_named_disjoint pairs.now symbols.now images.now first second) }
     {
         let Some(pair) = ImagePair::of(images, first, second) else {
@@ -160,7 +160,7 @@ impl DisjointTables {
 
     /// Returns whether the image of a variable is disjoint from those of the others in a list.
     ///
-    /// Errors: an allocation fails. Cost: that of `are_found_disjoint` for each of them.
+    /// Errors: an allocation fails. Cost: that of `are_disjoint_by_record` for each of them.
     #[cold]
     #[inline(never)]
     fn is_disjoint(
@@ -172,22 +172,22 @@ impl DisjointTables {
         number: u32,
     ) -> Result<bool, AllocError>
         requires tables { AreTables pairs.now symbols.now self.old }
-        requires read { AreRead pairs.now self.old.variables symbols.now images.now self.old.images }
+        requires read { AreReadImages pairs.now self.old.variables symbols.now images.now self.old.images }
         requires named { AreOver pairs.now.names (images_at symbols.now images.now) }
         requires inside { AreInside (length symbols.now) images.now }
         requires below { AreBelow (length pairs.now.names) list.now }
         requires number { number < length pairs.now.names }
         ensures tables { AreTables pairs.now symbols.now self.new }
-        ensures read { AreRead pairs.now self.new.variables symbols.now images.now self.new.images }
+        ensures read { AreReadImages pairs.now self.new.variables symbols.now images.now self.new.images }
         ensures grows { Grows self.old.variables self.new.variables }
-        ensures before { self.new.before ≡ self.old.before }
+        ensures earlier_places { self.new.earlier_places ≡ self.old.earlier_places }
         ensures disjoint { IfOk result (λ ok. ok ≡ is_number_disjoint pairs.now.statements (image_named pairs.now.names (images_at symbols.now images.now)) list.now number) }
     {
         for other in list {
             if *other == number {
                 continue;
             }
-            if !self.are_found_disjoint(pairs, symbols, images, number, *other)? {
+            if !self.are_disjoint_by_record(pairs, symbols, images, number, *other)? {
                 return Ok(false);
             }
         }
@@ -209,30 +209,30 @@ impl DisjointTables {
         group: &[u32],
     ) -> Result<bool, AllocError>
         requires tables { AreTables pairs.now symbols.now self.old }
-        requires read { AreRead pairs.now self.old.variables symbols.now images.now self.old.images }
+        requires read { AreReadImages pairs.now self.old.variables symbols.now images.now self.old.images }
         requires named { AreOver pairs.now.names (images_at symbols.now images.now) }
         requires inside { AreInside (length symbols.now) images.now }
         requires below { AreBelow (length pairs.now.names) group.now }
         ensures tables { AreTables pairs.now symbols.now self.new }
-        ensures read { AreRead pairs.now self.new.variables symbols.now images.now self.new.images }
+        ensures read { AreReadImages pairs.now self.new.variables symbols.now images.now self.new.images }
         ensures disjoint { IfOk result (λ ok. ok ≡ are_numbers_disjoint pairs.now.statements (image_named pairs.now.names (images_at symbols.now images.now)) group.now) }
     {
-        self.before.clear();
+        self.earlier_places.clear();
         for (index, k) in group.iter().enumerate() {
             let range = self
                 .images
                 .image_of(pairs, &mut self.variables, symbols, images, *k)?;
             let words = self.images.words_in(range);
-            if is_costly(words, self.before.as_slice().len(), index) {
-                self.before.add_words(words)?;
+            if is_costly(words, self.earlier_places.as_slice().len(), index) {
+                self.earlier_places.add_words(words)?;
                 if !self.is_disjoint(pairs, symbols, images, &group[..index], *k)? {
                     return Ok(false);
                 }
             } else if self
                 .rows
-                .are_disjoint(pairs, &self.variables, words, self.before.as_slice())?
+                .are_disjoint(pairs, &self.variables, words, self.earlier_places.as_slice())?
             {
-                self.before.add_words(words)?;
+                self.earlier_places.add_words(words)?;
             } else if !contains(&group[..index], *k) {
                 return Ok(false);
             }
@@ -246,7 +246,7 @@ impl DisjointTables {
     /// Errors: an allocation fails. Cost: the images that were not read in this citation, and a step for each variable of
     /// each image.
     #[inline(always)]
-    fn is_group_found(
+    fn is_group_known_disjoint(
         &mut self,
         pairs: &Pairs<'_>,
         symbols: &[u32],
@@ -254,12 +254,12 @@ impl DisjointTables {
         group: &[u32],
     ) -> Result<bool, AllocError>
         requires tables { AreTables pairs.now symbols.now self.old }
-        requires read { AreRead pairs.now self.old.variables symbols.now images.now self.old.images }
+        requires read { AreReadImages pairs.now self.old.variables symbols.now images.now self.old.images }
         requires named { AreOver pairs.now.names (images_at symbols.now images.now) }
         requires inside { AreInside (length symbols.now) images.now }
         requires below { AreBelow (length pairs.now.names) group.now }
         ensures tables { AreTables pairs.now symbols.now self.new }
-        ensures read { AreRead pairs.now self.new.variables symbols.now images.now self.new.images }
+        ensures read { AreReadImages pairs.now self.new.variables symbols.now images.now self.new.images }
         ensures disjoint { IfOk result (λ ok. ok ≡ true → are_numbers_disjoint pairs.now.statements (image_named pairs.now.names (images_at symbols.now images.now)) group.now ≡ true) }
     {
         let mut before = 0;
@@ -267,10 +267,10 @@ impl DisjointTables {
             let range = self
                 .images
                 .image_of(pairs, &mut self.variables, symbols, images, *k)?;
-            let Some(bits) = self.images.near_bits(range) else {
+            let Some(bits) = self.images.first_word_bits(range) else {
                 return Ok(false);
             };
-            if !self.rows.are_found(bits, before) {
+            if !self.rows.are_known_disjoint(bits, before) {
                 return Ok(false);
             }
             before |= bits;
@@ -294,14 +294,14 @@ impl DisjointTables {
         ensures tables { AreTables pairs.now symbols.now self.new }
         ensures disjoint { IfOk result (λ ok. ok ≡ list_all (are_numbers_disjoint pairs.now.statements (image_named pairs.now.names (images_at symbols.now images.now))) groups.now) }
     {
-        self.rows.read_active(pairs, &mut self.variables)?;
-        self.images.begin();
+        self.rows.read_last_lists_once(pairs, &mut self.variables)?;
+        self.images.begin_citation();
         for i in 0..groups.len() {
             if is_repeated(groups, i) {
                 continue;
             }
             let group = groups.get(i);
-            if self.is_group_found(pairs, symbols, images, group)? {
+            if self.is_group_known_disjoint(pairs, symbols, images, group)? {
                 continue;
             }
             if !self.is_group_disjoint(pairs, symbols, images, group)? {
@@ -334,7 +334,7 @@ impl DisjointTables {
         if expr.is_empty() || images.get(expr[0]).is_some() {
             return Ok(());
         }
-        self.images.begin();
+        self.images.begin_citation();
         let rest = &expr[1..];
         for (index, symbol) in rest.iter().enumerate() {
             if self.images.occurs_earlier(rest, index)? {
@@ -344,7 +344,7 @@ impl DisjointTables {
             self.images
                 .add_image(pairs, variables, symbols, images, *symbol)?;
         }
-        self.images.record_image(without_first(result_range))
+        self.images.record_long_image(without_first(result_range))
     }
 
     /// Records the variables of a long result that is an expression as it is, such as a hypothesis.
@@ -364,10 +364,10 @@ impl DisjointTables {
         if expr.is_empty() {
             return Ok(());
         }
-        self.images.begin();
+        self.images.begin_citation();
         self.images
             .add_symbols(pairs, &mut self.variables, &expr[1..])?;
-        self.images.record_image(without_first(result_range))
+        self.images.record_long_image(without_first(result_range))
     }
 }
 

@@ -35,8 +35,8 @@ impl Hints {
     pub(crate) fn set(&mut self, number: u32, guess: usize) -> Result<(), AllocError> {
         let guess = u32::try_from(guess).unwrap_or(0);
         match self.guesses.get_mut(number as usize) {
-            Some(place) => {
-                *place = guess;
+            Some(entry) => {
+                *entry = guess;
                 Ok(())
             }
             None => self.add(number as usize, guess),

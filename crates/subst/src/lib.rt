@@ -9,7 +9,7 @@
 //! In the code the `place` of an image or a result is its range, and the place of a variable is its
 //! index in `VariablePlaces`.
 //!
-//! Reading order: `symbol_range`, `image_ranges`, `copies`, `filling`, `matching`, `buffer`, `remaining_symbols`, `images`,
+//! Reading order: `symbol_range`, `image_ranges`, `copies`, `writing`, `matching`, `buffer`, `remaining_symbols`, `images`,
 //! `disjoint_condition`; `hints`, `variable_places`, `place_words`, `place_set`, `disjoint_list_search`, `disjoint_rows`,
 //! `image_variables`, `image_pairs`, `disjoint_tables`, `subject`, `disjoint_cache`; `laws`.
 #![tactic(auto)]
@@ -21,7 +21,7 @@ mod disjoint_condition;
 mod disjoint_list_search;
 mod disjoint_rows;
 mod disjoint_tables;
-mod filling;
+mod writing;
 mod hints;
 mod image_pairs;
 mod image_ranges;
@@ -42,5 +42,5 @@ pub use disjoint_condition::disjoint;
 pub use image_ranges::ImageRanges;
 pub use images::{Subst, apply, has_room};
 pub use laws::{disjoint_condition_law, substitution_over_names};
-pub use remaining_symbols::{Remaining, is_image_nonempty};
+pub use remaining_symbols::{RemainingSymbols, is_image_nonempty};
 pub use symbol_range::{SymbolRange, range_between, symbols_at};

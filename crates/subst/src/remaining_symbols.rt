@@ -5,7 +5,7 @@ ghost use Rattle.entries.specs.PositionSets.{Ascends};
 ghost use Rattle.entries.specs.Stored.Keys.{index_of, key_of};
 ghost use Rattle.entries.specs.SymbolPlaces.{ArePlacesOf};
 ghost use Rattle.frame.specs.Stored.Hypotheses.{In, AreThose};
-ghost use Rattle.subst.specs.RemainingSymbols.{is_among, has_nonempty_image, group_left, remaining, HasListed, HaveSameResult};
+ghost use Rattle.subst.specs.RemainingSymbols.{is_among, has_nonempty_image, remaining_group, remaining, HasListed, HaveSameResult};
 
 use crate::image_ranges::{ImageRanges, ImageTable};
 use entries::SymbolPlaces;
@@ -24,9 +24,9 @@ const KEY_BASE: u64 = 4_294_967_296;
 ///
 /// It also has a list of pairs: a symbol is listed for the statement at a position, and
 /// `find_listed` leaves it in the expression of that statement. Contracts see the listed pairs,
-/// each as one number, as `keys`, and the symbols that were found last as `left`.
+/// each as one number, as `keys`, and the symbols that were found last as `found`.
 #[derive(Drop)]
-pub struct Remaining {
+pub struct RemainingSymbols {
     /// The indexes of the symbols that are left of the expression.
     indexes: Vec<u32>,
     /// The symbols that are left of it.
@@ -37,18 +37,18 @@ pub struct Remaining {
     listed: Vec<u32>,
 }
 
-impl Model for Remaining {
-    ghost use Rattle.subst.specs.RemainingSymbols.{RemainingLists};
+impl Model for RemainingSymbols {
+    ghost use Rattle.subst.specs.RemainingSymbols.{ListedAndFound};
 
-    ghost Value = { RemainingLists };
+    ghost Value = { ListedAndFound };
 
-    ghost view = { λ a. record { keys = a.keys.items; left = a.symbols.items } };
+    ghost view = { λ a. record { keys = a.keys.items; found = a.symbols.items } };
 }
 
-impl Remaining {
+impl RemainingSymbols {
     /// Returns empty buffers. Does not allocate.
-    pub fn new(alloc: Global) -> Remaining {
-        Remaining {
+    pub fn new(alloc: Global) -> RemainingSymbols {
+        RemainingSymbols {
             indexes: Vec::new(alloc),
             symbols: Vec::new(alloc),
             keys: Vec::new(alloc),
@@ -101,10 +101,10 @@ impl Remaining {
         requires places { ArePlacesOf expr.now places.now }
         requires ordered { Ascends self.old.keys }
         ensures keys { self.new.keys ≡ self.old.keys }
-        ensures left { IfOk result (λ few. IsTrue few → HasListed self.old.keys position places.now.constants expr.now self.new.left) }
+        ensures found { IfOk result (λ few. IsTrue few → HasListed self.old.keys position places.now.constants expr.now self.new.found) }
     {
         self.indexes.clear();
-        read_symbols(&mut self.listed, keys_at(&self.keys, position))?;
+        copy_symbols_of_keys(&mut self.listed, keys_at(&self.keys, position))?;
         let most = expr.len() / FEW_LEFT_DIVISOR;
         if !add_groups(&mut self.indexes, places, places.constants(), most)? {
             return Ok(false);
@@ -112,14 +112,14 @@ impl Remaining {
         if !add_groups(&mut self.indexes, places, &self.listed, most)? {
             return Ok(false);
         }
-        order(&mut self.indexes);
-        read(&mut self.symbols, expr, &self.indexes)?;
+        sort_and_dedup(&mut self.indexes);
+        copy_symbols_at(&mut self.symbols, expr, &self.indexes)?;
         Ok(true)
     }
 
     /// Returns the symbols that were found last.
-    pub fn left(&self) -> &[u32]
-        ensures { result.now ≡ self.now.left }
+    pub fn found(&self) -> &[u32]
+        ensures { result.now ≡ self.now.found }
     {
         &self.symbols
     }
@@ -140,15 +140,15 @@ impl Remaining {
         places: &SymbolPlaces,
     ) -> Result<Option<&'a [u32]>, AllocError>
         requires { ArePlacesOf expr.now places.now }
-        ensures left { IfOk result (λ found. IfSome found (λ left. left.now ≡ remaining images.now expr.now)) }
-        ensures same { IfOk result (λ found. IfSome found (λ left. HaveSameResult images.now left.now expr.now)) }
+        ensures found { IfOk result (λ found. IfSome found (λ symbols. symbols.now ≡ remaining images.now expr.now)) }
+        ensures same { IfOk result (λ found. IfSome found (λ symbols. HaveSameResult images.now symbols.now expr.now)) }
     {
-        let few = collect(&mut self.indexes, &images.table(), expr, places)?;
+        let few = collect_indexes(&mut self.indexes, &images.table(), expr, places)?;
         if !few {
             return Ok(None);
         }
-        order(&mut self.indexes);
-        read(&mut self.symbols, expr, &self.indexes)?;
+        sort_and_dedup(&mut self.indexes);
+        copy_symbols_at(&mut self.symbols, expr, &self.indexes)?;
         Ok(Some(&self.symbols))
     }
 }
@@ -157,15 +157,15 @@ impl Remaining {
 pub fn is_image_nonempty(images: &ImageRanges, symbol: u32) -> bool
     ensures { result ≡ has_nonempty_image images.now symbol }
 {
-    is_nonempty(&images.table(), symbol)
+    has_nonempty_image(&images.table(), symbol)
 }
 
 /// Returns whether the image of a symbol is not empty.
-fn is_nonempty(images: &ImageTable<'_>, symbol: u32) -> bool
+fn has_nonempty_image(images: &ImageTable<'_>, symbol: u32) -> bool
     ensures { result ≡ has_nonempty_image images.now symbol }
 {
     match images.get(symbol) {
-        Some(place) => place.start < place.end,
+        Some(range) => range.start < range.end,
         None => true,
     }
 }
@@ -189,7 +189,7 @@ fn next_nonempty(images: &ImageTable<'_>, symbols: &[u32], from: usize) -> usize
     ensures kept { result < length symbols.now → has_nonempty_image images.now (slice_index symbols.now result) ≡ true }
 {
     for at in from..symbols.len() {
-        if is_nonempty(images, symbols[at]) {
+        if has_nonempty_image(images, symbols[at]) {
             return at;
         }
     }
@@ -198,14 +198,14 @@ fn next_nonempty(images: &ImageTable<'_>, symbols: &[u32], from: usize) -> usize
 
 /// Collects the indexes of the symbols whose images are not empty, group by group, or returns `false` if they are more than a
 /// quarter of the expression.
-fn collect(
+fn collect_indexes(
     indexes: &mut Vec<u32>,
     images: &ImageTable<'_>,
     expr: &[u32],
     places: &SymbolPlaces,
 ) -> Result<bool, AllocError>
     requires { ArePlacesOf expr.now places.now }
-    ensures { IfOk result (λ few. IsTrue few → indexes.new.items ≡ flat_map (group_left images.now expr.now) places.now.groups) }
+    ensures { IfOk result (λ few. IsTrue few → indexes.new.items ≡ flat_map (remaining_group images.now expr.now) places.now.groups) }
 {
     indexes.clear();
     let most = expr.len() / FEW_LEFT_DIVISOR;
@@ -224,7 +224,7 @@ fn collect(
 }
 
 /// Sorts indexes in ascending order, and removes repetitions.
-fn order(indexes: &mut Vec<u32>)
+fn sort_and_dedup(indexes: &mut Vec<u32>)
     ensures { AreThose (λ i. In i indexes.old.items) indexes.new.items }
 {
     indexes.sort_unstable();
@@ -232,7 +232,7 @@ fn order(indexes: &mut Vec<u32>)
 }
 
 /// Replaces `symbols` by the symbols at these indexes.
-fn read(symbols: &mut Vec<u32>, expr: &[u32], indexes: &[u32]) -> Result<(), AllocError>
+fn copy_symbols_at(symbols: &mut Vec<u32>, expr: &[u32], indexes: &[u32]) -> Result<(), AllocError>
     ensures { OnOk result (symbols.new.items ≡ filter_map (slice_get expr.now) indexes.now) }
 {
     symbols.clear();
@@ -267,7 +267,7 @@ fn add_groups(
 }
 
 /// Replaces `symbols` by the symbol of each key.
-fn read_symbols(symbols: &mut Vec<u32>, keys: &[u64]) -> Result<(), AllocError>
+fn copy_symbols_of_keys(symbols: &mut Vec<u32>, keys: &[u64]) -> Result<(), AllocError>
     ensures { OnOk result (symbols.new.items ≡ map index_of keys.now) }
 {
     symbols.clear();

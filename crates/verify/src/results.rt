@@ -30,7 +30,7 @@ use frame::{Frames, LONG_EXPRESSION, Pairs};
 use std::alloc::{AllocError, Global};
 use std::marker::Model;
 use subst::{
-    Buffer, DisjointCache, ImageRanges, Remaining, SYMBOLS_LIMIT, SymbolRange, is_image_nonempty,
+    Buffer, DisjointCache, ImageRanges, RemainingSymbols, SYMBOLS_LIMIT, SymbolRange, is_image_nonempty,
     range_between, symbols_at,
 };
 
@@ -63,7 +63,7 @@ impl Model for Results {
 
     ghost view = { λ a. held a.symbols a.images a.stack.items a.saved.items a.weight a.cache.about };
 
-    ghost invariant = { λ a. AreHeld a.cache.over a.symbols a.images a.stack.items a.saved.items a.weight };
+    ghost invariant = { λ a. AreHeld a.cache.buffer_symbols a.symbols a.images a.stack.items a.saved.items a.weight };
 }
 
 impl Results {
@@ -103,12 +103,12 @@ impl Results {
     /// Begins a proof under the pairs that are active at its statement: removes all results and
     /// images, and adds an empty saved result for each of `labels` labels. Keeps the memory.
     ///
-    /// Errors: an allocation fails. Cost: the number of labels, and that of `DisjointCache::begin`.
+    /// Errors: an allocation fails. Cost: the number of labels, and that of `DisjointCache::begin_proof`.
     pub fn start(&mut self, pairs: &Pairs<'_>, labels: usize) -> Result<(), AllocError>
         ensures about { self.new.about ≡ pairs.now }
         ensures results { OnOk result (self.new.results ≡ record { stack = []; saved = replicate labels []; weight = 0 }) }
     {
-        self.cache.begin(pairs);
+        self.cache.begin_proof(pairs);
         self.images.clear();
         self.symbols.truncate(0);
         self.stack.clear();
@@ -237,7 +237,7 @@ impl Results {
         cited: usize,
         hypotheses: &Hypotheses<'_>,
         front: usize,
-        remaining: &mut Remaining,
+        remaining: &mut RemainingSymbols,
     ) -> bool
         requires front { AreLeadingFloats hypotheses.now front }
         requires legal { AreLegal frames.now.statements frames.now.names }
@@ -278,7 +278,7 @@ impl Results {
         cited: usize,
         hypotheses: &Hypotheses<'_>,
         from: usize,
-        remaining: &mut Remaining,
+        remaining: &mut RemainingSymbols,
     ) -> bool
         requires legal { AreLegal frames.now.statements frames.now.names }
         requires assertion { (s : Statement) × HasAssertion frames.now.statements cited s }
@@ -324,7 +324,7 @@ impl Results {
         frames: &Frames,
         position: usize,
         expr: &'a [u32],
-        remaining: &'a mut Remaining,
+        remaining: &'a mut RemainingSymbols,
     ) -> &'a [u32]
         requires distinct { AreDistinct frames.now.names }
         requires below { AreBelow (length frames.now.names) expr.now }
@@ -346,7 +346,7 @@ impl Results {
         frames: &Frames,
         position: usize,
         expr: &'a [u32],
-        remaining: &'a mut Remaining,
+        remaining: &'a mut RemainingSymbols,
     ) -> &'a [u32]
         requires distinct { AreDistinct frames.now.names }
         requires below { AreBelow (length frames.now.names) expr.now }
@@ -486,7 +486,7 @@ fn list_symbols(
     cited: usize,
     images: &ImageRanges,
     hypotheses: &Hypotheses<'_>,
-    remaining: &mut Remaining,
+    remaining: &mut RemainingSymbols,
 ) -> Result<(), AllocError>
     requires assertion { (s : Statement) × HasAssertion frames.now.statements cited s }
     requires required { AreThoseOf frames.now.statements frames.now.names cited hypotheses.now }
@@ -508,7 +508,7 @@ fn list_hypothesis(
     cited: usize,
     images: &ImageRanges,
     hypothesis: Hypothesis,
-    remaining: &mut Remaining,
+    remaining: &mut RemainingSymbols,
 ) -> Result<(), AllocError>
     requires named { (x : ℕ) → hypothesis ≡ Float x → x < length frames.now.names }
     requires assertion { (s : Statement) × HasAssertion frames.now.statements cited s }
@@ -531,7 +531,7 @@ fn list_symbol(
     frames: &Frames,
     cited: usize,
     symbol: u32,
-    remaining: &mut Remaining,
+    remaining: &mut RemainingSymbols,
 ) -> Result<(), AllocError>
     requires named { symbol < length frames.now.names }
     requires assertion { (s : Statement) × HasAssertion frames.now.statements cited s }
@@ -547,13 +547,13 @@ fn list_symbol(
 
 /// Finds those symbols of the expression of the `$e` at a position that are constants or are listed for it, and returns whether
 /// the expression is long and these are few. Returns `false` if an allocation fails.
-fn find_left(frames: &Frames, position: u32, expr: &[u32], remaining: &mut Remaining) -> bool
+fn find_left(frames: &Frames, position: u32, expr: &[u32], remaining: &mut RemainingSymbols) -> bool
     requires distinct { AreDistinct frames.now.names }
     requires below { AreBelow (length frames.now.names) expr.now }
     requires stands { (label : Name) × (e : Expr) × IsExprAt frames.now.statements frames.now.names position expr.now (Ess label e) }
     requires ordered { Ascends remaining.old.keys }
     ensures keys { remaining.new.keys ≡ remaining.old.keys }
-    ensures left { IsTrue result → IsLeftOf frames.now.statements frames.now.names position expr.now remaining.old.keys remaining.new.left }
+    ensures left { IsTrue result → IsLeftOf frames.now.statements frames.now.names position expr.now remaining.old.keys remaining.new.found }
 {
     if expr.len() < LONG_EXPRESSION {
         return false;
@@ -576,7 +576,7 @@ fn essential_matches(
     position: u32,
     expr: &[u32],
     listed: bool,
-    remaining: &mut Remaining,
+    remaining: &mut RemainingSymbols,
     place: SymbolRange,
 ) -> bool
     requires inside { AreInside (length symbols.now) images.now }
@@ -595,7 +595,7 @@ fn essential_matches(
     if !find_left(frames, position, expr, remaining) {
         return symbols.matches(images, expr, place);
     }
-    symbols.matches(images, remaining.left(), place)
+    symbols.matches(images, remaining.found(), place)
 }
 
 /// Truncates to the first `keep` ranges and appends one. Usually this overwrites the next range.
