@@ -24,7 +24,7 @@ has_nonempty_image images x = is_range_nonempty (lookup (nat_eq x) images)
 abbrev pub remaining : List (ℕ × SymbolRange) → List ℕ → List ℕ
 remaining images expr = filter (has_nonempty_image images) expr
 
--- substitution gives the same result for what is left as for the expression, whichever buffer the images are ranges of
+-- substitution gives the same result for this part as for the expression, whichever buffer the images are ranges of
 abbrev pub HaveSameResult : List (ℕ × SymbolRange) → List ℕ → List ℕ → Type 0
 HaveSameResult images part expr = (symbols : List ℕ) → code_apply (images_at symbols images) part ≡ code_apply (images_at symbols images) expr
 
@@ -45,9 +45,9 @@ is_group_remaining images expr group = is_symbol_remaining images (first_symbol 
 abbrev pub remaining_group : List (ℕ × SymbolRange) → List ℕ → List ℕ → List ℕ
 remaining_group images expr group = if is_group_remaining images expr group then group else []
 
--- ---- the symbols that were listed for an expression
+-- ---- symbols that were listed for an expression
 
--- symbols listed for statements by position, each pair as one number, and the symbols that are left of an expression
+-- the pairs of a position and a symbol that is listed for it, each as one number, and the symbols that were found in an expression
 pub record ListedAndFound : Type 0 where
   pub keys : List ℕ
   pub found : List ℕ
@@ -57,7 +57,7 @@ abbrev pub is_among : List ℕ → Option ℕ → Bool
 is_among symbols None = false
 is_among symbols (Some x) = list_any (λ s. x == s) symbols
 
--- the occurrences of some symbols are left of the expression, among which are its constants and the symbols that were listed for
+-- all occurrences of some symbols of the expression are found, among which are its constants and the symbols that were listed for
 -- the statement at the position
 pub record HasListed (keys : List ℕ) (position : ℕ) (constants expr found : List ℕ) : Type 0 where
   pub keeps : ℕ → Bool

@@ -5,11 +5,11 @@ ghost use Rattle.subst.specs.Stored.Written.{Appends};
 ghost use Rattle.subst.specs.SymbolRanges.{AreInside, images_at, symbols_in};
 
 use crate::copies::put_expr;
-use crate::writing::{write_applied, applied_len, make_room};
 use crate::image_ranges::ImageRanges;
 use crate::images::{Subst, append_applied};
 use crate::matching::matches;
 use crate::symbol_range::SymbolRange;
+use crate::writing::{applied_len, make_room, write_applied};
 use std::alloc::{AllocError, Global};
 use std::marker::Model;
 use std::ops::Range;
@@ -64,8 +64,8 @@ impl Buffer {
         &self.symbols[..self.len]
     }
 
-    /// Returns whether the symbols in the range `range` are the expression with all images
-    /// substituted. The images are ranges of this buffer too.
+    /// Returns whether the symbols in a range are the expression with all images substituted. The
+    /// images are ranges of this buffer too.
     ///
     /// Cost: a look-up for each symbol of the expression, and the symbols that agree, each once;
     /// nothing is written.

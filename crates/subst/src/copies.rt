@@ -9,7 +9,7 @@ use std::simd::prelude::*;
 /// The number of symbols that are copied at once. Up to this many are overwritten after the end of a copy.
 pub const LANES: usize = 32;
 
-/// Copies the `len` symbols from `from` on, all of which are before `at`, to `at`. Most copies fit into the first block.
+/// Copies the `len` symbols from `from` on, all of them before `at`, to `at`. Most copies are a single block.
 #[inline(always)]
 fn copy_run(symbols: &mut [u32], from: usize, len: usize, at: usize)
     requires before { from + len ≤ at }
@@ -25,8 +25,8 @@ fn copy_run(symbols: &mut [u32], from: usize, len: usize, at: usize)
     }
 }
 
-/// Copies the symbols in the range `range` to `at`, and returns where the copy ends, or `None` if
-/// that is after `last`.
+/// Copies the symbols in a range to `at`, and returns where the copy ends. Returns `None` if that
+/// would be after `last`.
 #[inline(always)]
 pub fn copy_range(symbols: &mut [u32], at: usize, last: usize, range: SymbolRange) -> Option<usize>
     requires range { (range.start ≤ range.end) × (range.end ≤ at) }

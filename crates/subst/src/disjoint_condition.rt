@@ -46,8 +46,8 @@ fn is_image_disjoint(subst: &Subst, pairs: &Pairs<'_>, x: &[u8], group: &Words) 
         .all(|y| x == y || are_disjoint(subst, pairs, x, y))
 }
 
-/// Returns whether the images of two variables are disjoint. They are if one has no number: it is
-/// no variable there, and its image is itself.
+/// Returns whether the images of two variables are disjoint. They are disjoint if one variable has no
+/// number at the theorem: it is no variable there, and its image is itself.
 fn are_disjoint(subst: &Subst, pairs: &Pairs<'_>, x: &[u8], y: &[u8]) -> bool
     requires { AreOver pairs.now.names subst.now }
     ensures { result ≡ are_disjoint pairs.now.statements (image (images_of_names pairs.now.names subst.now) x.now) (image (images_of_names pairs.now.names subst.now) y.now) }

@@ -31,7 +31,7 @@ impl DisjointListSearch {
     }
 
     /// Returns `true` only if one active `$d` has the variables at all places of `words` and of
-    /// `others`, and no variable is at places of both. `false` says nothing.
+    /// `others`, and no variable is at places of both. The answer `false` says nothing.
     ///
     /// Reads the `$d` that have the variable at the first place, from the last one back, as long as
     /// reading and marking them takes at most `steps` steps.
@@ -89,7 +89,9 @@ fn marking_steps(list: &[u32], most: usize) -> Option<usize>
     if list.len() > most {
         return None;
     }
-    let steps = list.len().saturating_add(greatest_symbol(list) as usize / 64);
+    let steps = list
+        .len()
+        .saturating_add(greatest_symbol(list) as usize / 64);
     if steps > most { None } else { Some(steps) }
 }
 

@@ -14,13 +14,13 @@ use frame::{Frames, PairMemo, Pairs};
 use std::alloc::{AllocError, Global};
 use std::marker::Model;
 
-/// The number of places of which facts are recorded.
+/// Facts are recorded of places below this.
 const RECORDED_PLACES: u32 = 8192;
 
-/// How many of the last active `$d` are read in a proof before any pair is looked up.
+/// How many of the last active `$d` are recorded in a proof before any pair is looked up.
 const LAST_LISTS: usize = 16;
 
-/// The most symbols of a `$d` that is read.
+/// The most symbols of a `$d` that is recorded.
 const MAX_LIST_SYMBOLS: usize = 16;
 
 /// Some of 64 places, whose variables were found to be disjoint from the variable at one place. A
@@ -35,10 +35,11 @@ pub struct RowWord {
     bits: u64,
 }
 
-/// The pairs of variables of a proof that were found to be disjoint, as words of bits. A bit that is set is a fact; one that
-/// is not set says nothing.
+/// The pairs of variables of a proof that were found to be disjoint. The row of a place has a bit for each place that was found
+/// to be disjoint from it, in words of 64 bits. A bit that is set is a fact; one that is not set says nothing.
 ///
-/// A hint says where in the list a word may be. At most 24 MB are used: variables beyond the first 8,192 are not recorded.
+/// A hint says where in the list a word may be. Words and hints take at most 24 MB, since variables beyond the first 8,192 are
+/// not recorded.
 #[derive(Drop)]
 pub struct DisjointRows {
     /// The index that a word may have in `words`.
@@ -150,8 +151,8 @@ impl DisjointRows {
         Ok(())
     }
 
-    /// Reads the last active `$d`, once in a proof, and records that the variables of each are
-    /// disjoint, as far as their places are below 64.
+    /// Records, once in a proof, that the variables of each of the last active `$d` are disjoint, as
+    /// far as their places are below 64.
     ///
     /// Errors: an allocation fails. Cost: a constant: at most 16 `$d` of at most 16 symbols are
     /// read.
@@ -174,7 +175,7 @@ impl DisjointRows {
         self.read_last_lists(pairs, variables)
     }
 
-    /// Reads the last active `$d`.
+    /// Records that the variables of each of the last active `$d` are disjoint.
     #[cold]
     #[inline(never)]
     fn read_last_lists(

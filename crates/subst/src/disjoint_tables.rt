@@ -119,9 +119,8 @@ impl DisjointTables {
             .are_many_disjoint(pairs, &self.variables, words, others)
     }
 
-    /// Returns whether the images of two variables are disjoint. A recorded pair of images is not
-    /// compared again; a pair that is found to be disjoint is recorded for the proof, if both
-    /// images are ranges.
+    /// Returns whether the images of two variables are disjoint. Does not compare a recorded pair of
+    /// images again. Records a pair that is found to be disjoint, if both images are ranges.
     ///
     /// Errors: an allocation fails. Cost: log n for n recorded pairs; that of `are_disjoint` if
     /// this one is not recorded.
@@ -196,8 +195,8 @@ impl DisjointTables {
 
     /// Returns whether the images of each two variables of a group are disjoint.
     ///
-    /// Compares each image with the variables of all images before it at once; if that costs much,
-    /// with each of these images in turn. Whether a variable is in the group twice is looked up
+    /// Compares each image with the variables of all images before it at once or, if that costs
+    /// much, with each of these images in turn. Looks up whether a variable is in the group twice
     /// only if its image is not disjoint from the earlier ones.
     #[cold]
     #[inline(never)]
@@ -228,10 +227,12 @@ impl DisjointTables {
                 if !self.is_disjoint(pairs, symbols, images, &group[..index], *k)? {
                     return Ok(false);
                 }
-            } else if self
-                .rows
-                .are_disjoint(pairs, &self.variables, words, self.earlier_places.as_slice())?
-            {
+            } else if self.rows.are_disjoint(
+                pairs,
+                &self.variables,
+                words,
+                self.earlier_places.as_slice(),
+            )? {
                 self.earlier_places.add_words(words)?;
             } else if !contains(&group[..index], *k) {
                 return Ok(false);

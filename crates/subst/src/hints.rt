@@ -1,11 +1,11 @@
-//! Guesses at the position of an item in a list.
+//! Guesses at the index of an item in a list.
 ghost use Rattle.std.specs.Prelude.{◌<◌, ◌^◌};
 
 use std::alloc::{AllocError, Global};
 
-/// Guesses, by number, at the position of an item in a list. A guess may be wrong, so the caller
-/// always checks the list. So guesses need not be cleared with the list, which is then emptied in
-/// constant time.
+/// Guesses, by number, at the index of an item in a list. A guess may be wrong, so the caller
+/// always checks the list. Guesses therefore stay when the list is emptied, which takes constant
+/// time.
 #[derive(Drop)]
 pub(crate) struct Hints {
     guesses: Vec<u32>,

@@ -13,8 +13,8 @@ const NO_ROUND: u32 = 0;
 /// The range of a symbol that has no image.
 const NO_RANGE: SymbolRange = SymbolRange { start: 0, end: 0 };
 
-/// A table that grows to have an index gets twice that length and this many more, so that it
-/// usually has the indexes of constants too.
+/// A table that grows for an index gets twice that length and this many more, so that usually it
+/// has the indexes of constants too.
 const SPARE: usize = 1024;
 
 /// A read-only view of the lists of an `ImageRanges`, which a loop keeps in registers.
@@ -49,12 +49,12 @@ impl<'a> ImageTable<'a> {
     }
 }
 
-/// A table of the images of symbols, each a range of a buffer that is kept elsewhere. Contracts see
-/// the symbols with their ranges.
+/// A table of the images of symbols, each a range of a buffer that the table does not own.
+/// Contracts see the symbols with their ranges.
 ///
 /// Removing all images begins a new round: an image counts only if it was set in the current round.
-/// Rounds and ranges are two lists, since most look-ups are of constants, which need the round
-/// alone.
+/// Rounds and ranges are two lists, since most look-ups are of constants, for which the round is
+/// enough.
 ///
 /// Cost: finding an image and removing all take constant time; so does setting one, unless the
 /// table grows. The table is about twice as long as the greatest symbol number that was set.
@@ -129,7 +129,7 @@ impl ImageRanges {
         self.table().get(symbol)
     }
 
-    /// Returns a read-only view of the tables.
+    /// Returns a read-only view of the lists.
     #[inline(always)]
     pub(crate) fn table(&self) -> ImageTable<'_>
         ensures { result ≡ self.now }
@@ -142,7 +142,7 @@ impl ImageRanges {
     }
 }
 
-/// Writes the round and the range of an image into both tables.
+/// Writes the round and the range of an image at an index.
 #[inline(always)]
 fn put(
     rounds: &mut Vec<u32>,
@@ -160,7 +160,7 @@ fn put(
     ranges[index] = range;
 }
 
-/// Makes both lists longer than an index, and about twice as long as that.
+/// Grows both lists to about twice an index.
 ///
 /// Errors: an allocation fails; the rounds are unchanged.
 #[cold]

@@ -1,4 +1,4 @@
-//! The variables of images, each image read once in a citation.
+//! The places of the variables of images. An image is read once in a citation.
 ghost use Rattle.std.specs.Prelude.{◌≡◌, ◌<◌, ◌≤◌, ◌++◌, ◌∷◌, [], ℕ, get_or, length, slice_range, take, true, IfOk, IfSome, OnErr, OnOk};
 ghost use Rattle.std.specs.List.{Contains};
 ghost use Rattle.frame.specs.Below.{AreBelow};
@@ -22,8 +22,8 @@ use std::marker::Model;
 /// A result with more symbols than this is long: its variables are recorded.
 pub const LONG_RESULT: usize = 1024;
 
-/// The words of a result's variables are recorded if there is at most one for this many of its symbols: with more words, it
-/// would cost about as much to read them as to read the result, and they would need about as much memory.
+/// The words of a result's variables are recorded if they are at most the number of its symbols over this: with more words,
+/// reading them would cost about as much as reading the result, and they would need about as much memory.
 const SYMBOLS_PER_WORD: usize = 8;
 
 /// A range of a list of words: from `start` up to, and not including, `end`.
@@ -53,14 +53,15 @@ pub struct LongImage {
 /// A hint gives the index that a symbol may have among those read, so no table by symbol is cleared.
 #[derive(Drop)]
 pub struct ImageVariables {
-    /// The words of all images that were read. The first `kept` of them are those of long images.
+    /// The words of all images that were read, those of long images first.
     words: Vec<PlaceWord>,
+    /// The number of words of long images.
     kept_len: usize,
-    /// The words of the image that is being read.
+    /// The places of the image that is being read.
     current: PlaceSet,
     /// The images that were read in this citation.
     read_images: Vec<ReadImage>,
-    /// The index that a symbol may have in `read`.
+    /// The index that a symbol may have in `read_images`.
     hints: Hints,
     /// The long images that were recorded in this proof, in ascending order of their starts.
     long_images: Vec<LongImage>,
@@ -90,7 +91,8 @@ impl ImageVariables {
         }
     }
 
-    /// Removes the long images, in constant time; `begin_citation` removes the others. Keeps the memory.
+    /// Removes the long images, in constant time; `begin_citation` removes the others. Keeps the
+    /// memory.
     pub fn clear(&mut self)
         ensures kept_len { self.new.kept_len ≡ 0 }
         ensures long_images { self.new.long_images ≡ [] }
@@ -190,7 +192,7 @@ impl ImageVariables {
         }
     }
 
-    /// Adds the places of the variables among the symbols to the list.
+    /// Adds the places of the variables among the symbols to `current`.
     ///
     /// Errors: an allocation fails. Cost: a step for each symbol.
     pub fn add_symbols(
@@ -209,7 +211,7 @@ impl ImageVariables {
         self.current.add_symbols(pairs, variables, image)
     }
 
-    /// Adds the words in a range to the list.
+    /// Adds the places of the words in a range to `current`.
     fn add_range(&mut self, range: WordRange) -> Result<(), AllocError>
         requires { (range.start ≤ range.end) × (range.end ≤ length self.old.words) }
         ensures rest { ChangesOnlyCurrent self.old self.new }
@@ -218,7 +220,7 @@ impl ImageVariables {
         self.current.add_words(&self.words[range.start..range.end])
     }
 
-    /// Adds the places of the variables of the image of a symbol to the list.
+    /// Adds the places of the variables of the image of a symbol to `current`.
     ///
     /// Errors: an allocation fails. Cost: the symbols of the image; the variables of a long one.
     pub fn add_image(
@@ -248,8 +250,8 @@ impl ImageVariables {
         }
     }
 
-    /// Returns `true` only if the symbol at an index of a list also occurs at a smaller one. Finds this if called for each
-    /// index in turn.
+    /// Returns `true` only if the symbol at an index of a list also occurs at a smaller one. Finds each repeated symbol if
+    /// called for each index in turn.
     ///
     /// Errors: an allocation fails. Cost: constant.
     #[inline(always)]
@@ -291,7 +293,7 @@ impl ImageVariables {
         Ok(WordRange { start, end })
     }
 
-    /// Reads the places of the variables of an image, and returns the range of their words.
+    /// Appends the words of the variables of an image, and returns their range.
     ///
     /// Errors: an allocation fails. Cost: a step for each symbol; if a place is not below 64, also
     /// a step for each symbol up to the first such one.
@@ -315,7 +317,7 @@ impl ImageVariables {
         }
     }
 
-    /// Reads the places of the variables of an image, not all of which are below 64.
+    /// Appends the words of the variables of an image, not all of whose places are below 64.
     #[cold]
     #[inline(never)]
     fn append_many_words_of(
@@ -336,7 +338,7 @@ impl ImageVariables {
         self.append_current()
     }
 
-    /// Empties the list.
+    /// Empties `current`.
     #[inline(always)]
     fn clear_current(&mut self)
         ensures { self.new ≡ record { words = self.old.words; current = []; kept_len = self.old.kept_len; read_images = self.old.read_images; long_images = self.old.long_images } }
@@ -383,8 +385,8 @@ impl ImageVariables {
         Ok(())
     }
 
-    /// Returns the range of the words of a symbol's image, which is read first if it was not read
-    /// before.
+    /// Returns the range of the words of a symbol's image. Reads the image if it was not read in this
+    /// citation.
     ///
     /// Errors: an allocation fails. Cost: that of reading the image, once in a citation; log n for
     /// one of n long images that were recorded.
@@ -418,9 +420,10 @@ impl ImageVariables {
         Ok(range)
     }
 
-    /// Records that the list has the places of the variables of a long image, if its words are few.
+    /// Records `current` as the places of the variables of a long image, if it has few words
+    /// (`SYMBOLS_PER_WORD`).
     ///
-    /// Errors: an allocation fails. Cost: the words of the list.
+    /// Errors: an allocation fails. Cost: the words of `current`.
     pub fn record_long_image(&mut self, image: SymbolRange) -> Result<(), AllocError>
         ensures { RecordsLongImage self.old self.new image }
     {

@@ -4,9 +4,9 @@ ghost use Rattle.frame.specs.Substitution.{code_apply, code_image};
 ghost use Rattle.subst.specs.declared.buffer.TheConstants.{SYMBOLS_LIMIT};
 
 use crate::buffer::{Buffer, SYMBOLS_LIMIT};
-use crate::writing::applied_len;
 use crate::image_ranges::ImageRanges;
 use crate::symbol_range::{range_between, symbols_at};
+use crate::writing::applied_len;
 use std::alloc::{AllocError, Global};
 use std::marker::Model;
 
@@ -95,7 +95,11 @@ pub fn apply(alloc: Global, subst: &Subst, expr: &[u32]) -> Result<Vec<u32>, All
 /// Appends the expression with all images substituted.
 ///
 /// Errors: an allocation fails; a part may have been appended.
-pub(crate) fn append_applied(subst: &Subst, expr: &[u32], out: &mut Vec<u32>) -> Result<(), AllocError>
+pub(crate) fn append_applied(
+    subst: &Subst,
+    expr: &[u32],
+    out: &mut Vec<u32>,
+) -> Result<(), AllocError>
     ensures ok { OnOk result (out.new.items ≡ out.old.items ++ code_apply subst.now expr.now) }
     ensures kept { take (length out.old.items) out.new.items ≡ out.old.items }
 {

@@ -1,4 +1,4 @@
-//! Compares symbols of a buffer with an expression in which images are substituted, without writing that expression.
+//! Compares symbols of a buffer with an expression with all images substituted, without writing the latter.
 ghost use Rattle.std.specs.Prelude.{◌≡◌, ℕ, ◌∷◌, ◌++◌, ◌↔◌, ◌<◌, ◌≤◌, [], List, length, take, slice_range, IfSome, IfNone, IsTrue};
 ghost use Rattle.frame.specs.Substitution.{code_apply, code_image};
 ghost use Rattle.subst.specs.SymbolRanges.{AreInside, images_at, symbols_in};
@@ -10,7 +10,7 @@ use std::simd::prelude::*;
 /// The number of symbols that are compared at once.
 const LANES: usize = 16;
 
-/// Returns the length of a common prefix of two lists, up to `LANES`.
+/// Returns the length of a common prefix of two lists, at most `LANES`.
 #[inline(always)]
 fn common_prefix_len(left: &[u32], right: &[u32]) -> usize
     requires left { 16 ≤ length left.now }
@@ -26,7 +26,7 @@ fn common_prefix_len(left: &[u32], right: &[u32]) -> usize
     }
 }
 
-/// Returns whether the first `len` symbols of two lists agree. Usually they are few, and are compared at once.
+/// Returns whether the first `len` symbols of two lists agree. Usually at most `LANES` symbols are compared, at once.
 #[inline(always)]
 fn have_same_prefix(left: &[u32], right: &[u32], len: usize) -> bool
     requires left { len ≤ length left.now }
@@ -40,7 +40,7 @@ fn have_same_prefix(left: &[u32], right: &[u32], len: usize) -> bool
     left[..len] == right[..len]
 }
 
-/// Returns where the image in a range ends if the symbols from `at` up to `end` begin with it, else `None`.
+/// Returns the index after the image in a range if the symbols from `at` up to `end` begin with that image, else `None`.
 #[inline(always)]
 fn skip_range(symbols: &[u32], range: SymbolRange, at: usize, end: usize) -> Option<usize>
     requires image { (range.start ≤ range.end) × (range.end ≤ length symbols.now) }
@@ -59,7 +59,7 @@ fn skip_range(symbols: &[u32], range: SymbolRange, at: usize, end: usize) -> Opt
     }
 }
 
-/// Returns where the image of a symbol ends if the symbols from `at` up to `end` begin with it, else `None`.
+/// Returns the index after the image of a symbol if the symbols from `at` up to `end` begin with that image, else `None`.
 #[inline(always)]
 fn skip_image(
     symbols: &[u32],

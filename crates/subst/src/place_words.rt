@@ -27,7 +27,11 @@ pub fn costly_steps(words: &[PlaceWord], others: usize) -> Option<usize> {
         places = places.saturating_add(word.bits.count_ones() as usize);
     }
     let steps = places.saturating_mul(others);
-    if steps < MIN_COSTLY_STEPS { None } else { Some(steps) }
+    if steps < MIN_COSTLY_STEPS {
+        None
+    } else {
+        Some(steps)
+    }
 }
 
 /// Returns the index of the lowest bit that is set in a word.

@@ -12,24 +12,25 @@ use entries::SymbolPlaces;
 use std::alloc::{AllocError, Global};
 use std::marker::Model;
 
-/// The symbols that are left are few if they are at most the number of symbols of the expression
-/// over this. With more, reading the whole expression costs about as much.
+/// The symbols that are found are few if they are at most the number of symbols of the expression
+/// over this. If there are more, reading the whole expression costs about as much.
 const FEW_LEFT_DIVISOR: usize = 4;
 
 /// A key is a position times this, plus a symbol.
 const KEY_BASE: u64 = 4_294_967_296;
 
-/// Finds the symbols that are left of a long expression without those whose images are empty, so
-/// that a citation need not read all of it.
+/// Finds the symbols of a long expression whose images are not empty, so that a citation need not
+/// read all of it.
 ///
 /// It also has a list of pairs: a symbol is listed for the statement at a position, and
-/// `find_listed` leaves it in the expression of that statement. Contracts see the listed pairs,
-/// each as one number, as `keys`, and the symbols that were found last as `found`.
+/// `find_listed` finds it in the expression of that statement. Contracts see the listed pairs, each
+/// as one number, as `keys`, and the symbols that `find_listed` or `find_nonempty` found last as
+/// `found`.
 #[derive(Drop)]
 pub struct RemainingSymbols {
-    /// The indexes of the symbols that are left of the expression.
+    /// The indexes of the symbols that were found in the expression.
     indexes: Vec<u32>,
-    /// The symbols that are left of it.
+    /// The symbols that were found.
     symbols: Vec<u32>,
     /// The listed pairs of a position and a symbol.
     keys: Vec<u64>,
@@ -84,10 +85,10 @@ impl RemainingSymbols {
         self.keys.dedup();
     }
 
-    /// Finds the occurrences of those symbols of an expression that are constants or are listed for
-    /// the statement at a position, in order, or returns `false` if they are more than a quarter of
-    /// the expression. Contracts say only that these symbols are among those that are found, and
-    /// that of each symbol all occurrences are found or none.
+    /// Finds the occurrences, in order, of those symbols of an expression that are constants or are
+    /// listed for the statement at a position. Returns `false` if they are more than a quarter of
+    /// the expression. The contract says only that these symbols are among those that are found,
+    /// and that all occurrences of a symbol are found or none.
     ///
     /// Errors: an allocation fails.
     /// Cost: log n for n listed pairs, a look-up for each constant and listed symbol, and t log t
@@ -127,8 +128,8 @@ impl RemainingSymbols {
     /// Returns the symbols of an expression whose images are not empty, in order, or `None` if they are more than a quarter of
     /// the expression.
     ///
-    /// Substitution gives the same result for these symbols as for the whole expression. `None` is always allowed: the caller
-    /// then goes over the whole expression, which only costs more.
+    /// Substitution gives the same result for these symbols as for the whole expression. The contract always allows `None`:
+    /// the caller then goes over the whole expression, which only costs more.
     ///
     /// Errors: an allocation fails.
     /// Cost: a look-up for each distinct symbol of the expression, and t log t for the t symbols that are returned.
@@ -179,8 +180,8 @@ fn symbol_at(expr: &[u32], index: u32) -> Option<u32>
 
 /// Returns the index of the first symbol from `from` on whose image is not empty, or the number of symbols if there is none.
 ///
-/// It is a function of its own so that the loop keeps all it needs in registers: its speed decides that of a citation with
-/// many empty images.
+/// It is a function of its own so that the loop keeps all it needs in registers: the speed of a citation with many empty
+/// images depends on it.
 #[inline(never)]
 fn next_nonempty(images: &ImageTable<'_>, symbols: &[u32], from: usize) -> usize
     requires { from ≤ length symbols.now }

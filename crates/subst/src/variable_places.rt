@@ -143,7 +143,11 @@ impl VariablePlaces {
     ///
     /// Errors: an allocation fails. Cost: that of `place_of` for each symbol.
     #[inline(always)]
-    pub fn first_word_bits(&mut self, pairs: &Pairs<'_>, image: &[u32]) -> Result<Option<u64>, AllocError>
+    pub fn first_word_bits(
+        &mut self,
+        pairs: &Pairs<'_>,
+        image: &[u32],
+    ) -> Result<Option<u64>, AllocError>
         requires placed { ArePlaced pairs.now self.old }
         requires below { AreBelow (length pairs.now.names) image.now }
         ensures placed { ArePlaced pairs.now self.new }
@@ -164,7 +168,11 @@ impl VariablePlaces {
     /// Returns the places below 64 of the variables in a list, as bits, each variable once.
     ///
     /// Errors: an allocation fails. Cost: the square of the number of symbols, and that of `place_of` for each.
-    pub fn first_word_bits_of_list(&mut self, pairs: &Pairs<'_>, list: &[u32]) -> Result<u64, AllocError>
+    pub fn first_word_bits_of_list(
+        &mut self,
+        pairs: &Pairs<'_>,
+        list: &[u32],
+    ) -> Result<u64, AllocError>
         requires placed { ArePlaced pairs.now self.old }
         requires below { AreBelow (length pairs.now.names) list.now }
         ensures placed { ArePlaced pairs.now self.new }

@@ -1,4 +1,4 @@
-//! Writes an expression with the images substituted into the buffer of the images, after them.
+//! Writes an expression with all images substituted into the buffer that has the images.
 ghost use Rattle.std.specs.Prelude.{◌≡◌, ◌+◌, ◌<◌, ◌≤◌, ◌^◌, length, take, IfSome, IfNone, OnOk};
 ghost use Rattle.frame.specs.Substitution.{code_apply};
 ghost use Rattle.subst.specs.Stored.Written.{IsWritten, LacksRoom};
@@ -10,12 +10,16 @@ use crate::copies::{LANES, copy_range, put_symbol};
 use crate::image_ranges::ImageRanges;
 use std::alloc::AllocError;
 
-/// Writes, from `at` on, the expression with all images substituted, and returns where the result
-/// ends. Returns `None` if the symbols after `at` are too few: they must have room for the result,
-/// for as many further symbols as the expression has, and for the `LANES` symbols that a copy may
-/// overwrite.
+/// Writes the expression with all images substituted at `at`, and returns where the result ends.
+/// Returns `None` if there is no room after `at` for the result, for as many further symbols as the
+/// expression has, and for the `LANES` symbols that a copy may overwrite.
 #[inline(always)]
-pub fn write_applied(symbols: &mut [u32], at: usize, images: &ImageRanges, expr: &[u32]) -> Option<usize>
+pub fn write_applied(
+    symbols: &mut [u32],
+    at: usize,
+    images: &ImageRanges,
+    expr: &[u32],
+) -> Option<usize>
     requires within { AreInside at images.now }
     requires inside { at ≤ length symbols.old }
     ensures some { IfSome result (IsWritten symbols.old symbols.new at (code_apply (images_at (take at symbols.old) images.now) expr.now)) }
@@ -42,7 +46,12 @@ pub fn write_applied(symbols: &mut [u32], at: usize, images: &ImageRanges, expr:
 /// more than `room`.
 ///
 /// Cost: a look-up for each symbol of the expression.
-pub fn applied_len(symbols: &[u32], images: &ImageRanges, expr: &[u32], room: usize) -> Option<usize>
+pub fn applied_len(
+    symbols: &[u32],
+    images: &ImageRanges,
+    expr: &[u32],
+    room: usize,
+) -> Option<usize>
     requires { AreInside (length symbols.now) images.now }
     ensures some { IfSome result (λ len. (len ≡ length (code_apply (images_at symbols.now images.now) expr.now)) × (len ≤ room)) }
     ensures none { IfNone result (room < length (code_apply (images_at symbols.now images.now) expr.now)) }
@@ -62,7 +71,7 @@ pub fn applied_len(symbols: &[u32], images: &ImageRanges, expr: &[u32], room: us
     Some(len)
 }
 
-/// Makes room for `more` symbols after the first `len`, and for those that copies overwrite.
+/// Makes room for `more` symbols after the first `len`, and for those that a copy may overwrite.
 ///
 /// Errors: an allocation fails; the first `len` symbols are unchanged.
 /// Cost: a copy of the buffer, which about doubles; near `SYMBOLS_LIMIT` it grows only up to that,

@@ -30,8 +30,8 @@ use frame::{Frames, LONG_EXPRESSION, Pairs};
 use std::alloc::{AllocError, Global};
 use std::marker::Model;
 use subst::{
-    Buffer, DisjointCache, ImageRanges, RemainingSymbols, SYMBOLS_LIMIT, SymbolRange, is_image_nonempty,
-    range_between, symbols_at,
+    Buffer, DisjointCache, ImageRanges, RemainingSymbols, SYMBOLS_LIMIT, SymbolRange,
+    is_image_nonempty, range_between, symbols_at,
 };
 
 /// The results of a proof so far, with their symbols in one buffer, and the images that were read

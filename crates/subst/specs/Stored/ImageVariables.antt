@@ -12,8 +12,8 @@ use Rattle.subst.specs.declared.image_variables.LongImage.{LongImage}
 use Rattle.subst.specs.Stored.PlaceSets.{AddsSymbols, HasBit, HasPlace, no_word}
 use Rattle.subst.specs.Stored.VariablePlaces.{MetVariables, ArePlacesOf, IsAmong}
 
--- words of bits, of which the first `kept` are those of long images; the words of the image that is being read; the images that
--- were read in this citation; the long images
+-- words of bits; the words of the image that is being read; the number of words of long images, which are the first; the images
+-- that were read in this citation; the long images
 pub record RecordedImages : Type 0 where
   pub words : List PlaceWord
   pub current : List PlaceWord
@@ -53,7 +53,7 @@ pub record AreReadImages (v : Numbered) (f : MetVariables) (symbols : List ℕ) 
 
 -- ---- what the calls change
 
--- words are appended, and the list may change
+-- words are appended, and `current` may change
 abbrev pub AppendsAndChangesCurrent : RecordedImages → RecordedImages → Type 0
 AppendsAndChangesCurrent old new = (more : List PlaceWord) × (list : List PlaceWord) × (new ≡ record { words = old.words ++ more; current = list; kept_len = old.kept_len; read_images = old.read_images; long_images = old.long_images })
 
@@ -61,11 +61,11 @@ AppendsAndChangesCurrent old new = (more : List PlaceWord) × (list : List Place
 abbrev pub GrowsWords : RecordedImages → RecordedImages → Type 0
 GrowsWords old new = (more : List PlaceWord) × (new.words ≡ old.words ++ more)
 
--- only the list may change
+-- only `current` may change
 abbrev pub ChangesOnlyCurrent : RecordedImages → RecordedImages → Type 0
 ChangesOnlyCurrent old new = (list : List PlaceWord) × (new ≡ record { words = old.words; current = list; kept_len = old.kept_len; read_images = old.read_images; long_images = old.long_images })
 
--- the words of the list are appended, in this range
+-- the words of `current` are appended, in this range
 pub record AppendsCurrent (old new : RecordedImages) (r : WordRange) : Type 0 where
   pub whole : new ≡ record { words = old.words ++ old.current; current = old.current; kept_len = old.kept_len; read_images = old.read_images; long_images = old.long_images }
   pub range : r ≡ record { start = length old.words; end = length (old.words ++ old.current) }
@@ -75,7 +75,7 @@ pub record AppendsWord (old new : RecordedImages) (w : PlaceWord) (r : WordRange
   pub whole : new ≡ record { words = old.words ++ w ∷ []; current = old.current; kept_len = old.kept_len; read_images = old.read_images; long_images = old.long_images }
   pub range : r ≡ record { start = length old.words; end = length (old.words ++ w ∷ []) }
 
--- the places of the variables of an image are added to the list
+-- the places of the variables of an image are added to `current`
 abbrev pub AddsImage : Numbered → MetVariables → RecordedImages → RecordedImages → List ℕ → Type 0
 AddsImage v f old new image = AddsSymbols v f (HasPlace old.current) (HasPlace new.current) (length image) image
 
@@ -83,7 +83,7 @@ AddsImage v f old new image = AddsSymbols v f (HasPlace old.current) (HasPlace n
 abbrev pub RecordsReadImage : RecordedImages → RecordedImages → ℕ → WordRange → Type 0
 RecordsReadImage old new x r = (new ≡ old) ⊎ (new ≡ record { words = old.words; current = old.current; kept_len = old.kept_len; read_images = old.read_images ++ (record { symbol = x; words = r }) ∷ []; long_images = old.long_images })
 
--- the list is recorded as that of a long image, or nothing is recorded
+-- `current` is recorded as the words of a long image, or no image is recorded
 abbrev pub RecordsLongImage : RecordedImages → RecordedImages → SymbolRange → Type 0
 RecordsLongImage old new image =
     AppendsAndChangesCurrent old new
