@@ -2,7 +2,7 @@
 ghost use Rattle.std.specs.Prelude.{◌≡◌, ◌++◌, ◌<◌, ◌≤◌, ◌^◌, List, length, false, IsTrue, IsFalse, IfOk, IfSome, MatchOption};
 ghost use Rattle.std.specs.List.{list_any, list_all};
 ghost use Rattle.mm_lex.specs.Alphabet.{is_label, has_name};
-ghost use Rattle.proof_code.specs.LabelNames.{IsLabelSet};
+ghost use Rattle.proof_code.specs.LabelSets.{IsLabelSet};
 ghost use Rattle.proof_code.specs.declared.item.Item.{Item};
 ghost use Rattle.proof_code.specs.Writes.{Writes, is_compressed, is_unfinished};
 ghost use Rattle.explain.specs.Breaks.{IsFirst, IsBreak, has_fault, joined};

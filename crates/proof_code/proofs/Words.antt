@@ -4,7 +4,7 @@ pub use Rattle.mm_lex.proofs.WordsLemmas.{word-visible}
 pub use Rattle.mm_lex.specs.Alphabet.{Name, has_byte, has_name, is_empty, is_label, is_label_byte, is_visible, name_eq}
 pub use Rattle.mm_lex.specs.Words.{AreWords, is_word, spaced, words_of}
 pub use Rattle.proof_code.specs.ItemNumbers.{item_of, items_of}
-pub use Rattle.proof_code.specs.LabelNames.{IsLabelSet}
+pub use Rattle.proof_code.specs.LabelSets.{IsLabelSet}
 pub use Rattle.proof_code.specs.Laws.{OneAnswer}
 pub use Rattle.proof_code.specs.Letters.{IsNumber, leading_letters, is_leading, is_last, number_after, number_of, words_with_fewer_leading, words_with_leading}
 pub use Rattle.proof_code.specs.Listing.{are_label_bytes_or_spaces, with_no_labels, class_of, listed_count, is_label_byte_or_space, letters_after_parenthesis, more_labels}

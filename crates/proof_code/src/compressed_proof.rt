@@ -3,7 +3,7 @@ ghost use Rattle.std.specs.Prelude.{◌≡◌, ◌↔◌, ◌<◌, ◌≤◌, �
 ghost use Rattle.mm_lex.specs.Alphabet.{has_name};
 ghost use Rattle.proof_code.specs.Writes.{is_unfinished, is_compressed, WritesFinishedCompressed, IsMalformed};
 ghost use Rattle.proof_code.specs.Reading.{share_label};
-ghost use Rattle.proof_code.specs.LabelNames.{IsLabelSet};
+ghost use Rattle.proof_code.specs.LabelSets.{IsLabelSet};
 
 use crate::fault::{CodeFault, is_unfinished};
 use crate::items::Items;

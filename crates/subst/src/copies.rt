@@ -9,7 +9,7 @@ use std::simd::prelude::*;
 /// The number of symbols that are copied at once. Up to this many are overwritten after the end of a copy.
 pub const LANES: usize = 32;
 
-/// Copies the `len` symbols from `from` on, all of them before `at`, to `at`. Most copies are a single block.
+/// Copies the `len` symbols from `from` on, all of them before `at`, to `at`. A copy of at most `LANES` symbols does not enter the loop.
 #[inline(always)]
 fn copy_run(symbols: &mut [u32], from: usize, len: usize, at: usize)
     requires before { from + len ≤ at }
@@ -58,7 +58,7 @@ pub fn put_symbol(symbols: &mut [u32], at: usize, symbol: u32) -> usize
     at + 1
 }
 
-/// Writes an expression at `at`. Most expressions are the two symbols of a `$f`.
+/// Writes an expression at `at`. One of two symbols, such as that of a `$f`, needs no call to copy.
 pub fn put_expr(symbols: &mut [u32], at: usize, expr: &[u32])
     requires { at + length expr.now ≤ length symbols.old }
     ensures written { take (at + length expr.now) symbols.new ≡ take at symbols.old ++ expr.now }

@@ -35,7 +35,7 @@ pub struct DisjointTables {
     /// The variables of the earlier images of a group.
     earlier_places: PlaceSet,
     /// The pairs of images that were found to be disjoint.
-    found: ImagePairs,
+    image_pairs: ImagePairs,
 }
 
 impl DisjointTables {
@@ -48,7 +48,7 @@ impl DisjointTables {
             images: ImageVariables::new(alloc),
             rows: DisjointRows::new(alloc),
             earlier_places: PlaceSet::new(alloc),
-            found: ImagePairs::new(alloc),
+            image_pairs: ImagePairs::new(alloc),
         }
     }
 
@@ -61,7 +61,7 @@ impl DisjointTables {
         self.variables.clear();
         self.images.clear();
         self.rows.clear();
-        self.found.clear();
+        self.image_pairs.clear();
     }
 
     /// Empties the tables, and frees the memory of images, of pairs of images and of the marks of
@@ -72,7 +72,7 @@ impl DisjointTables {
         self.variables.clear();
         self.images.release(alloc);
         self.rows.release(alloc);
-        self.found.release(alloc);
+        self.image_pairs.release(alloc);
     }
 
     /// Has the frames make long searches for pairs again, as `PairMemo::repeat_searches` does.
@@ -147,13 +147,13 @@ impl DisjointTables {
         let Some(pair) = ImagePair::of(images, first, second) else {
             return self.are_disjoint(pairs, symbols, images, first, second);
         };
-        if self.found.has(pair) {
+        if self.image_pairs.has(pair) {
             return Ok(true);
         }
         if !self.are_disjoint(pairs, symbols, images, first, second)? {
             return Ok(false);
         }
-        self.found.record_pair(pair);
+        self.image_pairs.record_pair(pair);
         Ok(true)
     }
 
@@ -242,7 +242,7 @@ impl DisjointTables {
     }
 
     /// Returns `true` only if all variables of the images of a group have places below 64, and the images of each two were
-    /// found to be disjoint. This decides most groups.
+    /// found to be disjoint.
     ///
     /// Errors: an allocation fails. Cost: the images that were not read in this citation, and a step for each variable of
     /// each image.
@@ -373,13 +373,13 @@ impl DisjointTables {
 }
 
 /// Returns whether it takes many steps to compare the variables at the places of `words` with those
-/// at the places of `others` other words, which belong to `images` images: at least 256 steps, and
-/// at least 64 for each of these images.
+/// at the places of `other_words` other words, which belong to `image_count` images: at least 256
+/// steps, and at least 64 for each of these images.
 ///
 /// Cost: the words, if there are many of both.
-fn is_costly(words: &[PlaceWord], others: usize, images: usize) -> bool {
-    match costly_steps(words, others) {
-        Some(steps) => steps / 64 >= images,
+fn is_costly(words: &[PlaceWord], other_words: usize, image_count: usize) -> bool {
+    match costly_steps(words, other_words) {
+        Some(steps) => steps / 64 >= image_count,
         None => false,
     }
 }

@@ -13,8 +13,8 @@ const NO_ROUND: u32 = 0;
 /// The range of a symbol that has no image.
 const NO_RANGE: SymbolRange = SymbolRange { start: 0, end: 0 };
 
-/// A table that grows for an index gets twice that length and this many more, so that usually it
-/// has the indexes of constants too.
+/// A table that grows for an index gets twice that length and this many more entries, so that it
+/// seldom grows again.
 const SPARE: usize = 1024;
 
 /// A read-only view of the lists of an `ImageRanges`, which a loop keeps in registers.
@@ -53,8 +53,8 @@ impl<'a> ImageTable<'a> {
 /// Contracts see the symbols with their ranges.
 ///
 /// Removing all images begins a new round: an image counts only if it was set in the current round.
-/// Rounds and ranges are two lists, since most look-ups are of constants, for which the round is
-/// enough.
+/// Rounds and ranges are two lists, since a look-up of a symbol without an image, such as a
+/// constant, needs the round alone.
 ///
 /// Cost: finding an image and removing all take constant time; so does setting one, unless the
 /// table grows. The table is about twice as long as the greatest symbol number that was set.

@@ -438,7 +438,7 @@ impl ImageVariables {
     }
 }
 
-/// Appends words; usually there is one.
+/// Appends words. A single one needs no call to copy.
 ///
 /// Errors: an allocation fails; the words are unchanged.
 #[inline(always)]

@@ -26,7 +26,8 @@ fn common_prefix_len(left: &[u32], right: &[u32]) -> usize
     }
 }
 
-/// Returns whether the first `len` symbols of two lists agree. Usually at most `LANES` symbols are compared, at once.
+/// Returns whether the first `len` symbols of two lists agree. Compares up to `LANES` symbols at once if both lists have
+/// `LANES` symbols.
 #[inline(always)]
 fn have_same_prefix(left: &[u32], right: &[u32], len: usize) -> bool
     requires left { len ≤ length left.now }

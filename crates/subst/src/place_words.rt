@@ -15,18 +15,18 @@ pub struct PlaceWord {
 const MIN_COSTLY_STEPS: usize = 256;
 
 /// Returns the number of steps that it takes to compare the variables at the places of words with those at the places of
-/// `others` other words, or `None` if it is below `MIN_COSTLY_STEPS`.
+/// `other_words` other words, or `None` if it is below `MIN_COSTLY_STEPS`.
 ///
 /// Cost: the words, if there are many of both.
-pub fn costly_steps(words: &[PlaceWord], others: usize) -> Option<usize> {
-    if words.len().saturating_mul(others) < MIN_COSTLY_STEPS / 64 {
+pub fn costly_steps(words: &[PlaceWord], other_words: usize) -> Option<usize> {
+    if words.len().saturating_mul(other_words) < MIN_COSTLY_STEPS / 64 {
         return None;
     }
     let mut places = 0usize;
     for word in words {
         places = places.saturating_add(word.bits.count_ones() as usize);
     }
-    let steps = places.saturating_mul(others);
+    let steps = places.saturating_mul(other_words);
     if steps < MIN_COSTLY_STEPS {
         None
     } else {

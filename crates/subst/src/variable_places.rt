@@ -152,7 +152,7 @@ impl VariablePlaces {
         requires below { AreBelow (length pairs.now.names) image.now }
         ensures placed { ArePlaced pairs.now self.new }
         ensures grows { Grows self.old self.new }
-        ensures bits { IfOk result (λ near. IfSome near (λ bits. AddsSymbols pairs.now self.new (HasPlace []) (HasPlace (first_word bits ∷ [])) (length image.now) image.now)) }
+        ensures bits { IfOk result (λ found. IfSome found (λ bits. AddsSymbols pairs.now self.new (HasPlace []) (HasPlace (first_word bits ∷ [])) (length image.now) image.now)) }
     {
         let mut bits = 0;
         for symbol in image {

@@ -17,7 +17,7 @@ pub record AreTables (v : Numbered) (symbols : List ℕ) (t : DisjointTables) : 
   pub placed : ArePlaced v t.variables
   pub recorded : AreLongImages v t.variables symbols t.images
   pub facts : AreFacts v t.variables t.rows
-  pub found : AreDisjointPairs v symbols t.found
+  pub image_pairs : AreDisjointPairs v symbols t.image_pairs
 
 -- the images of two numbers are disjoint
 abbrev pub are_named_disjoint : Numbered → List ℕ → List (ℕ × SymbolRange) → ℕ → ℕ → Bool

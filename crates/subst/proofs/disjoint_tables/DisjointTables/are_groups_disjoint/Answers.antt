@@ -7,7 +7,7 @@ pub returns-in_err-read_last_lists_once-clause-tables : goal.returns-in_err-read
 returns-in_err-read_last_lists_once-clause-tables c =
     let t = c.requires.tables in
     let n = c.args.self.now.images in
-    record { placed = c.read_last_lists_once.ensures.placed; recorded = recorded-most c.args.pairs.now c.args.self.now.variables c.read_last_lists_once.new.variables c.args.symbols.now n n c.read_last_lists_once.ensures.grows (most-own n) t.recorded; facts = c.read_last_lists_once.ensures.facts; found = t.found }
+    record { placed = c.read_last_lists_once.ensures.placed; recorded = recorded-most c.args.pairs.now c.args.self.now.variables c.read_last_lists_once.new.variables c.args.symbols.now n n c.read_last_lists_once.ensures.grows (most-own n) t.recorded; facts = c.read_last_lists_once.ensures.facts; image_pairs = t.image_pairs }
 
 pub loop-i-init : goal.loop-i-init
 loop-i-init c =
@@ -16,7 +16,7 @@ loop-i-init c =
     let n = c.args.self.now.images in
     let f = c.read_last_lists_once.new.variables in
     let recorded = recorded-most v c.args.self.now.variables f c.args.symbols.now n n c.read_last_lists_once.ensures.grows (most-own n) t.recorded in (
-      record { placed = c.read_last_lists_once.ensures.placed; recorded = rw c.begin_citation.ensures (recorded-begin v f c.args.symbols.now n recorded); facts = c.read_last_lists_once.ensures.facts; found = t.found },
+      record { placed = c.read_last_lists_once.ensures.placed; recorded = rw c.begin_citation.ensures (recorded-begin v f c.args.symbols.now n recorded); facts = c.read_last_lists_once.ensures.facts; image_pairs = t.image_pairs },
       rw c.begin_citation.ensures (read-none v f c.args.symbols.now c.args.images.now _ refl),
       refl,
     )

@@ -89,7 +89,7 @@ loop-index-preserved c =
           let told = subst (λ us. DecidesWordsAndWords v f c.words_in-words.result.now us true) w.as_slice-else-is_costly.ensures (rw w.if-branch.true at w.in_ok-are_disjoint.ensures.decides) in
           let adds = subst (AddsWords set w.add_words-then-branch.new.self) c.words_in-words.ensures w.in_ok-add_words-2.ensures in
           rw w.self-is (
-            record { placed = placed; recorded = c.image_of.ensures.recorded; facts = w.are_disjoint.ensures.facts; found = l.invariant.0.found },
+            record { placed = placed; recorded = c.image_of.ensures.recorded; facts = w.are_disjoint.ensures.facts; image_pairs = l.invariant.0.image_pairs },
             c.image_of.ensures.read,
             images-more v f placed σ group n words r set first own w.add_words-then-branch.new.self adds,
             pairwise-more v.statements image group n l.invariant.3 (next-disjoint v f placed σ group n words r set first own (subst (λ xs. DecidesWordsAndWords v f xs set true) c.words_in-words.ensures told)),
@@ -97,7 +97,7 @@ loop-index-preserved c =
       | else-is_costly+in_ok-are_disjoint+else-branch+else-not-contains w ↦
           let any = sym w.contains.ensures ∙ w.if-not-contains.false in
           rw w.self-is (
-            record { placed = placed; recorded = c.image_of.ensures.recorded; facts = w.are_disjoint.ensures.facts; found = l.invariant.0.found },
+            record { placed = placed; recorded = c.image_of.ensures.recorded; facts = w.are_disjoint.ensures.facts; image_pairs = l.invariant.0.image_pairs },
             c.image_of.ensures.read,
             repeat-images v f σ group n (HasPlace set) any first,
             repeat-pairwise v.statements image group n any l.invariant.3,

@@ -21,7 +21,7 @@ returns-in_err-range-clause-tables c = record {
   placed = c.image_of.ensures.placed;
   recorded = c.image_of.ensures.recorded;
   facts = facts-grown c.args.pairs.now c.loop-k.self.variables c.image_of.new.variables c.loop-k.self.rows c.image_of.ensures.grows c.loop-k.invariant.0.facts;
-  found = c.loop-k.invariant.0.found;
+  image_pairs = c.loop-k.invariant.0.image_pairs;
 }
 
 pub returns-in_default-clause-tables : goal.returns-in_default-clause-tables
@@ -29,7 +29,7 @@ returns-in_default-clause-tables c = record {
   placed = c.image_of.ensures.placed;
   recorded = c.image_of.ensures.recorded;
   facts = facts-grown c.args.pairs.now c.loop-k.self.variables c.image_of.new.variables c.loop-k.self.rows c.image_of.ensures.grows c.loop-k.invariant.0.facts;
-  found = c.loop-k.invariant.0.found;
+  image_pairs = c.loop-k.invariant.0.image_pairs;
 }
 
 pub returns-then-not-are_known_disjoint-clause-tables : goal.returns-then-not-are_known_disjoint-clause-tables
@@ -37,7 +37,7 @@ returns-then-not-are_known_disjoint-clause-tables c = record {
   placed = c.image_of.ensures.placed;
   recorded = c.image_of.ensures.recorded;
   facts = facts-grown c.args.pairs.now c.loop-k.self.variables c.image_of.new.variables c.loop-k.self.rows c.image_of.ensures.grows c.loop-k.invariant.0.facts;
-  found = c.loop-k.invariant.0.found;
+  image_pairs = c.loop-k.invariant.0.image_pairs;
 }
 
 pub loop-k-preserved : goal.loop-k-preserved
@@ -60,7 +60,7 @@ loop-k-preserved c =
     let new = first_word (bit_or l.before bits) ∷ [] in
     let adds = subst (AddsWords set new) (sym c.in-Some.ensures) (adds-near l.before bits) in
     let told = subst (λ xs. DecidesWordsAndWords v f xs set true) (sym c.in-Some.ensures) (found-tells v f l.self.rows bits l.before facts (c.are_known_disjoint.ensures c.if-not-are_known_disjoint.false)) in (
-      record { placed = placed; recorded = c.image_of.ensures.recorded; facts = facts; found = l.invariant.0.found },
+      record { placed = placed; recorded = c.image_of.ensures.recorded; facts = facts; image_pairs = l.invariant.0.image_pairs },
       c.image_of.ensures.read,
       images-more v f placed σ group n words r set first own new adds,
       pairwise-more v.statements (image_named v.names σ) group n l.invariant.3 (next-disjoint v f placed σ group n words r set first own told),

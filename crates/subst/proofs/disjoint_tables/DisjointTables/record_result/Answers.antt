@@ -20,7 +20,7 @@ seen-first symbols images e p x rest whole first own = whole ∙ (ap (code_apply
 pub loop-index-init : goal.loop-index-init
 loop-index-init c =
     let t = c.requires.tables in (
-      record { placed = t.placed; recorded = rw c.begin_citation.ensures (recorded-begin c.args.pairs.now c.args.self.now.variables c.args.symbols.now c.args.self.now.images t.recorded); facts = t.facts; found = t.found },
+      record { placed = t.placed; recorded = rw c.begin_citation.ensures (recorded-begin c.args.pairs.now c.args.self.now.variables c.args.symbols.now c.args.self.now.images t.recorded); facts = t.facts; image_pairs = t.image_pairs },
       rest-own c.begin_citation.new.self,
       symbols-none c.args.pairs.now c.args.self.now.variables (HasPlace c.begin_citation.new.self.current) [],
     )
@@ -46,7 +46,7 @@ returns-in_err-add_image c =
       placed = c.add_image.ensures.placed;
       recorded = recorded-most v l.self.variables c.add_image.new.variables c.args.symbols.now l.self.images c.add_image.new.self c.add_image.ensures.grows (rest-most l.self.images c.add_image.new.self keeps) t.recorded;
       facts = facts-grown v l.self.variables c.add_image.new.variables l.self.rows c.add_image.ensures.grows t.facts;
-      found = t.found;
+      image_pairs = t.image_pairs;
     }
 
 pub loop-index-preserved : goal.loop-index-preserved
@@ -65,7 +65,7 @@ loop-index-preserved c =
         placed = c.add_image.ensures.placed;
         recorded = recorded-most v l.self.variables g c.args.symbols.now l.self.images new c.add_image.ensures.grows (rest-most l.self.images new keeps) t.recorded;
         facts = facts-grown v l.self.variables g l.self.rows c.add_image.ensures.grows t.facts;
-        found = t.found;
+        image_pairs = t.image_pairs;
       },
       rest-twice c.begin_citation.new.self l.self.images new l.invariant.1 keeps,
       subst (AddsImage v g c.begin_citation.new.self new) (sym (apply-take σ rest n c.loop-index-test.true))
