@@ -65,8 +65,7 @@ impl DisjointCache {
     }
 
     /// Empties the cache, and frees the memory of images, of pairs of images and of marks of
-    /// symbols. Keeps the other tables that are indexed by symbol, and the pairs that long searches
-    /// found.
+    /// symbols. Keeps the other memory, and the pairs that long searches found.
     ///
     /// Does not allocate.
     pub fn release(&mut self, alloc: Global)
@@ -76,8 +75,7 @@ impl DisjointCache {
         self.subject = Subject::none();
     }
 
-    /// Has the frames make again long searches for pairs that proofs made, so that the frames keep
-    /// the answers.
+    /// Repeats long searches for pairs that proofs made, so that the frames keep the answers.
     ///
     /// Cost: that of `PairMemo::repeat_searches`.
     pub fn repeat_searches(&mut self, frames: &mut Frames)
@@ -95,10 +93,10 @@ impl DisjointCache {
     /// Errors: an allocation fails.
     /// Cost: the number of variables in the groups; each image once, or up to twice if a variable
     /// of it is beyond the first 64 of the proof, or only the number of its variables if they were
-    /// recorded with a long result. For two images, the product of their numbers of variables: over
-    /// 64 if all these pairs are known, else times the cost of `Pairs::has_by_memo`. If that
-    /// product is large, it is paid once in a proof for up to 1,048,576 pairs of images, and later
-    /// costs a look-up.
+    /// recorded with a long result. For two images, the product of their numbers of variables,
+    /// divided by 64 if all these pairs are known, else times the cost of `Pairs::has_by_memo`. If
+    /// that product is large, it is paid once in a proof for up to 1,048,576 pairs of images, and
+    /// later costs a look-up.
     /// Source: Metamath, 4.2.6.
     #[inline(always)]
     pub fn are_groups_disjoint(

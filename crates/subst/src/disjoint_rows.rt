@@ -94,7 +94,7 @@ impl DisjointRows {
         self.disjoint_list_search.release(alloc);
     }
 
-    /// Has the frames make long searches for pairs again, as `PairMemo::repeat_searches` does.
+    /// Repeats long searches for pairs in the frames, as `PairMemo::repeat_searches` does.
     pub fn repeat_searches(&mut self, frames: &mut Frames)
         ensures facts { self.new ≡ self.old }
         ensures frames { frames.new ≡ frames.old }

@@ -75,7 +75,7 @@ impl DisjointTables {
         self.image_pairs.release(alloc);
     }
 
-    /// Has the frames make long searches for pairs again, as `PairMemo::repeat_searches` does.
+    /// Repeats long searches for pairs in the frames, as `PairMemo::repeat_searches` does.
     pub fn repeat_searches(&mut self, frames: &mut Frames)
         ensures tables { self.new ≡ self.old }
         ensures frames { frames.new ≡ frames.old }
