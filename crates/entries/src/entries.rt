@@ -109,7 +109,7 @@ impl Entries {
 
     /// Returns the assertion at an index as it is stored: its symbols and its parts, without the
     /// positions of its hypotheses. Returns `None` if its parts are not whole.
-    pub fn kept_view(&self, index: usize) -> Option<AssertionView<'_>>
+    pub fn whole_view(&self, index: usize) -> Option<AssertionView<'_>>
         requires { index < length self.now }
         ensures parts { (e : Entry) → slice_get self.now index ≡ Some e → IfSome result (IsWholeView e) }
         ensures none { (e : Entry) → slice_get self.now index ≡ Some e → IfNone result (e.assertion.whole ≡ false) }

@@ -221,11 +221,11 @@ impl Frames {
     /// to be kept whole.
     ///
     /// Cost: a constant.
-    pub fn kept_view(&self, a: usize) -> Option<AssertionView<'_>>
+    pub fn whole_view(&self, a: usize) -> Option<AssertionView<'_>>
         requires { (s : Statement) × HasAssertion self.now.statements a s }
         ensures { (s : Statement) → stmt_at self.now.statements a ≡ Some s → IfSome result (IsViewOf self.now.statements self.now.names a s) }
     {
-        self.storage.entries.kept_view(a - 1)
+        self.storage.entries.whole_view(a - 1)
     }
 
     /// Fills the buffers with the parts of the assertion at a position, kept whole or not.

@@ -93,12 +93,12 @@ impl StoredEntries {
 
     /// Returns the parts of the assertion at an index, or `None` if not all of them are kept.
     #[inline(always)]
-    pub fn kept_view(&self, index: usize) -> Option<AssertionView<'_>>
+    pub fn whole_view(&self, index: usize) -> Option<AssertionView<'_>>
         requires { index < length self.now }
         ensures parts { (e : Entry) → slice_get self.now index ≡ Some e → IfSome result (IsWholeView e) }
         ensures none { (e : Entry) → slice_get self.now index ≡ Some e → IfNone result (e.assertion.whole ≡ false) }
     {
-        self.list.kept_view(index)
+        self.list.whole_view(index)
     }
 
     /// Returns where each symbol of the expression at an index occurs, if the expression is long.

@@ -89,7 +89,7 @@ fn push_disjoint(
         values.now.contents.now.at s }
 {
     let contents = values.contents;
-    if let Some(view) = contents.frames.kept_view(contents.at) {
+    if let Some(view) = contents.frames.whole_view(contents.at) {
         return push_groups(page, &values.notation, &view.groups);
     }
     let mut frame_buffers = FrameBuffers::new(alloc);

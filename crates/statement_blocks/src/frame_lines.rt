@@ -68,7 +68,7 @@ fn push_disjoint(
         (mandatory_groups (before (bares input.now.statements.now) input.now.position)
         input.now.statement.now)) }
 {
-    if let Some(view) = input.frames.kept_view(input.position) {
+    if let Some(view) = input.frames.whole_view(input.position) {
         return push_groups(text, input.frames, &view.groups);
     }
     let mut frame_buffers = FrameBuffers::new(alloc);

@@ -53,9 +53,9 @@ fn premises_of(
     let position = table.position(place);
     match frames.meaning(at, position) {
         Meaning::Assertion => {
-            let kept_view = frames.kept_view(position);
-            let index = lists.index_of(frames, position, kept_view.is_some())?;
-            let cited = lists.view_at(frames, position, kept_view, index);
+            let whole_view = frames.whole_view(position);
+            let index = lists.index_of(frames, position, whole_view.is_some())?;
+            let cited = lists.view_at(frames, position, whole_view, index);
             premises_among(alloc, &cited.hypotheses, table.taken(place))
         }
         Meaning::Hypothesis(_) => Ok(Vec::new(alloc)),

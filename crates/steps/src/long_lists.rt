@@ -1,5 +1,5 @@
 //! The mandatory hypotheses of assertions with long lists, listed once for each assertion of a table. An assertion has long
-//! lists if `Frames::kept_view` returns `None` for it.
+//! lists if `Frames::whole_view` returns `None` for it.
 ghost use Rattle.std.specs.Prelude.{◌≡◌, [], false, map, is_some, Some, IfOk, IfSome, OnOk};
 ghost use Rattle.mm_read.specs.declared.stmt.Stmt.{Stmt as Statement};
 ghost use Rattle.scope.specs.Active.{stmt_at};
@@ -145,7 +145,7 @@ impl LongLists {
     }
 
     /// Returns the index of the list of the assertion at a position. Makes the list if there is none
-    /// yet. If `has_kept_view`, no list is needed, and the index is 0 and not used.
+    /// yet. If `has_whole_view`, no list is needed, and the index is 0 and not used.
     ///
     /// Errors: an allocation fails. Cost: log n for n lists, and once for each assertion that of
     /// `Frames::fill_buffers`.
@@ -153,14 +153,14 @@ impl LongLists {
         &mut self,
         frames: &Frames,
         position: usize,
-        has_kept_view: bool,
+        has_whole_view: bool,
     ) -> Result<usize, AllocError>
         requires assertion { (s : Statement) × HasAssertion frames.now.statements position s }
         requires lists { AreListsOfAssertions frames.now.statements frames.now.names self.old.lists.items }
         ensures lists { OnOk result (AreListsOfAssertions frames.now.statements frames.now.names self.new.lists.items) }
-        ensures index { IfOk result (λ i. has_kept_view ≡ false → IsListAt self.new.lists.items i position) }
+        ensures index { IfOk result (λ i. has_whole_view ≡ false → IsListAt self.new.lists.items i position) }
     {
-        if has_kept_view {
+        if has_whole_view {
             return Ok(0);
         }
         match self.find(position) {
@@ -169,22 +169,22 @@ impl LongLists {
         }
     }
 
-    /// Returns a view of the assertion at a position: `kept_view` if it is given, else a view of the list at an index, without
+    /// Returns a view of the assertion at a position: `whole_view` if it is given, else a view of the list at an index, without
     /// groups of disjoint variables.
     pub fn view_at<'a>(
         &'a self,
         frames: &'a Frames,
         position: usize,
-        kept_view: Option<AssertionView<'a>>,
+        whole_view: Option<AssertionView<'a>>,
         index: usize,
     ) -> AssertionView<'a>
         requires assertion { (s : Statement) × HasAssertion frames.now.statements position s }
-        requires kept_view { (s : Statement) → stmt_at frames.now.statements position ≡ Some s → IfSome kept_view (IsViewOf frames.now.statements frames.now.names position s) }
-        requires index { is_some kept_view ≡ false → IsListAt self.now.lists.items index position }
+        requires whole_view { (s : Statement) → stmt_at frames.now.statements position ≡ Some s → IfSome whole_view (IsViewOf frames.now.statements frames.now.names position s) }
+        requires index { is_some whole_view ≡ false → IsListAt self.now.lists.items index position }
         requires lists { AreListsOfAssertions frames.now.statements frames.now.names self.now.lists.items }
         ensures { (s : Statement) → stmt_at frames.now.statements position ≡ Some s → IsViewUpToGroups frames.now.statements frames.now.names position s result }
     {
-        match kept_view {
+        match whole_view {
             Some(cited) => cited,
             None => self.lists[index].view(frames.expr(position)),
         }

@@ -69,9 +69,9 @@ fn cite(
     match frames.meaning(at, position) {
         Meaning::Hypothesis(expr) => cite_hypothesis(alloc, draft, position, expr),
         Meaning::Assertion => {
-            let kept_view = frames.kept_view(position);
-            let index = lists.index_of(frames, position, kept_view.is_some())?;
-            let cited = lists.view_at(frames, position, kept_view, index);
+            let whole_view = frames.whole_view(position);
+            let index = lists.index_of(frames, position, whole_view.is_some())?;
+            let cited = lists.view_at(frames, position, whole_view, index);
             cite_assertion(alloc, draft, position, &cited, frames.places(position))
         }
         Meaning::Nothing => unreachable!(),

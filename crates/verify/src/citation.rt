@@ -185,7 +185,7 @@ fn cite(claim: &Claim<'_>, position: usize, buffers: &mut Buffers) -> Result<boo
     ensures about { buffers.new.results.about ≡ claim.now.pairs }
     ensures kept { IsCacheFor claim.now.frames.now.statements claim.now.frames.now.names buffers.new.kept }
 {
-    let Some(cited) = claim.frames.kept_view(position) else {
+    let Some(cited) = claim.frames.whole_view(position) else {
         return cite_long(claim, position, buffers);
     };
     let remaining = &mut buffers.remaining;

@@ -2,8 +2,8 @@ use Rattle.statement_blocks.proofs.Words.{◌∙◌, ap, bare}
 use Rattle.statement_blocks.proofs.FrameLemmas.{on_ok, stands_bare, has_assertion, groups_are}
 use Rattle.statement_blocks.proofs.frame_lines.push_disjoint.Goals as goal
 
-pub kept_view-requires : goal.kept_view-requires
-kept_view-requires c =
+pub whole_view-requires : goal.whole_view-requires
+whole_view-requires c =
     let s = c.args.input.now in
     (bare s.statement.now, has_assertion s.statements.now s.frames.now.statements s.position s.statement.now c.requires.input.same c.requires.input.stands c.requires.assertion)
 

@@ -9,7 +9,7 @@ pub expr-requires : goal.expr-requires
 expr-requires c = let a = c.requires.assertion in stands-within c.args.frames.now.statements c.args.position a.0 a.1.0
 
 pub returns-in-Some : goal.returns-in-Some
-returns-in-Some c = λ s stands. whole-parts c.args.frames.now.statements c.args.frames.now.names c.args.position s _ (rw c.in-Some.is at (c.requires.kept_view s stands))
+returns-in-Some c = λ s stands. whole-parts c.args.frames.now.statements c.args.frames.now.names c.args.position s _ (rw c.in-Some.is at (c.requires.whole_view s stands))
 
 pub returns-in-None : goal.returns-in-None
 returns-in-None c = λ s stands.
